@@ -14,7 +14,7 @@ use Rattle.agreement.specs.Steps.MayHappen.{node_takes, node_stops, master_assig
 use Rattle.agreement.specs.Steps.MayHappen.{assignment_lost, answer_lost}
 use Rattle.agreement.specs.World.{World, outputs}
 
--- the outputs of the node at place n in a step, each with its place in the list
+-- the outputs of the node at index n in a step, each with its place in the list
 abbrev pub given_in : {S C O : Type 0} {rules : Rules S C O} {m : MasterState} {w : World S C O}
     {k : MasterState} {v : World S C O} → ℕ → MayHappen rules m w k v → List (ℕ × O)
 given_in n (node_takes i r input {new = new} {given = given} stands runs may loses) =
@@ -47,7 +47,7 @@ pub record GivesNext {S C O : Type 0} (rules : Rules S C O) (old new : ReplicaSt
   pub next : is_active new.role ≡ true →
       given ≡ outputs (outputs_between rules xs (gives_from old) new.committed)
 
--- a past continues from a moment, by steps and by nodes that learn, and the node at place n is the
+-- a past continues from a moment, by steps and by nodes that learn, and the node at index n is the
 -- active primary of a ballot at that moment and at each later one
 pub data LeadsOn {S C O : Type 0} {rules : Rules S C O} {config : Config} (n ballot : ℕ)
     {a : Moment S C O} {past : List (Moment S C O)} (came : Past rules config (a ∷ past)) :

@@ -3,7 +3,7 @@ use Rattle.std.specs.Prelude.{ℕ, true, ◌≡◌, slice_get, Some}
 use Rattle.whole.specs.Replica.{ReplicaState, is_active}
 use Rattle.agreement.specs.World.{World}
 
--- the node at a place is the active primary of a ballot, which it has joined
+-- the node at an index is the active primary of a ballot, which it has joined
 pub record IsPrimary {S C O : Type 0} (w : World S C O) (n ballot : ℕ) : Type 0 where
   pub replica : ReplicaState S C
   pub stands : slice_get w.nodes n ≡ Some replica

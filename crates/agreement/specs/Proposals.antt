@@ -62,7 +62,7 @@ taken_of (began nodes lawful is) = []
 taken_of (went_on came step) = taken_of came ++ taken_in step
 taken_of (learned came learns) = taken_of came
 
--- and what the node at place n took of it
+-- and what the node at index n took of it
 abbrev pub takes_at : {S C O : Type 0} {rules : Rules S C O} {m : MasterState} {w : World S C O}
     {k : MasterState} {v : World S C O} → ℕ → MayHappen rules m w k v → List (ℕ × C)
 takes_at n (node_takes i r input {new = new} {given = given} stands runs may loses) =
@@ -73,7 +73,7 @@ takes_at n (master_hears from b sent) = []
 takes_at n (assignment_lost config) = []
 takes_at n (answer_lost from b sent) = []
 
--- what the node at place n took in a past
+-- what the node at index n took in a past
 abbrev pub taken_at : {S C O : Type 0} {rules : Rules S C O} {config : Config}
     {past : List (Moment S C O)} → ℕ → Past rules config past → List (ℕ × C)
 taken_at n (began nodes lawful is) = []
@@ -84,7 +84,7 @@ taken_at n (learned came learns) = taken_at n came
 abbrev pub rows_in : {C : Type 0} → ℕ → List (ℕ × C) → List (ℕ × C)
 rows_in {C} ballot rows = filter (λ (row : ℕ × C). row.0 == ballot) rows
 
--- the node at place n took a proposal in a step: it ran, and was the active primary of the ballot
+-- the node at index n took a proposal in a step: it ran, and was the active primary of the ballot
 -- that the row names; after the step its log is what it was, with the command at its end
 pub record IsTaken {S C O : Type 0} (w v : World S C O) (n : ℕ) (row : ℕ × C) : Type 0 where
   pub primary : IsPrimary w n row.0

@@ -9,7 +9,7 @@ use Rattle.whole.specs.Messages.{Message, Effect}
 use Rattle.whole.specs.Messages.Effect.{To, Out}
 use Rattle.whole.specs.Replica.{ReplicaState, opening}
 
--- the nodes, number n + 1 at place n, the messages with their receivers in the order of sending,
+-- the nodes, number n + 1 at index n, the messages with their receivers in the order of sending,
 -- and the outputs that left with their places
 pub record World (S C O : Type 0) : Type 0 where
   pub nodes : List (ReplicaState S C)
@@ -46,7 +46,7 @@ outputs [] = []
 outputs (To receiver message ∷ effects) = outputs effects
 outputs (Out place output ∷ effects) = (place, output) ∷ outputs effects
 
--- a world after the node at a place changed and returned effects
+-- a world after the node at an index changed and returned effects
 abbrev pub moved : {S C O : Type 0} →
     World S C O → ℕ → ReplicaState S C → List (Effect C O) → World S C O
 moved w n new given =

@@ -42,7 +42,7 @@ table session [] = []
 abbrev pub session_in : Client → Sessions → Option ClientSession
 session_in c rows = lookup (is_at (by_bytes c)) rows
 
--- sets a client's session: it replaces the old one, or is inserted at its place by bytes
+-- sets a client's session: it replaces the old one, or is inserted in the order of bytes
 abbrev pub put_session : Client → ClientSession → Sessions → Sessions
 put_session c kept rows = insert_entry by_bytes rows c kept
 

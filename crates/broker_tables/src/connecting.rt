@@ -71,7 +71,7 @@ impl Tables {
     }
 
     // Says what an accepted Connect does. A session continues if it exists and neither it nor the
-    // Connect is clean. Otherwise one begins, if the client has one or there is a place for one
+    // Connect is clean. Otherwise one begins, if the client has one or there is room for one
     // more (MQTT 3.1.2.4).
     fn admission(&self, client: &ClientId, clean: bool) -> Admission
         ensures goes_on { result ≡ GoesOn → goes_on_in (state_in self.now) client.now clean ≡ true }

@@ -39,9 +39,9 @@ pub(crate) fn other_answer(
     broker: &mut BrokerMachine,
     rows: &[Row<'_>],
 ) -> Option<usize> {
-    for (place, (event, wanted)) in rows.iter().enumerate() {
+    for (index, (event, wanted)) in rows.iter().enumerate() {
         if !is_answered(alloc, broker, *event, wanted) {
-            return Some(place);
+            return Some(index);
         }
     }
     None

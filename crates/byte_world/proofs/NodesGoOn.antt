@@ -40,14 +40,14 @@ use Rattle.byte_world.proofs.PortsLosing.{each_new_losing, each_was_losing}
 
 -- ---- one node
 
--- a connection that this call opens at the node at this place
+-- a connection that this call opens at the node at this index
 pub record IsOpened (node_call : Option (ℕ × NodeCall)) (n : ℕ) (core : CoreState) (d : Connection) : Type 0 where
   pub port : Port
   pub now : ℕ
   pub is : node_call ≡ Some (n, takes (Opened port now))
   pub new : IsNew core.connections port (next_name core) d
 
--- the node at this place after a step with this call
+-- the node at this index after a step with this call
 pub record IsAfter (node_call : Option (ℕ × NodeCall)) (n : ℕ) (core later : CoreState) : Type 0 where
   pub given : (x : ConnectionName) → IsGiven core.last_name x → IsGiven later.last_name x
   pub was : (d : Connection) → In d later.connections → IsOfOld core.connections d ⊎ IsOpened node_call n core d

@@ -13,7 +13,7 @@ use Rattle.node_group.specs.Group.{Group, opening_group}
 
 -- where a connection leads, and the bytes in transit
 pub record Pipe : Type 0 where
-  pub node : ℕ  -- the place of its node in the group
+  pub node : ℕ  -- the index of its node in the group
   pub port : Port  -- by which the node knows it
   pub up : List ℕ  -- the client wrote them, and they have not yet reached the node
   pub down : List ℕ  -- the node handed them over, and they have not yet reached the client

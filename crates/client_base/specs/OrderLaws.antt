@@ -13,7 +13,7 @@ number_in (Own.Sent k p id) = k
 number_in (Own.Released k p id) = k
 number_in (Own.Done k p) = k
 
--- from this number on, each publication has the number of its place
+-- from this number on, the numbers of the publications are their indices
 abbrev pub AreNumbered : ℕ → List Own → Type 0
 AreNumbered n (o ∷ own) = (number_in o ≡ n) × AreNumbered (suc n) own
 AreNumbered n [] = Unit {0}
@@ -32,7 +32,7 @@ abbrev pub RisesFrom : ℕ → List ℕ → Type 0
 RisesFrom n (k ∷ ks) = (n < suc k) × RisesFrom (suc k) ks
 RisesFrom n [] = Unit {0}
 
--- numbers stay with their places, whatever is called or comes, and continue over sessions
+-- numbers stay the indices, whatever is called or comes, and continue over sessions
 abbrev pub NumbersStay : Type 0
 NumbersStay =
     (call : Call) (fresh : ℕ) (side : Side ℕ) →

@@ -64,34 +64,34 @@ use Rattle.escaping_nodes.proofs.NodesFollow.{IsCalmOrLow, deliveries_are_follow
 
 -- ---- the connection waits while messages come
 
--- the node at a place, which leads on, and its connection
-pub record StillWaits (ballot place : ℕ) (port : Port) (x : ConnectionName) (n : NodesState) : Type 0 where
+-- the node at an index, which leads on, and its connection
+pub record StillWaits (ballot index : ℕ) (port : Port) (x : ConnectionName) (n : NodesState) : Type 0 where
   pub node : CountedCore
-  pub stands : slice_get n.nodes place ≡ Some node
+  pub stands : slice_get n.nodes index ≡ Some node
   pub leads : LeadsAt ballot (replica_of node.core)
   pub waits : AwaitsAnswer port x node.core
 
 -- so it waits while these messages come, which bring the moment to another and leave the master as it is
-pub record AwaitsOthers (ballot place : ℕ) (port : Port) (x : ConnectionName) (ks : List ℕ) (n : NodesState) : Type 0 where
+pub record AwaitsOthers (ballot index : ℕ) (port : Port) (x : ConnectionName) (ks : List ℕ) (n : NodesState) : Type 0 where
   pub moment : Moment State Command Output
   pub before : Moment State Command Output
   pub delivered : Delivered rules ballot moment ks before
   pub master : before.master ≡ n.master
   pub seen : IsSeen moment n
   pub calm : AreCalm ballot n
-  pub waits : StillWaits ballot place port x n
+  pub waits : StillWaits ballot index port x n
 
 -- .. if another node changes
-elsewhere : (ballot place : ℕ) (port : Port) (x : ConnectionName) (n v : NodesState) (at : ℕ) (new : CountedCore) → (place ≡ at → ⊥) → v.nodes ≡ slice_set n.nodes at new →
-    StillWaits ballot place port x n → StillWaits ballot place port x v
-elsewhere ballot place port x n v at new other is s =
-    record { node = s.node; stands = ap (λ l. slice_get l place) is ∙ get_set_other n.nodes at place new other ∙ s.stands; leads = s.leads; waits = s.waits }
+elsewhere : (ballot index : ℕ) (port : Port) (x : ConnectionName) (n v : NodesState) (at : ℕ) (new : CountedCore) → (index ≡ at → ⊥) → v.nodes ≡ slice_set n.nodes at new →
+    StillWaits ballot index port x n → StillWaits ballot index port x v
+elsewhere ballot index port x n v at new other is s =
+    record { node = s.node; stands = ap (λ l. slice_get l index) is ∙ get_set_other n.nodes at index new other ∙ s.stands; leads = s.leads; waits = s.waits }
 
 -- .. if it does itself
-itself : (ballot place : ℕ) (port : Port) (x : ConnectionName) (n v : NodesState) (old new : CountedCore) → slice_get n.nodes place ≡ Some old → v.nodes ≡ slice_set n.nodes place new →
-    LeadsAt ballot (replica_of new.core) → AwaitsAnswer port x new.core → StillWaits ballot place port x v
-itself ballot place port x n v old new there is leads waits =
-    record { node = new; stands = ap (λ l. slice_get l place) is ∙ get_set n.nodes place old new there; leads = leads; waits = waits }
+itself : (ballot index : ℕ) (port : Port) (x : ConnectionName) (n v : NodesState) (old new : CountedCore) → slice_get n.nodes index ≡ Some old → v.nodes ≡ slice_set n.nodes index new →
+    LeadsAt ballot (replica_of new.core) → AwaitsAnswer port x new.core → StillWaits ballot index port x v
+itself ballot index port x n v old new there is leads waits =
+    record { node = new; stands = ap (λ l. slice_get l index) is ∙ get_set n.nodes index old new there; leads = leads; waits = waits }
 
 leads_with : (ballot : ℕ) (r s : CountedReplica State Command) → s ≡ r → LeadsAt ballot r.state → LeadsAt ballot s.state
 leads_with ballot r s same l = subst (λ (q : CountedReplica State Command). LeadsAt ballot q.state) (sym same) l
@@ -101,59 +101,59 @@ calm_now ballot node l (inl calm) = calm
 calm_now ballot node l (inr low) = absurd (let e = l.joined in omega (arith, e, low))
 
 -- a message comes to it
-message_kept : (ballot place : ℕ) (port : Port) (x : ConnectionName) (n : NodesState) (node : CountedCore) (m : Message Command) → slice_get n.nodes place ≡ Some node →
+message_kept : (ballot index : ℕ) (port : Port) (x : ConnectionName) (n : NodesState) (node : CountedCore) (m : Message Command) → slice_get n.nodes index ≡ Some node →
     IsCalm node.core → outputs (heard_by node.core m).effects ≡ [] → (heard_by node.core m).state.joined ≡ ballot →
     (node_step (Peer m) node.core).core.replica ≡ record node.core.replica { state = (heard_by node.core m).state } → LeadsAt ballot (replica_of node.core) → AwaitsAnswer port x node.core →
-    StillWaits ballot place port x (after_node_call place node (takes (Peer m)) n)
-message_kept ballot place port x n node m there calm silent joined replica leads waits =
+    StillWaits ballot index port x (after_node_call index node (takes (Peer m)) n)
+message_kept ballot index port x n node m there calm silent joined replica leads waits =
     let on = leads_on {O = Output} rules ballot (replica_of node.core) leads m.from m.body joined in
-    itself ballot place port x n (after_node_call place node (takes (Peer m)) n) node (record node { core = (node_step (Peer m) node.core).core }) there refl
+    itself ballot index port x n (after_node_call index node (takes (Peer m)) n) node (record node { core = (node_step (Peer m) node.core).core }) there refl
     (leads_with ballot (record node.core.replica { state = (heard_by node.core m).state }) (node_step (Peer m) node.core).core.replica replica on)
     (messages_keep_it_waiting port x node.core m waits calm leads.runs silent (ap is_active on.role) on.runs)
 
-pub waits_on : (ballot place : ℕ) (port : Port) (x : ConnectionName) (a b : Moment State Command Output) (ks : List ℕ) → Delivered rules ballot a ks b → (n new : NodesState) → Come n ks new → IsSeen a n →
-    AreCalm ballot n → StillWaits ballot place port x n → StillWaits ballot place port x new
-waits_on ballot place port x a b ks d n new none_comes s calm w = w
-waits_on ballot place port x a b ks d n new (comes_to_node k at node message came there going more) s calm w =
+pub waits_on : (ballot index : ℕ) (port : Port) (x : ConnectionName) (a b : Moment State Command Output) (ks : List ℕ) → Delivered rules ballot a ks b → (n new : NodesState) → Come n ks new → IsSeen a n →
+    AreCalm ballot n → StillWaits ballot index port x n → StillWaits ballot index port x new
+waits_on ballot index port x a b ks d n new none_comes s calm w = w
+waits_on ballot index port x a b ks d n new (comes_to_node k at node message came there going more) s calm w =
     let z = node_comes ballot b n calm a k _ d s at node message came there going in
-    waits_on ballot place port x z.moment b _ z.rest _ new more z.seen z.calm (by (cases_eq place at) z.silent z.joined z.replica)
+    waits_on ballot index port x z.moment b _ z.rest _ new more z.seen z.calm (by (cases_eq index at) z.silent z.joined z.replica)
   where
-    by : (place ≡ at) ⊎ (place ≡ at → ⊥) → outputs (heard_by node.core message).effects ≡ [] → (heard_by node.core message).state.joined ≡ ballot →
+    by : (index ≡ at) ⊎ (index ≡ at → ⊥) → outputs (heard_by node.core message).effects ≡ [] → (heard_by node.core message).state.joined ≡ ballot →
         (node_step (Peer message) node.core).core.replica ≡ record node.core.replica { state = (heard_by node.core message).state } →
-        StillWaits ballot place port x (after_node_call at node (takes (Peer message)) n)
-    by (inr other) silent joined replica = elsewhere ballot place port x n (after_node_call at node (takes (Peer message)) n) at (record node { core = (node_step (Peer message) node.core).core }) other refl w
+        StillWaits ballot index port x (after_node_call at node (takes (Peer message)) n)
+    by (inr other) silent joined replica = elsewhere ballot index port x n (after_node_call at node (takes (Peer message)) n) at (record node { core = (node_step (Peer message) node.core).core }) other refl w
     by (inl same) silent joined replica =
-        subst (λ i. StillWaits ballot place port x (after_node_call i node (takes (Peer message)) n)) same
-        (message_kept ballot place port x n node message here (calm_now ballot node leads (calm at node there)) silent joined replica leads
+        subst (λ i. StillWaits ballot index port x (after_node_call i node (takes (Peer message)) n)) same
+        (message_kept ballot index port x n node message here (calm_now ballot node leads (calm at node there)) silent joined replica leads
         (subst (λ (c : CountedCore). AwaitsAnswer port x c.core) one w.waits))
       where
-        here : slice_get n.nodes place ≡ Some node
+        here : slice_get n.nodes index ≡ Some node
         here = ap (slice_get n.nodes) same ∙ there
 
         one : w.node ≡ node
-        one = some_one (slice_get n.nodes place) w.node node w.stands here
+        one = some_one (slice_get n.nodes index) w.node node w.stands here
 
         leads : LeadsAt ballot (replica_of node.core)
         leads = subst (λ (c : CountedCore). LeadsAt ballot (replica_of c.core)) one w.leads
-waits_on ballot place port x a b ks d n new (comes_to_master k from asked came more) s calm w =
+waits_on ballot index port x a b ks d n new (comes_to_master k from asked came more) s calm w =
     let z = master_comes ballot b n calm a k _ d s from asked came in
-    waits_on ballot place port x z.moment b _ z.rest _ new more z.seen z.calm (record { node = w.node; stands = w.stands; leads = w.leads; waits = w.waits })
-waits_on ballot place port x a b ks d n new (hands at node other there more) s calm w =
-    waits_on ballot place port x a b ks d _ new more (hands_seen a n at node other there s) (hands_calm ballot n at node other there calm) (by (cases_eq place at))
+    waits_on ballot index port x z.moment b _ z.rest _ new more z.seen z.calm (record { node = w.node; stands = w.stands; leads = w.leads; waits = w.waits })
+waits_on ballot index port x a b ks d n new (hands at node other there more) s calm w =
+    waits_on ballot index port x a b ks d _ new more (hands_seen a n at node other there s) (hands_calm ballot n at node other there calm) (by (cases_eq index at))
   where
-    by : (place ≡ at) ⊎ (place ≡ at → ⊥) → StillWaits ballot place port x (after_node_call at node (gives other) n)
-    by (inr apart) = elsewhere ballot place port x n (after_node_call at node (gives other) n) at (record node { core = hands_over other node.core }) apart refl w
+    by : (index ≡ at) ⊎ (index ≡ at → ⊥) → StillWaits ballot index port x (after_node_call at node (gives other) n)
+    by (inr apart) = elsewhere ballot index port x n (after_node_call at node (gives other) n) at (record node { core = hands_over other node.core }) apart refl w
     by (inl same) =
-        subst (λ i. StillWaits ballot place port x (after_node_call i node (gives other) n)) same
-        (itself ballot place port x n (after_node_call place node (gives other) n) node (record node { core = hands_over other node.core }) here refl
+        subst (λ i. StillWaits ballot index port x (after_node_call i node (gives other) n)) same
+        (itself ballot index port x n (after_node_call index node (gives other) n) node (record node { core = hands_over other node.core }) here refl
         (leads_with ballot node.core.replica (hands_over other node.core).replica (hands_keep other node.core).0 (subst (λ (c : CountedCore). LeadsAt ballot (replica_of c.core)) one w.leads))
         (handing_keeps_it_waiting port other x node.core (subst (λ (c : CountedCore). AwaitsAnswer port x c.core) one w.waits)))
       where
-        here : slice_get n.nodes place ≡ Some node
+        here : slice_get n.nodes index ≡ Some node
         here = ap (slice_get n.nodes) same ∙ there
 
         one : w.node ≡ node
-        one = some_one (slice_get n.nodes place) w.node node w.stands here
+        one = some_one (slice_get n.nodes index) w.node node w.stands here
 
 -- ---- the CONNECT
 
@@ -165,9 +165,9 @@ short_spelled : length (spelling session_present) ≤ most_pending
 unfolding spelling
 short_spelled = omega arith
 
-module _ (config : Config) (a : Moment State Command Output) (past : List (Moment State Command Output)) (came : Past rules config (a ∷ past)) (n : NodesState) (ballot place : ℕ) (node : CountedCore)
+module _ (config : Config) (a : Moment State Command Output) (past : List (Moment State Command Output)) (came : Past rules config (a ∷ past)) (n : NodesState) (ballot index : ℕ) (node : CountedCore)
     (os : List ℕ) (port : Port) (x : ConnectionName) (list : List Command) (start now : ℕ) (piece : List ℕ) (connect : Connect)
-    (can : CanAsk a n ballot place node os port x list start piece connect) where
+    (can : CanAsk a n ballot index node os port x list start piece connect) where
   abbrev core : CoreState
   core = node.core
 
@@ -186,17 +186,17 @@ module _ (config : Config) (a : Moment State Command Output) (past : List (Momen
   q : StandsFor rules config a past
   q = past_stands rules config a past came
 
-  stands : slice_get a.world.nodes place ≡ Some r
-  stands = replica_at a n can.seen place node can.stands
+  stands : slice_get a.world.nodes index ≡ Some r
+  stands = replica_at a n can.seen index node can.stands
 
   leads : LeadsAt ballot r
   leads = record { joined = can.serves.leads.joined; held = can.serves.held; role = can.serves.leads.role; runs = can.serves.leads.runs }
 
   calm : IsCalm core
-  calm = calm_now ballot node leads (can.calm place node can.stands)
+  calm = calm_now ballot node leads (can.calm index node can.stands)
 
   long : places r.log ≡ length log
-  long = sym (whole_long a.world.archive r.log (q.kept.nodes place r stands).0.within) ∙ ap length can.serves.log_is
+  long = sym (whole_long a.world.archive r.log (q.kept.nodes index r stands).0.within) ∙ ap length can.serves.log_is
 
   room : has_room core ≡ true
   room =
@@ -217,7 +217,7 @@ module _ (config : Config) (a : Moment State Command Output) (past : List (Momen
 
   -- ---- as the sole member
 
-  pub alone : AnswersCommand rules a.world.archive ballot log c [] (place + 1) (replica_step rules r (Proposes c)) →
+  pub alone : AnswersCommand rules a.world.archive ballot log c [] (index + 1) (replica_step rules r (Proposes c)) →
       PutsOutFirst port (spelling session_present) (node_step (Bytes port piece now) core).core
   alone z =
       answer_alone_is_put_out core port now piece connection connect (length log) session_present welcomed.rest z.rest room can.awaits.opened can.awaits.waits.listed
@@ -228,7 +228,7 @@ module _ (config : Config) (a : Moment State Command Output) (past : List (Momen
 
   -- ---- with others
 
-  module _ (front : List ℕ) (last : ℕ) (h : IsHeldByAll rules a place ballot r log c front last) where
+  module _ (front : List ℕ) (last : ℕ) (h : IsHeldByAll rules a index ballot r log c front last) where
     abbrev turn : Turn
     turn = node_step (Bytes port piece now) core
 
@@ -236,7 +236,7 @@ module _ (config : Config) (a : Moment State Command Output) (past : List (Momen
     o = replica_step rules r (Proposes c)
 
     abbrev first : NodesState
-    first = after_node_call place node (takes (Bytes port piece now)) n
+    first = after_node_call index node (takes (Bytes port piece now)) n
 
     stepped : turn ≡ record { core = with_asked now port connect c core; messages = (proposal_at core c).effects }
     stepped =
@@ -244,35 +244,35 @@ module _ (config : Config) (a : Moment State Command Output) (past : List (Momen
         (ap (λ (d : Command). outputs (proposal_at core d).effects) proposes_c ∙ h.quiet)
         ∙ ap (λ (d : Command). let t : Turn = record { core = with_asked now port connect d core; messages = (proposal_at core d).effects } in t) proposes_c
 
-    seen_first : IsSeen (after_outcome place o a) first
+    seen_first : IsSeen (after_outcome index o a) first
     seen_first =
         record {
           master = can.seen.master;
-          nodes = ap (λ (l : List (ReplicaState State Command)). slice_set l place o.state) can.seen.nodes
-              ∙ sym (nodes_set n.nodes place (record node { core = turn.core })
-              ∙ ap (λ (t : Turn). slice_set (map replica_of (cores_of n.nodes)) place (replica_of t.core)) stepped);
+          nodes = ap (λ (l : List (ReplicaState State Command)). slice_set l index o.state) can.seen.nodes
+              ∙ sym (nodes_set n.nodes index (record node { core = turn.core })
+              ∙ ap (λ (t : Turn). slice_set (map replica_of (cores_of n.nodes)) index (replica_of t.core)) stepped);
           sent = ap (λ (l : List (ℕ × Message Command)). l ++ messages o.effects) can.seen.sent ∙ ap (λ (t : Turn). n.sent ++ messages t.messages) (sym stepped);
           archive = can.seen.archive;
         }
 
     calm_first : AreCalm ballot first
-    calm_first = set_calm ballot n.nodes place node (record node { core = turn.core }) can.stands (inl (each_loss_is_told (Bytes port piece now) core)) can.calm
+    calm_first = set_calm ballot n.nodes index node (record node { core = turn.core }) can.stands (inl (each_loss_is_told (Bytes port piece now) core)) can.calm
 
-    waits_first : StillWaits ballot place port x first
+    waits_first : StillWaits ballot index port x first
     waits_first =
-        itself ballot place port x n first node (record node { core = turn.core }) can.stands refl
+        itself ballot index port x n first node (record node { core = turn.core }) can.stands refl
         (subst (λ (t : Turn). LeadsAt ballot (replica_of t.core)) (sym stepped) (leads_proposing {O = Output} rules ballot r leads c))
         (subst (λ (t : Turn). AwaitsAnswer port x t.core) (sym stepped) (asked_awaits_answer port x core now connect c can.awaits))
 
-    delivered : Delivered rules ballot (after_outcome place o a) (numbers_from (length n.sent) (length front + 1) ++ numbers_from (length n.sent + (length front + 1)) (length front)) h.before
-    delivered = subst (λ (l : List (ℕ × Message Command)). Delivered rules ballot (after_outcome place o a)
+    delivered : Delivered rules ballot (after_outcome index o a) (numbers_from (length n.sent) (length front + 1) ++ numbers_from (length n.sent + (length front + 1)) (length front)) h.before
+    delivered = subst (λ (l : List (ℕ × Message Command)). Delivered rules ballot (after_outcome index o a)
         (numbers_from (length l) (length front + 1) ++ numbers_from (length l + (length front + 1)) (length front)) h.before) can.seen.sent h.delivered
 
-    pub awaits_others : AwaitsOthers ballot place port x
+    pub awaits_others : AwaitsOthers ballot index port x
         (numbers_from (length n.sent) (length front + 1) ++ numbers_from (length n.sent + (length front + 1)) (length front)) first
     awaits_others =
         record {
-          moment = after_outcome place o a;
+          moment = after_outcome index o a;
           before = h.before;
           delivered = delivered;
           master = h.master ∙ can.seen.master;
@@ -284,48 +284,48 @@ module _ (config : Config) (a : Moment State Command Output) (past : List (Momen
     module _ (new : NodesState)
         (comes : Come first (numbers_from (length n.sent) (length front + 1) ++ numbers_from (length n.sent + (length front + 1)) (length front)) new) where
       seen_last : IsSeen h.before new
-      seen_last = (deliveries_are_followed ballot (after_outcome place o a) h.before _ delivered first new comes seen_first calm_first).seen
+      seen_last = (deliveries_are_followed ballot (after_outcome index o a) h.before _ delivered first new comes seen_first calm_first).seen
 
-      pub with_others : PutsOutAtLast place (length n.sent + 2 * length front + 1) port (last_held last ballot log) new
-      with_others = by (waits_on ballot place port x (after_outcome place o a) h.before _ delivered first new comes seen_first calm_first waits_first)
+      pub with_others : PutsOutAtLast index (length n.sent + 2 * length front + 1) port (last_held last ballot log) new
+      with_others = by (waits_on ballot index port x (after_outcome index o a) h.before _ delivered first new comes seen_first calm_first waits_first)
         where
-          by : StillWaits ballot place port x new → PutsOutAtLast place (length n.sent + 2 * length front + 1) port (last_held last ballot log) new
+          by : StillWaits ballot index port x new → PutsOutAtLast index (length n.sent + 2 * length front + 1) port (last_held last ballot log) new
           by w =
               record {
                 node = w.node;
                 stands = w.stands;
                 runs = w.leads.runs;
                 comes = ap (λ (l : List (ℕ × Message Command)). slice_get l (length n.sent + 2 * length front + 1)) (sym seen_last.sent)
-                    ∙ subst (λ (l : List (ℕ × Message Command)). slice_get h.before.world.sent (length l + 2 * length front + 1) ≡ Some (place + 1, last_held last ballot log)) can.seen.sent h.comes;
+                    ∙ subst (λ (l : List (ℕ × Message Command)). slice_get h.before.world.sent (length l + 2 * length front + 1) ≡ Some (index + 1, last_held last ballot log)) can.seen.sent h.comes;
                 puts = answer_is_put_out w.node.core (last_held last ballot log) port x w.waits.connection (length log) session_present welcomed.rest h.primary.answers.rest w.leads.runs
                     w.waits.listed w.waits.named w.waits.none
                     (subst (λ (s : ReplicaState State Command). (received rules s last (last_held last ballot log).body).effects ≡ map (Out (length log)) (Send x session_present ∷ welcomed.rest) ++ h.primary.answers.rest)
-                    (some_one (slice_get h.before.world.nodes place) h.primary.replica (replica_of w.node.core) h.primary.stands (replica_at h.before new seen_last place w.node w.stands))
+                    (some_one (slice_get h.before.world.nodes index) h.primary.replica (replica_of w.node.core) h.primary.stands (replica_at h.before new seen_last index w.node w.stands))
                     (begins _ h.primary.answers.rest h.primary.answers.gives)) some_spelled short_spelled;
               }
 
 pub sole_member_answers_the_client : SoleMemberAnswersTheClient
-sole_member_answers_the_client config a past came n ballot place node port x list start now piece connect can =
-    alone config a past came n ballot place node [] port x list start now piece connect can
-    ((cut_groups_answer rules config a past came ballot place (replica_of node.core) (begun list start) [] (commands.Connect x connect.client false)
-    (replica_at a n can.seen place node can.stands) can.serves can.room).0 refl)
+sole_member_answers_the_client config a past came n ballot index node port x list start now piece connect can =
+    alone config a past came n ballot index node [] port x list start now piece connect can
+    ((cut_groups_answer rules config a past came ballot index (replica_of node.core) (begun list start) [] (commands.Connect x connect.client false)
+    (replica_at a n can.seen index node can.stands) can.serves can.room).0 refl)
 
 pub others_let_the_client_be_answered : OthersLetTheClientBeAnswered
-others_let_the_client_be_answered config a past came n new ballot place node front last port x list start now piece connect can apart out each comes =
+others_let_the_client_be_answered config a past came n new ballot index node front last port x list start now piece connect can apart out each comes =
     let h =
-    (cut_groups_answer rules config a past came ballot place (replica_of node.core) (begun list start) (front ++ last ∷ []) (commands.Connect x connect.client false)
-    (replica_at a n can.seen place node can.stands) can.serves can.room).1 front last refl apart out each in
-    with_others config a past came n ballot place node (front ++ last ∷ []) port x list start now piece connect can front last h new comes
+    (cut_groups_answer rules config a past came ballot index (replica_of node.core) (begun list start) (front ++ last ∷ []) (commands.Connect x connect.client false)
+    (replica_at a n can.seen index node can.stands) can.serves can.room).1 front last refl apart out each in
+    with_others config a past came n ballot index node (front ++ last ∷ []) port x list start now piece connect can front last h new comes
 
 -- and meanwhile the connection waits
-pub others_are_awaited : (config : Config) (a : Moment State Command Output) (past : List (Moment State Command Output)) → Past rules config (a ∷ past) → (n : NodesState) (ballot place : ℕ)
+pub others_are_awaited : (config : Config) (a : Moment State Command Output) (past : List (Moment State Command Output)) → Past rules config (a ∷ past) → (n : NodesState) (ballot index : ℕ)
     (node : CountedCore) (front : List ℕ) (last : ℕ) (port : Port) (x : ConnectionName) (list : List Command) (start now : ℕ) (piece : List ℕ) (connect : Connect) →
-    CanAsk a n ballot place node (front ++ last ∷ []) port x list start piece connect → AreApart (front ++ last ∷ []) → (In (place + 1) (front ++ last ∷ []) → ⊥) →
+    CanAsk a n ballot index node (front ++ last ∷ []) port x list start piece connect → AreApart (front ++ last ∷ []) → (In (index + 1) (front ++ last ∷ []) → ⊥) →
     ((m : ℕ) → In m (front ++ last ∷ []) → NodeIs (Follows ballot (begun list start)) (whole_moment a).world.nodes m) →
-    AwaitsOthers ballot place port x (numbers_from (length n.sent) (length front + 1) ++ numbers_from (length n.sent + (length front + 1)) (length front))
-    (after_node_call place node (takes (Bytes port piece now)) n)
-others_are_awaited config a past came n ballot place node front last port x list start now piece connect can apart out each =
+    AwaitsOthers ballot index port x (numbers_from (length n.sent) (length front + 1) ++ numbers_from (length n.sent + (length front + 1)) (length front))
+    (after_node_call index node (takes (Bytes port piece now)) n)
+others_are_awaited config a past came n ballot index node front last port x list start now piece connect can apart out each =
     let h =
-    (cut_groups_answer rules config a past came ballot place (replica_of node.core) (begun list start) (front ++ last ∷ []) (commands.Connect x connect.client false)
-    (replica_at a n can.seen place node can.stands) can.serves can.room).1 front last refl apart out each in
-    awaits_others config a past came n ballot place node (front ++ last ∷ []) port x list start now piece connect can front last h
+    (cut_groups_answer rules config a past came ballot index (replica_of node.core) (begun list start) (front ++ last ∷ []) (commands.Connect x connect.client false)
+    (replica_at a n can.seen index node can.stands) can.serves can.room).1 front last refl apart out each in
+    awaits_others config a past came n ballot index node (front ++ last ∷ []) port x list start now piece connect can front last h

@@ -51,22 +51,22 @@ low_before config a past came n s at node there =
     stands = past_stands rules config a past came
 
 -- and there is a way out
-pub way_of : (config : Config) (a : Moment State Command Output) (past : List (Moment State Command Output)) → Past rules config (a ∷ past) → (new : Config) (place source : ℕ)
-    (log : List Command) → CanBeLed (whole_moment a) new place source log → LeadsOut rules config (a ∷ past) a new place log
-way_of config a past came new place source log can = cut_groups_have_ways_out rules starts_give_nothing config a past came new place source log can
+pub way_of : (config : Config) (a : Moment State Command Output) (past : List (Moment State Command Output)) → Past rules config (a ∷ past) → (new : Config) (index source : ℕ)
+    (log : List Command) → CanBeLed (whole_moment a) new index source log → LeadsOut rules config (a ∷ past) a new index log
+way_of config a past came new index source log can = cut_groups_have_ways_out rules starts_give_nothing config a past came new index source log can
 
 pub nodes_are_led_out : NodesAreLedOut
-nodes_are_led_out config a past came new place source log can n end s comes = by (way_of config a past came new place source log can)
+nodes_are_led_out config a past came new index source log can n end s comes = by (way_of config a past came new index source log can)
   where
     fresh : AreCalm (a.master.given + 1) (after_giving new n)
     fresh at node there = inr (low_before config a past came n s at node there)
 
-    same : way_out (length n.sent) (length n.master.members) place (length new.members - 1)
-        ≡ way_out (length a.world.sent) (length a.master.members) place (length new.members - 1)
-    same = ap (λ (l : List (ℕ × Message Command)). way_out (length l) (length n.master.members) place (length new.members - 1)) (sym s.sent)
-        ∙ ap (λ (m : MasterState). way_out (length a.world.sent) (length m.members) place (length new.members - 1)) (sym s.master)
+    same : way_out (length n.sent) (length n.master.members) index (length new.members - 1)
+        ≡ way_out (length a.world.sent) (length a.master.members) index (length new.members - 1)
+    same = ap (λ (l : List (ℕ × Message Command)). way_out (length l) (length n.master.members) index (length new.members - 1)) (sym s.sent)
+        ∙ ap (λ (m : MasterState). way_out (length a.world.sent) (length m.members) index (length new.members - 1)) (sym s.master)
 
-    by : LeadsOut rules config (a ∷ past) a new place log → AreLedOut config (a ∷ past) a new place log n end
+    by : LeadsOut rules config (a ∷ past) a new index log → AreLedOut config (a ∷ past) a new index log n end
     by way =
         let z = deliveries_are_followed (a.master.given + 1) (assigned_moment new a) way.last _ way.delivered (after_giving new n) end
         (subst (λ ks. Come (after_giving new n) ks end) same comes) (assigned_seen a n new s) fresh in

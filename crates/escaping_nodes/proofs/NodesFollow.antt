@@ -46,7 +46,7 @@ use Rattle.escaping.proofs.OneDelivery.{a_step_is_a_delivery}
 abbrev pub core_of : CountedCore → CoreState
 core_of c = c.core
 
--- the replica at a place, as the moment has it
+-- the replica at an index, as the moment has it
 pub replica_at : (a : Moment State Command Output) (n : NodesState) → IsSeen a n → (at : ℕ) (node : CountedCore) → slice_get n.nodes at ≡ Some node →
     slice_get a.world.nodes at ≡ Some (replica_of node.core)
 replica_at a n s at node there =
@@ -180,12 +180,12 @@ module _ (ballot : ℕ) (b : Moment State Command Output) (n : NodesState) (calm
   pub node_comes : (a : Moment State Command Output) (k : ℕ) (ks : List ℕ) → Delivered rules ballot a (k ∷ ks) b → IsSeen a n → (at : ℕ) (node : CountedCore) (message : Message Command) →
       slice_get n.sent k ≡ Some (at + 1, message) → slice_get n.nodes at ≡ Some node → node.core.replica.state.stopped ≡ false →
       NextAt ballot ks b node message (after_node_call at node (takes (Peer message)) n)
-  node_comes a k ks (to_node j place r m sent stands runs silent joined d) s at node message came there going =
-      by (let same = same_message (slice_get n.sent k) (place + 1) (at + 1) m message (ap (λ l. slice_get l k) (sym s.sent) ∙ sent) came in same)
+  node_comes a k ks (to_node j index r m sent stands runs silent joined d) s at node message came there going =
+      by (let same = same_message (slice_get n.sent k) (index + 1) (at + 1) m message (ap (λ l. slice_get l k) (sym s.sent) ∙ sent) came in same)
     where
-      by : (place + 1 ≡ at + 1) × (m ≡ message) → NextAt ballot ks b node message (after_node_call at node (takes (Peer message)) n)
+      by : (index + 1 ≡ at + 1) × (m ≡ message) → NextAt ballot ks b node message (after_node_call at node (takes (Peer message)) n)
       by (e, f) =
-          let at_place : place ≡ at = next_same place at e in
+          let at_place : index ≡ at = next_same index at e in
           let one : r ≡ replica_of node.core = some_one (slice_get a.world.nodes at) r (replica_of node.core) (ap (slice_get a.world.nodes) (sym at_place) ∙ stands) (replica_at a n s at node there) in
           let heard : received rules r m.from m.body ≡ heard_by node.core message =
           ap (λ (x : ReplicaState State Command). received rules x m.from m.body) one ∙ ap (λ (x : Message Command). received rules (replica_of node.core) x.from x.body) f in
@@ -213,8 +213,8 @@ module _ (ballot : ℕ) (b : Moment State Command Output) (n : NodesState) (calm
   -- at the master
   pub master_comes : (a : Moment State Command Output) (k : ℕ) (ks : List ℕ) → Delivered rules ballot a (k ∷ ks) b → IsSeen a n → (from asked : ℕ) →
       slice_get n.sent k ≡ Some (0, record { from = from; body = Activate asked }) → Next ballot ks b (after_answer from asked n)
-  master_comes a k ks (to_node j place r m sent stands runs silent joined d) s from asked came =
-      absurd (never_next place (same_message (slice_get n.sent k) (place + 1) 0 m (record { from = from; body = Activate asked }) (ap (λ l. slice_get l k) (sym s.sent) ∙ sent) came).0)
+  master_comes a k ks (to_node j index r m sent stands runs silent joined d) s from asked came =
+      absurd (never_next index (same_message (slice_get n.sent k) (index + 1) 0 m (record { from = from; body = Activate asked }) (ap (λ l. slice_get l k) (sym s.sent) ∙ sent) came).0)
   master_comes a k ks (to_master j other ballot_asked sent d) s from asked came =
       by (same_message (slice_get n.sent k) 0 0 (record { from = other; body = Activate ballot_asked }) (record { from = from; body = Activate asked }) (ap (λ l. slice_get l k) (sym s.sent) ∙ sent) came).1
     where

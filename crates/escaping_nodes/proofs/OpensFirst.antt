@@ -42,8 +42,8 @@ calm_there : (ballot : ℕ) (node : CountedCore) → node.core.replica.state.joi
 calm_there ballot node same (inl calm) = calm
 calm_there ballot node same (inr low) = absurd (omega (arith, same, low))
 
-module _ (a : Moment State Command Output) (n : NodesState) (ballot place : ℕ) (node : CountedCore) (others_of : List ℕ) (log : List Command) (port : Port) (now : ℕ)
-    (can : CanOpen a n ballot place node others_of log port) where
+module _ (a : Moment State Command Output) (n : NodesState) (ballot index : ℕ) (node : CountedCore) (others_of : List ℕ) (log : List Command) (port : Port) (now : ℕ)
+    (can : CanOpen a n ballot index node others_of log port) where
   abbrev core : CoreState
   core = node.core
 
@@ -58,7 +58,7 @@ module _ (a : Moment State Command Output) (n : NodesState) (ballot place : ℕ)
 
   step : node_step (Opened port now) core ≡ quiet (with_first port core)
   step =
-      first_is_opened core port now leads (calm_there ballot node joined (can.calm place node can.stands))
+      first_is_opened core port now leads (calm_there ballot node joined (can.calm index node can.stands))
       (subst (λ (b : ℕ). core.last_name.ballot < b) (sym joined) can.low) (subst (λ (b : ℕ). b ≤ 2 ^ 32) (sym joined) can.most) can.free
 
   abbrev after : CountedCore
@@ -67,29 +67,29 @@ module _ (a : Moment State Command Output) (n : NodesState) (ballot place : ℕ)
   same : after.core.replica ≡ core.replica
   same = ap (λ (t : Turn). t.core.replica) step
 
-  pub opened_first : IsOpened a (after_node_call place node (takes (Opened port now)) n) ballot place others_of log port
+  pub opened_first : IsOpened a (after_node_call index node (takes (Opened port now)) n) ballot index others_of log port
   opened_first =
       record {
         seen = record {
           master = can.seen.master;
-          nodes = can.seen.nodes ∙ sym (nodes_set n.nodes place after ∙ ap (λ (r : CountedReplica State Command). slice_set (map replica_of (cores_of n.nodes)) place r.state) same
-              ∙ set_same_replica n place node can.stands);
+          nodes = can.seen.nodes ∙ sym (nodes_set n.nodes index after ∙ ap (λ (r : CountedReplica State Command). slice_set (map replica_of (cores_of n.nodes)) index r.state) same
+              ∙ set_same_replica n index node can.stands);
           sent = can.seen.sent ∙ sym (ap (λ (t : Turn). n.sent ++ messages t.messages) step ∙ append-nil n.sent);
           archive = can.seen.archive;
         };
-        calm = set_calm ballot n.nodes place node after can.stands (inl (each_loss_is_told (Opened port now) core)) can.calm;
+        calm = set_calm ballot n.nodes index node after can.stands (inl (each_loss_is_told (Opened port now) core)) can.calm;
         node = after;
-        stands = get_set n.nodes place node after can.stands;
-        serves = subst (λ (r : CountedReplica State Command). Serves ballot log others_of (place + 1) (whole a.world.archive r.state)) (sym same) can.serves;
+        stands = get_set n.nodes index node after can.stands;
+        serves = subst (λ (r : CountedReplica State Command). Serves ballot log others_of (index + 1) (whole a.world.archive r.state)) (sym same) can.serves;
         awaits = subst (λ (x : ConnectionName). AwaitsConnect port x after.core) named
             (subst (λ (t : Turn). AwaitsConnect port (first_name core) t.core) (sym step)
             (first_awaits_connect port core can.free (ap (λ (x : ConnectionName). find (is_open_named x) core.connections) named ∙ can.unnamed)));
       }
 
 -- it still awaits it when bytes are handed over
-handed : (a : Moment State Command Output) (n : NodesState) (ballot place : ℕ) (others_of : List ℕ) (log : List Command) (port : Port) (at : ℕ) (other : CountedCore) (p : Port) →
-    slice_get n.nodes at ≡ Some other → IsOpened a n ballot place others_of log port → IsOpened a (after_node_call at other (gives p) n) ballot place others_of log port
-handed a n ballot place others_of log port at other p there o = by (cases_eq place at)
+handed : (a : Moment State Command Output) (n : NodesState) (ballot index : ℕ) (others_of : List ℕ) (log : List Command) (port : Port) (at : ℕ) (other : CountedCore) (p : Port) →
+    slice_get n.nodes at ≡ Some other → IsOpened a n ballot index others_of log port → IsOpened a (after_node_call at other (gives p) n) ballot index others_of log port
+handed a n ballot index others_of log port at other p there o = by (cases_eq index at)
   where
     after : CountedCore
     after = record other { core = hands_over p other.core }
@@ -100,9 +100,9 @@ handed a n ballot place others_of log port at other p there o = by (cases_eq pla
     calm : AreCalm ballot (after_node_call at other (gives p) n)
     calm = hands_calm ballot n at other p there o.calm
 
-    by : (place ≡ at) ⊎ (place ≡ at → ⊥) → IsOpened a (after_node_call at other (gives p) n) ballot place others_of log port
+    by : (index ≡ at) ⊎ (index ≡ at → ⊥) → IsOpened a (after_node_call at other (gives p) n) ballot index others_of log port
     by (inr apart) =
-        record { seen = seen; calm = calm; node = o.node; stands = get_set_other n.nodes at place after apart ∙ o.stands; serves = o.serves; awaits = o.awaits }
+        record { seen = seen; calm = calm; node = o.node; stands = get_set_other n.nodes at index after apart ∙ o.stands; serves = o.serves; awaits = o.awaits }
     by (inl same) =
         let one : o.node ≡ other = some_one (slice_get n.nodes at) o.node other (ap (slice_get n.nodes) (sym same) ∙ o.stands) there in
         record {
@@ -110,17 +110,17 @@ handed a n ballot place others_of log port at other p there o = by (cases_eq pla
           calm = calm;
           node = after;
           stands = ap (slice_get (slice_set n.nodes at after)) same ∙ get_set n.nodes at other after there;
-          serves = subst (λ (r : CountedReplica State Command). Serves ballot log others_of (place + 1) (whole a.world.archive r.state)) (sym (hands_keep p other.core).0)
-              (subst (λ (c : CountedCore). Serves ballot log others_of (place + 1) (whole a.world.archive (replica_of c.core))) one o.serves);
+          serves = subst (λ (r : CountedReplica State Command). Serves ballot log others_of (index + 1) (whole a.world.archive r.state)) (sym (hands_keep p other.core).0)
+              (subst (λ (c : CountedCore). Serves ballot log others_of (index + 1) (whole a.world.archive (replica_of c.core))) one o.serves);
           awaits = handing_keeps_the_connect port p (first_of ballot) other.core (subst (λ (c : CountedCore). AwaitsConnect port (first_of ballot) c.core) one o.awaits);
         }
 
-opened_still : (a : Moment State Command Output) (n new : NodesState) (ballot place : ℕ) (others_of : List ℕ) (log : List Command) (port : Port) → Come n [] new →
-    IsOpened a n ballot place others_of log port → IsOpened a new ballot place others_of log port
-opened_still a n new ballot place others_of log port none_comes o = o
-opened_still a n new ballot place others_of log port (hands at other p there more) o =
-    opened_still a _ new ballot place others_of log port more (handed a n ballot place others_of log port at other p there o)
+opened_still : (a : Moment State Command Output) (n new : NodesState) (ballot index : ℕ) (others_of : List ℕ) (log : List Command) (port : Port) → Come n [] new →
+    IsOpened a n ballot index others_of log port → IsOpened a new ballot index others_of log port
+opened_still a n new ballot index others_of log port none_comes o = o
+opened_still a n new ballot index others_of log port (hands at other p there more) o =
+    opened_still a _ new ballot index others_of log port more (handed a n ballot index others_of log port at other p there o)
 
 pub connections_open_first : ConnectionsOpenFirst
-connections_open_first a n new ballot place node others_of log port now can comes =
-    opened_still a _ new ballot place others_of log port comes (opened_first a n ballot place node others_of log port now can)
+connections_open_first a n new ballot index node others_of log port now can comes =
+    opened_still a _ new ballot index others_of log port comes (opened_first a n ballot index node others_of log port now can)

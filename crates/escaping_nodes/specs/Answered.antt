@@ -42,17 +42,17 @@ session_present = packets.Connack (connacks.Accepted true)
 abbrev pub begun : List Command → ℕ → List Command
 begun list start = list ++ commands.Start start ∷ []
 
--- the node at a place leads a ballot, with the commands of this list before the ballot's start; a
+-- the node at an index leads a ballot, with the commands of this list before the ballot's start; a
 -- connection awaits its CONNECT there; and the bytes are a CONNECT of a client whose session exists
 -- and is not clean
-pub record CanAsk (a : Moment State Command Output) (n : NodesState) (ballot place : ℕ)
+pub record CanAsk (a : Moment State Command Output) (n : NodesState) (ballot index : ℕ)
     (node : CountedCore) (others_of : List ℕ) (port : Port)
     (x : ConnectionName) (list : List Command) (start : ℕ) (piece : List ℕ) (connect : Connect)
     : Type 0 where
   pub seen : IsSeen a n
   pub calm : AreCalm ballot n
-  pub stands : slice_get n.nodes place ≡ Some node
-  pub serves : Serves ballot (begun list start) others_of (place + 1)
+  pub stands : slice_get n.nodes index ≡ Some node
+  pub serves : Serves ballot (begun list start) others_of (index + 1)
       (whole a.world.archive (replica_of node.core))
   pub room : length (begun list start) < most_places
   pub awaits : AwaitsConnect port x node.core
@@ -65,23 +65,23 @@ abbrev pub SoleMemberAnswersTheClient : Type 0
 SoleMemberAnswersTheClient =
     (config : Config) (a : Moment State Command Output)
     (past : List (Moment State Command Output)) → Past rules config (a ∷ past) →
-    (n : NodesState) (ballot place : ℕ) (node : CountedCore) (port : Port) (x : ConnectionName)
+    (n : NodesState) (ballot index : ℕ) (node : CountedCore) (port : Port) (x : ConnectionName)
     (list : List Command) (start now : ℕ) (piece : List ℕ) (connect : Connect) →
-    CanAsk a n ballot place node [] port x list start piece connect →
+    CanAsk a n ballot index node [] port x list start piece connect →
     PutsOutFirst port (spelling session_present) (node_step (Bytes port piece now) node.core).core
 
 -- the last answer of another member
 abbrev pub last_held : ℕ → ℕ → List Command → Message Command
 last_held last ballot log = record { from = last; body = Held ballot (length log + 1) }
 
--- that message was sent to the node at the place, which runs, and queues the answer first when it
+-- that message was sent to the node at the index, which runs, and queues the answer first when it
 -- comes
-pub record PutsOutAtLast (place index : ℕ) (port : Port) (message : Message Command)
+pub record PutsOutAtLast (index number : ℕ) (port : Port) (message : Message Command)
     (n : NodesState) : Type 0 where
   pub node : CountedCore
-  pub stands : slice_get n.nodes place ≡ Some node
+  pub stands : slice_get n.nodes index ≡ Some node
   pub runs : node.core.replica.state.stopped ≡ false
-  pub comes : slice_get n.sent index ≡ Some (place + 1, message)
+  pub comes : slice_get n.sent number ≡ Some (index + 1, message)
   pub puts : PutsOutFirst port (spelling session_present) (node_step (Peer message) node.core).core
 
 -- with others: they are sent the command, and answer; once all answers except the last have come,
@@ -90,15 +90,15 @@ abbrev pub OthersLetTheClientBeAnswered : Type 0
 OthersLetTheClientBeAnswered =
     (config : Config) (a : Moment State Command Output)
     (past : List (Moment State Command Output)) → Past rules config (a ∷ past) →
-    (n new : NodesState) (ballot place : ℕ) (node : CountedCore) (front : List ℕ) (last : ℕ)
+    (n new : NodesState) (ballot index : ℕ) (node : CountedCore) (front : List ℕ) (last : ℕ)
     (port : Port) (x : ConnectionName) (list : List Command) (start now : ℕ) (piece : List ℕ)
     (connect : Connect) →
-    CanAsk a n ballot place node (front ++ last ∷ []) port x list start piece connect →
-    AreApart (front ++ last ∷ []) → (In (place + 1) (front ++ last ∷ []) → ⊥) →
+    CanAsk a n ballot index node (front ++ last ∷ []) port x list start piece connect →
+    AreApart (front ++ last ∷ []) → (In (index + 1) (front ++ last ∷ []) → ⊥) →
     ((m : ℕ) → In m (front ++ last ∷ []) →
     NodeIs (Follows ballot (begun list start)) (whole_moment a).world.nodes m) →
-    Come (after_node_call place node (takes (Bytes port piece now)) n)
+    Come (after_node_call index node (takes (Bytes port piece now)) n)
     (numbers_from (length n.sent) (length front + 1)
     ++ numbers_from (length n.sent + (length front + 1)) (length front)) new →
-    PutsOutAtLast place (length n.sent + 2 * length front + 1) port
+    PutsOutAtLast index (length n.sent + 2 * length front + 1) port
     (last_held last ballot (begun list start)) new

@@ -16,9 +16,9 @@ use Rattle.escaping_nodes.specs.Coming.{AreCalm, Come, IsSeen, KeepNames}
 -- the moment to which the way out leads is seen then, each node is calm or has not joined the new
 -- ballot, and none has given a name
 pub record AreLedOut (config : Config) (past : List (Moment State Command Output))
-    (a : Moment State Command Output) (new : Config) (place : ℕ)
+    (a : Moment State Command Output) (new : Config) (index : ℕ)
     (log : List Command) (n end : NodesState) : Type 0 where
-  pub way : LeadsOut rules config past a new place log
+  pub way : LeadsOut rules config past a new index log
   pub seen : IsSeen way.last end
   pub calm : AreCalm (a.master.given + 1) end
   pub names : KeepNames n end
@@ -29,8 +29,8 @@ abbrev pub NodesAreLedOut : Type 0
 NodesAreLedOut =
     (config : Config) (a : Moment State Command Output)
     (past : List (Moment State Command Output)) → Past rules config (a ∷ past) →
-    (new : Config) (place source : ℕ) (log : List Command) →
-    CanBeLed (whole_moment a) new place source log → (n end : NodesState) → IsSeen a n →
+    (new : Config) (index source : ℕ) (log : List Command) →
+    CanBeLed (whole_moment a) new index source log → (n end : NodesState) → IsSeen a n →
     Come (after_giving new n)
-    (way_out (length n.sent) (length n.master.members) place (length new.members - 1)) end →
-    AreLedOut config (a ∷ past) a new place log n end
+    (way_out (length n.sent) (length n.master.members) index (length new.members - 1)) end →
+    AreLedOut config (a ∷ past) a new index log n end

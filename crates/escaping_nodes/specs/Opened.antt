@@ -27,15 +27,15 @@ use Rattle.escaping_nodes.specs.Coming.{AreCalm, Come, IsSeen}
 abbrev pub first_of : ℕ → ConnectionName
 first_of ballot = record { ballot = ballot; count = 1 }
 
--- the node at a place leads a ballot in which it gave no name yet, and lists no connection at this
+-- the node at an index leads a ballot in which it gave no name yet, and lists no connection at this
 -- port
-pub record CanOpen (a : Moment State Command Output) (n : NodesState) (ballot place : ℕ)
+pub record CanOpen (a : Moment State Command Output) (n : NodesState) (ballot index : ℕ)
     (node : CountedCore) (others_of : List ℕ) (log : List Command)
     (port : Port) : Type 0 where
   pub seen : IsSeen a n
   pub calm : AreCalm ballot n
-  pub stands : slice_get n.nodes place ≡ Some node
-  pub serves : Serves ballot log others_of (place + 1)
+  pub stands : slice_get n.nodes index ≡ Some node
+  pub serves : Serves ballot log others_of (index + 1)
       (whole a.world.archive (replica_of node.core))
   pub low : node.core.last_name.ballot < ballot
   pub most : ballot ≤ 2 ^ 32
@@ -43,24 +43,24 @@ pub record CanOpen (a : Moment State Command Output) (n : NodesState) (ballot pl
   pub unnamed : find (is_open_named (first_of ballot)) node.core.connections ≡ None
 
 -- it leads the ballot still, and a connection of the first name awaits its CONNECT at this port
-pub record IsOpened (a : Moment State Command Output) (n : NodesState) (ballot place : ℕ)
+pub record IsOpened (a : Moment State Command Output) (n : NodesState) (ballot index : ℕ)
     (others_of : List ℕ) (log : List Command) (port : Port) : Type 0 where
   pub seen : IsSeen a n
   pub calm : AreCalm ballot n
   pub node : CountedCore
-  pub stands : slice_get n.nodes place ≡ Some node
-  pub serves : Serves ballot log others_of (place + 1)
+  pub stands : slice_get n.nodes index ≡ Some node
+  pub serves : Serves ballot log others_of (index + 1)
       (whole a.world.archive (replica_of node.core))
   pub awaits : AwaitsConnect port (first_of ballot) node.core
 
 -- that holds once the connection was opened, whatever bytes are handed over then
 abbrev pub ConnectionsOpenFirst : Type 0
 ConnectionsOpenFirst =
-    (a : Moment State Command Output) (n new : NodesState) (ballot place : ℕ) (node : CountedCore)
+    (a : Moment State Command Output) (n new : NodesState) (ballot index : ℕ) (node : CountedCore)
     (others_of : List ℕ) (log : List Command)
-    (port : Port) (now : ℕ) → CanOpen a n ballot place node others_of log port →
-    Come (after_node_call place node (takes (Opened port now)) n) [] new →
-    IsOpened a new ballot place others_of log port
+    (port : Port) (now : ℕ) → CanOpen a n ballot index node others_of log port →
+    Come (after_node_call index node (takes (Opened port now)) n) [] new →
+    IsOpened a new ballot index others_of log port
 
 -- a client would be answered with session present after these commands exactly if it has a session
 -- that is not clean

@@ -15,7 +15,7 @@ abbrev pub command_of : ConnectionName → ℕ → Packet → Command
 command_of x zero (packets.Connect c) = commands.Connect x c.client c.clean
 command_of x taken packet = commands.Packet x packet
 
--- the connection of this place in the list, one more packet of it taken
+-- the connection at this index of the list, one more packet of it taken
 abbrev pub counted_at : ℕ → List Connection → List Connection
 counted_at i [] = []
 counted_at zero (κ ∷ connections) = record κ { taken = suc κ.taken } ∷ connections

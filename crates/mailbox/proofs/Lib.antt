@@ -1,4 +1,4 @@
-mod AllLanesByPlace
+mod AllLanesByIndex
 mod CountsAreKept
 mod EachView
 pub mod ItemsOfALane

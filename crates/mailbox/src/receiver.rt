@@ -71,8 +71,8 @@ impl<T: Drop, J: Naming> Receiver<T, J> {
         if lanes.len() != self.lanes() {
             return false;
         }
-        for (place, lane) in lanes.iter().enumerate() {
-            if lane.number() != self.number() || usize::from(lane.lane()) != place {
+        for (index, lane) in lanes.iter().enumerate() {
+            if lane.number() != self.number() || usize::from(lane.lane()) != index {
                 return false;
             }
         }

@@ -37,11 +37,11 @@ use Rattle.master.specs.Inside.Losing.{MasterTook, TookCut, TookTurn}
 -- the turn of a node that runs
 pub takes_turn : {S C O : Type 0} (rules : Rules S C O) (w : World S C O) (node at : ℕ) (input : Input C) (x : RunsAt w.nodes node at) →
     can_take x.replica input ≡ true →
-    takes rules w node input ≡ Some (by_node (record { place = at; before = x.replica; outcome = replica_step rules x.replica input }))
+    takes rules w node input ≡ Some (by_node (record { index = at; before = x.replica; outcome = replica_step rules x.replica input }))
 takes_turn {S = S} {C = C} {O = O} rules w node at input x can =
     ap (λ o. taking rules (node - 1) o input) x.runs
-    ∙ ap (λ b. cond b (Some (by_node (record { place = node - 1; before = x.replica; outcome = replica_step rules x.replica input }))) None) can
-    ∙ ap (λ n. let t : NodeTurn S C O = record { place = n; before = x.replica; outcome = replica_step rules x.replica input } in Some (by_node t)) (sym x.place)
+    ∙ ap (λ b. cond b (Some (by_node (record { index = node - 1; before = x.replica; outcome = replica_step rules x.replica input }))) None) can
+    ∙ ap (λ n. let t : NodeTurn S C O = record { index = n; before = x.replica; outcome = replica_step rules x.replica input } in Some (by_node t)) (sym x.index)
 
 pub takes_nothing : {S C O : Type 0} (rules : Rules S C O) (w : World S C O) (node : ℕ) (input : Input C) →
     running w.nodes node ≡ None → takes rules w node input ≡ None
@@ -51,13 +51,13 @@ pub cannot_take : {S C O : Type 0} (rules : Rules S C O) (w : World S C O) (node
     can_take x.replica input ≡ false → takes rules w node input ≡ None
 cannot_take {S = S} {C = C} {O = O} rules w node at input x can =
     ap (λ o. taking rules (node - 1) o input) x.runs
-    ∙ ap (λ b. cond b (Some (by_node (record { place = node - 1; before = x.replica; outcome = replica_step rules x.replica input }))) None) can
+    ∙ ap (λ b. cond b (Some (by_node (record { index = node - 1; before = x.replica; outcome = replica_step rules x.replica input }))) None) can
 
 pub stops_turn : {S C O : Type 0} (rules : Rules S C O) (nodes : List (ReplicaState S C)) (node at : ℕ) (x : RunsAt nodes node at) →
-    stopping rules (node - 1) (running nodes node) ≡ Some (by_node (record { place = at; before = x.replica; outcome = record { state = halted rules x.replica; effects = [] } }))
+    stopping rules (node - 1) (running nodes node) ≡ Some (by_node (record { index = at; before = x.replica; outcome = record { state = halted rules x.replica; effects = [] } }))
 stops_turn {S = S} {C = C} {O = O} rules nodes node at x =
     ap (stopping rules (node - 1)) x.runs
-    ∙ ap (λ n. let t : NodeTurn S C O = record { place = n; before = x.replica; outcome = record { state = halted rules x.replica; effects = [] } } in Some (by_node t)) (sym x.place)
+    ∙ ap (λ n. let t : NodeTurn S C O = record { index = n; before = x.replica; outcome = record { state = halted rules x.replica; effects = [] } } in Some (by_node t)) (sym x.index)
 
 -- the turn of a cut
 pub cuts_turn : {S C O : Type 0} (rules : Rules S C O) (nodes : List (ReplicaState S C)) (node at : ℕ) (x : RunsAt nodes node at) → can_cut x.replica ≡ true →
@@ -65,7 +65,7 @@ pub cuts_turn : {S C O : Type 0} (rules : Rules S C O) (nodes : List (ReplicaSta
 cuts_turn {S = S} {C = C} {O = O} rules nodes node at x can =
     ap (cutting rules (node - 1)) x.runs
     ∙ ap (λ b. let t : Option (Turn S C O) = cond b (Some (by_cut (cut_turn rules (node - 1) x.replica))) None in t) can
-    ∙ ap (λ n. let t : Option (Turn S C O) = Some (by_cut (cut_turn rules n x.replica)) in t) (sym x.place)
+    ∙ ap (λ n. let t : Option (Turn S C O) = Some (by_cut (cut_turn rules n x.replica)) in t) (sym x.index)
 
 pub cuts_nothing : {S C O : Type 0} (rules : Rules S C O) (nodes : List (ReplicaState S C)) (node at : ℕ) (x : RunsAt nodes node at) → can_cut x.replica ≡ false →
     cutting rules (node - 1) (running nodes node) ≡ None
@@ -93,8 +93,8 @@ steps_turn {S = S} {C = C} {O = O} rules old new event t e took =
         ⊎ (Happens rules old.moment event new.moment × (new.losses ≡ one_more old.losses))
     by_way (inl (a, b, c)) =
         inl (
-          took.moment ∙ ap (λ (s : ReplicaState S C). let z : Moment S C O = record old.moment { world = moved old.moment.world t.place s took.given } in z) a
-              ∙ ap (λ (us : List (Effect C O)). let z : Moment S C O = record old.moment { world = moved old.moment.world t.place t.outcome.state us } in z) b
+          took.moment ∙ ap (λ (s : ReplicaState S C). let z : Moment S C O = record old.moment { world = moved old.moment.world t.index s took.given } in z) a
+              ∙ ap (λ (us : List (Effect C O)). let z : Moment S C O = record old.moment { world = moved old.moment.world t.index t.outcome.state us } in z) b
               ∙ ap (after old.moment) (sym e),
           c,
         )
@@ -159,10 +159,10 @@ came rules a k (suc n, m) positive e = ap (comes rules a) e
 
 pub delivers_turn : {S C O : Type 0} (rules : Rules S C O) (a : Moment S C O) (k at : ℕ) (x : ℕ × Message C) (m : Message C) →
     slice_get a.world.sent k ≡ Some x → m ≡ x.1 → (y : RunsAt a.world.nodes x.0 at) →
-    turn rules a (Deliver k) ≡ Some (by_node (record { place = at; before = y.replica; outcome = replica_step rules y.replica (Receives m) }))
+    turn rules a (Deliver k) ≡ Some (by_node (record { index = at; before = y.replica; outcome = replica_step rules y.replica (Receives m) }))
 delivers_turn {S = S} {C = C} {O = O} rules a k at x m e same y =
     came rules a k x y.positive e ∙ takes_turn rules a.world x.0 at (Receives x.1) y refl
-    ∙ ap (λ z. let t : NodeTurn S C O = record { place = at; before = y.replica; outcome = replica_step rules y.replica (Receives z) } in Some (by_node t)) (sym same)
+    ∙ ap (λ z. let t : NodeTurn S C O = record { index = at; before = y.replica; outcome = replica_step rules y.replica (Receives z) } in Some (by_node t)) (sym same)
 
 pub delivers_nothing : {S C O : Type 0} (rules : Rules S C O) (a : Moment S C O) (k : ℕ) (x : ℕ × Message C) → 0 < x.0 →
     slice_get a.world.sent k ≡ Some x → running a.world.nodes x.0 ≡ None → turn rules a (Deliver k) ≡ None
@@ -247,6 +247,6 @@ asked_in {C = C} sent k b x found zero_is asks =
 pub came_in : {S C : Type 0} (nodes : List (ReplicaState S C)) (sent : List (ℕ × Message C)) (k at : ℕ) (x : ℕ × Message C) (m : Message C) →
     slice_get sent k ≡ Some x → m ≡ x.1 → RunsAt nodes x.0 at → In (at + 1, m) sent
 came_in {S = S} {C = C} nodes sent k at x m found same y =
-    let place = y.place in let positive = y.positive in
+    let place = y.index in let positive = y.positive in
     let number : x.0 ≡ at + 1 = omega (arith, place, positive) in
     in_at sent k (at + 1, m) (found ∙ ap (λ n. Some (n, x.1)) number ∙ ap (λ z. let v : ℕ × Message C = (at + 1, z) in Some v) (sym same))

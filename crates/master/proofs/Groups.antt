@@ -346,7 +346,7 @@ turned told next told' next' before after stays turns = by_ballot (cases_eq befo
 pub group_turns : {S C O : Type 0} (rules : Rules S C O) (a v : Moment S C O) (told next told' next' : ToldIn) (old new : GroupState S C O) (input : Input C)
     (n from : ℕ) (r : ReplicaState S C) (more : List (Effect C O)) (sent : List (ℕ × Message C)) → IsGroup rules a told next → old.moment ≡ a → new.moment ≡ v →
     slice_get a.world.nodes n ≡ Some r → r.stopped ≡ false → MayTake a.world n input →
-    TookTurn rules old (record { place = n; before = r; outcome = replica_step rules r input }) new →
+    TookTurn rules old (record { index = n; before = r; outcome = replica_step rules r input }) new →
     v.world.sent ≡ sent → from ≡ length a.world.sent → sent ≡ a.world.sent ++ messages more →
     told'.ballot ≡ told.ballot → (HasCounted (take from sent) told → HasCounted sent told') →
     next'.ballot ≡ next.ballot → (HasCounted (take from sent) next → HasCounted sent next') → IsGroup rules v told' next'
@@ -388,7 +388,7 @@ more_than n xs ys more now is grown at =
 pub group_stops : {S C O : Type 0} (rules : Rules S C O) (a v : Moment S C O) (told next : ToldIn) (old new : GroupState S C O)
     (n : ℕ) (r : ReplicaState S C) → IsGroup rules a told next → old.moment ≡ a → new.moment ≡ v →
     slice_get a.world.nodes n ≡ Some r → r.stopped ≡ false →
-    TookTurn rules old (record { place = n; before = r; outcome = record { state = halted rules r; effects = [] } }) new →
+    TookTurn rules old (record { index = n; before = r; outcome = record { state = halted rules r; effects = [] } }) new →
     v.world.sent ≡ a.world.sent → IsGroup rules v told next
 group_stops {S = S} {C = C} {O = O} rules a v told next old new n r g is_old is_new stands going took sent_is =
     group_goes rules a v told next told next g

@@ -45,9 +45,9 @@ nothing_may rules a = assignment_lost (record { members = []; primary = 0 })
 
 -- what the turn of a node is: it takes something in, or stops
 pub data IsTurn {S C O : Type 0} (rules : Rules S C O) (w : World S C O) (t : NodeTurn S C O) : Type 0 where
-  it_takes : (input : Input C) → slice_get w.nodes t.place ≡ Some t.before → t.before.stopped ≡ false → MayTake w t.place input →
+  it_takes : (input : Input C) → slice_get w.nodes t.index ≡ Some t.before → t.before.stopped ≡ false → MayTake w t.index input →
       t.outcome ≡ replica_step rules t.before input → IsTurn rules w t
-  it_stops : slice_get w.nodes t.place ≡ Some t.before → t.before.stopped ≡ false →
+  it_stops : slice_get w.nodes t.index ≡ Some t.before → t.before.stopped ≡ false →
       t.outcome ≡ record { state = halted rules t.before; effects = [] } → IsTurn rules w t
 
 -- a node that runs
@@ -65,7 +65,7 @@ taking_is rules w n None input t is may e = cc
 taking_is {S = S} {C = C} {O = O} rules w n (Some r) input t is may e = by_room (can_take r input) e
   where
     now : NodeTurn S C O
-    now = record { place = n; before = r; outcome = replica_step rules r input }
+    now = record { index = n; before = r; outcome = replica_step rules r input }
 
     by_room : (b : Bool) → cond b (Some (by_node now)) None ≡ Some (by_node t) → IsTurn rules w t
     by_room true f =
@@ -93,7 +93,7 @@ stopping_is {S = S} {C = C} {O = O} rules w (suc n) t e =
     by_node_there : (o : Option (ReplicaState S C)) → unless_stopped (slice_get w.nodes n) ≡ o → stopping rules n o ≡ Some (by_node t) → IsTurn rules w t
     by_node_there None f g = cc
     by_node_there (Some r) f g =
-        let now : NodeTurn S C O = record { place = n; before = r; outcome = record { state = halted rules r; effects = [] } } in
+        let now : NodeTurn S C O = record { index = n; before = r; outcome = record { state = halted rules r; effects = [] } } in
         let is : now ≡ t = cc in
         let z = running_is (slice_get w.nodes n) r f in
         subst (λ (x : NodeTurn S C O). IsTurn rules w x) is (it_stops z.0 z.1 refl)
@@ -147,7 +147,7 @@ turn_is rules a (Crash node) t is = stopping_is rules a.world node t is
 
 -- what a cut is
 pub record IsCut {S C O : Type 0} (rules : Rules S C O) (w : World S C O) (t : NodeTurn S C O) : Type 0 where
-  pub stands : slice_get w.nodes t.place ≡ Some t.before
+  pub stands : slice_get w.nodes t.index ≡ Some t.before
   pub can : can_cut t.before ≡ true
   pub is : t.outcome ≡ record { state = cut rules t.before; effects = [] }
 
@@ -176,7 +176,7 @@ no_cut_taking : {S C O : Type 0} (rules : Rules S C O) (n : ℕ) (o : Option (Re
 no_cut_taking rules n None input t e = cc
 no_cut_taking {S = S} {C = C} {O = O} rules n (Some r) input t e = by_room (can_take r input) e
   where
-    by_room : (b : Bool) → cond b (Some (by_node (record { place = n; before = r; outcome = replica_step rules r input }))) None ≡ Some (by_cut t) → ⊥
+    by_room : (b : Bool) → cond b (Some (by_node (record { index = n; before = r; outcome = replica_step rules r input }))) None ≡ Some (by_cut t) → ⊥
     by_room true f = cc
     by_room false f = cc
 
@@ -223,10 +223,10 @@ cut_is rules a (Crash node) t is = absurd (no_cut_stopping rules (node - 1) (run
 -- such a cut may happen if its snapshot can be read
 pub cut_may : {S C O : Type 0} (rules : Rules S C O) (m : MasterState) (w : World S C O) (t : NodeTurn S C O) → IsCut rules w t →
     Freezes rules (Some (by_cut t)) →
-    MayHappen rules m w m (record (moved w t.place t.outcome.state t.outcome.effects) { archive = recorded w.archive t.before })
+    MayHappen rules m w m (record (moved w t.index t.outcome.state t.outcome.effects) { archive = recorded w.archive t.before })
 cut_may {S = S} {C = C} {O = O} rules m w t c freezes =
-    subst (λ (o : Outcome S C O). MayHappen rules m w m (record (moved w t.place o.state o.effects) { archive = recorded w.archive t.before })) (sym c.is)
-    (node_moves (goes.cuts t.place t.before c.stands runs below (subst (λ (o : Outcome S C O). rules.thawed o.state.log.snapshot ≡ Some t.before.machine) c.is freezes)))
+    subst (λ (o : Outcome S C O). MayHappen rules m w m (record (moved w t.index o.state o.effects) { archive = recorded w.archive t.before })) (sym c.is)
+    (node_moves (goes.cuts t.index t.before c.stands runs below (subst (λ (o : Outcome S C O). rules.thawed o.state.log.snapshot ≡ Some t.before.machine) c.is freezes)))
   where
     parts : ((not t.before.stopped) ≡ true) × (nat_lt t.before.log.base t.before.committed ≡ true)
     parts = and_parts (not t.before.stopped) (nat_lt t.before.log.base t.before.committed) c.can
@@ -248,20 +248,20 @@ thinned_none e (Thinned.keeps t) = cc
 thinned_none e (Thinned.loses t) = cc
 
 pub node_may : {S C O : Type 0} (rules : Rules S C O) (m : MasterState) (w : World S C O) (t : NodeTurn S C O) (new : ReplicaState S C) (given : List (Effect C O)) →
-    IsTurn rules w t → Loses rules t.before t.outcome new given → MayHappen rules m w m (moved w t.place new given)
+    IsTurn rules w t → Loses rules t.before t.outcome new given → MayHappen rules m w m (moved w t.index new given)
 node_may {S = S} {C = C} {O = O} rules m w t new given (it_takes input stands runs may is) loses =
-    node_moves (goes.takes t.place t.before input stands runs may (subst (λ (o : Outcome S C O). Loses rules t.before o new given) is loses))
+    node_moves (goes.takes t.index t.before input stands runs may (subst (λ (o : Outcome S C O). Loses rules t.before o new given) is loses))
 node_may {S = S} {C = C} {O = O} rules m w t new given (it_stops stands runs is) loses = by_loss loses
   where
-    stops : new ≡ halted rules t.before → given ≡ [] → MayHappen rules m w m (moved w t.place new given)
+    stops : new ≡ halted rules t.before → given ≡ [] → MayHappen rules m w m (moved w t.index new given)
     stops e f =
-        subst (λ (s : ReplicaState S C). MayHappen rules m w m (moved w t.place s given)) (sym e)
-        (subst (λ (us : List (Effect C O)). MayHappen rules m w m (moved w t.place (halted rules t.before) us)) (sym f) (node_moves (goes.stops t.place t.before stands)))
+        subst (λ (s : ReplicaState S C). MayHappen rules m w m (moved w t.index s given)) (sym e)
+        (subst (λ (us : List (Effect C O)). MayHappen rules m w m (moved w t.index (halted rules t.before) us)) (sym f) (node_moves (goes.stops t.index t.before stands)))
 
-    by_loss : Loses rules t.before t.outcome new given → MayHappen rules m w m (moved w t.place new given)
+    by_loss : Loses rules t.before t.outcome new given → MayHappen rules m w m (moved w t.index new given)
     by_loss (inl (e, thin)) =
         stops (e ∙ ap (λ (o : Outcome S C O). o.state) is) (thinned_none (ap (λ (o : Outcome S C O). o.effects) is) thin)
-    by_loss (inr (inl (e, f))) = node_moves (goes.takes t.place t.before Ticks stands runs tt (inr (inl (e, f))))
+    by_loss (inr (inl (e, f))) = node_moves (goes.takes t.index t.before Ticks stands runs tt (inr (inl (e, f))))
     by_loss (inr (inr (e, f))) = stops e f
 
 -- what the turn of the master is: a ballot that is given, or an answer
@@ -288,7 +288,7 @@ no_master_turn : {S C O : Type 0} (rules : Rules S C O) (n : ℕ) (r : Option (R
 no_master_turn rules n None input o e = cc
 no_master_turn {S = S} {C = C} {O = O} rules n (Some r) input o e = by_room (can_take r input) e
   where
-    by_room : (b : Bool) → cond b (Some (by_node (record { place = n; before = r; outcome = replica_step rules r input }))) None ≡ Some (by_master o) → ⊥
+    by_room : (b : Bool) → cond b (Some (by_node (record { index = n; before = r; outcome = replica_step rules r input }))) None ≡ Some (by_master o) → ⊥
     by_room true f = cc
     by_room false f = cc
 

@@ -17,7 +17,7 @@ holds_at nodes members ms i at held r status below same place there read told lo
     record {
       member = get_or ms i 0;
       is_member = subst (λ us. In (get_or ms i 0) us) same (in_item {X = ℕ} ms i 0 below);
-      place = place;
+      index = place;
       replica = r.state;
       stands = stands_at nodes at r there read;
       long = (let e = ap (λ (s : Status). s.held) told in omega (arith, e, long));

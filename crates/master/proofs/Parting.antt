@@ -12,13 +12,13 @@ use Rattle.snapshots.specs.World.{messages, outputs}
 use Rattle.master.specs.Inside.Losing.{Parted, is_message}
 use Rattle.snapshots.proofs.Effects.{messages-append, outputs-append}
 
--- effects that are parted up to a place
-pub record Parting {C O : Type 0} (old : List (Effect C O)) (from place : ℕ) (now : List (Effect C O)) (at : ℕ)
+-- effects that are parted up to an index
+pub record Parting {C O : Type 0} (old : List (Effect C O)) (from index : ℕ) (now : List (Effect C O)) (at : ℕ)
     (sent more : List (ℕ × Message C)) (whole : Bool) : Type 0 where
   pub staying : List (Effect C O)
-  pub now_is : now ≡ staying ++ drop place old
+  pub now_is : now ≡ staying ++ drop index old
   pub at_is : at ≡ length staying
-  pub parted : Parted (drop from (take place old)) (take from old) staying sent more whole
+  pub parted : Parted (drop from (take index old)) (take from old) staying sent more whole
 
 thinned_snoc : {C O : Type 0} {xs ys : List (Effect C O)} (e : Effect C O) → Thinned xs ys → Thinned (xs ++ e ∷ []) (ys ++ e ∷ [])
 thinned_snoc e none = keeps none
@@ -92,12 +92,12 @@ get_after [] ys x d = refl
 get_after (z ∷ xs) ys x d = get_after xs ys x d
 
 -- the next effect
-next_given : {X : Type 0} (old : List X) (from place : ℕ) (d : X) → from ≤ place → place < length old →
-    drop from (take (place + 1) old) ≡ drop from (take place old) ++ get_or old place d ∷ []
-next_given old from place d rising below =
-    let long = length-take-le place old (omega (arith, below)) in
-    ap (drop from) (take_more old place d below)
-    ∙ drop-append-le from (take place old) (get_or old place d ∷ []) (omega (arith, long, rising))
+next_given : {X : Type 0} (old : List X) (from index : ℕ) (d : X) → from ≤ index → index < length old →
+    drop from (take (index + 1) old) ≡ drop from (take index old) ++ get_or old index d ∷ []
+next_given old from index d rising below =
+    let long = length-take-le index old (omega (arith, below)) in
+    ap (drop from) (take_more old index d below)
+    ∙ drop-append-le from (take index old) (get_or old index d ∷ []) (omega (arith, long, rising))
 
 pub parting_begins : {C O : Type 0} (old : List (Effect C O)) (from : ℕ) (sent : List (ℕ × Message C)) → from ≤ length old →
     Parting old from from old from sent sent true
@@ -123,57 +123,57 @@ parting_begins {C = C} {O = O} old from sent within =
         ap (λ k. drop k (take from old)) (sym long) ∙ drop-length (take from old)
 
 -- the effect that is next
-pub parting_at : {C O : Type 0} {old now : List (Effect C O)} {from place at : ℕ} {sent more : List (ℕ × Message C)} {whole : Bool} (e : Effect C O) →
-    Parting old from place now at sent more whole → place < length old → e ≡ get_or now at e → e ≡ get_or old place e
-parting_at {old = old} {now = now} {place = place} {at = at} e p below read =
-    read ∙ ap (λ us. get_or us at e) (p.now_is ∙ ap (λ us. p.staying ++ us) (drop_more old place e below))
-    ∙ ap (λ k. get_or (p.staying ++ get_or old place e ∷ drop (place + 1) old) k e) p.at_is
-    ∙ get_after p.staying (drop (place + 1) old) (get_or old place e) e
+pub parting_at : {C O : Type 0} {old now : List (Effect C O)} {from index at : ℕ} {sent more : List (ℕ × Message C)} {whole : Bool} (e : Effect C O) →
+    Parting old from index now at sent more whole → index < length old → e ≡ get_or now at e → e ≡ get_or old index e
+parting_at {old = old} {now = now} {index = index} {at = at} e p below read =
+    read ∙ ap (λ us. get_or us at e) (p.now_is ∙ ap (λ us. p.staying ++ us) (drop_more old index e below))
+    ∙ ap (λ k. get_or (p.staying ++ get_or old index e ∷ drop (index + 1) old) k e) p.at_is
+    ∙ get_after p.staying (drop (index + 1) old) (get_or old index e) e
 
-pub parting_below : {C O : Type 0} {old now : List (Effect C O)} {from place at : ℕ} {sent more : List (ℕ × Message C)} {whole : Bool} →
-    Parting old from place now at sent more whole → place < length old → at < length now
-parting_below {old = old} {place = place} p below =
+pub parting_below : {C O : Type 0} {old now : List (Effect C O)} {from index at : ℕ} {sent more : List (ℕ × Message C)} {whole : Bool} →
+    Parting old from index now at sent more whole → index < length old → at < length now
+parting_below {old = old} {index = index} p below =
     let e = ap length p.now_is in let f = p.at_is in
-    omega (arith, e, f, below, length-append p.staying (drop place old), length-drop place old)
+    omega (arith, e, f, below, length-append p.staying (drop index old), length-drop index old)
 
-pub parting_out : {C O : Type 0} {old now now' : List (Effect C O)} {from place at at' : ℕ} {sent more more' : List (ℕ × Message C)} {whole whole' : Bool} (e : Effect C O) →
-    Parting old from place now at sent more whole → from ≤ place → place < length old → e ≡ get_or now at e → is_message e ≡ false →
+pub parting_out : {C O : Type 0} {old now now' : List (Effect C O)} {from index at at' : ℕ} {sent more more' : List (ℕ × Message C)} {whole whole' : Bool} (e : Effect C O) →
+    Parting old from index now at sent more whole → from ≤ index → index < length old → e ≡ get_or now at e → is_message e ≡ false →
     now' ≡ now → at' ≡ at + 1 → more' ≡ more → whole' ≡ whole →
-    Parting old from (place + 1) now' at' sent more' whole'
-parting_out {C = C} {O = O} {old = old} {now = now} {from = from} {place = place} {at = at} {sent = sent} {more = more} {more' = more'} {whole = whole} {whole' = whole'} e p rising below read is a b c d =
+    Parting old from (index + 1) now' at' sent more' whole'
+parting_out {C = C} {O = O} {old = old} {now = now} {from = from} {index = index} {at = at} {sent = sent} {more = more} {more' = more'} {whole = whole} {whole' = whole'} e p rising below read is a b c d =
     let same = parting_at e p below read in
     let long = length-append p.staying (e ∷ []) in let q = p.at_is in
     record {
       staying = p.staying ++ e ∷ [];
-      now_is = a ∙ p.now_is ∙ ap (λ us. p.staying ++ us) (drop_more old place e below ∙ ap (λ x. x ∷ drop (place + 1) old) (sym same))
-          ∙ sym (append_assoc p.staying (e ∷ []) (drop (place + 1) old));
+      now_is = a ∙ p.now_is ∙ ap (λ us. p.staying ++ us) (drop_more old index e below ∙ ap (λ x. x ∷ drop (index + 1) old) (sym same))
+          ∙ sym (append_assoc p.staying (e ∷ []) (drop (index + 1) old));
       at_is = omega (arith, b, q, long);
       parted = subst (λ (us : List (Effect C O)). Parted us (take from old) (p.staying ++ e ∷ []) sent more' whole')
-          (sym (next_given old from place e rising below ∙ ap (λ x. drop from (take place old) ++ x ∷ []) (sym same)))
-          (subst (λ (us : List (ℕ × Message C)). Parted (drop from (take place old) ++ e ∷ []) (take from old) (p.staying ++ e ∷ []) sent us whole') (sym c)
-          (subst (λ (w : Bool). Parted (drop from (take place old) ++ e ∷ []) (take from old) (p.staying ++ e ∷ []) sent more w) (sym d)
-          (parted_out (drop from (take place old)) (take from old) p.staying sent more whole e is p.parted)));
+          (sym (next_given old from index e rising below ∙ ap (λ x. drop from (take index old) ++ x ∷ []) (sym same)))
+          (subst (λ (us : List (ℕ × Message C)). Parted (drop from (take index old) ++ e ∷ []) (take from old) (p.staying ++ e ∷ []) sent us whole') (sym c)
+          (subst (λ (w : Bool). Parted (drop from (take index old) ++ e ∷ []) (take from old) (p.staying ++ e ∷ []) sent more w) (sym d)
+          (parted_out (drop from (take index old)) (take from old) p.staying sent more whole e is p.parted)));
     }
 
 -- an effect that is read twice
-seen_twice : {C O : Type 0} {old now : List (Effect C O)} {from place at : ℕ} {sent more : List (ℕ × Message C)} {whole : Bool} (e seen : Effect C O) →
-    Parting old from place now at sent more whole → place < length old → e ≡ get_or now at e → seen ≡ get_or now at seen → e ≡ seen
+seen_twice : {C O : Type 0} {old now : List (Effect C O)} {from index at : ℕ} {sent more : List (ℕ × Message C)} {whole : Bool} (e seen : Effect C O) →
+    Parting old from index now at sent more whole → index < length old → e ≡ get_or now at e → seen ≡ get_or now at seen → e ≡ seen
 seen_twice {now = now} {at = at} e seen p below read read' =
     read ∙ get_or_default now at e seen (parting_below p below) ∙ sym read'
 
 -- a message is taken out
-taken_out : {C O : Type 0} {old now now' : List (Effect C O)} {from place at : ℕ} {sent more : List (ℕ × Message C)} {whole : Bool} (e : Effect C O) →
-    (p : Parting old from place now at sent more whole) → place < length old → now' ≡ remove now at → now' ≡ p.staying ++ drop (place + 1) old
-taken_out {old = old} {place = place} {at = at} e p below removed =
-    removed ∙ ap (λ us. remove us at) (p.now_is ∙ ap (λ us. p.staying ++ us) (drop_more old place e below))
-    ∙ ap (λ k. remove (p.staying ++ get_or old place e ∷ drop (place + 1) old) k) p.at_is
-    ∙ remove_after p.staying (drop (place + 1) old) (get_or old place e)
+taken_out : {C O : Type 0} {old now now' : List (Effect C O)} {from index at : ℕ} {sent more : List (ℕ × Message C)} {whole : Bool} (e : Effect C O) →
+    (p : Parting old from index now at sent more whole) → index < length old → now' ≡ remove now at → now' ≡ p.staying ++ drop (index + 1) old
+taken_out {old = old} {index = index} {at = at} e p below removed =
+    removed ∙ ap (λ us. remove us at) (p.now_is ∙ ap (λ us. p.staying ++ us) (drop_more old index e below))
+    ∙ ap (λ k. remove (p.staying ++ get_or old index e ∷ drop (index + 1) old) k) p.at_is
+    ∙ remove_after p.staying (drop (index + 1) old) (get_or old index e)
 
-pub parting_sent : {C O : Type 0} {old now now' : List (Effect C O)} {from place at at' : ℕ} {sent more more' : List (ℕ × Message C)} {whole whole' : Bool} (e seen : Effect C O) →
-    Parting old from place now at sent more whole → from ≤ place → place < length old → e ≡ get_or now at e → seen ≡ get_or now at seen → is_message seen ≡ true →
+pub parting_sent : {C O : Type 0} {old now now' : List (Effect C O)} {from index at at' : ℕ} {sent more more' : List (ℕ × Message C)} {whole whole' : Bool} (e seen : Effect C O) →
+    Parting old from index now at sent more whole → from ≤ index → index < length old → e ≡ get_or now at e → seen ≡ get_or now at seen → is_message seen ≡ true →
     now' ≡ remove now at → at' ≡ at → more' ≡ more ++ messages (e ∷ []) → whole' ≡ whole →
-    Parting old from (place + 1) now' at' sent more' whole'
-parting_sent {C = C} {O = O} {old = old} {from = from} {place = place} {sent = sent} {more = more} {more' = more'} {whole = whole} {whole' = whole'} e seen p rising below read read' seen_is a b c d =
+    Parting old from (index + 1) now' at' sent more' whole'
+parting_sent {C = C} {O = O} {old = old} {from = from} {index = index} {sent = sent} {more = more} {more' = more'} {whole = whole} {whole' = whole'} e seen p rising below read read' seen_is a b c d =
     let same = parting_at e p below read in
     let is : is_message e ≡ true = ap is_message (seen_twice e seen p below read read') ∙ seen_is in
     record {
@@ -181,16 +181,16 @@ parting_sent {C = C} {O = O} {old = old} {from = from} {place = place} {sent = s
       now_is = taken_out e p below a;
       at_is = b ∙ p.at_is;
       parted = subst (λ (us : List (Effect C O)). Parted us (take from old) p.staying sent more' whole')
-          (sym (next_given old from place e rising below ∙ ap (λ x. drop from (take place old) ++ x ∷ []) (sym same)))
-          (subst (λ (w : Bool). Parted (drop from (take place old) ++ e ∷ []) (take from old) p.staying sent more' w) (sym d)
-          (parted_sent (drop from (take place old)) (take from old) p.staying sent more more' whole e is c p.parted));
+          (sym (next_given old from index e rising below ∙ ap (λ x. drop from (take index old) ++ x ∷ []) (sym same)))
+          (subst (λ (w : Bool). Parted (drop from (take index old) ++ e ∷ []) (take from old) p.staying sent more' w) (sym d)
+          (parted_sent (drop from (take index old)) (take from old) p.staying sent more more' whole e is c p.parted));
     }
 
-pub parting_lost : {C O : Type 0} {old now now' : List (Effect C O)} {from place at at' : ℕ} {sent more more' : List (ℕ × Message C)} {whole whole' : Bool} (e seen : Effect C O) →
-    Parting old from place now at sent more whole → from ≤ place → place < length old → e ≡ get_or now at e → seen ≡ get_or now at seen → is_message seen ≡ true →
+pub parting_lost : {C O : Type 0} {old now now' : List (Effect C O)} {from index at at' : ℕ} {sent more more' : List (ℕ × Message C)} {whole whole' : Bool} (e seen : Effect C O) →
+    Parting old from index now at sent more whole → from ≤ index → index < length old → e ≡ get_or now at e → seen ≡ get_or now at seen → is_message seen ≡ true →
     now' ≡ remove now at → at' ≡ at → more' ≡ more → whole' ≡ false →
-    Parting old from (place + 1) now' at' sent more' whole'
-parting_lost {C = C} {O = O} {old = old} {from = from} {place = place} {sent = sent} {more = more} {more' = more'} {whole = whole} {whole' = whole'} e seen p rising below read read' seen_is a b c d =
+    Parting old from (index + 1) now' at' sent more' whole'
+parting_lost {C = C} {O = O} {old = old} {from = from} {index = index} {sent = sent} {more = more} {more' = more'} {whole = whole} {whole' = whole'} e seen p rising below read read' seen_is a b c d =
     let same = parting_at e p below read in
     let is : is_message e ≡ true = ap is_message (seen_twice e seen p below read read') ∙ seen_is in
     record {
@@ -198,13 +198,13 @@ parting_lost {C = C} {O = O} {old = old} {from = from} {place = place} {sent = s
       now_is = taken_out e p below a;
       at_is = b ∙ p.at_is;
       parted = subst (λ (us : List (Effect C O)). Parted us (take from old) p.staying sent more' whole')
-          (sym (next_given old from place e rising below ∙ ap (λ x. drop from (take place old) ++ x ∷ []) (sym same)))
-          (subst (λ (w : Bool). Parted (drop from (take place old) ++ e ∷ []) (take from old) p.staying sent more' w) (sym d)
-          (parted_lost (drop from (take place old)) (take from old) p.staying sent more more' whole e is c p.parted));
+          (sym (next_given old from index e rising below ∙ ap (λ x. drop from (take index old) ++ x ∷ []) (sym same)))
+          (subst (λ (w : Bool). Parted (drop from (take index old) ++ e ∷ []) (take from old) p.staying sent more' w) (sym d)
+          (parted_lost (drop from (take index old)) (take from old) p.staying sent more more' whole e is c p.parted));
     }
 
-pub parting_ends : {C O : Type 0} {old now : List (Effect C O)} {from place at : ℕ} {sent more : List (ℕ × Message C)} {whole : Bool} →
-    Parting old from place now at sent more whole → place ≡ length old → Parted (drop from old) (take from old) now sent more whole
+pub parting_ends : {C O : Type 0} {old now : List (Effect C O)} {from index at : ℕ} {sent more : List (ℕ × Message C)} {whole : Bool} →
+    Parting old from index now at sent more whole → index ≡ length old → Parted (drop from old) (take from old) now sent more whole
 parting_ends {C = C} {O = O} {old = old} {now = now} {from = from} {sent = sent} {more = more} {whole = whole} p past =
     subst (λ (us : List (Effect C O)). Parted (drop from old) (take from old) us sent more whole)
     (sym (p.now_is ∙ ap (λ us. p.staying ++ us) (ap (λ k. drop k old) past ∙ drop-length old) ∙ append-nil p.staying))

@@ -61,7 +61,7 @@ moved_same {S = S} {C = C} {O = O} w n r stands =
 
 -- a node that does nothing by the protocol
 pub exactly_nothing : {S C O : Type 0} (rules : Rules S C O) (old : GroupState S C O) (event : Event C) (n : ℕ) (r : ReplicaState S C) (o : Outcome S C O) →
-    turn rules old.moment event ≡ Some (by_node (record { place = n; before = r; outcome = o })) →
+    turn rules old.moment event ≡ Some (by_node (record { index = n; before = r; outcome = o })) →
     slice_get old.moment.world.nodes n ≡ Some r → o ≡ nothing_done O r → old ≡ done_exactly rules old event
 exactly_nothing {S = S} {C = C} {O = O} rules old event n r o e stands nothing =
     same_moment rules old event _ e
@@ -92,8 +92,8 @@ turn_quiet {S = S} {C = C} {O = O} rules old new event t e took quiet =
     let z = took.quiet quiet in
     ap (λ (a : Moment S C O). let g : GroupState S C O = record { moment = a; losses = new.losses } in g)
     (took.moment
-    ∙ ap (λ (s : ReplicaState S C). let a : Moment S C O = record old.moment { world = moved old.moment.world t.place s took.given } in a) z.0
-    ∙ ap (λ (us : List (Effect C O)). let a : Moment S C O = record old.moment { world = moved old.moment.world t.place t.outcome.state us } in a) z.1
+    ∙ ap (λ (s : ReplicaState S C). let a : Moment S C O = record old.moment { world = moved old.moment.world t.index s took.given } in a) z.0
+    ∙ ap (λ (us : List (Effect C O)). let a : Moment S C O = record old.moment { world = moved old.moment.world t.index t.outcome.state us } in a) z.1
     ∙ ap (after old.moment) (sym e))
     ∙ ap (λ k. let g : GroupState S C O = record { moment = after old.moment (turn rules old.moment event); losses = k } in g) z.2
 
@@ -128,7 +128,7 @@ tick_nothing {S = S} {C = C} {O = O} rules r quiet =
 
 -- a tick, if the node would say something and if not
 tick_goes : {S C O : Type 0} (rules : Rules S C O) (old : GroupState S C O) (node at : ℕ) (x : RunsAt old.moment.world.nodes node at) →
-    turn rules old.moment (Tick node) ≡ Some (by_node (record { place = at; before = x.replica; outcome = replica_step rules x.replica Ticks }))
+    turn rules old.moment (Tick node) ≡ Some (by_node (record { index = at; before = x.replica; outcome = replica_step rules x.replica Ticks }))
 tick_goes rules old node at x = takes_turn rules old.moment.world node at Ticks x refl
 
 pub tick_silent : {S C O : Type 0} (rules : Rules S C O) (old : GroupState S C O) (node at : ℕ) (x : RunsAt old.moment.world.nodes node at)
@@ -160,7 +160,7 @@ message_passed {S = S} {C = C} {O = O} rules old k at x found y seen heeds same 
 -- one that is taken
 pub message_taken : {S C O : Type 0} (rules : Rules S C O) (old new : GroupState S C O) (k at : ℕ) (x : ℕ × Message C) (m : Message C) →
     slice_get old.moment.world.sent k ≡ Some x → m ≡ x.1 → (y : RunsAt old.moment.world.nodes x.0 at) →
-    TookTurn rules old (record { place = at; before = y.replica; outcome = replica_step rules y.replica (Receives m) }) new →
+    TookTurn rules old (record { index = at; before = y.replica; outcome = replica_step rules y.replica (Receives m) }) new →
     TakesNoMemory rules old.moment (Deliver k) → new ≡ done_exactly rules old (Deliver k)
 message_taken rules old new k at x m found same y took =
     let goes = delivers_turn rules old.moment k at x m found same y in

@@ -72,7 +72,7 @@ pub took_turn : {S C O : Type 0} {rules : Rules S C O} (archive : List C) (m : M
     TookIn rules old input new left after whole → Parted (drop from after) (take from after) parted sent more kept →
     counted ≡ cond (whole && kept) losses (one_more losses) → IsRead rules r input → old.losses ≤ losses → losses ≤ 2 ^ 64 - 1 →
     TookTurn rules (record { moment = moment_of archive m nodes sent left; losses = losses })
-    (record { place = n; before = r; outcome = replica_step rules r input })
+    (record { index = n; before = r; outcome = replica_step rules r input })
     (record { moment = moment_of archive m (set nodes n new) more parted; losses = counted })
 took_turn {S = S} {C = C} {O = O} {rules = rules} archive m nodes sent more left after parted losses counted n from old new input r whole kept below read stands at t p count reads low high =
     record {
@@ -126,7 +126,7 @@ runs_at {S = S} {C = C} nodes (suc n) r positive below read going =
     subst (λ k. RunsAt (map (λ (z : CountedReplica S C). z.state) nodes) (suc n) k) (sym e)
     (record {
       replica = r.state;
-      place = sym e;
+      index = sym e;
       positive = omega arith;
       below = (let long = length-map nodes (λ (z : CountedReplica S C). z.state) in omega (arith, long, below));
       stands = stands;
@@ -161,7 +161,7 @@ pub crash_turn : {S C O : Type 0} (rules : Rules S C O) (archive : List C) (m : 
     (losses n : ℕ) (old new : CountedReplica S C) (r : ReplicaState S C) →
     old ≡ get_or nodes n old → slice_get (map (λ (z : CountedReplica S C). z.state) nodes) n ≡ Some r → new.state ≡ halted rules old.state →
     TookTurn rules (record { moment = moment_of archive m nodes sent left; losses = losses })
-    (record { place = n; before = r; outcome = record { state = halted rules r; effects = [] } })
+    (record { index = n; before = r; outcome = record { state = halted rules r; effects = [] } })
     (record { moment = moment_of archive m (set nodes n new) sent left; losses = losses })
 crash_turn {S = S} {C = C} {O = O} rules archive m nodes sent left losses n old new r read stands stopped =
     record {
@@ -222,7 +222,7 @@ opened_moment {S = S} {C = C} {O = O} rules archive config nodes at m items sent
     ap (λ x. let z : Moment S C O = record { master = x; world = world_of archive items sent left } in z) opens
     ∙ ap (λ w. let z : Moment S C O = record { master = opening_master config; world = w } in z) (opened_group rules archive config nodes at items sent left before same a b d)
 
--- the node at a place, once more
+-- the node at an index, once more
 set_there : {S C : Type 0} (nodes : List (CountedReplica S C)) (n : ℕ) (old new : CountedReplica S C) → n < length nodes → old ≡ get_or nodes n old →
     new.state ≡ old.state → map (λ (z : CountedReplica S C). z.state) (set nodes n new) ≡ map (λ (z : CountedReplica S C). z.state) nodes
 set_there [] n old new below read same = refl

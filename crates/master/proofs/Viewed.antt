@@ -124,7 +124,7 @@ front_agreed {S = S} {C = C} {O = O} rules config a past k at came is h =
     q = past_stands rules config a past came
 
     there : slice_get (map (whole a.world.archive) a.world.nodes) (h.member - 1) ≡ Some (whole a.world.archive h.replica)
-    there = ap (slice_get (map (whole a.world.archive) a.world.nodes)) (sym h.place) ∙ get_whole (whole a.world.archive) a.world.nodes at h.replica h.stands
+    there = ap (slice_get (map (whole a.world.archive) a.world.nodes)) (sym h.index) ∙ get_whole (whole a.world.archive) a.world.nodes at h.replica h.stands
 
     long : k ≤ length (whole_log a.world.archive h.replica.log)
     long = let e = whole_long a.world.archive h.replica.log (within_of rules config a past came at h.replica h.stands) in let l = h.long in omega (arith, e, l)

@@ -59,10 +59,10 @@ turn rules a (Crash node) = stopping rules (node - 1) (running a.world.nodes nod
 abbrev pub after : {S C O : Type 0} → Moment S C O → Option (Turn S C O) → Moment S C O
 after a None = a
 after a (Some (by_node t)) =
-    record a { world = moved a.world t.place t.outcome.state t.outcome.effects }
+    record a { world = moved a.world t.index t.outcome.state t.outcome.effects }
 after a (Some (by_cut t)) =
     record a {
-      world = record (moved a.world t.place t.outcome.state t.outcome.effects) {
+      world = record (moved a.world t.index t.outcome.state t.outcome.effects) {
         archive = recorded a.world.archive t.before;
       };
     }

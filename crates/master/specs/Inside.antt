@@ -20,7 +20,7 @@ use Rattle.master.specs.Turns.{running}
 -- the node of a number runs, at an index
 pub record RunsAt {S C : Type 0} (nodes : List (ReplicaState S C)) (node at : ℕ) : Type 0 where
   pub replica : ReplicaState S C
-  pub place : at ≡ node - 1
+  pub index : at ≡ node - 1
   pub positive : 0 < node
   pub below : at < length nodes
   pub stands : slice_get nodes at ≡ Some replica
@@ -37,7 +37,7 @@ pub record HoldsAt {S C : Type 0} (nodes : List (ReplicaState S C)) (members : L
     (held at : ℕ) : Type 0 where
   pub member : ℕ
   pub is_member : In member members
-  pub place : at ≡ member - 1
+  pub index : at ≡ member - 1
   pub replica : ReplicaState S C
   pub stands : slice_get nodes at ≡ Some replica
   pub long : held ≤ places replica.log

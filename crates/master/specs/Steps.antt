@@ -24,7 +24,7 @@ pub data Happens {S C O : Type 0} (rules : Rules S C O) :
   node_goes : {a : Moment S C O} {e : Event C} (t : NodeTurn S C O)
       {new : ReplicaState S C} {given : List (Effect C O)} → turn rules a e ≡ Some (by_node t) →
       Loses rules t.before t.outcome new given →
-      Happens rules a e (record a { world = moved a.world t.place new given })
+      Happens rules a e (record a { world = moved a.world t.index new given })
   -- the master goes on, and its message is lost
   master_goes : {a : Moment S C O} {e : Event C} (o : MasterOutcome C) →
       turn rules a e ≡ Some (by_master o) → Happens rules a e (record a { master = o.state })

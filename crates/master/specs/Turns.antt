@@ -24,7 +24,7 @@ running nodes (suc n) = unless_stopped (slice_get nodes n)
 
 -- the turn of a node: its index, its state before, and the outcome of its step
 pub record NodeTurn (S C O : Type 0) : Type 0 where
-  pub place : ℕ
+  pub index : ℕ
   pub before : ReplicaState S C
   pub outcome : Outcome S C O
 
@@ -48,7 +48,7 @@ abbrev pub taking : {S C O : Type 0} →
 taking rules n None input = None
 taking rules n (Some r) input =
     if can_take r input
-    then Some (by_node (record { place = n; before = r; outcome = replica_step rules r input }))
+    then Some (by_node (record { index = n; before = r; outcome = replica_step rules r input }))
     else None
 
 -- the turn of a node that stops for good
@@ -57,7 +57,7 @@ abbrev pub stopping : {S C O : Type 0} →
 stopping rules n None = None
 stopping rules n (Some r) =
     Some (by_node (record {
-      place = n;
+      index = n;
       before = r;
       outcome = record { state = halted rules r; effects = [] };
     }))
@@ -65,7 +65,7 @@ stopping rules n (Some r) =
 -- a log is cut if there is something to cut; nothing is sent
 abbrev pub cut_turn : {S C O : Type 0} → Rules S C O → ℕ → ReplicaState S C → NodeTurn S C O
 cut_turn rules n r =
-    record { place = n; before = r; outcome = record { state = cut rules r; effects = [] } }
+    record { index = n; before = r; outcome = record { state = cut rules r; effects = [] } }
 
 -- the cut of a node's log, if the node runs
 abbrev pub cutting : {S C O : Type 0} →

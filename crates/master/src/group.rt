@@ -260,7 +260,7 @@ impl<M: Machine> Group<M> {
         ensures { (replica : ReplicaState M M.Command) →
             slice_get self.old.moment.world.nodes at ≡ Some replica →
             TookTurn M.rules self.old (record {
-              place = at;
+              index = at;
               before = replica;
               outcome = replica_step M.rules replica (input_of taken);
             }) self.new }

@@ -94,14 +94,14 @@ impl Told {
 }
 
 // Returns the second smallest of the numbers at some indices.
-fn second_least(told: &[u64], places: &[u8]) -> u64
-    requires { (m : ℕ) → In m places.now → m < length told.now }
-    ensures least { result ≡ least_but_one told.now (2 ^ 64 - 1) (2 ^ 64 - 1) places.now }
+fn second_least(told: &[u64], slots: &[u8]) -> u64
+    requires { (m : ℕ) → In m slots.now → m < length told.now }
+    ensures least { result ≡ least_but_one told.now (2 ^ 64 - 1) (2 ^ 64 - 1) slots.now }
     ensures range { (m : ℕ) → get_or told.now m 0 < 2 ^ 64 }
 {
     let mut pair = (u64::MAX, u64::MAX);
-    for place in places {
-        pair = next_least(pair.0, pair.1, told[*place as usize]);
+    for slot in slots {
+        pair = next_least(pair.0, pair.1, told[*slot as usize]);
     }
     pair.1
 }

@@ -75,7 +75,7 @@ pub fn part<C: Drop, O: Drop>(
 {
     let mut at = from;
     let mut whole = true;
-    for _place in from..effects.len() {
+    for _index in from..effects.len() {
         if is_message(&effects[at]) {
             let effect = effects.remove(at);
             whole = keep(effect, sent) && whole;

@@ -81,14 +81,14 @@ pub record Further {config : Config} {a : Moment State Command Output} {earlier 
   pub kept : (z : Moment State Command Output) → In z (a ∷ earlier) → In z (b ∷ before)
   pub grows : (xs ys : List Command) → IsAgreed config (a ∷ earlier) xs → IsAgreed config (b ∷ before) ys → IsPrefixOf xs ys
 
--- By no event or by one, in which the node at this place gave these outputs, each with its place in the list.
+-- By no event or by one, in which the node at this index gave these outputs, each with its place in the list.
 pub record Once {config : Config} {a : Moment State Command Output} {earlier : List (Moment State Command Output)} (came : Past rules config (a ∷ earlier))
     (b : Moment State Command Output) (put : List (ℕ × Command)) (n : ℕ) (given : List (ℕ × Output)) : Type 0 where
   pub further : Further came b put
   pub gives : (xs : List Command) → IsAgreed config (b ∷ further.before) xs → (old new : ReplicaState State Command) → slice_get a.world.nodes n ≡ Some old
       → slice_get b.world.nodes n ≡ Some new → GivesNext rules (whole a.world.archive old) (whole b.world.archive new) xs given
 
--- one more event, in which the node at a place gave this
+-- one more event, in which the node at an index gave this
 pub by_event : {config : Config} {a : Moment State Command Output} {earlier : List (Moment State Command Output)} (came : Past rules config (a ∷ earlier))
     (b : Moment State Command Output) (step : MayHappen rules a.master a.world b.master b.world) (put : List (ℕ × Command)) (n : ℕ) (given : List (ℕ × Output))
     → proposal_of step ≡ put → ((x : ConnectionName) → packets_in x (taken_in step) ≡ packets_in x put) → gives_in n step ≡ given → Once came b put n given
@@ -117,7 +117,7 @@ same_world archive a b c = rw (a, b, c) refl
 abbrev with_world : MasterState → World State Command Output → Moment State Command Output
 with_world m w = record { master = m; world = w }
 
--- after a turn the replica at the place is this one
+-- after a turn the replica at the index is this one
 after_is : (g : Group) (n : ℕ) (turn : Turn) (given effects : Given) (new : ReplicaState State Command) → replica_of turn.core ≡ new
     → messages turn.messages ≡ messages effects → outputs given ≡ outputs effects
     → with_world g.master (let w : World State Command Output = record { nodes = slice_set (map replica_of g.nodes) n new; sent = g.sent ++ messages effects; left = g.left ++ outputs effects; archive = g.archive } in w)

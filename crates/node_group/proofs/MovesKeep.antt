@@ -82,7 +82,7 @@ abbrev pub LeadsStill : CoreState → Turn → Type 0
 LeadsStill core turn = (x : ConnectionName) (c : Connection) → listed_named x core ≡ Some c → live c ≡ true → is_active (replica_of turn.core).role ≡ true
     → is_active (replica_of core).role ≡ true
 
--- what is known about a move of the node at a place of a group, of which these messages are kept
+-- what is known about a move of the node at an index of a group, of which these messages are kept
 pub record Known {config : Config} (g : Group) {earlier : List (Moment State Command Output)} (came : Past rules config (moment_of g ∷ earlier)) (a : ℕ)
     {core : CoreState} {turn : Turn} (m : LossyMoves core turn) (kept : List (Effect Command Output)) : Type 0 where
   pub at : slice_get g.nodes a ≡ Some core

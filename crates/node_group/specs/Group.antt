@@ -14,7 +14,7 @@ use Rattle.packet_world.specs.snapshots.Past.{Moment}
 use Rattle.packet_world.specs.snapshots.World.{messages, outputs}
 use Rattle.node_moves.specs.world_base.Core.{CoreState, Turn, opening_core}
 
--- Node n + 1 is at place n. All messages that were ever sent stay, each with its receiver: any may
+-- Node n + 1 is at index n. All messages that were ever sent stay, each with its receiver: any may
 -- come late, again or never. So do the outputs that replicas gave, with their places in the log.
 -- The record has the places below the bases of all logs.
 pub record Group : Type 0 where
@@ -44,7 +44,7 @@ opening_group nodes config =
 
 -- ---- after what happens
 
--- after a turn of the node at place n, in which its replica gave this
+-- after a turn of the node at index n, in which its replica gave this
 abbrev pub after_turn : Group → ℕ → Turn → List (Effect Command Output) → Group
 after_turn g n turn given =
     record g {

@@ -97,7 +97,7 @@ pub data IsEnd (x : ConnectionName) (core : CoreState) (written read : List Pack
   is_over : IsGiven core.last_name x → open_named x core ≡ None → IsPrefixOf read written →
       IsEnd x core written read under_way
 
--- the commands of a connection's packets from this place on
+-- the commands of a connection's packets from this number on
 abbrev pub commands_of : ConnectionName → ℕ → List Packet → List Command
 commands_of x n [] = []
 commands_of x n (p ∷ more) = command_of x n p ∷ commands_of x (suc n) more

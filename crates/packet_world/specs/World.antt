@@ -56,6 +56,6 @@ story_of agreed c =
 abbrev pub IsFresh : ConnectionName → List ClientEnds → Type 0
 IsFresh x = Each (λ (c : ClientEnds). any_named (same_connection x) c.connections ≡ false)
 
--- the client at this place is changed
+-- the client at this index is changed
 abbrev pub with_client : ℕ → ClientEnds → World → World
 with_client i c w = record w { clients = set w.clients i c }

@@ -146,7 +146,7 @@ impl RetainedStore {
         self.topics.iter()
     }
 
-    // Says whether the topic is new and there is no place for a new one.
+    // Says whether the topic is new and there is no room for a new one.
     fn is_full_for(&self, topic: &TopicName) -> bool
         ensures { result ≡ is_full_for self.now topic.now }
     {

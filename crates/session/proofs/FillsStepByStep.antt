@@ -24,7 +24,7 @@ pub sends_shut : (w : ℕ) (fs : List Flight) (ps : List Publication) → w ≤ 
 sends_shut w fs [] e = refl
 sends_shut w fs (p ∷ ps) e = rw (shut_window (length fs) w e) refl
 
--- what waits after the one at this place
+-- what waits after the one at this index
 after_this : (fs : List Flight) (ps : List Publication) (i : ℕ) → (started_with fs (drop i ps)).waiting ≡ drop (suc i) ps
 after_this fs [] zero = refl
 after_this fs [] (suc i) = refl
@@ -77,7 +77,7 @@ front_of before middle after e f =
     let long = ap length e in let cut = length-take (length before) middle in
     e ∙ ap (take (length before)) f ∙ take-take (length before) (length middle) after (omega (arith, long, cut))
 
--- after the last place nothing waits
+-- after the last index nothing waits
 pub none_after : (ps : List Publication) (n : ℕ) → length ps ≤ n → drop n ps ≡ []
 none_after [] zero e = refl
 none_after [] (suc n) e = refl

@@ -1,4 +1,4 @@
--- The last of a list by its place, and that an identifier above the last of rising ones comes after
+-- The last of a list by its index, and that an identifier above the last of rising ones comes after
 -- them.
 use Rattle.std.proofs.Common.{◌≡◌, ℕ, suc, ◌-◌, true, nat_lt, Option, Some, None, List, [], ◌∷◌, ◌++◌, length, refl, sym, ap, ◌∙◌, slice_get, arith}
 use Rattle.std.specs.declared.cmp.Ordering.TheVariants.{Less, Greater}
@@ -40,7 +40,7 @@ pub above_last : (ids : List ℕ) (last id : ℕ) → slice_get ids (length ids 
 above_last [] last id e = absurd (cc)
 above_last (first ∷ ids) last id e = ap (λ (o : Option ℕ). is_over o id) (last_is ids first None ∙ e)
 
--- the last of a list that is not empty is at its place
+-- the last of a list that is not empty is at its index
 pub last_at : {A : Type 0} (xs : List A) (last : A) → slice_get xs (length xs - 1) ≡ Some last → last_of xs ≡ Some last
 last_at [] last e = absurd (cc)
 last_at (first ∷ xs) last e = last_is xs first None ∙ e

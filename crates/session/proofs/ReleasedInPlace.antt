@@ -43,36 +43,36 @@ few_released id ((other, waits_for.Pubcomp) ∷ fs) (p, e) = by (id == other) e 
 
 -- ---- one is set and taken out
 
--- the place of the identifier, or how many there are
-abbrev pub place_of : ℕ → List ℕ → ℕ
-place_of id [] = 0
-place_of id (other ∷ ids) = if id == other then 0 else suc (place_of id ids)
+-- the index of the identifier, or how many there are
+abbrev pub index_of : ℕ → List ℕ → ℕ
+index_of id [] = 0
+index_of id (other ∷ ids) = if id == other then 0 else suc (index_of id ids)
 
 one_more : (n : ℕ) → suc n ≡ 1 + n
 one_more n = omega arith
 
-place_found : (id : ℕ) (ids : List ℕ) → place_of id ids ≡ position_or_len (λ k. id == k) ids
-place_found id [] = refl
-place_found id (other ∷ ids) = by (id == other) (place_found id ids)
+index_found : (id : ℕ) (ids : List ℕ) → index_of id ids ≡ position_or_len (λ k. id == k) ids
+index_found id [] = refl
+index_found id (other ∷ ids) = by (id == other) (index_found id ids)
   where
-    by : (b : Bool) → place_of id ids ≡ position_or_len (λ k. id == k) ids →
-        (if b then 0 else suc (place_of id ids)) ≡ (if not b then 1 + position_or_len (λ k. id == k) ids else 0)
+    by : (b : Bool) → index_of id ids ≡ position_or_len (λ k. id == k) ids →
+        (if b then 0 else suc (index_of id ids)) ≡ (if not b then 1 + position_or_len (λ k. id == k) ids else 0)
     by true k = refl
     by false k = ap (λ n. suc n) k ∙ one_more (position_or_len (λ k. id == k) ids)
 
--- what is at the place, and what is left without it
+-- what is at the index, and what is left without it
 at_place : (id : ℕ) (fs : List Flight) → has_id id (ids_of fs) ≡ true →
-    (slice_get (with_released id fs) (place_of id (ids_of fs)) ≡ Some (id, waits_for.Pubcomp))
-    × (remove (with_released id fs) (place_of id (ids_of fs)) ≡ remove_entry (λ k. id == k) fs)
+    (slice_get (with_released id fs) (index_of id (ids_of fs)) ≡ Some (id, waits_for.Pubcomp))
+    × (remove (with_released id fs) (index_of id (ids_of fs)) ≡ remove_entry (λ k. id == k) fs)
 at_place id [] e = absurd (cc)
 at_place id (flight ∷ fs) e = by (id == flight.0) refl e (at_place id fs)
   where
     by : (b : Bool) → (id == flight.0) ≡ b → (b || has_id id (ids_of fs)) ≡ true →
         (has_id id (ids_of fs) ≡ true →
-        (slice_get (with_released id fs) (place_of id (ids_of fs)) ≡ Some (id, waits_for.Pubcomp))
-        × (remove (with_released id fs) (place_of id (ids_of fs)) ≡ remove_entry (λ k. id == k) fs)) →
-        (slice_get (if b then (flight.0, waits_for.Pubcomp) ∷ fs else flight ∷ with_released id fs) (if b then 0 else suc (place_of id (ids_of fs))) ≡ Some (id, waits_for.Pubcomp))
-        × (remove (if b then (flight.0, waits_for.Pubcomp) ∷ fs else flight ∷ with_released id fs) (if b then 0 else suc (place_of id (ids_of fs)))
+        (slice_get (with_released id fs) (index_of id (ids_of fs)) ≡ Some (id, waits_for.Pubcomp))
+        × (remove (with_released id fs) (index_of id (ids_of fs)) ≡ remove_entry (λ k. id == k) fs)) →
+        (slice_get (if b then (flight.0, waits_for.Pubcomp) ∷ fs else flight ∷ with_released id fs) (if b then 0 else suc (index_of id (ids_of fs))) ≡ Some (id, waits_for.Pubcomp))
+        × (remove (if b then (flight.0, waits_for.Pubcomp) ∷ fs else flight ∷ with_released id fs) (if b then 0 else suc (index_of id (ids_of fs)))
         ≡ (if b then fs else flight ∷ remove_entry (λ k. id == k) fs))
     by true same f rest = (ap (λ i. Some (i, waits_for.Pubcomp)) (sym (same_number id flight.0 same)), refl)
     by false same f rest = let k = rest f in (k.0, ap (λ more. flight ∷ more) k.1)
@@ -86,14 +86,14 @@ has_awaited id (flight ∷ fs) (p, e) = by (id == flight.0) e (λ f. has_awaited
     by true f rest = refl
     by false f rest = rest f
 
-place_is : (n len place : ℕ) → (if nat_lt n len then Some n else None) ≡ Some place → n ≡ place
-place_is n len place e = by (nat_lt n len) e
+index_is : (n len index : ℕ) → (if nat_lt n len then Some n else None) ≡ Some index → n ≡ index
+index_is n len index e = by (nat_lt n len) e
   where
-    by : (b : Bool) → (if b then Some n else None) ≡ Some place → n ≡ place
+    by : (b : Bool) → (if b then Some n else None) ≡ Some index → n ≡ index
     by true f = cc
     by false f = absurd (cc)
 
--- ---- its new place
+-- ---- its new index
 
 none_first : (fs : List Flight) → NoneReleased fs → filter is_released fs ≡ []
 none_first [] none = refl
@@ -141,12 +141,12 @@ parted id ((other, waits_for.Pubcomp) ∷ fs) d (inl first) (p, e) = by (id == o
     by true f rest = absurd (cc)
     by false f rest = let k = rest f in (ap (λ more. (other, waits_for.Pubcomp) ∷ more) k.0, k.1)
 
-pub released_in_place : (id : ℕ) (fs : List Flight) (place : ℕ) → IsDistinct (ids_of fs) → IsReleasedFirst fs → IsAwaited id fs → position (λ k. id == k) (keys_of fs) ≡ Some place →
-    move_index (with_released id fs) place (length (filter is_released fs)) ≡ released_with id fs
-released_in_place id fs place d first h at =
+pub released_in_place : (id : ℕ) (fs : List Flight) (index : ℕ) → IsDistinct (ids_of fs) → IsReleasedFirst fs → IsAwaited id fs → position (λ k. id == k) (keys_of fs) ≡ Some index →
+    move_index (with_released id fs) index (length (filter is_released fs)) ≡ released_with id fs
+released_in_place id fs index d first h at =
     let here = at_place id fs (has_awaited id fs h) in
     let parts = parted id fs d first h in
-    rw (← place_found id (ids_of fs) ∙ place_is (position_or_len (λ k. id == k) (ids_of fs)) (length (ids_of fs)) place at)
+    rw (← index_found id (ids_of fs) ∙ index_is (position_or_len (λ k. id == k) (ids_of fs)) (length (ids_of fs)) index at)
     (rw (here.0, here.1) (ap₂ (λ before after. before ++ (id, waits_for.Pubcomp) ∷ after) parts.0 parts.1))
 
 -- ---- the identifiers of a map
@@ -160,19 +160,19 @@ unfolding IsDistinctBy
 apart [] h = tt
 apart (id ∷ ids) h = (absent id ids h.0, apart ids h.1)
 
-within : (id : ℕ) (ids : List ℕ) → has_id id ids ≡ true → nat_lt (place_of id ids) (length ids) ≡ true
+within : (id : ℕ) (ids : List ℕ) → has_id id ids ≡ true → nat_lt (index_of id ids) (length ids) ≡ true
 within id [] e = absurd (cc)
 within id (other ∷ ids) e = by (id == other) e (within id ids)
   where
-    by : (b : Bool) → (b || has_id id ids) ≡ true → (has_id id ids ≡ true → nat_lt (place_of id ids) (length ids) ≡ true) →
-        nat_lt (if b then 0 else suc (place_of id ids)) (suc (length ids)) ≡ true
+    by : (b : Bool) → (b || has_id id ids) ≡ true → (has_id id ids ≡ true → nat_lt (index_of id ids) (length ids) ≡ true) →
+        nat_lt (if b then 0 else suc (index_of id ids)) (suc (length ids)) ≡ true
     by true f rest = grind arith
     by false f rest = let k = rest f in grind (arith, k)
 
--- the place of an entry that is awaited is found
+-- the index of an entry that is awaited is found
 pub never_missing : (id : ℕ) (fs : List Flight) → IsAwaited id fs → position (λ k. id == k) (keys_of fs) ≡ None → ⊥
 never_missing id fs h none =
-    no (nat_lt (position_or_len (λ k. id == k) (ids_of fs)) (length (ids_of fs))) (ap (λ n. nat_lt n (length (ids_of fs))) (sym (place_found id (ids_of fs))) ∙ within id (ids_of fs) (has_awaited id fs h)) none
+    no (nat_lt (position_or_len (λ k. id == k) (ids_of fs)) (length (ids_of fs))) (ap (λ n. nat_lt n (length (ids_of fs))) (sym (index_found id (ids_of fs))) ∙ within id (ids_of fs) (has_awaited id fs h)) none
   where
     no : (b : Bool) → b ≡ true → (if b then Some (position_or_len (λ k. id == k) (ids_of fs)) else None) ≡ None → ⊥
     no true e f = cc

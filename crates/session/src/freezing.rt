@@ -114,8 +114,8 @@ impl SessionQueue {
         ensures { OnOk result
             (bytes.new.items ≡ bytes.old.items ++ flat_map publication_bytes self.now.waiting) }
     {
-        for place in 0..self.waiting.len() {
-            if let Some(publication) = self.waiting.get(place) {
+        for index in 0..self.waiting.len() {
+            if let Some(publication) = self.waiting.get(index) {
                 write_publication(publication, bytes)?;
             }
         }

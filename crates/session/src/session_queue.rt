@@ -114,30 +114,30 @@ impl SessionQueue {
         ensures kept { OnErr result (out.old.items ≡ take (length out.old.items) out.new.items) }
         ensures quiet { fill_sends window self.old.in_flight self.old.waiting ≡ [] → IsOk result }
     {
-        for place in 0..self.waiting.len() {
+        for index in 0..self.waiting.len() {
             if self.in_flight.len() >= window {
-                return Ok(place);
+                return Ok(index);
             }
-            self.start(place, out)?;
+            self.start(index, out)?;
         }
         Ok(self.waiting.len())
     }
 
     // Starts the one that waits at this index. It still waits there as well.
-    fn start(&mut self, place: usize, out: &mut Vec<Packet>) -> Result<(), AllocError>
+    fn start(&mut self, index: usize, out: &mut Vec<Packet>) -> Result<(), AllocError>
         requires { length self.old.in_flight < 65535 }
         ensures state { OnOk result
             (self.new.in_flight
-            ≡ (started_with self.old.in_flight (drop place self.old.waiting)).in_flight) }
+            ≡ (started_with self.old.in_flight (drop index self.old.waiting)).in_flight) }
         ensures sends { OnOk result
             (out.new.items
-            ≡ out.old.items ++ sends_with self.old.in_flight (drop place self.old.waiting)) }
+            ≡ out.old.items ++ sends_with self.old.in_flight (drop index self.old.waiting)) }
         ensures first { IsReleasedFirst self.old.in_flight → IsReleasedFirst self.new.in_flight }
         ensures waiting { self.new.waiting ≡ self.old.waiting }
         ensures err { OnErr result (self.new.in_flight ≡ self.old.in_flight) }
         ensures kept { OnErr result (out.old.items ≡ take (length out.old.items) out.new.items) }
     {
-        if let Some(publication) = self.waiting.get(place) {
+        if let Some(publication) = self.waiting.get(index) {
             let id = free_id(&self.in_flight);
             fill_takes_what_waits();
             resend_keeps_the_order();
@@ -222,9 +222,9 @@ impl SessionQueue {
         ensures { self.new ≡ with_flights (released_with id self.old.in_flight) self.old }
     {
         let after = self.released();
-        if let Some(place) = self.in_flight.get_index_of(&id) {
+        if let Some(index) = self.in_flight.get_index_of(&id) {
             mark_released(&mut self.in_flight, id);
-            self.in_flight.move_index(place, after);
+            self.in_flight.move_index(index, after);
         }
     }
 
@@ -307,7 +307,7 @@ pub(crate) fn put_last(
     Ok(())
 }
 
-// Marks the entry with this identifier as waiting for PUBCOMP. It stays at its place.
+// Marks the entry with this identifier as waiting for PUBCOMP. It stays at its index.
 fn mark_released(in_flight: &mut IndexMap<PacketId, Awaits>, id: PacketId)
     requires { IsAwaited id in_flight.old.entries }
     ensures entries { in_flight.new.entries ≡ with_released id in_flight.old.entries }

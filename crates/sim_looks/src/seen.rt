@@ -154,11 +154,11 @@ impl Seen {
 
     // Says whether it is newer than the last one of its publisher, and keeps its number.
     fn is_newer(&mut self, one: &Accepted) -> Option<bool> {
-        let (place, serial) = made_by(&one.payload)?;
-        for _ in self.last.len()..=place as usize {
+        let (index, serial) = made_by(&one.payload)?;
+        for _ in self.last.len()..=index as usize {
             self.last.push(0).ok()?;
         }
-        let last = self.last.get_mut(place as usize)?;
+        let last = self.last.get_mut(index as usize)?;
         let newer = *last < serial;
         *last = serial;
         Some(newer)
@@ -176,7 +176,7 @@ impl Seen {
 // Says whether its publisher may be out of step.
 fn is_stray(one: &Accepted, strays: &[bool]) -> bool {
     match made_by(&one.payload) {
-        Some((place, _)) => strays.get(place as usize).copied().unwrap_or(false),
+        Some((index, _)) => strays.get(index as usize).copied().unwrap_or(false),
         None => false,
     }
 }

@@ -66,21 +66,21 @@ impl Watch {
         })
     }
 
-    /// Takes note that the client at a place made the publication of this number, at QoS 1 or 2.
-    pub fn published(&mut self, place: usize, serial: u64) -> Option<()> {
-        self.seen.get_mut(place)?.published.push(serial).ok()
+    /// Takes note that the client at an index made the publication of this number, at QoS 1 or 2.
+    pub fn published(&mut self, index: usize, serial: u64) -> Option<()> {
+        self.seen.get_mut(index)?.published.push(serial).ok()
     }
 
-    /// Takes note that the client at a place opened a connection.
-    pub fn opened(&mut self, place: usize) {
-        if let Some(seen) = self.seen.get_mut(place) {
+    /// Takes note that the client at an index opened a connection.
+    pub fn opened(&mut self, index: usize) {
+        if let Some(seen) = self.seen.get_mut(index) {
             seen.opens();
         }
     }
 
-    /// Takes note that the session of the client at a place was ended.
-    pub fn expelled(&mut self, place: usize) {
-        if let Some(seen) = self.seen.get_mut(place) {
+    /// Takes note that the session of the client at an index was ended.
+    pub fn expelled(&mut self, index: usize) {
+        if let Some(seen) = self.seen.get_mut(index) {
             seen.is_expelled = true;
         }
     }
@@ -106,15 +106,15 @@ impl Watch {
         })
     }
 
-    /// Looks at the client at a place, and returns what does not hold.
+    /// Looks at the client at an index, and returns what does not hold.
     pub fn client(
         &mut self,
-        place: usize,
+        index: usize,
         name: &ClientId,
         core: &ClientCore,
     ) -> Option<Result<(), Broken>> {
         let strays = self.strays()?;
-        let seen = self.seen.get_mut(place)?;
+        let seen = self.seen.get_mut(index)?;
         seen.looks(name, core, &self.reading, strays.as_slice())
     }
 

@@ -146,7 +146,7 @@ own_gives {S = S} {C = C} {O = O} rules archive r input new given based ran with
     by_input (Proposes c) lossy = plain (Proposes c) tt lossy
     by_input Ticks lossy = plain Ticks tt lossy
 
--- a step of the group, of which the node at place n may be another's
+-- a step of the group, of which the node at index n may be another's
 step_gives : {S C O : Type 0} (rules : Rules S C O) (config : Config) (m : MasterState) (w : World S C O) (k : MasterState) (v : World S C O)
     (earlier : List (WholeMoment S C O)) → Kept rules config m w earlier → (step : MayHappen rules m w k v) → (n : ℕ) (old new : ReplicaState S C) →
     slice_get w.nodes n ≡ Some old → slice_get v.nodes n ≡ Some new →

@@ -21,6 +21,6 @@ abbrev pub LeftInOrder : {S C O : Type 0} →
     Rules S C O → List (Moment S C O) → World S C O → List C → Type 0
 LeftInOrder rules past w xs = LeftInOrderWhole rules (map whole_moment past) (whole_world w) xs
 
--- the node at a place is the active primary of a ballot
+-- the node at an index is the active primary of a ballot
 abbrev pub IsPrimary : {S C O : Type 0} → World S C O → ℕ → ℕ → Type 0
 IsPrimary w n ballot = IsPrimaryWhole (whole_world w) n ballot

@@ -12,7 +12,7 @@ use Rattle.snapshots.specs.Steps.MayHappen.{assignment_lost, answer_lost}
 use Rattle.snapshots.specs.World.{NodeGoes, World, outputs, whole_world}
 use Rattle.snapshots.specs.World.NodeGoes.{takes, stops, cuts}
 
--- the outputs of the node at place n in a step, each with its place in the list
+-- the outputs of the node at index n in a step, each with its place in the list
 abbrev pub given_by_node : {S C O : Type 0} {rules : Rules S C O} {w v : World S C O} →
     ℕ → NodeGoes rules w v → List (ℕ × O)
 given_by_node n (takes i r input {new = new} {given = given} stands runs may loses) =
@@ -35,7 +35,7 @@ abbrev pub given_of : {S C O : Type 0} {rules : Rules S C O} {config : Config}
 given_of n (began nodes lawful is) = []
 given_of n (went_on came step) = given_of n came ++ given_in n step
 
--- a past continues from a moment, and the node at place n is the active primary of a ballot at that
+-- a past continues from a moment, and the node at index n is the active primary of a ballot at that
 -- moment and at each later one
 pub data LeadsOn {S C O : Type 0} {rules : Rules S C O} {config : Config} (n ballot : ℕ)
     {a : Moment S C O} {past : List (Moment S C O)} (came : Past rules config (a ∷ past)) :

@@ -41,7 +41,7 @@ taken_as (takes n r input {new = new} {given = given} stands runs may loses) = t
 taken_as (stops n r stands) = []
 taken_as (cuts n r stands runs below reads) = []
 
--- .. by the node at place n
+-- .. by the node at index n
 abbrev pub taken_by_node : {S C O : Type 0} {rules : Rules S C O} {w v : World S C O} →
     ℕ → NodeGoes rules w v → List (ℕ × C)
 taken_by_node n (takes i r input {new = new} {given = given} stands runs may loses) =
@@ -67,7 +67,7 @@ taken_in (master_hears from b sent) = []
 taken_in (assignment_lost config) = []
 taken_in (answer_lost from b sent) = []
 
--- what the node at place n takes in it
+-- what the node at index n takes in it
 abbrev pub takes_at : {S C O : Type 0} {rules : Rules S C O} {m : MasterState} {w : World S C O}
     {k : MasterState} {v : World S C O} → ℕ → MayHappen rules m w k v → List (ℕ × C)
 takes_at n (node_goes goes) = taken_by_node n goes
@@ -88,7 +88,7 @@ abbrev pub taken_of : {S C O : Type 0} {rules : Rules S C O} {config : Config}
 taken_of (began nodes lawful is) = []
 taken_of (went_on came step) = taken_of came ++ taken_in step
 
--- what the node at place n took in a past
+-- what the node at index n took in a past
 abbrev pub taken_at : {S C O : Type 0} {rules : Rules S C O} {config : Config}
     {past : List (Moment S C O)} → ℕ → Past rules config past → List (ℕ × C)
 taken_at n (began nodes lawful is) = []

@@ -16,7 +16,7 @@ use Rattle.agreement.specs.ballot_base.Protocol.{Input, replica_step}
 use Rattle.agreement.specs.ballot_base.Cutting.{cut}
 use Rattle.agreement.specs.ballot_base.Protocol.Input.{Receives, Proposes, Ticks}
 
--- the nodes, number n + 1 at place n
+-- the nodes, number n + 1 at index n
 pub record World (S C O : Type 0) : Type 0 where
   pub nodes : List (ReplicaState S C)
   pub sent : List (ℕ × Message C)
@@ -49,7 +49,7 @@ outputs [] = []
 outputs (To receiver message ∷ effects) = outputs effects
 outputs (Out place output ∷ effects) = (place, output) ∷ outputs effects
 
--- the node at a place changed and returned effects
+-- the node at an index changed and returned effects
 abbrev pub moved : {S C O : Type 0} → World S C O → ℕ → ReplicaState S C → List (Effect C O) →
     World S C O
 moved w n new given =

@@ -160,9 +160,9 @@ fn a_frozen_session_is_read(rt: HostRuntime) {
 fn other_bytes_are_no_session(rt: HostRuntime) {
     // Two subscriptions, identifier 0, a publication at QoS 0, bytes that are missing.
     let rows: [(usize, u8); 3] = [(0, 2), (10, 0), (16, 0)];
-    for (place, byte) in rows {
+    for (index, byte) in rows {
         let mut bytes = FROZEN;
-        bytes[place] = byte;
+        bytes[index] = byte;
         assert!(rt; thawed(rt.alloc(), &bytes).is_none());
     }
     assert!(rt; thawed(rt.alloc(), &FROZEN[..26]).is_none());

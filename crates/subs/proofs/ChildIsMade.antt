@@ -6,7 +6,7 @@ use Rattle.std.proofs.lemmas.List.{append_assoc}
 use Rattle.topics.specs.Text.{Levels}
 use Rattle.topics.specs.Matching.{is_all}
 use Rattle.subs.specs.Shape.{Children, Shape, asked, rows}
-use Rattle.subs.specs.Ways.{led, place, IsTree, IsReached}
+use Rattle.subs.specs.Ways.{led, slot, IsTree, IsReached}
 use Rattle.subs.specs.Changes.{Links, Opens, Closes, IsBare}
 use Rattle.subs.proofs.Ways.{rows_below}
 use Rattle.subs.proofs.Linked.{free_unreached, tree_opened, tree_linked, rows_linked, led_new}
@@ -76,16 +76,16 @@ unmade old mid last new root n tree opens same closes =
 
 -- ---- the way continues
 
-pub way_on : (path : Levels) (l : List ℕ) (ls : Levels) → is_all l ls ≡ false → (path ++ l ∷ []) ++ (place ls).0 ≡ path ++ (place (l ∷ ls)).0
+pub way_on : (path : Levels) (l : List ℕ) (ls : Levels) → is_all l ls ≡ false → (path ++ l ∷ []) ++ (slot ls).0 ≡ path ++ (slot (l ∷ ls)).0
 way_on path l ls other =
-    append_assoc path (l ∷ []) (place ls).0
-    ∙ ap (λ v. path ++ (cond {A = Levels × Bool} v ([], true) (l ∷ (place ls).0, (place ls).1)).0) (sym other)
+    append_assoc path (l ∷ []) (slot ls).0
+    ∙ ap (λ v. path ++ (cond {A = Levels × Bool} v ([], true) (l ∷ (slot ls).0, (slot ls).1)).0) (sym other)
 
-pub side_on : (l : List ℕ) (ls : Levels) → is_all l ls ≡ false → (place ls).1 ≡ (place (l ∷ ls)).1
-side_on l ls other = ap (λ v. (cond {A = Levels × Bool} v ([], true) (l ∷ (place ls).0, (place ls).1)).1) (sym other)
+pub side_on : (l : List ℕ) (ls : Levels) → is_all l ls ≡ false → (slot ls).1 ≡ (slot (l ∷ ls)).1
+side_on l ls other = ap (λ v. (cond {A = Levels × Bool} v ([], true) (l ∷ (slot ls).0, (slot ls).1)).1) (sym other)
 
-pub place_all : (l : List ℕ) (ls : Levels) → is_all l ls ≡ true → place (l ∷ ls) ≡ ([], true)
-place_all l ls is = ap (λ v. cond {A = Levels × Bool} v ([], true) (l ∷ (place ls).0, (place ls).1)) is
+pub slot_all : (l : List ℕ) (ls : Levels) → is_all l ls ≡ true → slot (l ∷ ls) ≡ ([], true)
+slot_all l ls is = ap (λ v. cond {A = Levels × Bool} v ([], true) (l ∷ (slot ls).0, (slot ls).1)) is
 
 -- nothing is asked for after a level that is not there
 pub none_after : (s : Shape) (root : Option ℕ) (path : Levels) (at : ℕ) (l : List ℕ) (ls : Levels) (c : List ℕ)

@@ -11,7 +11,7 @@ pub mod Unlinked
 pub mod RootIsMade
 pub mod ChildIsMade
 pub mod NodeGoes
-pub mod PlaceIsFound
+pub mod SlotIsFound
 pub mod NodeAt
 pub mod Raising
 pub mod WalkFinds

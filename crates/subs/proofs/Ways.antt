@@ -1,4 +1,4 @@
--- Where levels lead, and that a filter's rows are at its place.
+-- Where levels lead, and that a filter's rows are at its slot.
 use Rattle.std.proofs.Common.{◌≡◌, ℕ, List, [], ◌∷◌, ◌++◌, Bool, true, false, ◌&&◌, cond, Option, Some, None, refl, sym, ◌∙◌, ap, ap₂, codes, bytes_eq}
 use Rattle.std.specs.Prelude.{option_and_then}
 use Rattle.std.specs.Cmp.Lexicographic.{bytes_decides}
@@ -7,7 +7,7 @@ use Rattle.topics.specs.Text.{Levels}
 use Rattle.topics.specs.Matching.{is_all}
 use Rattle.subs_base.specs.packet.declared.qos.QoS.{QoS}
 use Rattle.subs.specs.Shape.{Children, Held, Shape, asked, rows}
-use Rattle.subs.specs.Ways.{reach, led, place}
+use Rattle.subs.specs.Ways.{reach, led, slot}
 use Rattle.subs.specs.Inside.{same_levels}
 
 pub same_levels_is : (f g : Levels) → same_levels f g ≡ true → f ≡ g
@@ -51,50 +51,50 @@ all_is : (l : List ℕ) (ls : Levels) → is_all l ls ≡ true → (l ∷ ls) �
 all_is l [] is = ap (λ (x : List ℕ). x ∷ []) ((bytes_decides l (codes "#")).0 (and_parts _ _ is).0)
 all_is l (y ∷ ys) is = absurd (true≢false (sym (and_parts _ _ is).1))
 
--- ---- a place corresponds to one filter
+-- ---- a slot corresponds to one filter
 
-abbrev unplace : Levels → Bool → Levels
-unplace p true = p ++ codes "#" ∷ []
-unplace p false = p
+abbrev filter_of : Levels → Bool → Levels
+filter_of p true = p ++ codes "#" ∷ []
+filter_of p false = p
 
-unplaced : (f : Levels) → unplace (place f).0 (place f).1 ≡ f
-unplaced [] = refl
-unplaced (l ∷ ls) = by (is_all l ls) refl (unplaced ls)
+filter_is : (f : Levels) → filter_of (slot f).0 (slot f).1 ≡ f
+filter_is [] = refl
+filter_is (l ∷ ls) = by (is_all l ls) refl (filter_is ls)
   where
-    front : (w : Bool) → unplace (place ls).0 w ≡ ls → unplace (l ∷ (place ls).0) w ≡ l ∷ ls
+    front : (w : Bool) → filter_of (slot ls).0 w ≡ ls → filter_of (l ∷ (slot ls).0) w ≡ l ∷ ls
     front true h = ap (λ (f : Levels). l ∷ f) h
     front false h = ap (λ (f : Levels). l ∷ f) h
 
-    by : (v : Bool) → is_all l ls ≡ v → unplace (place ls).0 (place ls).1 ≡ ls
-        → (let p = cond {A = Levels × Bool} v ([], true) (l ∷ (place ls).0, (place ls).1) in unplace p.0 p.1) ≡ l ∷ ls
+    by : (v : Bool) → is_all l ls ≡ v → filter_of (slot ls).0 (slot ls).1 ≡ ls
+        → (let p = cond {A = Levels × Bool} v ([], true) (l ∷ (slot ls).0, (slot ls).1) in filter_of p.0 p.1) ≡ l ∷ ls
     by true e h = sym (all_is l ls e)
-    by false e h = front (place ls).1 h
+    by false e h = front (slot ls).1 h
 
-pub one_filter : (f g : Levels) → (place f).0 ≡ (place g).0 → (place f).1 ≡ (place g).1 → f ≡ g
-one_filter f g way side = sym (unplaced f) ∙ ap₂ unplace way side ∙ unplaced g
+pub one_filter : (f g : Levels) → (slot f).0 ≡ (slot g).0 → (slot f).1 ≡ (slot g).1 → f ≡ g
+one_filter f g way side = sym (filter_is f) ∙ ap₂ filter_of way side ∙ filter_is g
 
--- ---- the rows of a filter are at its place
+-- ---- the rows of a filter are at its slot
 
 abbrev pub row_at : Held → Option ℕ → Bool → List ℕ → Option QoS
 row_at held node rest client = option_and_then (λ at. held at rest client) node
 
-pub asked_is : (s : Shape) (at : ℕ) (f : Levels) (c : List ℕ) → asked s at f c ≡ row_at s.held (reach s.child at (place f).0) (place f).1 c
+pub asked_is : (s : Shape) (at : ℕ) (f : Levels) (c : List ℕ) → asked s at f c ≡ row_at s.held (reach s.child at (slot f).0) (slot f).1 c
 asked_is s at [] c = refl
 asked_is s at (l ∷ ls) c = by (is_all l ls) (go (s.child at l) (λ b. asked_is s b ls c))
   where
-    go : (o : Option ℕ) → ((b : ℕ) → asked s b ls c ≡ row_at s.held (reach s.child b (place ls).0) (place ls).1 c)
-        → option_and_then (λ b. asked s b ls c) o ≡ row_at s.held (option_and_then (λ b. reach s.child b (place ls).0) o) (place ls).1 c
+    go : (o : Option ℕ) → ((b : ℕ) → asked s b ls c ≡ row_at s.held (reach s.child b (slot ls).0) (slot ls).1 c)
+        → option_and_then (λ b. asked s b ls c) o ≡ row_at s.held (option_and_then (λ b. reach s.child b (slot ls).0) o) (slot ls).1 c
     go None more = refl
     go (Some b) more = more b
 
     by : (v : Bool)
-        → option_and_then (λ b. asked s b ls c) (s.child at l) ≡ row_at s.held (reach s.child at (l ∷ (place ls).0)) (place ls).1 c
+        → option_and_then (λ b. asked s b ls c) (s.child at l) ≡ row_at s.held (reach s.child at (l ∷ (slot ls).0)) (slot ls).1 c
         → cond v (s.held at true c) (option_and_then (λ b. asked s b ls c) (s.child at l))
-        ≡ (let p = cond {A = Levels × Bool} v ([], true) (l ∷ (place ls).0, (place ls).1) in row_at s.held (reach s.child at p.0) p.1 c)
+        ≡ (let p = cond {A = Levels × Bool} v ([], true) (l ∷ (slot ls).0, (slot ls).1) in row_at s.held (reach s.child at p.0) p.1 c)
     by true h = refl
     by false h = h
 
-pub rows_are : (s : Shape) (root : Option ℕ) (f : Levels) (c : List ℕ) → rows s root f c ≡ row_at s.held (led s.child root (place f).0) (place f).1 c
+pub rows_are : (s : Shape) (root : Option ℕ) (f : Levels) (c : List ℕ) → rows s root f c ≡ row_at s.held (led s.child root (slot f).0) (slot f).1 c
 rows_are s None f c = refl
 rows_are s (Some at) f c = asked_is s at f c
 

@@ -4,7 +4,7 @@ use Rattle.std.proofs.lemmas.Bool.{true≢false, and_parts, eq-eqb, eqb-true}
 use Rattle.topics.specs.Text.{Levels}
 use Rattle.subs_base.specs.packet.declared.qos.QoS.{QoS}
 use Rattle.subs.specs.Shape.{Children, Shape, rows}
-use Rattle.subs.specs.Ways.{led, place, IsTree}
+use Rattle.subs.specs.Ways.{led, slot, IsTree}
 use Rattle.subs.specs.Changes.{same_side, Writes, Fills}
 use Rattle.subs.specs.Inside.{same_levels, with_asked, with_rows}
 use Rattle.subs.proofs.Ways.{same_levels_is, same_levels_self, one_filter, row_at, rows_are}
@@ -33,87 +33,87 @@ grouped : (a b c : Bool) → (a && (b && c)) ≡ ((a && b) && c)
 grouped true b c = refl
 grouped false b c = refl
 
--- the place of another filter is another place
-pub one_place :
+-- the slot of another filter is another slot
+pub one_slot :
     (old : Shape) (root : Option ℕ) (f : Levels) (at : ℕ)
     → IsTree old.child old.used root
-    → led old.child root (place f).0 ≡ Some at
-    → (g : Levels) (k : ℕ) → led old.child root (place g).0 ≡ Some k → ((k == at) && same_side (place f).1 (place g).1) ≡ same_levels f g
-one_place old root f at tree way g k e = same_test ((k == at) && same_side (place f).1 (place g).1) (same_levels f g) there back
+    → led old.child root (slot f).0 ≡ Some at
+    → (g : Levels) (k : ℕ) → led old.child root (slot g).0 ≡ Some k → ((k == at) && same_side (slot f).1 (slot g).1) ≡ same_levels f g
+one_slot old root f at tree way g k e = same_test ((k == at) && same_side (slot f).1 (slot g).1) (same_levels f g) there back
   where
-    there : ((k == at) && same_side (place f).1 (place g).1) ≡ true → same_levels f g ≡ true
+    there : ((k == at) && same_side (slot f).1 (slot g).1) ≡ true → same_levels f g ≡ true
     there h =
-        let parts = and_parts (k == at) (same_side (place f).1 (place g).1) h in
-        let ways : (place f).0 ≡ (place g).0 = tree.one_way (place f).0 (place g).0 at way (e ∙ ap (λ n. Some n) (eqb-true k at parts.0)) in
-        let is : f ≡ g = one_filter f g ways (same_side_is (place f).1 (place g).1 parts.1) in
+        let parts = and_parts (k == at) (same_side (slot f).1 (slot g).1) h in
+        let ways : (slot f).0 ≡ (slot g).0 = tree.one_way (slot f).0 (slot g).0 at way (e ∙ ap (λ n. Some n) (eqb-true k at parts.0)) in
+        let is : f ≡ g = one_filter f g ways (same_side_is (slot f).1 (slot g).1 parts.1) in
         subst (λ (x : Levels). same_levels f x ≡ true) is (same_levels_self f)
 
-    back : same_levels f g ≡ true → ((k == at) && same_side (place f).1 (place g).1) ≡ true
+    back : same_levels f g ≡ true → ((k == at) && same_side (slot f).1 (slot g).1) ≡ true
     back h =
         let is : f ≡ g = same_levels_is f g h in
-        let found : Some at ≡ Some k = sym way ∙ ap (λ (x : Levels). led old.child root (place x).0) is ∙ e in
+        let found : Some at ≡ Some k = sym way ∙ ap (λ (x : Levels). led old.child root (slot x).0) is ∙ e in
         let same : k ≡ at = cc in
-        both (k == at) (same_side (place f).1 (place g).1) (eq-eqb k at same)
-        (subst (λ (x : Levels). same_side (place f).1 (place x).1 ≡ true) is (same_side_self (place f).1))
+        both (k == at) (same_side (slot f).1 (slot g).1) (eq-eqb k at same)
+        (subst (λ (x : Levels). same_side (slot f).1 (slot x).1 ≡ true) is (same_side_self (slot f).1))
 
--- a filter that has no place is another one
-pub no_place :
+-- a filter that has no slot is another one
+pub no_slot :
     (old : Shape) (root : Option ℕ) (f : Levels) (at : ℕ)
-    → led old.child root (place f).0 ≡ Some at
-    → (g : Levels) → led old.child root (place g).0 ≡ None → same_levels f g ≡ false
-no_place old root f at way g e = same_test (same_levels f g) false (λ h. absurd (no h)) (λ h. absurd (true≢false (sym h)))
+    → led old.child root (slot f).0 ≡ Some at
+    → (g : Levels) → led old.child root (slot g).0 ≡ None → same_levels f g ≡ false
+no_slot old root f at way g e = same_test (same_levels f g) false (λ h. absurd (no h)) (λ h. absurd (true≢false (sym h)))
   where
     no : same_levels f g ≡ true → ⊥
     no h =
-        let found : Some at ≡ None = sym way ∙ ap (λ (x : Levels). led old.child root (place x).0) (same_levels_is f g h) ∙ e in
+        let found : Some at ≡ None = sym way ∙ ap (λ (x : Levels). led old.child root (slot x).0) (same_levels_is f g h) ∙ e in
         absurd cc
 
 pub written :
     (old new : Shape) (root : Option ℕ) (f : Levels) (at : ℕ) (client : List ℕ) (kept : Option QoS)
     → IsTree old.child old.used root
-    → led old.child root (place f).0 ≡ Some at
-    → Writes old new at (place f).1 client kept
+    → led old.child root (slot f).0 ≡ Some at
+    → Writes old new at (slot f).1 client kept
     → rows new root ≡ with_asked (rows old root) f client kept
 written old new root f at client kept tree way writes = λ i g c. go g c i
   where
-    by : (g : Levels) (c : List ℕ) (o : Option ℕ) → led old.child root (place g).0 ≡ o
-        → row_at new.held o (place g).1 c ≡ cond (same_levels f g && bytes_eq client c) kept (row_at old.held o (place g).1 c)
-    by g c None e = ap (λ b. cond (b && bytes_eq client c) kept None) (sym (no_place old root f at way g e))
+    by : (g : Levels) (c : List ℕ) (o : Option ℕ) → led old.child root (slot g).0 ≡ o
+        → row_at new.held o (slot g).1 c ≡ cond (same_levels f g && bytes_eq client c) kept (row_at old.held o (slot g).1 c)
+    by g c None e = ap (λ b. cond (b && bytes_eq client c) kept None) (sym (no_slot old root f at way g e))
     by g c (Some k) e =
-        writes.held k (place g).1 c
-        ∙ ap (λ b. cond b kept (old.held k (place g).1 c))
-        (grouped (k == at) (same_side (place f).1 (place g).1) (bytes_eq client c) ∙ ap (λ b. b && bytes_eq client c) (one_place old root f at tree way g k e))
+        writes.held k (slot g).1 c
+        ∙ ap (λ b. cond b kept (old.held k (slot g).1 c))
+        (grouped (k == at) (same_side (slot f).1 (slot g).1) (bytes_eq client c) ∙ ap (λ b. b && bytes_eq client c) (one_slot old root f at tree way g k e))
 
     go : (g : Levels) (c : List ℕ) → rows new root g c ≡ with_asked (rows old root) f client kept g c
     go g c =
         rows_are new root g c
-        ∙ ap (λ (ch : Children). row_at new.held (led ch root (place g).0) (place g).1 c) writes.child
-        ∙ by g c (led old.child root (place g).0) refl
+        ∙ ap (λ (ch : Children). row_at new.held (led ch root (slot g).0) (slot g).1 c) writes.child
+        ∙ by g c (led old.child root (slot g).0) refl
         ∙ ap (λ q. cond (same_levels f g && bytes_eq client c) kept q) (sym (rows_are old root g c))
 
 -- all rows of a node's side that are replaced are those of one filter
 pub filled :
     (old new : Shape) (root : Option ℕ) (f : Levels) (at : ℕ) (rest : Bool) (kept : List ℕ → Option QoS)
     → IsTree old.child old.used root
-    → led old.child root (place f).0 ≡ Some at
-    → rest ≡ (place f).1
+    → led old.child root (slot f).0 ≡ Some at
+    → rest ≡ (slot f).1
     → Fills old new at rest kept
     → rows new root ≡ with_rows (rows old root) f kept
 filled old new root f at rest kept tree way side fills = λ i g c. go g c i
   where
-    by : (g : Levels) (c : List ℕ) (o : Option ℕ) → led old.child root (place g).0 ≡ o
-        → row_at new.held o (place g).1 c ≡ cond (same_levels f g) (kept c) (row_at old.held o (place g).1 c)
-    by g c None e = ap (λ b. cond b (kept c) None) (sym (no_place old root f at way g e))
+    by : (g : Levels) (c : List ℕ) (o : Option ℕ) → led old.child root (slot g).0 ≡ o
+        → row_at new.held o (slot g).1 c ≡ cond (same_levels f g) (kept c) (row_at old.held o (slot g).1 c)
+    by g c None e = ap (λ b. cond b (kept c) None) (sym (no_slot old root f at way g e))
     by g c (Some k) e =
-        fills.held k (place g).1 c
-        ∙ ap (λ r. cond ((k == at) && same_side r (place g).1) (kept c) (old.held k (place g).1 c)) side
-        ∙ ap (λ b. cond b (kept c) (old.held k (place g).1 c)) (one_place old root f at tree way g k e)
+        fills.held k (slot g).1 c
+        ∙ ap (λ r. cond ((k == at) && same_side r (slot g).1) (kept c) (old.held k (slot g).1 c)) side
+        ∙ ap (λ b. cond b (kept c) (old.held k (slot g).1 c)) (one_slot old root f at tree way g k e)
 
     go : (g : Levels) (c : List ℕ) → rows new root g c ≡ with_rows (rows old root) f kept g c
     go g c =
         rows_are new root g c
-        ∙ ap (λ (ch : Children). row_at new.held (led ch root (place g).0) (place g).1 c) fills.child
-        ∙ by g c (led old.child root (place g).0) refl
+        ∙ ap (λ (ch : Children). row_at new.held (led ch root (slot g).0) (slot g).1 c) fills.child
+        ∙ by g c (led old.child root (slot g).0) refl
         ∙ ap (λ q. cond (same_levels f g) (kept c) q) (sym (rows_are old root g c))
 
 pub tree_filled :

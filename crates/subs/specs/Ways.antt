@@ -15,10 +15,10 @@ abbrev pub led : Children → Option ℕ → Levels → Option ℕ
 led child root path = option_and_then (λ at. reach child at path) root
 
 -- where the rows of a filter are: along which levels, and whether at `#` beside the node
-abbrev pub place : Levels → Levels × Bool
-place [] = ([], false)
-place (level ∷ rest) =
-    if is_all level rest then ([], true) else (level ∷ (place rest).0, (place rest).1)
+abbrev pub slot : Levels → Levels × Bool
+slot [] = ([], false)
+slot (level ∷ rest) =
+    if is_all level rest then ([], true) else (level ∷ (slot rest).0, (slot rest).1)
 
 -- no two paths lead to one node, and each node that a path leads to is used
 pub record IsTree (child : Children) (marked : ℕ → Bool) (root : Option ℕ) : Type 0 where

@@ -2,28 +2,24 @@
 
 ghost use Rattle.std.specs.Prelude.{◌≡◌, ◌++◌, [], ◌∷◌, List, ℕ, OnErr, IfOk, None};
 ghost use Rattle.topics.specs.Text.{Levels, levels_of};
-ghost use Rattle.subs.specs.Ways.{place};
+ghost use Rattle.subs.specs.Ways.{slot};
 ghost use Rattle.subs.specs.Standing.{shape, rows_of, IsSound, LeadsTo, IsThere};
 
 use crate::node_id::NodeId;
 use crate::nodes::{Nodes, is_all};
-use crate::slots::{Place, child, close, link, open};
+use crate::slots::{Slot, child, close, link, open};
 use std::alloc::AllocError;
 use topics::split_level;
 
 impl Nodes {
-    /// Returns the place of the filter that continues with this text after a node. Nodes that are
+    /// Returns the slot of the filter that continues with this text after a node. Nodes that are
     /// missing are made; if memory runs out some of them may stay.
-    pub(crate) fn make_place(
-        &mut self,
-        at: NodeId,
-        text: Option<&[u8]>,
-    ) -> Result<Place, AllocError>
+    pub(crate) fn make_slot(&mut self, at: NodeId, text: Option<&[u8]>) -> Result<Slot, AllocError>
         requires sound { IsSound self.old }
         requires there { IsThere self.old at.number }
         ensures leads { IfOk result (λ made. (path : Levels) → LeadsTo self.old path at.number
-            → LeadsTo self.new (path ++ (place (levels_of text.entry)).0) made.node.number) }
-        ensures side { IfOk result (λ made. made.rest ≡ (place (levels_of text.entry)).1) }
+            → LeadsTo self.new (path ++ (slot (levels_of text.entry)).0) made.node.number) }
+        ensures side { IfOk result (λ made. made.rest ≡ (slot (levels_of text.entry)).1) }
         ensures rows { rows_of self.new ≡ rows_of self.old }
         ensures sound { IsSound self.new }
         ensures root { self.new.root ≡ self.old.root }
@@ -32,20 +28,20 @@ impl Nodes {
             → rows_of self.old (path ++ levels_of text.entry) client ≡ None) }
     {
         let Some(text) = text else {
-            return Ok(Place {
+            return Ok(Slot {
                 node: at,
                 rest: false,
             });
         };
         let (level, after) = split_level(text);
         if is_all(level, after) {
-            return Ok(Place {
+            return Ok(Slot {
                 node: at,
                 rest: true,
             });
         }
         let child = self.child_or_new(at, level)?;
-        self.make_place(child, after)
+        self.make_slot(child, after)
     }
 
     // Returns the node after a level, which is made if there is none.

@@ -4,7 +4,7 @@ ghost use Rattle.std.specs.Prelude.{◌≡◌, OnOk, OnErr, IfOk, IfSome, ◌↔
 ghost use Rattle.std.specs.Prelude.{None, option_map};
 ghost use Rattle.topics.specs.Text.{levels, levels_of};
 ghost use Rattle.topics.specs.Matching.{is_all};
-ghost use Rattle.subs.specs.Ways.{reach, place};
+ghost use Rattle.subs.specs.Ways.{reach, slot};
 ghost use Rattle.subs.specs.Inside.{nothing, with_asked, with_rows};
 ghost use Rattle.subs.specs.Rows.{row_at};
 ghost use Rattle.subs.specs.Standing.{shape, root_of, rows_of, IsSound};
@@ -12,7 +12,7 @@ ghost use Rattle.subs.specs.Standing.{shape, root_of, rows_of, IsSound};
 use crate::node::Node;
 use crate::node_id::NodeId;
 use crate::rows::Rows;
-use crate::slots::{Place, child, clear_at, open, put_at, set_at};
+use crate::slots::{Slot, child, clear_at, open, put_at, set_at};
 use slab::Slab;
 use std::alloc::{AllocError, Global};
 use subs_base::packet::{ClientId, QoS};
@@ -67,8 +67,8 @@ impl Nodes {
         ensures sound { OnOk result (IsSound self.new) }
     {
         let root = self.make_root()?;
-        let place = self.make_place(root, Some(text))?;
-        put_at(&mut self.slab, place, rows);
+        let slot = self.make_slot(root, Some(text))?;
+        put_at(&mut self.slab, slot, rows);
         Ok(())
     }
 
@@ -84,10 +84,10 @@ impl Nodes {
         let Some(root) = self.root else {
             return false;
         };
-        let Some(place) = self.find_place(root, Some(text)) else {
+        let Some(slot) = self.find_slot(root, Some(text)) else {
             return false;
         };
-        let found = clear_at(&mut self.slab, place, client);
+        let found = clear_at(&mut self.slab, slot, client);
         self.prune(root, Some(text));
         found
     }
@@ -126,32 +126,32 @@ impl Nodes {
         ensures sound { IsSound self.new }
         ensures root { self.new.root ≡ self.old.root }
     {
-        let place = self.make_place(root, Some(text))?;
-        set_at(&mut self.slab, self.alloc, place, client, qos)
+        let slot = self.make_slot(root, Some(text))?;
+        set_at(&mut self.slab, self.alloc, slot, client, qos)
     }
 
-    // Returns the place of the filter that continues with this text after a node, if its nodes are
+    // Returns the slot of the filter that continues with this text after a node, if its nodes are
     // there.
-    fn find_place(&self, at: NodeId, text: Option<&[u8]>) -> Option<Place>
+    fn find_slot(&self, at: NodeId, text: Option<&[u8]>) -> Option<Slot>
         ensures node { option_map (λ found. found.node.number) result
-            ≡ reach (shape self.now).child at.number (place (levels_of text.entry)).0 }
-        ensures side { IfSome result (λ found. found.rest ≡ (place (levels_of text.entry)).1) }
+            ≡ reach (shape self.now).child at.number (slot (levels_of text.entry)).0 }
+        ensures side { IfSome result (λ found. found.rest ≡ (slot (levels_of text.entry)).1) }
     {
         let Some(text) = text else {
-            return Some(Place {
+            return Some(Slot {
                 node: at,
                 rest: false,
             });
         };
         let (level, after) = split_level(text);
         if is_all(level, after) {
-            return Some(Place {
+            return Some(Slot {
                 node: at,
                 rest: true,
             });
         }
         match child(&self.slab, at, level) {
-            Some(child) => self.find_place(child, after),
+            Some(child) => self.find_slot(child, after),
             None => None,
         }
     }

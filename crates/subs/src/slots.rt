@@ -15,7 +15,7 @@ use subs_base::packet::{ClientId, QoS};
 
 /// Where the rows of a filter are: at a node, or at `#` beside it.
 #[derive(Clone, Copy, Debug)]
-pub(crate) struct Place {
+pub(crate) struct Slot {
     pub(crate) node: NodeId,
     pub(crate) rest: bool,
 }
@@ -87,49 +87,49 @@ pub(crate) fn unlink(nodes: &mut Slab<Node>, at: NodeId, level: &[u8])
     }
 }
 
-/// Sets the client's row at a place.
+/// Sets the client's row at a slot.
 pub(crate) fn set_at(
     nodes: &mut Slab<Node>,
     alloc: Global,
-    place: Place,
+    slot: Slot,
     client: &ClientId,
     qos: QoS,
 ) -> Result<(), AllocError>
-    requires { (shape_of nodes.old).used place.node.number ≡ true }
+    requires { (shape_of nodes.old).used slot.node.number ≡ true }
     ensures ok { OnOk result
         (Writes (shape_of nodes.old)
-        (shape_of nodes.new) place.node.number place.rest client.now (Some qos)) }
+        (shape_of nodes.new) slot.node.number slot.rest client.now (Some qos)) }
     ensures err { OnErr result (shape_of nodes.new ≡ shape_of nodes.old) }
     ensures absent { OnErr result
-        ((shape_of nodes.old).held place.node.number place.rest client.now ≡ None) }
+        ((shape_of nodes.old).held slot.node.number slot.rest client.now ≡ None) }
 {
-    match nodes.get_mut(place.node.number) {
-        Some(node) => node.set(alloc, place.rest, client, qos),
+    match nodes.get_mut(slot.node.number) {
+        Some(node) => node.set(alloc, slot.rest, client, qos),
         None => Ok(()),
     }
 }
 
-/// Puts these rows in place of those at a place.
-pub(crate) fn put_at(nodes: &mut Slab<Node>, place: Place, rows: Rows)
-    requires { (shape_of nodes.old).used place.node.number ≡ true }
-    ensures { Fills (shape_of nodes.old) (shape_of nodes.new) place.node.number place.rest
+/// Puts these rows in place of those at a slot.
+pub(crate) fn put_at(nodes: &mut Slab<Node>, slot: Slot, rows: Rows)
+    requires { (shape_of nodes.old).used slot.node.number ≡ true }
+    ensures { Fills (shape_of nodes.old) (shape_of nodes.new) slot.node.number slot.rest
         (row_at rows) }
 {
-    if let Some(node) = nodes.get_mut(place.node.number) {
-        node.put(place.rest, rows);
+    if let Some(node) = nodes.get_mut(slot.node.number) {
+        node.put(slot.rest, rows);
     }
 }
 
-/// Takes the client's row at a place out, and says whether there was one.
-pub(crate) fn clear_at(nodes: &mut Slab<Node>, place: Place, client: &ClientId) -> bool
-    requires { (shape_of nodes.old).used place.node.number ≡ true }
+/// Takes the client's row at a slot out, and says whether there was one.
+pub(crate) fn clear_at(nodes: &mut Slab<Node>, slot: Slot, client: &ClientId) -> bool
+    requires { (shape_of nodes.old).used slot.node.number ≡ true }
     ensures found { result
-        ≡ is_some ((shape_of nodes.old).held place.node.number place.rest client.now) }
+        ≡ is_some ((shape_of nodes.old).held slot.node.number slot.rest client.now) }
     ensures after { Writes (shape_of nodes.old)
-        (shape_of nodes.new) place.node.number place.rest client.now None }
+        (shape_of nodes.new) slot.node.number slot.rest client.now None }
 {
-    match nodes.get_mut(place.node.number) {
-        Some(node) => node.clear(place.rest, client),
+    match nodes.get_mut(slot.node.number) {
+        Some(node) => node.clear(slot.rest, client),
         None => false,
     }
 }

@@ -53,17 +53,17 @@ impl Course {
     /// Draws the next event: mostly one that continues what is in transit, now and then one that
     /// disturbs. None if it ran out of memory.
     pub fn draws(&mut self, world: &World, clients: &[ClientId]) -> Option<Event> {
-        let place = (self.draw.below(clients.len() as u64) % 256) as u8;
-        let name = clients.get(place as usize)?.clone().ok()?;
+        let index = (self.draw.below(clients.len() as u64) % 256) as u8;
+        let name = clients.get(index as usize)?.clone().ok()?;
         match self.draw.below(100) {
             0 => self.changes(world),
             1 => Some(Event::Cut(self.node())),
             2 => Some(Event::Tick(self.node())),
-            3 => Some(Event::Notice(self.connection(place))),
+            3 => Some(Event::Notice(self.connection(index))),
             4..=6 => Some(self.leaves(world, name)),
             7 => self.opens(world, name),
-            8..=19 => self.says(world, name, place),
-            _ => self.goes_on(world, name, place),
+            8..=19 => self.says(world, name, index),
+            _ => self.goes_on(world, name, index),
         }
     }
 
@@ -73,8 +73,8 @@ impl Course {
             Event::Assign(config) => self.primaries.push(config.primary).ok(),
             Event::Crash(node) => self.crashed.push(*node).ok(),
             Event::Open(client, _) => {
-                let place = clients.iter().position(|name| name == client)?;
-                self.is_opened(place)
+                let index = clients.iter().position(|name| name == client)?;
+                self.is_opened(index)
             }
             _ => Some(()),
         }
@@ -91,12 +91,12 @@ impl Course {
     }
 
     // The last connection of a client is a new one.
-    fn is_opened(&mut self, place: usize) -> Option<()> {
+    fn is_opened(&mut self, index: usize) -> Option<()> {
         self.opened = self.opened.saturating_add(1);
-        for _ in self.last.len()..=place {
+        for _ in self.last.len()..=index {
             self.last.push((0, 0)).ok()?;
         }
-        if let Some(last) = self.last.get_mut(place) {
+        if let Some(last) = self.last.get_mut(index) {
             *last = (self.opened, last.0);
         }
         Some(())
@@ -108,8 +108,8 @@ impl Course {
     }
 
     // The last connection of a client; now and then the one before, or any one, also none that is.
-    fn connection(&mut self, place: u8) -> u64 {
-        let (last, before) = self.last.get(place as usize).copied().unwrap_or((0, 0));
+    fn connection(&mut self, index: u8) -> u64 {
+        let (last, before) = self.last.get(index as usize).copied().unwrap_or((0, 0));
         match self.draw.below(12) {
             0 => self.draw.below(self.opened.saturating_add(2)),
             1 | 2 => before,
@@ -119,8 +119,8 @@ impl Course {
 
     // Draws an event that continues what is in transit: a message between nodes, or bytes of a
     // connection. If nothing is in transit, something begins.
-    fn goes_on(&mut self, world: &World, name: ClientId, place: u8) -> Option<Event> {
-        let connection = self.connection(place);
+    fn goes_on(&mut self, world: &World, name: ClientId, index: u8) -> Option<Event> {
+        let connection = self.connection(index);
         let waits = self.next < world.messages();
         if waits && self.draw.one_in(2) {
             return Some(self.delivers(world));
@@ -138,15 +138,15 @@ impl Course {
         if waits {
             return Some(self.delivers(world));
         }
-        self.begins(world, name, place)
+        self.begins(world, name, index)
     }
 
     // A client that is served says something, one that is not comes back.
-    fn begins(&mut self, world: &World, name: ClientId, place: u8) -> Option<Event> {
+    fn begins(&mut self, world: &World, name: ClientId, index: u8) -> Option<Event> {
         if !is_served(world, &name) || self.draw.one_in(16) {
             self.comes_back(world, name)
         } else {
-            self.says(world, name, place)
+            self.says(world, name, index)
         }
     }
 
@@ -248,7 +248,7 @@ impl Course {
     }
 
     // Mostly a publication; one subscription is drawn for four of them.
-    fn says(&mut self, world: &World, name: ClientId, place: u8) -> Option<Event> {
+    fn says(&mut self, world: &World, name: ClientId, index: u8) -> Option<Event> {
         if self.asked.saturating_mul(4) <= self.serial && is_served(world, &name) {
             self.asked = self.asked.saturating_add(1);
             return subscribed(self.alloc, &mut self.draw, name);
@@ -257,7 +257,7 @@ impl Course {
             return unsubscribed(self.alloc, &mut self.draw, name);
         }
         self.serial = self.serial.saturating_add(1);
-        published(self.alloc, &mut self.draw, name, place, self.serial)
+        published(self.alloc, &mut self.draw, name, index, self.serial)
     }
 }
 

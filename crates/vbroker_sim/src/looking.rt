@@ -6,18 +6,18 @@ use world::{Event, World};
 
 /// Takes note of an event that happened. None if it ran out of memory, as in each call here.
 pub fn notes(watch: &mut Watch, event: &Event, clients: &[ClientId]) -> Option<()> {
-    let place = |name: &ClientId| clients.iter().position(|it| it == name);
+    let index = |name: &ClientId| clients.iter().position(|it| it == name);
     match event {
         Event::Publish(name, sent) if sent.qos != QoS::AtMostOnce => {
             let (_, serial) = made_by(&sent.payload)?;
-            watch.published(place(name)?, serial)
+            watch.published(index(name)?, serial)
         }
         Event::Open(name, _) => {
-            watch.opened(place(name)?);
+            watch.opened(index(name)?);
             Some(())
         }
         Event::Expel(name, _) => {
-            watch.expelled(place(name)?);
+            watch.expelled(index(name)?);
             Some(())
         }
         _ => Some(()),
@@ -31,9 +31,9 @@ pub fn looks(watch: &mut Watch, world: &World, clients: &[ClientId]) -> Option<R
     if agreed.is_err() {
         return Some(agreed);
     }
-    for (place, name) in clients.iter().enumerate() {
+    for (index, name) in clients.iter().enumerate() {
         if let Some(core) = world.client(name) {
-            let looked = watch.client(place, name, core)?;
+            let looked = watch.client(index, name, core)?;
             if looked.is_err() {
                 return Some(looked);
             }

@@ -37,16 +37,16 @@ fn qos(draw: &mut Draw) -> QoS {
     }
 }
 
-/// Draws a publication that carries which client made it, by its place, and its number. None if it
+/// Draws a publication that carries which client made it, by its index, and its number. None if it
 /// ran out of memory.
 pub fn published(
     alloc: Global,
     draw: &mut Draw,
     name: ClientId,
-    place: u8,
+    index: u8,
     serial: u64,
 ) -> Option<Event> {
-    let payload = payload_of(place, serial);
+    let payload = payload_of(index, serial);
     let topic = TOPICS.get(draw.below(4) as usize)?;
     let sent = Publication {
         retain: draw.one_in(16),

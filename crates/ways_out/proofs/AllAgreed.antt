@@ -30,14 +30,14 @@ prefix_both {X = X} xs ys p q = by p.rest p.is (prefix_length q)
     by (x ∷ rest) e low = absurd (let z = ap length e in let y = length-append xs (x ∷ rest) in omega (arith, z, y, low))
 
 module _ {S C O : Type 0} (rules : Rules S C O) (config : Config) (a : Moment S C O) (past : List (Moment S C O)) (came : Past rules config (a ∷ past))
-    (place : ℕ) (r : ReplicaState S C) (log : List C) (os : List ℕ) (stands : slice_get a.world.nodes place ≡ Some r)
-    (serves : Serves a.master.active log os (place + 1) r) (member : In (place + 1) a.master.members)
-    (named : (m : ℕ) → In m a.master.members → (m ≡ place + 1 → ⊥) → In m os) where
+    (index : ℕ) (r : ReplicaState S C) (log : List C) (os : List ℕ) (stands : slice_get a.world.nodes index ≡ Some r)
+    (serves : Serves a.master.active log os (index + 1) r) (member : In (index + 1) a.master.members)
+    (named : (m : ℕ) → In m a.master.members → (m ≡ index + 1 → ⊥) → In m os) where
   pub known : IsKnown rules config a past
   known = past_known rules config a past came
 
-  active : IsActive a.world known.history place r
-  active = (known.serves.sound.nodes place r stands).active serves.leads.role
+  active : IsActive a.world known.history index r
+  active = (known.serves.sound.nodes index r stands).active serves.leads.role
 
   given : known.history.given a.master.active ≡ Some active.leads.0
   given = ap known.history.given (sym serves.leads.joined) ∙ active.leads.1
@@ -47,12 +47,12 @@ module _ {S C O : Type 0} (rules : Rules S C O) (config : Config) (a : Moment S 
 
   -- the ballot's list is that log
   list_is : active.line.list ≡ log
-  list_is = sym ((known.serves.sound.nodes place r stands).primary_log active.leads.0 active.line
+  list_is = sym ((known.serves.sound.nodes index r stands).primary_log active.leads.0 active.line
       (ap known.history.given serves.held ∙ given) active.leads.2 (ap known.history.line serves.held ∙ lined)) ∙ serves.log_is
 
   -- all its members have acknowledged it
   chosen : ((m : ℕ) → In m os → Told a.world known.history m a.master.active (length log)) → IsChosenIn a.world known.history a.master.active (length log)
-  chosen told = (active.leads.0, given, λ m i. by m (subst (λ ms. In m ms) same i) (cases_eq m (place + 1)))
+  chosen told = (active.leads.0, given, λ m i. by m (subst (λ ms. In m ms) same i) (cases_eq m (index + 1)))
     where
       same : active.leads.0.members ≡ a.master.members
       same = by_given known.serves.master.active_members
@@ -60,7 +60,7 @@ module _ {S C O : Type 0} (rules : Rules S C O) (config : Config) (a : Moment S 
           by_given : (g : Given) × (known.history.given a.master.active ≡ Some g) × (g.members ≡ a.master.members) → active.leads.0.members ≡ a.master.members
           by_given (g, e, is) = let f = given in let one : active.leads.0 ≡ g = cc in ap (λ (x : Given). x.members) one ∙ is
 
-      by : (m : ℕ) → In m a.master.members → (m ≡ place + 1) ⊎ (m ≡ place + 1 → ⊥) → Told a.world known.history m a.master.active (length log)
+      by : (m : ℕ) → In m a.master.members → (m ≡ index + 1) ⊎ (m ≡ index + 1 → ⊥) → Told a.world known.history m a.master.active (length log)
       by m i (inl e) = told_as_primary active.leads.0 active.line given (active.leads.2 ∙ sym e) lined (let z = ap length list_is in omega (arith, z))
       by m i (inr ne) = told m (named m i ne)
 
@@ -68,7 +68,7 @@ module _ {S C O : Type 0} (rules : Rules S C O) (config : Config) (a : Moment S 
   pub agreed_is : ((m : ℕ) → In m os → Told a.world known.history m a.master.active (length log)) → (xs : List C) → IsAgreed config (a ∷ past) xs → xs ≡ log
   agreed_is told xs agreed =
       prefix_both xs log
-      (subst (λ (us : List C). IsPrefixOf xs us) serves.log_is ((nodes_agree rules config a past xs came agreed).0.held place r stands member))
+      (subst (λ (us : List C). IsPrefixOf xs us) serves.log_is ((nodes_agree rules config a past xs came agreed).0.held index r stands member))
       ((agreed_known rules config a past known xs agreed).longest log list)
     where
       list : ChosenList a.world known.history log
@@ -91,13 +91,13 @@ what_all_hold_is_agreed {S = S} {C = C} {O = O} rules config a past came primary
     at : NodeIs (Serves a.master.active log os) a.world.nodes primary
     at = h.primary_serves
 
-    number : primary ≡ at.place + 1
+    number : primary ≡ at.index + 1
     number = at.number
 
     by_agreed : (xs : List C) × IsAgreed config (a ∷ past) xs → IsAgreed config (a ∷ past) log
     by_agreed (xs, agreed) =
         subst (λ (us : List C). IsAgreed config (a ∷ past) us)
-        (agreed_is rules config a past came at.place at.replica log os at.stands
+        (agreed_is rules config a past came at.index at.replica log os at.stands
         (subst (λ m. Serves a.master.active log os m at.replica) number at.is)
         (subst (λ m. In m a.master.members) number h.member)
         (λ m i ne. h.all_named m i (λ e. ne (e ∙ number)))

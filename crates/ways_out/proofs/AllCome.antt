@@ -46,28 +46,28 @@ ends_with_one (m ∷ (x ∷ ms)) some =
 
 -- ---- what came
 
-pub record Taken {S C O : Type 0} (rules : Rules S C O) (b place : ℕ) (one : ReplicaState S C) (given : List (Effect C O)) (a : Moment S C O)
+pub record Taken {S C O : Type 0} (rules : Rules S C O) (b index : ℕ) (one : ReplicaState S C) (given : List (Effect C O)) (a : Moment S C O)
     (ks : List ℕ) : Type 0 where
   pub after : Moment S C O
   pub delivered : Delivered rules b a ks after
   pub master : after.master ≡ a.master
   pub sent : after.world.sent ≡ a.world.sent ++ messages given
-  pub stands : slice_get after.world.nodes place ≡ Some one
-  pub others : (n : ℕ) → (n ≡ place → ⊥) → slice_get after.world.nodes n ≡ slice_get a.world.nodes n
+  pub stands : slice_get after.world.nodes index ≡ Some one
+  pub others : (n : ℕ) → (n ≡ index → ⊥) → slice_get after.world.nodes n ≡ slice_get a.world.nodes n
 
 -- one message that comes to a node
-pub takes_one : {S C O : Type 0} (rules : Rules S C O) (b place k : ℕ) (r one : ReplicaState S C) (m : Message C) (given : List (Effect C O)) (a : Moment S C O) →
-    slice_get a.world.sent k ≡ Some (place + 1, m) → slice_get a.world.nodes place ≡ Some r → r.stopped ≡ false →
-    received rules r m.from m.body ≡ record { state = one; effects = given } → outputs given ≡ [] → one.joined ≡ b → Taken rules b place one given a (k ∷ [])
-takes_one {S = S} {C = C} {O = O} rules b place k r one m given a sent stands runs row silent joined =
+pub takes_one : {S C O : Type 0} (rules : Rules S C O) (b index k : ℕ) (r one : ReplicaState S C) (m : Message C) (given : List (Effect C O)) (a : Moment S C O) →
+    slice_get a.world.sent k ≡ Some (index + 1, m) → slice_get a.world.nodes index ≡ Some r → r.stopped ≡ false →
+    received rules r m.from m.body ≡ record { state = one; effects = given } → outputs given ≡ [] → one.joined ≡ b → Taken rules b index one given a (k ∷ [])
+takes_one {S = S} {C = C} {O = O} rules b index k r one m given a sent stands runs row silent joined =
     record {
-      after = after_outcome place (received rules r m.from m.body) a;
-      delivered = to_node k place r m sent stands runs (ap (λ (o : Outcome S C O). outputs o.effects) row ∙ silent)
+      after = after_outcome index (received rules r m.from m.body) a;
+      delivered = to_node k index r m sent stands runs (ap (λ (o : Outcome S C O). outputs o.effects) row ∙ silent)
           (ap (λ (o : Outcome S C O). o.state.joined) row ∙ joined) all_came;
       master = refl;
       sent = ap (λ (o : Outcome S C O). a.world.sent ++ messages o.effects) row;
-      stands = get_set a.world.nodes place r _ stands ∙ ap (λ (o : Outcome S C O). Some o.state) row;
-      others = λ n ne. get_set_other a.world.nodes place n _ ne;
+      stands = get_set a.world.nodes index r _ stands ∙ ap (λ (o : Outcome S C O). Some o.state) row;
+      others = λ n ne. get_set_other a.world.nodes index n _ ne;
     }
 
 -- of messages that were sent, those except the last, and the last
@@ -84,17 +84,17 @@ last_stands to reply all j (y ∷ xs) x (e, s) =
     subst (λ i. slice_get all i ≡ Some (to, record { from = x; body = reply })) (let q : j + 1 + length xs ≡ j + length (y ∷ xs) = omega arith in q)
     (last_stands to reply all (j + 1) xs x s)
 
-module _ {S C O : Type 0} (rules : Rules S C O) (b place : ℕ) (reply : Body C) (state : List ℕ → List ℕ → ReplicaState S C)
+module _ {S C O : Type 0} (rules : Rules S C O) (b index : ℕ) (reply : Body C) (state : List ℕ → List ℕ → ReplicaState S C)
     (runs : (came left : List ℕ) → (state came left).stopped ≡ false) (joined : (came left : List ℕ) → (state came left).joined ≡ b)
     (goes_on : (came : List ℕ) (m : ℕ) (left : List ℕ) → (left ≡ [] → ⊥) → (In m left → ⊥) →
     received rules (state came (m ∷ left)) m reply ≡ record { state = state (came ++ m ∷ []) left; effects = [] })
     (ms : List ℕ) (final : ReplicaState S C) (given : List (Effect C O)) (silent : outputs given ≡ []) (final_joined : final.joined ≡ b)
     (ends : (came : List ℕ) (m : ℕ) → ms ≡ came ++ m ∷ [] → received rules (state came (m ∷ [])) m reply ≡ record { state = final; effects = given }) where
-  pub all_come : (a : Moment S C O) (k : ℕ) → (ms ≡ [] → ⊥) → AreApart ms → StandFrom a.world.sent k (from_each (place + 1) reply ms) →
-      slice_get a.world.nodes place ≡ Some (state [] ms) → Taken rules b place final given a (numbers_from k (length ms))
+  pub all_come : (a : Moment S C O) (k : ℕ) → (ms ≡ [] → ⊥) → AreApart ms → StandFrom a.world.sent k (from_each (index + 1) reply ms) →
+      slice_get a.world.nodes index ≡ Some (state [] ms) → Taken rules b index final given a (numbers_from k (length ms))
   all_come a k some apart stand stands = by_end (ends_with_one ms some)
     where
-      by_end : EndsWithOne ms → Taken rules b place final given a (numbers_from k (length ms))
+      by_end : EndsWithOne ms → Taken rules b index final given a (numbers_from k (length ms))
       by_end z =
           record {
             after = one.after;
@@ -107,17 +107,17 @@ module _ {S C O : Type 0} (rules : Rules S C O) (b place : ℕ) (reply : Body C)
             others = λ n ne. one.others n ne ∙ most.others n ne;
           }
         where
-          those : StandFrom a.world.sent k (from_each (place + 1) reply (z.front ++ z.last ∷ []))
-          those = subst (λ (l : List ℕ). StandFrom a.world.sent k (from_each (place + 1) reply l)) z.is stand
+          those : StandFrom a.world.sent k (from_each (index + 1) reply (z.front ++ z.last ∷ []))
+          those = subst (λ (l : List ℕ). StandFrom a.world.sent k (from_each (index + 1) reply l)) z.is stand
 
-          most : Gathered rules b place (state ([] ++ z.front) (z.last ∷ [])) a (numbers_from k (length z.front))
+          most : Gathered rules b index (state ([] ++ z.front) (z.last ∷ [])) a (numbers_from k (length z.front))
           most =
-              all_but_last rules b place reply state runs joined goes_on a k [] z.front z.last (subst AreApart z.is apart)
-              (front_stands (place + 1) reply a.world.sent k z.front z.last those)
+              all_but_last rules b index reply state runs joined goes_on a k [] z.front z.last (subst AreApart z.is apart)
+              (front_stands (index + 1) reply a.world.sent k z.front z.last those)
               (stands ∙ ap (λ (l : List ℕ). Some (state [] l)) z.is)
 
-          one : Taken rules b place final given most.after ((k + length z.front) ∷ [])
+          one : Taken rules b index final given most.after ((k + length z.front) ∷ [])
           one =
-              takes_one rules b place (k + length z.front) (state z.front (z.last ∷ [])) final (record { from = z.last; body = reply }) given most.after
-              (ap (λ (l : List (ℕ × Message C)). slice_get l (k + length z.front)) most.sent ∙ last_stands (place + 1) reply a.world.sent k z.front z.last those)
+              takes_one rules b index (k + length z.front) (state z.front (z.last ∷ [])) final (record { from = z.last; body = reply }) given most.after
+              (ap (λ (l : List (ℕ × Message C)). slice_get l (k + length z.front)) most.sent ∙ last_stands (index + 1) reply a.world.sent k z.front z.last those)
               most.stands (runs z.front (z.last ∷ [])) (ends z.front z.last z.is) silent final_joined

@@ -50,7 +50,7 @@ module _ {S C O : Type 0} (rules : Rules S C O) (b p : ℕ) (body reply : Body C
   first_answers a k m ms apart first stand before do_rest =
       record {
         after = then_all.after;
-        delivered = to_node k one.place one.replica (record { from = p; body = body })
+        delivered = to_node k one.index one.replica (record { from = p; body = body })
             (subst (λ j. slice_get a.world.sent k ≡ Some (j, record { from = p; body = body })) one.number first)
             one.stands does.runs (ap outputs does.sends) does.joined then_all.delivered;
         master = then_all.master;
@@ -59,7 +59,7 @@ module _ {S C O : Type 0} (rules : Rules S C O) (b p : ℕ) (body reply : Body C
             ∙ append_assoc a.world.sent ((p, record { from = m; body = reply }) ∷ []) (from_each p reply ms);
         each = λ j i. by_each j i;
         others = λ n out. then_all.others n (λ i. out (there i))
-            ∙ get_set_other a.world.nodes one.place n (received rules one.replica p body).state (λ e. out (subst (λ j. In j (m ∷ ms)) (one.number ∙ ap (λ j. j + 1) (sym e)) here));
+            ∙ get_set_other a.world.nodes one.index n (received rules one.replica p body).state (λ e. out (subst (λ j. In j (m ∷ ms)) (one.number ∙ ap (λ j. j + 1) (sym e)) here));
       }
     where
       one : NodeIs Before a.world.nodes m
@@ -69,7 +69,7 @@ module _ {S C O : Type 0} (rules : Rules S C O) (b p : ℕ) (body reply : Body C
       does = answers m one.replica one.is
 
       next : Moment S C O
-      next = after_outcome one.place (received rules one.replica p body) a
+      next = after_outcome one.index (received rules one.replica p body) a
 
       more : next.world.sent ≡ a.world.sent ++ (p, record { from = m; body = reply }) ∷ []
       more = ap (λ (es : List (Effect C O)). a.world.sent ++ messages es) does.sends
@@ -78,10 +78,10 @@ module _ {S C O : Type 0} (rules : Rules S C O) (b p : ℕ) (body reply : Body C
       still j i =
           let z = before j (there i) in
           record {
-            place = z.place;
+            index = z.index;
             number = z.number;
             replica = z.replica;
-            stands = get_set_other a.world.nodes one.place z.place (received rules one.replica p body).state
+            stands = get_set_other a.world.nodes one.index z.index (received rules one.replica p body).state
                 (λ e. apart (subst (λ (x : ℕ). In x ms) (z.number ∙ ap (λ (x : ℕ). x + 1) e ∙ sym one.number) i)) ∙ z.stands;
             is = z.is;
           }
@@ -93,20 +93,20 @@ module _ {S C O : Type 0} (rules : Rules S C O) (b p : ℕ) (body reply : Body C
       answered_one : NodeIs After next.world.nodes m
       answered_one =
           record {
-            place = one.place;
+            index = one.index;
             number = one.number;
             replica = (received rules one.replica p body).state;
-            stands = get_set a.world.nodes one.place one.replica (received rules one.replica p body).state one.stands;
+            stands = get_set a.world.nodes one.index one.replica (received rules one.replica p body).state one.stands;
             is = does.after;
           }
 
       by_each : (j : ℕ) → In j (m ∷ ms) → NodeIs After then_all.after.world.nodes j
       by_each j here =
           record {
-            place = one.place;
+            index = one.index;
             number = one.number;
             replica = answered_one.replica;
-            stands = then_all.others one.place (λ i. apart (subst (λ (x : ℕ). In x ms) (sym one.number) i)) ∙ answered_one.stands;
+            stands = then_all.others one.index (λ i. apart (subst (λ (x : ℕ). In x ms) (sym one.number) i)) ∙ answered_one.stands;
             is = does.after;
           }
       by_each j (there i) = then_all.each j i

@@ -31,9 +31,9 @@ asked_many k others =
     omega (arith, one, two, both)
 
 pub ways_are_short : WaysAreShort
-ways_are_short sent members place others =
+ways_are_short sent members index others =
     let first = asked_many (sent + members + 2) others in
     let last = asked_many (asked_at sent members others + 2) others in
     let both = length-append (asked_and_answered (sent + members + 2) others)
     (asked_at sent members others ∷ (asked_at sent members others + 1) ∷ asked_and_answered (asked_at sent members others + 2) others) in
-    ((let e : length (way_out sent members place others) ≡ 5 + 4 * others = omega (arith, first, last, both) in e), asked_many sent others)
+    ((let e : length (way_out sent members index others) ≡ 5 + 4 * others = omega (arith, first, last, both) in e), asked_many sent others)

@@ -120,17 +120,17 @@ answers_cut rules archive ballot log c os m ow o z like =
 
 -- ---- the proposal
 
-module _ {S C O : Type 0} (rules : Rules S C O) (config : Config) (a : Moment S C O) (past : List (Moment S C O)) (came : Past rules config (a ∷ past)) (ballot place : ℕ)
-    (r : ReplicaState S C) (log : List C) (os : List ℕ) (c : C) (stands : slice_get a.world.nodes place ≡ Some r)
-    (serves : Serves ballot log os (place + 1) (whole a.world.archive r)) (room : length log < most_places) where
+module _ {S C O : Type 0} (rules : Rules S C O) (config : Config) (a : Moment S C O) (past : List (Moment S C O)) (came : Past rules config (a ∷ past)) (ballot index : ℕ)
+    (r : ReplicaState S C) (log : List C) (os : List ℕ) (c : C) (stands : slice_get a.world.nodes index ≡ Some r)
+    (serves : Serves ballot log os (index + 1) (whole a.world.archive r)) (room : length log < most_places) where
   q : StandsFor rules config a past
   q = past_stands rules config a past came
 
   abbrev W : WholeState S C
   W = whole a.world.archive r
 
-  there_now : slice_get (whole_moment a).world.nodes place ≡ Some W
-  there_now = get_whole (whole a.world.archive) a.world.nodes place r stands
+  there_now : slice_get (whole_moment a).world.nodes index ≡ Some W
+  there_now = get_whole (whole a.world.archive) a.world.nodes index r stands
 
   abbrev o : Outcome S C O
   o = replica_step rules r (Proposes c)
@@ -139,22 +139,22 @@ module _ {S C O : Type 0} (rules : Rules S C O) (config : Config) (a : Moment S 
   ow = whole_step rules W (whole_proposes c)
 
   same : IsSame a.world.archive o ow
-  same = let z = q.kept.nodes place r stands in proposed_same rules a.world.archive r c (record { within = z.0.within; low = z.1 })
+  same = let z = q.kept.nodes index r stands in proposed_same rules a.world.archive r c (record { within = z.0.within; low = z.1 })
 
-  law : (os ≡ [] → WholeAnswers rules ballot log c [] (place + 1) ow)
-      × ((front : List ℕ) (last : ℕ) → os ≡ front ++ last ∷ [] → AreApart os → (In (place + 1) os → ⊥) →
-      ((m : ℕ) → In m os → NodeIs (Follows ballot log) (whole_moment a).world.nodes m) → WholeHeldByAll rules (whole_moment a) place ballot W log c front last)
-  law = commands_are_answered rules config (whole_moment a) q.earlier q.kept.came ballot place W log os c there_now serves room
+  law : (os ≡ [] → WholeAnswers rules ballot log c [] (index + 1) ow)
+      × ((front : List ℕ) (last : ℕ) → os ≡ front ++ last ∷ [] → AreApart os → (In (index + 1) os → ⊥) →
+      ((m : ℕ) → In m os → NodeIs (Follows ballot log) (whole_moment a).world.nodes m) → WholeHeldByAll rules (whole_moment a) index ballot W log c front last)
+  law = commands_are_answered rules config (whole_moment a) q.earlier q.kept.came ballot index W log os c there_now serves room
 
-  pub alone : os ≡ [] → AnswersCommand rules a.world.archive ballot log c [] (place + 1) o
-  alone none = answers_cut rules a.world.archive ballot log c [] (place + 1) ow o (law.0 none) (record { state = inl same.state; effects = same.effects })
+  pub alone : os ≡ [] → AnswersCommand rules a.world.archive ballot log c [] (index + 1) o
+  alone none = answers_cut rules a.world.archive ballot log c [] (index + 1) ow o (law.0 none) (record { state = inl same.state; effects = same.effects })
 
   -- the moment after it
   abbrev first : Moment S C O
-  first = after_outcome place o a
+  first = after_outcome index o a
 
   abbrev first_whole : WholeMoment S C O
-  first_whole = whole_after_outcome place ow (whole_moment a)
+  first_whole = whole_after_outcome index ow (whole_moment a)
 
   first_like : MomentLike rules ballot first_whole first
   first_like =
@@ -162,40 +162,40 @@ module _ {S C O : Type 0} (rules : Rules S C O) (config : Config) (a : Moment S 
         master = refl;
         sent = map-append (whole_sent a.world.archive) a.world.sent (messages o.effects)
             ∙ ap (λ (us : List (ℕ × WholeMessage C)). map (whole_sent a.world.archive) a.world.sent ++ us) (messages_whole a.world.archive o.effects ∙ ap whole_messages same.effects);
-        nodes = λ i s e. by i s e (cases_eq i place);
+        nodes = λ i s e. by i s e (cases_eq i index);
       }
     where
-      by : (i : ℕ) (s : WholeState S C) → slice_get (set (whole_moment a).world.nodes place ow.state) i ≡ Some s → (i ≡ place) ⊎ (i ≡ place → ⊥) → NodeLike rules ballot first.world i s
+      by : (i : ℕ) (s : WholeState S C) → slice_get (set (whole_moment a).world.nodes index ow.state) i ≡ Some s → (i ≡ index) ⊎ (i ≡ index → ⊥) → NodeLike rules ballot first.world i s
       by i s e (inl here) =
-          let f : Some ow.state ≡ Some s = sym (get_set (whole_moment a).world.nodes place W ow.state there_now) ∙ ap (slice_get (set (whole_moment a).world.nodes place ow.state)) (sym here) ∙ e in
+          let f : Some ow.state ≡ Some s = sym (get_set (whole_moment a).world.nodes index W ow.state there_now) ∙ ap (slice_get (set (whole_moment a).world.nodes index ow.state)) (sym here) ∙ e in
           let g : ow.state ≡ s = cc in
           record {
             replica = o.state;
-            stands = ap (slice_get (set a.world.nodes place o.state)) here ∙ get_set a.world.nodes place r o.state stands;
+            stands = ap (slice_get (set a.world.nodes index o.state)) here ∙ get_set a.world.nodes index r o.state stands;
             like = inl (same.state ∙ g);
           }
       by i s e (inr other) =
-          let z = get_back (whole a.world.archive) a.world.nodes i s (sym (get_set_other (whole_moment a).world.nodes place i ow.state other) ∙ e) in
-          record { replica = z.0; stands = get_set_other a.world.nodes place i o.state other ∙ z.1; like = inl z.2 }
+          let z = get_back (whole a.world.archive) a.world.nodes i s (sym (get_set_other (whole_moment a).world.nodes index i ow.state other) ∙ e) in
+          record { replica = z.0; stands = get_set_other a.world.nodes index i o.state other ∙ z.1; like = inl z.2 }
 
   runs : r.stopped ≡ false
   runs = serves.leads.runs
 
   step : MayHappen rules a.master a.world first.master first.world
-  step = node_goes (takes place r (Proposes c) stands runs tt (inl (refl, thinned_same o.effects)))
+  step = node_goes (takes index r (Proposes c) stands runs tt (inl (refl, thinned_same o.effects)))
 
   first_goes : Goes rules config (a ∷ past) first
   first_goes = record { between = []; came = went_on came step; grown = λ xs ys x y. agreed_grows rules config first (a ∷ past) xs ys x y }
 
   first_came : WholePast rules config (first_whole ∷ whole_moment a ∷ q.earlier)
-  first_came = whole_went_on q.kept.came (node_takes place W (whole_proposes c) there_now runs tt (inl (refl, whole_thinned_same ow.effects)))
+  first_came = whole_went_on q.kept.came (node_takes index W (whole_proposes c) there_now runs tt (inl (refl, whole_thinned_same ow.effects)))
 
   as_many : length (whole_moment a).world.sent ≡ length a.world.sent
   as_many = length-map a.world.sent (whole_sent a.world.archive)
 
   -- ---- with others
 
-  module _ (front : List ℕ) (last : ℕ) (h : WholeHeldByAll rules (whole_moment a) place ballot W log c front last) where
+  module _ (front : List ℕ) (last : ℕ) (h : WholeHeldByAll rules (whole_moment a) index ballot W log c front last) where
     abbrev numbers : ℕ → List ℕ
     numbers k = numbers_from k (length front + 1) ++ numbers_from (k + (length front + 1)) (length front)
 
@@ -211,51 +211,51 @@ module _ {S C O : Type 0} (rules : Rules S C O) (config : Config) (a : Moment S 
     answer = record { from = last; body = bodies.Held ballot (length log + 1) }
 
     module _ (w : Way) where
-      came_last : slice_get h.before.world.sent (length a.world.sent + 2 * length front + 1) ≡ Some (place + 1, answer)
-      came_last = subst (λ k. slice_get h.before.world.sent (k + 2 * length front + 1) ≡ Some (place + 1, answer)) as_many h.comes
+      came_last : slice_get h.before.world.sent (length a.world.sent + 2 * length front + 1) ≡ Some (index + 1, answer)
+      came_last = subst (λ k. slice_get h.before.world.sent (k + 2 * length front + 1) ≡ Some (index + 1, answer)) as_many h.comes
 
-      pub comes : slice_get w.end.world.sent (length a.world.sent + 2 * length front + 1) ≡ Some (place + 1, record { from = last; body = Held ballot (length log + 1) })
-      comes = by (get_back (whole_sent w.end.world.archive) w.end.world.sent (length a.world.sent + 2 * length front + 1) (place + 1, answer)
+      pub comes : slice_get w.end.world.sent (length a.world.sent + 2 * length front + 1) ≡ Some (index + 1, record { from = last; body = Held ballot (length log + 1) })
+      comes = by (get_back (whole_sent w.end.world.archive) w.end.world.sent (length a.world.sent + 2 * length front + 1) (index + 1, answer)
           (ap (λ l. slice_get l (length a.world.sent + 2 * length front + 1)) w.like.sent ∙ came_last))
         where
-          by : (y : ℕ × Message C) × (slice_get w.end.world.sent (length a.world.sent + 2 * length front + 1) ≡ Some y) × (whole_sent w.end.world.archive y ≡ (place + 1, answer)) →
-              slice_get w.end.world.sent (length a.world.sent + 2 * length front + 1) ≡ Some (place + 1, record { from = last; body = Held ballot (length log + 1) })
+          by : (y : ℕ × Message C) × (slice_get w.end.world.sent (length a.world.sent + 2 * length front + 1) ≡ Some y) × (whole_sent w.end.world.archive y ≡ (index + 1, answer)) →
+              slice_get w.end.world.sent (length a.world.sent + 2 * length front + 1) ≡ Some (index + 1, record { from = last; body = Held ballot (length log + 1) })
           by ((to, m), at, is) =
               at ∙ ap₂ (λ (i : ℕ) (y : Message C). Some (let z : ℕ × Message C = (i, y) in z)) (ap (λ (y : ℕ × WholeMessage C). y.0) is)
               (held_back w.end.world.archive m last ballot (length log + 1) (ap (λ (y : ℕ × WholeMessage C). y.1) is))
 
-      at_place : h.primary.place ≡ place
-      at_place = let e = h.primary.number in omega (arith, e)
+      at_index : h.primary.index ≡ index
+      at_index = let e = h.primary.number in omega (arith, e)
 
-      stands_last : slice_get h.before.world.nodes place ≡ Some h.primary.replica
-      stands_last = ap (slice_get h.before.world.nodes) (sym at_place) ∙ h.primary.stands
+      stands_last : slice_get h.before.world.nodes index ≡ Some h.primary.replica
+      stands_last = ap (slice_get h.before.world.nodes) (sym at_index) ∙ h.primary.stands
 
-      pub last_answers : AnswersLast rules w.end place ballot log c (front ++ last ∷ []) last
+      pub last_answers : AnswersLast rules w.end index ballot log c (front ++ last ∷ []) last
       last_answers =
           record {
             replica = z.replica;
             stands = z.stands;
-            runs = following.goes_r rules config ballot (a ∷ past) h.before w.whole_before w.whole_came w.end w.goes w.like (length a.world.sent + 2 * length front + 1) place h.primary.replica
+            runs = following.goes_r rules config ballot (a ∷ past) h.before w.whole_before w.whole_came w.end w.goes w.like (length a.world.sent + 2 * length front + 1) index h.primary.replica
                 answer came_last stands_last h.primary.is.0 h.primary.is.1.serves.leads.joined;
-            answers = answers_cut rules w.end.world.archive ballot log c (front ++ last ∷ []) (place + 1) ended (received rules z.replica last (Held ballot (length log + 1))) h.primary.is.1
+            answers = answers_cut rules w.end.world.archive ballot log c (front ++ last ∷ []) (index + 1) ended (received rules z.replica last (Held ballot (length log + 1))) h.primary.is.1
                 (subst (λ (m : Message C). AreLike rules ballot ended (wholly w.end.world.archive (received rules z.replica m.from m.body))) is_held
-                (following.all rules config ballot (a ∷ past) h.before w.whole_before w.whole_came w.end w.goes w.like (length a.world.sent + 2 * length front + 1) place h.primary.replica
+                (following.all rules config ballot (a ∷ past) h.before w.whole_before w.whole_came w.end w.goes w.like (length a.world.sent + 2 * length front + 1) index h.primary.replica
                 answer came_last stands_last h.primary.is.0 h.primary.is.1.serves.leads.joined));
           }
         where
           ended : WholeOutcome S C O
           ended = whole_received rules h.primary.replica last (bodies.Held ballot (length log + 1))
 
-          z : NodeLike rules ballot w.end.world place h.primary.replica
-          z = w.like.nodes place h.primary.replica stands_last
+          z : NodeLike rules ballot w.end.world index h.primary.replica
+          z = w.like.nodes index h.primary.replica stands_last
 
-          is_held : following.m rules config ballot (a ∷ past) h.before w.whole_before w.whole_came w.end w.goes w.like (length a.world.sent + 2 * length front + 1) place h.primary.replica
+          is_held : following.m rules config ballot (a ∷ past) h.before w.whole_before w.whole_came w.end w.goes w.like (length a.world.sent + 2 * length front + 1) index h.primary.replica
               answer came_last stands_last h.primary.is.0 h.primary.is.1.serves.leads.joined ≡ record { from = last; body = Held ballot (length log + 1) }
           is_held = held_back w.end.world.archive _ last ballot (length log + 1)
-              (following.is_x rules config ballot (a ∷ past) h.before w.whole_before w.whole_came w.end w.goes w.like (length a.world.sent + 2 * length front + 1) place h.primary.replica
+              (following.is_x rules config ballot (a ∷ past) h.before w.whole_before w.whole_came w.end w.goes w.like (length a.world.sent + 2 * length front + 1) index h.primary.replica
               answer came_last stands_last h.primary.is.0 h.primary.is.1.serves.leads.joined)
 
-      pub held_by_all : IsHeldByAll rules a place ballot r log c front last
+      pub held_by_all : IsHeldByAll rules a index ballot r log c front last
       held_by_all =
           record {
             quiet = outputs_whole a.world.archive o.effects ∙ ap whole_outputs same.effects ∙ h.quiet;
@@ -269,10 +269,10 @@ module _ {S C O : Type 0} (rules : Rules S C O) (config : Config) (a : Moment S 
             each = λ m i. node_still rules ballot (Follows ballot (log ++ c ∷ [])) m h.before w.end w.like (follows_still rules ballot ballot (log ++ c ∷ []) m) (h.each m i);
           }
 
-  pub with_others : (front : List ℕ) (last : ℕ) → os ≡ front ++ last ∷ [] → AreApart os → (In (place + 1) os → ⊥) →
-      ((m : ℕ) → In m os → NodeIs (Follows ballot log) (whole_moment a).world.nodes m) → IsHeldByAll rules a place ballot r log c front last
+  pub with_others : (front : List ℕ) (last : ℕ) → os ≡ front ++ last ∷ [] → AreApart os → (In (index + 1) os → ⊥) →
+      ((m : ℕ) → In m os → NodeIs (Follows ballot log) (whole_moment a).world.nodes m) → IsHeldByAll rules a index ballot r log c front last
   with_others front last e apart out each = let h = law.1 front last e apart out each in held_by_all front last h (way front last h)
 
 pub cut_groups_answer : {S C O : Type 0} (rules : Rules S C O) → CutGroupsAnswer rules
-cut_groups_answer rules config a past came ballot place r log os c stands serves room =
-    (alone rules config a past came ballot place r log os c stands serves room, with_others rules config a past came ballot place r log os c stands serves room)
+cut_groups_answer rules config a past came ballot index r log os c stands serves room =
+    (alone rules config a past came ballot index r log os c stands serves room, with_others rules config a past came ballot index r log os c stands serves room)

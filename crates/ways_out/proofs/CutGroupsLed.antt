@@ -79,23 +79,23 @@ follows_still {S = S} {C = C} rules ballot b log m p s (inr a) z =
 pub node_still : {S C O : Type 0} (rules : Rules S C O) (ballot : ℕ) (P : ℕ → WholeState S C → Type 0) (m : ℕ) (a : WholeMoment S C O) (b : Moment S C O) → MomentLike rules ballot a b →
     ((p s : WholeState S C) → IsLike rules ballot p s → P m p → P m s) → NodeIs P a.world.nodes m → NodeIs P (whole_moment b).world.nodes m
 node_still rules ballot P m a b like keeps z =
-    let n = like.nodes z.place z.replica z.stands in
+    let n = like.nodes z.index z.replica z.stands in
     record {
-      place = z.place;
+      index = z.index;
       number = z.number;
       replica = whole b.world.archive n.replica;
-      stands = get_whole (whole b.world.archive) b.world.nodes z.place n.replica n.stands;
+      stands = get_whole (whole b.world.archive) b.world.nodes z.index n.replica n.stands;
       is = keeps z.replica (whole b.world.archive n.replica) n.like z.is;
     }
 
 module _ {S C O : Type 0} (rules : Rules S C O) (silent : StartsGiveNothing rules) (config : Config) (a : Moment S C O) (past : List (Moment S C O))
-    (came : Past rules config (a ∷ past)) (new : Config) (place source : ℕ) (log : List C) (can : CanBeLed (whole_moment a) new place source log) where
+    (came : Past rules config (a ∷ past)) (new : Config) (index source : ℕ) (log : List C) (can : CanBeLed (whole_moment a) new index source log) where
   stood : StandsFor rules config a past
   stood = past_stands rules config a past came
 
   -- on whole logs
-  out : WholeLeadsOut rules config (whole_moment a ∷ stood.earlier) (whole_moment a) new place log
-  out = has_way_out rules silent config (whole_moment a) stood.earlier stood.kept.came new place source log can
+  out : WholeLeadsOut rules config (whole_moment a ∷ stood.earlier) (whole_moment a) new index log
+  out = has_way_out rules silent config (whole_moment a) stood.earlier stood.kept.came new index source log can
 
   abbrev ballot : ℕ
   ballot = a.master.given + 1
@@ -104,13 +104,13 @@ module _ {S C O : Type 0} (rules : Rules S C O) (silent : StartsGiveNothing rule
   longer = log ++ rules.start_of ballot ∷ []
 
   abbrev numbers : List ℕ
-  numbers = way_out (length a.world.sent) (length a.master.members) place (length new.members - 1)
+  numbers = way_out (length a.world.sent) (length a.master.members) index (length new.members - 1)
 
   as_many : length (whole_moment a).world.sent ≡ length a.world.sent
   as_many = length-map a.world.sent (whole_sent a.world.archive)
 
   came_so : WholeDelivered rules ballot (whole_assigned new (whole_moment a)) numbers out.last
-  came_so = subst (λ (k : ℕ). WholeDelivered rules ballot (whole_assigned new (whole_moment a)) (way_out k (length a.master.members) place (length new.members - 1)) out.last) as_many out.delivered
+  came_so = subst (λ (k : ℕ). WholeDelivered rules ballot (whole_assigned new (whole_moment a)) (way_out k (length a.master.members) index (length new.members - 1)) out.last) as_many out.delivered
 
   abbrev Way : Type 0
   Way = Followed rules config ballot (a ∷ past) (assigned_moment new a) numbers out.last
@@ -159,10 +159,10 @@ module _ {S C O : Type 0} (rules : Rules S C O) (silent : StartsGiveNothing rule
           by_case (inl e) = absurd (ne e)
           by_case (inr j) = j
 
-  pub leads_out : LeadsOut rules config (a ∷ past) a new place log
+  pub leads_out : LeadsOut rules config (a ∷ past) a new index log
   leads_out = by way
     where
-      by : Way → LeadsOut rules config (a ∷ past) a new place log
+      by : Way → LeadsOut rules config (a ∷ past) a new index log
       by w =
           record {
             last = w.end;
@@ -170,10 +170,10 @@ module _ {S C O : Type 0} (rules : Rules S C O) (silent : StartsGiveNothing rule
             archive = w.archive;
             sent = ap (λ k. k + 1) (sym (length-map w.end.world.sent (whole_sent w.end.world.archive)) ∙ ap length w.like.sent) ∙ out.sent
                 ∙ ap (λ k. k + length a.master.members + 5 * length new.members) as_many;
-            events = subst (λ (k : ℕ). length (way_out k (length a.master.members) place (length new.members - 1)) + 1 ≡ 4 * length new.members + 2) as_many out.events;
+            events = subst (λ (k : ℕ). length (way_out k (length a.master.members) index (length new.members - 1)) + 1 ≡ 4 * length new.members + 2) as_many out.events;
             led = led_by w;
             goes = record { between = w.goes.between; came = w.goes.came; agrees = agreed_by w; grown = λ xs p. w.goes.grown xs longer p (agreed_by w) };
           }
 
 pub cut_groups_have_ways_out : {S C O : Type 0} (rules : Rules S C O) → CutGroupsHaveWaysOut rules
-cut_groups_have_ways_out rules silent config a past came new place source log can = leads_out rules silent config a past came new place source log can
+cut_groups_have_ways_out rules silent config a past came new index source log can = leads_out rules silent config a past came new index source log can

@@ -24,57 +24,57 @@ some_left [] last e = cc
 some_left (m ∷ ms) last e = cc
 
 -- after them
-pub record Gathered {S C O : Type 0} (rules : Rules S C O) (b place : ℕ) (one : ReplicaState S C) (a : Moment S C O) (ks : List ℕ) : Type 0 where
+pub record Gathered {S C O : Type 0} (rules : Rules S C O) (b index : ℕ) (one : ReplicaState S C) (a : Moment S C O) (ks : List ℕ) : Type 0 where
   pub after : Moment S C O
   pub delivered : Delivered rules b a ks after
   pub master : after.master ≡ a.master
   pub sent : after.world.sent ≡ a.world.sent
-  pub stands : slice_get after.world.nodes place ≡ Some one
-  pub others : (n : ℕ) → (n ≡ place → ⊥) → slice_get after.world.nodes n ≡ slice_get a.world.nodes n
+  pub stands : slice_get after.world.nodes index ≡ Some one
+  pub others : (n : ℕ) → (n ≡ index → ⊥) → slice_get after.world.nodes n ≡ slice_get a.world.nodes n
 
--- the node at a place, whose state is known by whose answers came, and whose are still to come
-module _ {S C O : Type 0} (rules : Rules S C O) (b place : ℕ) (reply : Body C) (state : List ℕ → List ℕ → ReplicaState S C)
+-- the node at an index, whose state is known by whose answers came, and whose are still to come
+module _ {S C O : Type 0} (rules : Rules S C O) (b index : ℕ) (reply : Body C) (state : List ℕ → List ℕ → ReplicaState S C)
     (runs : (came left : List ℕ) → (state came left).stopped ≡ false) (joined : (came left : List ℕ) → (state came left).joined ≡ b)
     (goes_on : (came : List ℕ) (m : ℕ) (left : List ℕ) → (left ≡ [] → ⊥) → (In m left → ⊥) →
     received rules (state came (m ∷ left)) m reply ≡ record { state = state (came ++ m ∷ []) left; effects = [] }) where
   -- the first of them, if the others then do
   first_comes : (a : Moment S C O) (k m : ℕ) (came ms : List ℕ) (last : ℕ) → (In m (ms ++ last ∷ []) → ⊥) →
-      slice_get a.world.sent k ≡ Some (place + 1, record { from = m; body = reply }) → StandFrom a.world.sent (k + 1) (from_each (place + 1) reply ms) →
-      slice_get a.world.nodes place ≡ Some (state came (m ∷ (ms ++ last ∷ []))) →
-      ((next : Moment S C O) → StandFrom next.world.sent (k + 1) (from_each (place + 1) reply ms) →
-      slice_get next.world.nodes place ≡ Some (state (came ++ m ∷ []) (ms ++ last ∷ [])) →
-      Gathered rules b place (state ((came ++ m ∷ []) ++ ms) (last ∷ [])) next (numbers_from (k + 1) (length ms))) →
-      Gathered rules b place (state (came ++ m ∷ ms) (last ∷ [])) a (numbers_from k (length (m ∷ ms)))
+      slice_get a.world.sent k ≡ Some (index + 1, record { from = m; body = reply }) → StandFrom a.world.sent (k + 1) (from_each (index + 1) reply ms) →
+      slice_get a.world.nodes index ≡ Some (state came (m ∷ (ms ++ last ∷ []))) →
+      ((next : Moment S C O) → StandFrom next.world.sent (k + 1) (from_each (index + 1) reply ms) →
+      slice_get next.world.nodes index ≡ Some (state (came ++ m ∷ []) (ms ++ last ∷ [])) →
+      Gathered rules b index (state ((came ++ m ∷ []) ++ ms) (last ∷ [])) next (numbers_from (k + 1) (length ms))) →
+      Gathered rules b index (state (came ++ m ∷ ms) (last ∷ [])) a (numbers_from k (length (m ∷ ms)))
   first_comes a k m came ms last apart first stand stands do_rest =
       record {
         after = rest.after;
-        delivered = to_node k place (state came (m ∷ (ms ++ last ∷ []))) (record { from = m; body = reply }) first stands
+        delivered = to_node k index (state came (m ∷ (ms ++ last ∷ []))) (record { from = m; body = reply }) first stands
             (runs came (m ∷ (ms ++ last ∷ []))) (ap (λ (o : Outcome S C O). outputs o.effects) does)
             (ap (λ (o : Outcome S C O). o.state.joined) does ∙ joined (came ++ m ∷ []) (ms ++ last ∷ [])) rest.delivered;
         master = rest.master;
         sent = rest.sent ∙ same;
         stands = rest.stands ∙ ap (λ (l : List ℕ). Some (state l (last ∷ []))) (append_assoc came (m ∷ []) ms);
-        others = λ n ne. rest.others n ne ∙ get_set_other a.world.nodes place n _ ne;
+        others = λ n ne. rest.others n ne ∙ get_set_other a.world.nodes index n _ ne;
       }
     where
       does : received rules (state came (m ∷ (ms ++ last ∷ []))) m reply ≡ record { state = state (came ++ m ∷ []) (ms ++ last ∷ []); effects = [] }
       does = goes_on came m (ms ++ last ∷ []) (some_left ms last) apart
 
       next : Moment S C O
-      next = after_outcome place (received rules (state came (m ∷ (ms ++ last ∷ []))) m reply) a
+      next = after_outcome index (received rules (state came (m ∷ (ms ++ last ∷ []))) m reply) a
 
       same : next.world.sent ≡ a.world.sent
       same = ap (λ (o : Outcome S C O). a.world.sent ++ messages o.effects) does ∙ nothing_after a.world.sent
 
-      rest : Gathered rules b place (state ((came ++ m ∷ []) ++ ms) (last ∷ [])) next (numbers_from (k + 1) (length ms))
+      rest : Gathered rules b index (state ((came ++ m ∷ []) ++ ms) (last ∷ [])) next (numbers_from (k + 1) (length ms))
       rest =
-          do_rest next (stand_in a.world.sent next.world.sent (k + 1) (from_each (place + 1) reply ms) (sym same) stand)
-          (get_set a.world.nodes place _ _ stands ∙ ap (λ (o : Outcome S C O). Some o.state) does)
+          do_rest next (stand_in a.world.sent next.world.sent (k + 1) (from_each (index + 1) reply ms) (sym same) stand)
+          (get_set a.world.nodes index _ _ stands ∙ ap (λ (o : Outcome S C O). Some o.state) does)
 
   -- all but the last, in turn
   pub all_but_last : (a : Moment S C O) (k : ℕ) (came ms : List ℕ) (last : ℕ) → AreApart (ms ++ last ∷ []) →
-      StandFrom a.world.sent k (from_each (place + 1) reply ms) → slice_get a.world.nodes place ≡ Some (state came (ms ++ last ∷ [])) →
-      Gathered rules b place (state (came ++ ms) (last ∷ [])) a (numbers_from k (length ms))
+      StandFrom a.world.sent k (from_each (index + 1) reply ms) → slice_get a.world.nodes index ≡ Some (state came (ms ++ last ∷ [])) →
+      Gathered rules b index (state (came ++ ms) (last ∷ [])) a (numbers_from k (length ms))
   all_but_last a k came [] last apart stand stands =
       record {
         after = a;

@@ -25,7 +25,7 @@ use Rattle.ways_out.proofs.RisingMembers.{lawful_apart, others_apart, others_cou
 use Rattle.ways_out.proofs.Ways.{IsOut, is_out, way_out_count}
 
 module _ {S C O : Type 0} (rules : Rules S C O) (silent : StartsGiveNothing rules) (config : Config) (a : Moment S C O) (past : List (Moment S C O))
-    (came : Past rules config (a ∷ past)) (new : Config) (place source : ℕ) (log : List C) (can : CanBeLed a new place source log) where
+    (came : Past rules config (a ∷ past)) (new : Config) (index source : ℕ) (log : List C) (can : CanBeLed a new index source log) where
   lawful : is_lawful new.members new.primary ≡ true
   lawful = (not_refused a.master new can.granted).0
 
@@ -41,50 +41,50 @@ module _ {S C O : Type 0} (rules : Rules S C O) (silent : StartsGiveNothing rule
   gives_log : NodeIs (RunsWith log) a.world.nodes source
   gives_log = can.gives
 
-  asked_member : In (gives_log.place + 1) a.master.members
-  asked_member = in_at a.master.members place (gives_log.place + 1) (can.asked ∙ ap (λ m. Some m) gives_log.number)
+  asked_member : In (gives_log.index + 1) a.master.members
+  asked_member = in_at a.master.members index (gives_log.index + 1) (can.asked ∙ ap (λ m. Some m) gives_log.number)
 
   abbrev Out : Type 0
-  Out = IsOut rules (a.master.given + 1) (log ++ rules.start_of (a.master.given + 1) ∷ []) first.place (others new.primary new.members)
+  Out = IsOut rules (a.master.given + 1) (log ++ rules.start_of (a.master.given + 1) ∷ []) first.index (others new.primary new.members)
       (with_active (a.master.given + 1) new (assigning a.master new)) (assigned_moment new a)
-      (way_out (length a.world.sent) (length a.master.members) place (length (others new.primary new.members)))
+      (way_out (length a.world.sent) (length a.master.members) index (length (others new.primary new.members)))
       (length a.world.sent + length a.master.members + 4 + 5 * length (others new.primary new.members))
 
   out_is : Out
   out_is =
-      is_out rules silent a first.place gives_log.place place first.replica gives_log.replica (others new.primary new.members) log new
+      is_out rules silent a first.index gives_log.index index first.replica gives_log.replica (others new.primary new.members) log new
       first.number (λ i. not_others new.primary new.members new.primary (subst (λ m. In m (others new.primary new.members)) (sym first.number) i) refl)
       (others_apart new.primary new.members (lawful_apart new lawful)) (ap (λ m. others m new.members) (sym first.number))
-      first.stands (joined_below rules config a past came first.place first.replica first.stands) (takes first.place first.replica first.stands first.is.runs)
-      gives_log.stands (subst (λ (l : List C). CanGive (a.master.given + 1) a.master.active l (gives_log.place + 1) gives_log.replica) gives_log.is.log_is
-      (can_give rules config a past came gives_log.place gives_log.replica gives_log.stands asked_member gives_log.is.runs))
+      first.stands (joined_below rules config a past came first.index first.replica first.stands) (takes first.index first.replica first.stands first.is.runs)
+      gives_log.stands (subst (λ (l : List C). CanGive (a.master.given + 1) a.master.active l (gives_log.index + 1) gives_log.replica) gives_log.is.log_is
+      (can_give rules config a past came gives_log.index gives_log.replica gives_log.stands asked_member gives_log.is.runs))
       (can.asked ∙ ap (λ m. Some m) gives_log.number) (λ m i. each m (can.live m (in_others new.primary new.members m i))) can.room
     where
       takes : (n : ℕ) (r : ReplicaState S C) → slice_get a.world.nodes n ≡ Some r → r.stopped ≡ false → CanTake (a.master.given + 1) (length log) (n + 1) r
       takes n r stands runs =
           subst (λ (l : List C). CanTake (a.master.given + 1) (length l) (n + 1) r) gives_log.is.log_is
-          (can_take rules config a past came n gives_log.place r gives_log.replica stands gives_log.stands asked_member runs)
+          (can_take rules config a past came n gives_log.index r gives_log.replica stands gives_log.stands asked_member runs)
 
       each : (m : ℕ) → NodeIs Runs a.world.nodes m → NodeIs (CanTake (a.master.given + 1) (length log)) a.world.nodes m
       each m z =
           record {
-            place = z.place;
+            index = z.index;
             number = z.number;
             replica = z.replica;
             stands = z.stands;
-            is = subst (λ k. CanTake (a.master.given + 1) (length log) k z.replica) (sym z.number) (takes z.place z.replica z.stands z.is.runs);
+            is = subst (λ k. CanTake (a.master.given + 1) (length log) k z.replica) (sym z.number) (takes z.index z.replica z.stands z.is.runs);
           }
 
-  pub leads_out : LeadsOut rules config (a ∷ past) a new place log
+  pub leads_out : LeadsOut rules config (a ∷ past) a new index log
   leads_out = by out_is
     where
-      by : Out → LeadsOut rules config (a ∷ past) a new place log
+      by : Out → LeadsOut rules config (a ∷ past) a new index log
       by o =
           record {
             last = o.after;
-            delivered = subst (λ k. Delivered rules (a.master.given + 1) (assigned_moment new a) (way_out (length a.world.sent) (length a.master.members) place k) o.after) count o.delivered;
+            delivered = subst (λ k. Delivered rules (a.master.given + 1) (assigned_moment new a) (way_out (length a.world.sent) (length a.master.members) index k) o.after) count o.delivered;
             sent = (let e = o.last in let z = whole in omega (arith, e, z));
-            events = (let e = way_out_count (length a.world.sent) (length a.master.members) place (length new.members - 1) in let z = whole in let y = count in omega (arith, e, z, y));
+            events = (let e = way_out_count (length a.world.sent) (length a.master.members) index (length new.members - 1) in let z = whole in let y = count in omega (arith, e, z, y));
             led = record {
               active = ap (λ (m : MasterState). m.active) o.master_is;
               members = ap (λ (m : MasterState). m.members) o.master_is;
@@ -92,7 +92,7 @@ module _ {S C O : Type 0} (rules : Rules S C O) (silent : StartsGiveNothing rule
               each = o.each;
             };
             told = λ m i. subst (λ p. In (p, record { from = m; body = Held (a.master.given + 1) (length log + 1) }) o.after.world.sent) (sym first.number)
-                (subst (λ n. In (first.place + 1, record { from = m; body = Held (a.master.given + 1) n }) o.after.world.sent) one_more (o.told m i));
+                (subst (λ n. In (first.index + 1, record { from = m; body = Held (a.master.given + 1) n }) o.after.world.sent) one_more (o.told m i));
             goes = record {
               between = goes.between;
               came = goes.came;
@@ -115,17 +115,17 @@ module _ {S C O : Type 0} (rules : Rules S C O) (silent : StartsGiveNothing rule
 
           agrees : IsAgreed config (o.after ∷ (goes.between ++ (a ∷ past))) longer
           agrees =
-              what_all_hold_is_agreed rules config o.after (goes.between ++ (a ∷ past)) goes.came (first.place + 1) longer (others new.primary new.members)
+              what_all_hold_is_agreed rules config o.after (goes.between ++ (a ∷ past)) goes.came (first.index + 1) longer (others new.primary new.members)
               (record {
-                primary_serves = subst (λ b. NodeIs (Serves b longer (others new.primary new.members)) o.after.world.nodes (first.place + 1))
+                primary_serves = subst (λ b. NodeIs (Serves b longer (others new.primary new.members)) o.after.world.nodes (first.index + 1))
                     (sym (ap (λ (m : MasterState). m.active) o.master_is)) o.primary;
-                member = subst (λ ms. In (first.place + 1) ms) (sym (ap (λ (m : MasterState). m.members) o.master_is)) (subst (λ m. In m new.members) first.number led);
+                member = subst (λ ms. In (first.index + 1) ms) (sym (ap (λ (m : MasterState). m.members) o.master_is)) (subst (λ m. In m new.members) first.number led);
                 all_named = λ m i ne. others_of m (subst (λ ms. In m ms) (ap (λ (m : MasterState). m.members) o.master_is) i) ne;
-                told = λ m i. subst (λ b. In (first.place + 1, record { from = m; body = Held b (length longer) }) o.after.world.sent)
+                told = λ m i. subst (λ b. In (first.index + 1, record { from = m; body = Held b (length longer) }) o.after.world.sent)
                     (sym (ap (λ (m : MasterState). m.active) o.master_is)) (o.told m i);
               })
             where
-              others_of : (m : ℕ) → In m new.members → (m ≡ first.place + 1 → ⊥) → In m (others new.primary new.members)
+              others_of : (m : ℕ) → In m new.members → (m ≡ first.index + 1 → ⊥) → In m (others new.primary new.members)
               others_of m i ne = by_case (others_in new.primary new.members m i)
                 where
                   by_case : (m ≡ new.primary) ⊎ In m (others new.primary new.members) → In m (others new.primary new.members)
@@ -133,4 +133,4 @@ module _ {S C O : Type 0} (rules : Rules S C O) (silent : StartsGiveNothing rule
                   by_case (inr j) = j
 
 pub has_way_out : {S C O : Type 0} (rules : Rules S C O) → HasWayOut rules
-has_way_out rules silent config a past came new place source log can = leads_out rules silent config a past came new place source log can
+has_way_out rules silent config a past came new index source log can = leads_out rules silent config a past came new index source log can

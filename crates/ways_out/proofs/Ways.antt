@@ -24,8 +24,8 @@ numbers_count k zero = refl
 numbers_count k (suc count) = ap suc (numbers_count (k + 1) count)
 
 -- how many there are
-pub way_out_count : (sent members place count : ℕ) → length (way_out sent members place count) ≡ 4 * count + 5
-way_out_count sent members place count =
+pub way_out_count : (sent members index count : ℕ) → length (way_out sent members index count) ≡ 4 * count + 5
+way_out_count sent members index count =
     let one = length-append (numbers_from (sent + members + 2) count ++ numbers_from (sent + members + 2 + count) count)
     (asked_at sent members count ∷ (asked_at sent members count + 1)
     ∷ (numbers_from (asked_at sent members count + 2) count ++ numbers_from (asked_at sent members count + 2 + count) count)) in
@@ -38,20 +38,20 @@ way_out_count sent members place count =
 -- ---- the three parts, one after another
 
 -- the end
-pub record IsOut {S C O : Type 0} (rules : Rules S C O) (b : ℕ) (log : List C) (place : ℕ) (os : List ℕ) (master : MasterState) (a : Moment S C O)
+pub record IsOut {S C O : Type 0} (rules : Rules S C O) (b : ℕ) (log : List C) (index : ℕ) (os : List ℕ) (master : MasterState) (a : Moment S C O)
     (ks : List ℕ) (long : ℕ) : Type 0 where
   pub after : Moment S C O
   pub delivered : Delivered rules b a ks after
   pub master_is : after.master ≡ master
   pub last : length after.world.sent ≡ long
-  pub primary : NodeIs (Serves b log os) after.world.nodes (place + 1)
+  pub primary : NodeIs (Serves b log os) after.world.nodes (index + 1)
   pub each : (m : ℕ) → In m os → NodeIs (Follows b log) after.world.nodes m
-  pub told : (m : ℕ) → In m os → In (place + 1, record { from = m; body = Held b (length log) }) after.world.sent
+  pub told : (m : ℕ) → In m os → In (index + 1, record { from = m; body = Held b (length log) }) after.world.sent
 
-module _ {S C O : Type 0} (rules : Rules S C O) (silent : (s : S) (b : ℕ) → rules.gives s (rules.start_of b) ≡ []) (a : Moment S C O) (place source i : ℕ)
+module _ {S C O : Type 0} (rules : Rules S C O) (silent : (s : S) (b : ℕ) → rules.gives s (rules.start_of b) ≡ []) (a : Moment S C O) (index source i : ℕ)
     (rp rs : ReplicaState S C) (os : List ℕ) (log : List C) (config : Config)
-    (first : config.primary ≡ place + 1) (out : In (place + 1) os → ⊥) (apart : AreApart os) (are : others (place + 1) config.members ≡ os)
-    (stands : slice_get a.world.nodes place ≡ Some rp) (fresh : rp.joined < a.master.given + 1) (can : CanTake (a.master.given + 1) (length log) (place + 1) rp)
+    (first : config.primary ≡ index + 1) (out : In (index + 1) os → ⊥) (apart : AreApart os) (are : others (index + 1) config.members ≡ os)
+    (stands : slice_get a.world.nodes index ≡ Some rp) (fresh : rp.joined < a.master.given + 1) (can : CanTake (a.master.given + 1) (length log) (index + 1) rp)
     (gives_stands : slice_get a.world.nodes source ≡ Some rs) (gives : CanGive (a.master.given + 1) a.master.active log (source + 1) rs)
     (member : slice_get a.master.members i ≡ Some (source + 1))
     (each : (m : ℕ) → In m os → NodeIs (CanTake (a.master.given + 1) (length log)) a.world.nodes m) (room : length log < most_places) where
@@ -60,16 +60,16 @@ module _ {S C O : Type 0} (rules : Rules S C O) (silent : (s : S) (b : ℕ) → 
   r1 = fetching (a.master.given + 1) config.members a.master.active a.master.members rp
 
   abbrev Fetched : Type 0
-  Fetched = IsFetched rules (a.master.given + 1) log place source r1 os (assigned_moment config a)
+  Fetched = IsFetched rules (a.master.given + 1) log index source r1 os (assigned_moment config a)
       (length a.world.sent ∷ (length a.world.sent + 1 + i) ∷ []) (assigning a.master config) (length a.world.sent + 1 + length a.master.members)
 
   abbrev Out : Type 0
-  Out = IsOut rules (a.master.given + 1) (log ++ rules.start_of (a.master.given + 1) ∷ []) place os
+  Out = IsOut rules (a.master.given + 1) (log ++ rules.start_of (a.master.given + 1) ∷ []) index os
       (with_active (a.master.given + 1) config (assigning a.master config)) (assigned_moment config a)
       (way_out (length a.world.sent) (length a.master.members) i (length os)) (length a.world.sent + length a.master.members + 4 + 5 * length os)
 
   f_is : Fetched
-  f_is = fetched rules a place source i rp rs os log config first out stands fresh can gives_stands gives member each
+  f_is = fetched rules a index source i rp rs os log config first out stands fresh can gives_stands gives member each
 
   are_here : others r1.id r1.members ≡ os
   are_here = ap (λ n. others n config.members) can.id ∙ are
@@ -83,7 +83,7 @@ module _ {S C O : Type 0} (rules : Rules S C O) (silent : (s : S) (b : ℕ) → 
         master_is = h.master ∙ ap (with_active (a.master.given + 1) config) (g.master ∙ f.master_is);
         last = h.last ∙ (let z = f.last in let y = ap length none in
             let e : length f.after.world.sent + 2 ≡ length a.world.sent + length a.master.members + 4 + 5 * length os = omega (arith, z, y) in e);
-        primary = subst (λ l. NodeIs (Serves (a.master.given + 1) (log ++ rules.start_of (a.master.given + 1) ∷ []) l) h.after.world.nodes (place + 1)) (sym none) h.primary;
+        primary = subst (λ l. NodeIs (Serves (a.master.given + 1) (log ++ rules.start_of (a.master.given + 1) ∷ []) l) h.after.world.nodes (index + 1)) (sym none) h.primary;
         each = λ m j. absurd (no_member m (subst (λ l. In m l) none j));
         told = λ m j. absurd (no_member m (subst (λ l. In m l) none j));
       }
@@ -91,13 +91,13 @@ module _ {S C O : Type 0} (rules : Rules S C O) (silent : (s : S) (b : ℕ) → 
       no_member : (m : ℕ) → In m [] → ⊥
       no_member m j = elim j [ ]
 
-      g : IsInstalled rules (a.master.given + 1) log place r1 [] f.after ((length a.world.sent + 1 + length a.master.members) ∷ []) (length f.after.world.sent)
-      g = alone rules (a.master.given + 1) log place r1 can.runs can.id refl refl can.applied f.after (length a.world.sent + 1 + length a.master.members) (source + 1)
+      g : IsInstalled rules (a.master.given + 1) log index r1 [] f.after ((length a.world.sent + 1 + length a.master.members) ∷ []) (length f.after.world.sent)
+      g = alone rules (a.master.given + 1) log index r1 can.runs can.id refl refl can.applied f.after (length a.world.sent + 1 + length a.master.members) (source + 1)
           (are_here ∙ none) f.sent f.primary
 
-      h : IsActivated rules (a.master.given + 1) (log ++ rules.start_of (a.master.given + 1) ∷ []) place [] config g.after
+      h : IsActivated rules (a.master.given + 1) (log ++ rules.start_of (a.master.given + 1) ∷ []) index [] config g.after
           (length f.after.world.sent ∷ (length f.after.world.sent + 1) ∷ []) (length f.after.world.sent + 2)
-      h = activated_alone rules (a.master.given + 1) log place r1 config can.runs can.id refl room (λ s. silent s (a.master.given + 1)) g.after
+      h = activated_alone rules (a.master.given + 1) log index r1 config can.runs can.id refl room (λ s. silent s (a.master.given + 1)) g.after
           (length f.after.world.sent) g.asks g.last (ap (λ (m : MasterState). m.waiting) (g.master ∙ f.master_is)) g.primary (are_here ∙ none)
 
       numbers : length a.world.sent ∷ (length a.world.sent + 1 + i) ∷ (length a.world.sent + 1 + length a.master.members)
@@ -118,27 +118,27 @@ module _ {S C O : Type 0} (rules : Rules S C O) (silent : (s : S) (b : ℕ) → 
         last = h.last ∙ (let z = f.last in let y = ap length some in
             let e : length f.after.world.sent + (length (x ∷ xs) + length (x ∷ xs)) + 2 + length (x ∷ xs) + (length (x ∷ xs) + length (x ∷ xs))
             ≡ length a.world.sent + length a.master.members + 4 + 5 * length os = omega (arith, z, y) in e);
-        primary = subst (λ l. NodeIs (Serves (a.master.given + 1) (log ++ rules.start_of (a.master.given + 1) ∷ []) l) h.after.world.nodes (place + 1)) (sym some) h.primary;
+        primary = subst (λ l. NodeIs (Serves (a.master.given + 1) (log ++ rules.start_of (a.master.given + 1) ∷ []) l) h.after.world.nodes (index + 1)) (sym some) h.primary;
         each = λ m j. h.each m (subst (λ l. In m l) some j);
         told = λ m j. h.told m (subst (λ l. In m l) some j);
       }
     where
-      g : IsInstalled rules (a.master.given + 1) log place r1 (x ∷ xs) f.after
+      g : IsInstalled rules (a.master.given + 1) log index r1 (x ∷ xs) f.after
           ((length a.world.sent + 1 + length a.master.members)
           ∷ (numbers_from (length f.after.world.sent) (length (x ∷ xs)) ++ numbers_from (length f.after.world.sent + length (x ∷ xs)) (length (x ∷ xs))))
           (length f.after.world.sent + (length (x ∷ xs) + length (x ∷ xs)))
-      g = with_others rules (a.master.given + 1) log place r1 can.runs can.id refl refl can.applied f.after (length a.world.sent + 1 + length a.master.members) (source + 1)
-          x xs (are_here ∙ some) (subst AreApart some apart) (λ j. out (subst (λ l. In (place + 1) l) (sym some) j)) f.sent f.primary
+      g = with_others rules (a.master.given + 1) log index r1 can.runs can.id refl refl can.applied f.after (length a.world.sent + 1 + length a.master.members) (source + 1)
+          x xs (are_here ∙ some) (subst AreApart some apart) (λ j. out (subst (λ l. In (index + 1) l) (sym some) j)) f.sent f.primary
           (λ m j. f.each m (subst (λ l. In m l) (sym some) j))
 
-      h : IsActivated rules (a.master.given + 1) (log ++ rules.start_of (a.master.given + 1) ∷ []) place (x ∷ xs) config g.after
+      h : IsActivated rules (a.master.given + 1) (log ++ rules.start_of (a.master.given + 1) ∷ []) index (x ∷ xs) config g.after
           ((length f.after.world.sent + (length (x ∷ xs) + length (x ∷ xs))) ∷ (length f.after.world.sent + (length (x ∷ xs) + length (x ∷ xs)) + 1)
           ∷ (numbers_from (length f.after.world.sent + (length (x ∷ xs) + length (x ∷ xs)) + 2) (length (x ∷ xs))
           ++ numbers_from (length f.after.world.sent + (length (x ∷ xs) + length (x ∷ xs)) + 2 + length (x ∷ xs)) (length (x ∷ xs))))
           (length f.after.world.sent + (length (x ∷ xs) + length (x ∷ xs)) + 2 + length (x ∷ xs) + (length (x ∷ xs) + length (x ∷ xs)))
-      h = activated_all rules (a.master.given + 1) log place r1 config can.runs can.id refl room (λ s. silent s (a.master.given + 1)) g.after
+      h = activated_all rules (a.master.given + 1) log index r1 config can.runs can.id refl room (λ s. silent s (a.master.given + 1)) g.after
           (length f.after.world.sent + (length (x ∷ xs) + length (x ∷ xs))) g.asks g.last (ap (λ (m : MasterState). m.waiting) (g.master ∙ f.master_is)) g.primary
-          x xs (are_here ∙ some) (subst AreApart some apart) (λ j. out (subst (λ l. In (place + 1) l) (sym some) j)) g.each
+          x xs (are_here ∙ some) (subst AreApart some apart) (λ j. out (subst (λ l. In (index + 1) l) (sym some) j)) g.each
 
       numbers : ◌≡◌ {A = List ℕ}
           (length a.world.sent ∷ (length a.world.sent + 1 + i) ∷ (length a.world.sent + 1 + length a.master.members)

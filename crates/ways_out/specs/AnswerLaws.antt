@@ -42,26 +42,26 @@ pub record AnswersCommand {S C O : Type 0} (rules : Rules S C O) (ballot : ℕ) 
   pub gives : o.effects ≡ map (Out (length log)) (rules.gives (replay rules log) c) ++ rest
   pub serves : Serves ballot (log ++ c ∷ []) others_of primary o.state
 
--- a proposal to the primary at a place, whose replica this is, when others follow: it outputs
+-- a proposal to the primary at an index, whose replica this is, when others follow: it outputs
 -- nothing. The others are sent the command, and answer; the primary takes all answers except the
 -- last, and when that one comes, it answers the command
-pub record IsHeldByAll {S C O : Type 0} (rules : Rules S C O) (a : Moment S C O) (place ballot : ℕ)
+pub record IsHeldByAll {S C O : Type 0} (rules : Rules S C O) (a : Moment S C O) (index ballot : ℕ)
     (r : ReplicaState S C) (log : List C) (c : C) (front : List ℕ) (last : ℕ) : Type 0 where
   pub quiet : outputs (replica_step rules r (Proposes c)).effects ≡ []
   pub before : Moment S C O
   pub delivered : Delivered rules ballot
-      (after_outcome place (replica_step rules r (Proposes c)) a)
+      (after_outcome index (replica_step rules r (Proposes c)) a)
       (numbers_from (length a.world.sent) (length front + 1)
       ++ numbers_from (length a.world.sent + (length front + 1)) (length front)) before
   pub master : before.master ≡ a.master
   pub sent : length before.world.sent ≡ length a.world.sent + 2 * (length front + 1)
   pub told : (m : ℕ) → In m (front ++ last ∷ []) →
-      In (place + 1, record { from = m; body = Held ballot (length log + 1) }) before.world.sent
+      In (index + 1, record { from = m; body = Held ballot (length log + 1) }) before.world.sent
   pub comes : slice_get before.world.sent (length a.world.sent + 2 * length front + 1)
-      ≡ Some (place + 1, record { from = last; body = Held ballot (length log + 1) })
+      ≡ Some (index + 1, record { from = last; body = Held ballot (length log + 1) })
   pub primary : NodeIs (λ m q. (q.stopped ≡ false) × AnswersCommand rules ballot log c
       (front ++ last ∷ []) m (received rules q last (Held ballot (length log + 1))))
-      before.world.nodes (place + 1)
+      before.world.nodes (index + 1)
   pub each : (m : ℕ) → In m (front ++ last ∷ []) →
       NodeIs (Follows ballot (log ++ c ∷ [])) before.world.nodes m
 
@@ -70,12 +70,12 @@ pub record IsHeldByAll {S C O : Type 0} (rules : Rules S C O) (a : Moment S C O)
 abbrev pub CommandsAreAnswered : {S C O : Type 0} → Rules S C O → Type 0
 CommandsAreAnswered {S} {C} {O} rules =
     (config : Config) (a : Moment S C O) (past : List (Moment S C O)) →
-    Past rules config (a ∷ past) → (ballot place : ℕ) (r : ReplicaState S C) (log : List C)
-    (others_of : List ℕ) (c : C) → slice_get a.world.nodes place ≡ Some r →
-    Serves ballot log others_of (place + 1) r → length log < most_places →
-    (others_of ≡ [] → AnswersCommand rules ballot log c [] (place + 1)
+    Past rules config (a ∷ past) → (ballot index : ℕ) (r : ReplicaState S C) (log : List C)
+    (others_of : List ℕ) (c : C) → slice_get a.world.nodes index ≡ Some r →
+    Serves ballot log others_of (index + 1) r → length log < most_places →
+    (others_of ≡ [] → AnswersCommand rules ballot log c [] (index + 1)
     (replica_step rules r (Proposes c)))
     × ((front : List ℕ) (last : ℕ) → others_of ≡ front ++ last ∷ [] → AreApart others_of →
-    (In (place + 1) others_of → ⊥) →
+    (In (index + 1) others_of → ⊥) →
     ((m : ℕ) → In m others_of → NodeIs (Follows ballot log) a.world.nodes m) →
-    IsHeldByAll rules a place ballot r log c front last)
+    IsHeldByAll rules a index ballot r log c front last)

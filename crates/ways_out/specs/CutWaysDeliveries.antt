@@ -14,7 +14,7 @@ use Rattle.snapshots.specs.Past.{Moment}
 use Rattle.snapshots.specs.Steps.{tells_from_master}
 use Rattle.snapshots.specs.World.{moved, outputs}
 
--- the moment after a step of the node at place n
+-- the moment after a step of the node at index n
 abbrev pub after_outcome : {S C O : Type 0} → ℕ → Outcome S C O → Moment S C O → Moment S C O
 after_outcome n o a = record { master = a.master; world = moved a.world n o.state o.effects }
 

@@ -20,17 +20,17 @@ pub record GoesOnTo {S C O : Type 0} (rules : Rules S C O) (config : Config)
 -- a way out: after an Assign of the configuration come the messages of `way_out`; then the next
 -- ballot is led, and the whole log that was fetched is agreed with the ballot's start after it
 pub record LeadsOut {S C O : Type 0} (rules : Rules S C O) (config : Config)
-    (past : List (Moment S C O)) (a : Moment S C O) (new : Config) (place : ℕ) (log : List C) :
+    (past : List (Moment S C O)) (a : Moment S C O) (new : Config) (index : ℕ) (log : List C) :
     Type 0 where
   pub last : Moment S C O
   pub delivered : Delivered rules (a.master.given + 1) (assigned_moment new a)
-      (way_out (length a.world.sent) (length a.master.members) place (length new.members - 1)) last
+      (way_out (length a.world.sent) (length a.master.members) index (length new.members - 1)) last
   -- no log is cut on the way
   pub archive : last.world.archive ≡ a.world.archive
   -- how many messages were sent then, and how many events led there, with the Assign
   pub sent : length last.world.sent + 1
       ≡ length a.world.sent + length a.master.members + 5 * length new.members
-  pub events : length (way_out (length a.world.sent) (length a.master.members) place
+  pub events : length (way_out (length a.world.sent) (length a.master.members) index
       (length new.members - 1)) + 1 ≡ 4 * length new.members + 2
   pub led : IsLed (a.master.given + 1) new (log ++ rules.start_of (a.master.given + 1) ∷ [])
       (whole_moment last)
@@ -40,6 +40,6 @@ pub record LeadsOut {S C O : Type 0} (rules : Rules S C O) (config : Config)
 abbrev pub CutGroupsHaveWaysOut : {S C O : Type 0} → Rules S C O → Type 0
 CutGroupsHaveWaysOut {S} {C} {O} rules =
     StartsGiveNothing rules → (config : Config) (a : Moment S C O) (past : List (Moment S C O)) →
-    Past rules config (a ∷ past) → (new : Config) (place source : ℕ) (log : List C) →
-    CanBeLed (whole_moment a) new place source log
-    → LeadsOut rules config (a ∷ past) a new place log
+    Past rules config (a ∷ past) → (new : Config) (index source : ℕ) (log : List C) →
+    CanBeLed (whole_moment a) new index source log
+    → LeadsOut rules config (a ∷ past) a new index log

@@ -14,7 +14,7 @@ use Rattle.snapshots.specs.agreement.Past.{Moment}
 use Rattle.snapshots.specs.agreement.World.{moved, outputs}
 use Rattle.snapshots.specs.agreement.Steps.{tells_from_master}
 
--- the moment after a step of the node at place n
+-- the moment after a step of the node at index n
 abbrev pub after_outcome : {S C O : Type 0} → ℕ → Outcome S C O → Moment S C O → Moment S C O
 after_outcome n o a = record { master = a.master; world = moved a.world n o.state o.effects }
 
@@ -56,10 +56,10 @@ pub data Delivered {S C O : Type 0} (rules : Rules S C O) (ballot : ℕ) :
 -- the node of this number exists, and this holds for it
 pub record NodeIs {S C : Type 0} (P : ℕ → ReplicaState S C → Type 0)
     (nodes : List (ReplicaState S C)) (m : ℕ) : Type 0 where
-  pub place : ℕ
-  pub number : m ≡ place + 1
+  pub index : ℕ
+  pub number : m ≡ index + 1
   pub replica : ReplicaState S C
-  pub stands : slice_get nodes place ≡ Some replica
+  pub stands : slice_get nodes index ≡ Some replica
   pub is : P m replica
 
 -- no number comes twice
@@ -81,11 +81,11 @@ asked_and_answered k others = numbers_from k others ++ numbers_from (k + others)
 abbrev pub asked_at : ℕ → ℕ → ℕ → ℕ
 asked_at sent members others = sent + members + 2 + (others + others)
 
--- the messages of a way out, if the member at this place of the active ballot is asked for its log:
+-- the messages of a way out, if the member at this index of the active ballot is asked for its log:
 -- NewBallot, Join, State; Install and Installed; Activate, Activated; Append and Held
 abbrev pub way_out : ℕ → ℕ → ℕ → ℕ → List ℕ
-way_out sent members place others =
-    sent ∷ (sent + 1 + place) ∷ (sent + 1 + members)
+way_out sent members index others =
+    sent ∷ (sent + 1 + index) ∷ (sent + 1 + members)
     ∷ (asked_and_answered (sent + members + 2) others
     ++ asked_at sent members others ∷ (asked_at sent members others + 1)
     ∷ asked_and_answered (asked_at sent members others + 2) others)

@@ -18,13 +18,13 @@ abbrev pub StartsGiveNothing : {S C O : Type 0} → Rules S C O → Type 0
 StartsGiveNothing {S = S} rules = (s : S) (b : ℕ) → rules.gives s (rules.start_of b) ≡ []
 
 -- the conditions of a way out: the master would not refuse the configuration, and the nodes that it
--- names run; the member at a place of the active configuration, whose whole log this is, runs too,
+-- names run; the member at an index of the active configuration, whose whole log this is, runs too,
 -- and the log has room for the ballot's start
-pub record CanBeLed {S C O : Type 0} (a : Moment S C O) (new : Config) (place source : ℕ)
+pub record CanBeLed {S C O : Type 0} (a : Moment S C O) (new : Config) (index source : ℕ)
     (log : List C) : Type 0 where
   pub granted : refusal a.master new ≡ None
   pub live : (m : ℕ) → In m new.members → NodeIs Runs a.world.nodes m
-  pub asked : slice_get a.master.members place ≡ Some source
+  pub asked : slice_get a.master.members index ≡ Some source
   pub gives : NodeIs (RunsWith log) a.world.nodes source
   pub room : length log < most_places
 
@@ -50,15 +50,15 @@ pub record GoesOnTo {S C O : Type 0} (rules : Rules S C O) (config : Config)
 -- a way out: after an Assign of the configuration come the messages of `way_out`; then the next
 -- ballot is led, and the log that was fetched is agreed with the ballot's start after it
 pub record LeadsOut {S C O : Type 0} (rules : Rules S C O) (config : Config)
-    (past : List (Moment S C O)) (a : Moment S C O) (new : Config) (place : ℕ) (log : List C) :
+    (past : List (Moment S C O)) (a : Moment S C O) (new : Config) (index : ℕ) (log : List C) :
     Type 0 where
   pub last : Moment S C O
   pub delivered : Delivered rules (a.master.given + 1) (assigned_moment new a)
-      (way_out (length a.world.sent) (length a.master.members) place (length new.members - 1)) last
+      (way_out (length a.world.sent) (length a.master.members) index (length new.members - 1)) last
   -- how many messages were sent then, and how many events led there, with the Assign
   pub sent : length last.world.sent + 1
       ≡ length a.world.sent + length a.master.members + 5 * length new.members
-  pub events : length (way_out (length a.world.sent) (length a.master.members) place
+  pub events : length (way_out (length a.world.sent) (length a.master.members) index
       (length new.members - 1)) + 1 ≡ 4 * length new.members + 2
   pub led : IsLed (a.master.given + 1) new (log ++ rules.start_of (a.master.given + 1) ∷ []) last
   -- each other member has answered that it holds all of that log
@@ -71,5 +71,5 @@ pub record LeadsOut {S C O : Type 0} (rules : Rules S C O) (config : Config)
 abbrev pub HasWayOut : {S C O : Type 0} → Rules S C O → Type 0
 HasWayOut {S} {C} {O} rules =
     StartsGiveNothing rules → (config : Config) (a : Moment S C O) (past : List (Moment S C O)) →
-    Past rules config (a ∷ past) → (new : Config) (place source : ℕ) (log : List C) →
-    CanBeLed a new place source log → LeadsOut rules config (a ∷ past) a new place log
+    Past rules config (a ∷ past) → (new : Config) (index source : ℕ) (log : List C) →
+    CanBeLed a new index source log → LeadsOut rules config (a ∷ past) a new index log

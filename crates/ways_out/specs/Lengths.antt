@@ -6,5 +6,5 @@ use Rattle.ways_out.specs.Deliveries.{asked_and_answered, way_out}
 -- for each other; one command then takes two for each other
 abbrev pub WaysAreShort : Type 0
 WaysAreShort =
-    (sent members place others : ℕ) → (length (way_out sent members place others) ≡ 5 + 4 * others)
+    (sent members index others : ℕ) → (length (way_out sent members index others) ≡ 5 + 4 * others)
     × (length (asked_and_answered sent others) ≡ 2 * others)

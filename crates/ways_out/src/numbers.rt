@@ -8,23 +8,23 @@ use std::alloc::{AllocError, Global};
 /// Returns the numbers of the messages that lead a new ballot to its start, in the order in which
 /// they have to be delivered.
 ///
-/// `sent` messages were sent before. The member at `place` among the `members` of the active ballot
+/// `sent` messages were sent before. The member at `index` among the `members` of the active ballot
 /// is asked for its log, and the new ballot has this many `others` besides its primary. Running out
 /// of memory is the only error.
 pub fn way_out(
     alloc: Global,
     sent: u64,
     members: u64,
-    place: u64,
+    index: u64,
     others: u64,
 ) -> Result<Vec<u64>, AllocError>
-    requires placed { place < members }
+    requires placed { index < members }
     requires bound { sent + members + 4 * others + 4 < 2 ^ 64 }
-    ensures { IfOk result (λ numbers. numbers.items ≡ way_out sent members place others) }
+    ensures { IfOk result (λ numbers. numbers.items ≡ way_out sent members index others) }
 {
     let mut numbers = Vec::new(alloc);
     numbers.push(sent)?;
-    numbers.push(sent + 1 + place)?;
+    numbers.push(sent + 1 + index)?;
     numbers.push(sent + 1 + members)?;
     push_asked(&mut numbers, sent + members + 2, others)?;
     let asked = sent + members + 2 + (others + others);

@@ -43,7 +43,7 @@ use Rattle.world.proofs.StandsOn.{IsNewest}
 use Rattle.world.proofs.WaitsOn.{own_waits, walk_waiting}
 
 -- A CONNECT, `piece`, is taken from the newest connection of the world `w`, and comes to the
--- primary at this place; what that queues then goes down, to the world `after`.
+-- primary at this index; what that queues then goes down, to the world `after`.
 module _ (name : List ℕ) (i at number place : ℕ) (core : Core) (up : List ℕ) (w after : WorldState) (node : CountedCore) (positive : 0 < number)
     (stands : slice_get w.nodes.nodes place ≡ Some node) (piece : List ℕ)
     (gathers : Gathers true (suc place) (with_nodes (after_node_call place node (takes (Bytes (port_of number) piece 0)) w.nodes) w) after)

@@ -82,7 +82,7 @@ module _ (config : Config) (g : Group) (past : List (Moment State Command Output
   whole_at at node stands = get_whole (whole g.archive) a.world.nodes at (replica_of node.core) (replica_at a w.nodes seen at node stands)
 
   source : RunsHere w.nodes.nodes can.source
-  source = runs_here w.nodes.nodes can.source (first_passes (is_running w.nodes.nodes) w.nodes.master.members can.place can.source can.first can.asked)
+  source = runs_here w.nodes.nodes can.source (first_passes (is_running w.nodes.nodes) w.nodes.master.members can.index can.source can.first can.asked)
 
   node_is : node_of w.nodes.nodes can.source ≡ Some source.node
   node_is = ap (node_of w.nodes.nodes) (source.number ∙ (let e : source.at + 1 ≡ suc source.at = omega arith in e)) ∙ source.stands
@@ -100,14 +100,14 @@ module _ (config : Config) (g : Group) (past : List (Moment State Command Output
       let room = can.room in
       omega (arith, whole_is, same, held, room)
 
-  pub can_be_led : CanBeLed (whole_moment a) (configuration_of members) can.place can.source (log_of w.nodes can.source)
+  pub can_be_led : CanBeLed (whole_moment a) (configuration_of members) can.index can.source (log_of w.nodes can.source)
   can_be_led =
       record {
         granted = ap (λ (m : MasterState). refusal m (configuration_of members)) s.master ∙ can.granted;
         live = λ m i. live m (each_passes (is_running w.nodes.nodes) members m can.live (in_members members m i));
-        asked = ap (λ (m : MasterState). slice_get m.members can.place) s.master ∙ can.asked;
+        asked = ap (λ (m : MasterState). slice_get m.members can.index) s.master ∙ can.asked;
         gives = record {
-          place = source.at;
+          index = source.at;
           number = source.number;
           replica = whole g.archive (replica_of source.node.core);
           stands = whole_at source.at source.node source.stands;
@@ -123,4 +123,4 @@ module _ (config : Config) (g : Group) (past : List (Moment State Command Output
       live : (m : ℕ) → is_running w.nodes.nodes m ≡ true → NodeIs Runs (whole_moment a).world.nodes m
       live m e =
           let r = runs_here w.nodes.nodes m e in
-          record { place = r.at; number = r.number; replica = whole g.archive (replica_of r.node.core); stands = whole_at r.at r.node r.stands; is = record { runs = r.runs } }
+          record { index = r.at; number = r.number; replica = whole g.archive (replica_of r.node.core); stands = whole_at r.at r.node r.stands; is = record { runs = r.runs } }

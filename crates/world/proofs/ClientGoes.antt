@@ -56,7 +56,7 @@ steps_to w i {c = c} at (ClientGoes.goes_on {d = d} {e = e} goes step) =
 
 -- ---- worlds in code
 
--- the client at this place becomes this
+-- the client at this index becomes this
 abbrev pub with_piped : ℕ → WorldClient → Piped → WorldState → WorldState
 with_piped i client piped w = record w { clients = set w.clients i (record client { piped = piped }) }
 

@@ -108,21 +108,21 @@ module _ (name : Client) (w : WorldState) (housed : AreHoused (leads_of w.client
       let t = named_there name can.core w.clients can.client in
       subst (λ (k : Core). CanGoOut k.state) t.is (client_at w.clients r.world.clients t.at t.client r.stands.clients t.found).stands.fits
 
-  module _ (l : LedTo config g past (first ∷ os) can.place list more w new) (p : IsNewPrimary l.way.last ballot log first os l.mid)
-      (left : HasLeft name can.core (opening (suc p.place)) l.mid new) where
+  module _ (l : LedTo config g past (first ∷ os) can.index list more w new) (p : IsNewPrimary l.way.last ballot log first os l.mid)
+      (left : HasLeft name can.core (opening (suc p.index)) l.mid new) where
     abbrev b : Moment State Command Output
     b = l.way.last
 
     same_number : next_number left.after ≡ number
     same_number = ap (λ (c : List ConnectionSlot). suc (length c)) left.connections ∙ ap suc l.many
 
-    can_open : CanOpen b left.after.nodes ballot p.place p.node os log (port_of (next_number left.after))
+    can_open : CanOpen b left.after.nodes ballot p.index p.node os log (port_of (next_number left.after))
     can_open =
-        subst (λ (n : NodesState). CanOpen b n ballot p.place p.node os log (port_of (next_number left.after))) (sym left.nodes)
-        (subst (λ (c : List ConnectionSlot). CanOpen b l.mid.nodes ballot p.place p.node os log (port_of (suc (length c)))) (sym left.connections) p.can)
+        subst (λ (n : NodesState). CanOpen b n ballot p.index p.node os log (port_of (next_number left.after))) (sym left.nodes)
+        (subst (λ (c : List ConnectionSlot). CanOpen b l.mid.nodes ballot p.index p.node os log (port_of (suc (length c)))) (sym left.connections) p.can)
 
     -- from the world in which the connection was opened
-    module _ (v : WorldState) (h : HasOpened name left.before.state b ballot p.place os log number left.after v)
+    module _ (v : WorldState) (h : HasOpened name left.before.state b ballot p.index os log number left.after v)
         (run : Run (asking (sent_then w (length os))) v new) (none : LosesNothing v new) where
       sent_is : sent_then w (length os) ≡ length v.nodes.sent
       sent_is =
@@ -135,25 +135,25 @@ module _ (name : Client) (w : WorldState) (housed : AreHoused (leads_of w.client
       written : AppendsAll [] h.up (packets.Connect (keeps can.core.state.client left.before.state.keep_alive) ∷ [])
       written = subst (λ (c : List ℕ). AppendsAll [] h.up (packets.Connect (keeps c left.before.state.keep_alive) ∷ [])) left.client h.written
 
-      answered : AnsweredTo name h.i h.at number p.place h.core v.nodes last_event new
+      answered : AnsweredTo name h.i h.at number p.index h.core v.nodes last_event new
       answered =
           let c = connect_spelled can.core.state.client fits.client left.before.state.keep_alive h.up (left.keep_alive ∙ fits.keep_alive) written in
-          answers_out name v h.i h.at number p.place h.core h.up (omega arith) h.newest h.housed h.first config b (l.way.goes.between ++ moment_of g ∷ past) l.way.goes.came ballot os
+          answers_out name v h.i h.at number p.index h.core h.up (omega arith) h.newest h.housed h.first config b (l.way.goes.between ++ moment_of g ∷ past) l.way.goes.came ballot os
           list h.awaits (long config g past came w r.stands.nodes (first ∷ os) name can) (keeps can.core.state.client left.before.state.keep_alive) can.session c.0 refl
           bytes c.1 (omega arith) p.apart p.out p.each last_event new (subst (λ (k : ℕ). Run (asking k) v new) sent_is run) none
 
-      served : (a : AnsweredTo name h.i h.at number p.place h.core v.nodes last_event new) → IsOnline name a.after new
+      served : (a : AnsweredTo name h.i h.at number p.index h.core v.nodes last_event new) → IsOnline name a.after new
       served a =
-          connack_comes name h.i h.at number (suc p.place) h.core a.is.up a.is.down a.is.is_open a.after a.is.newest (omega arith) h.stage h.unread a.is.begins a.is.first new
+          connack_comes name h.i h.at number (suc p.index) h.core a.is.up a.is.down a.is.is_open a.after a.is.newest (omega arith) h.stage h.unread a.is.begins a.is.first new
           (ap is_open h.stage) a.rest a.whole
 
-      goes : (a : AnsweredTo name h.i h.at number p.place h.core v.nodes last_event new) → NodesGo w.nodes new.nodes
+      goes : (a : AnsweredTo name h.i h.at number p.index h.core v.nodes last_event new) → NodesGo w.nodes new.nodes
       goes a =
           let one : NodesGo w.nodes left.after.nodes = subst (λ (n : NodesState). NodesGo w.nodes n) (sym left.nodes) l.nodes in
           let two : NodesGo w.nodes v.nodes = nodes_go_join w.nodes left.after.nodes v.nodes one h.nodes in
           subst (λ (n : NodesState). NodesGo w.nodes n) (sym (served a).nodes) (nodes_go_join w.nodes v.nodes a.after.nodes two a.is.nodes)
 
-      active : (a : AnsweredTo name h.i h.at number p.place h.core v.nodes last_event new) → new.nodes.master.active ≡ w.nodes.master.given + 1
+      active : (a : AnsweredTo name h.i h.at number p.index h.core v.nodes last_event new) → new.nodes.master.active ≡ w.nodes.master.given + 1
       active a =
           ap (λ (n : NodesState). n.master.active) (served a).nodes
           ∙ ap (λ (x : MasterState). x.active) (a.is.master ∙ sym h.awaits.seen.master)
@@ -175,20 +175,20 @@ module _ (name : Client) (w : WorldState) (housed : AreHoused (leads_of w.client
 
     opened : HasEscaped name w new
     opened =
-        let o = opens_out name left.before b ballot p.place p.node os log left.after left.there can_open left.housed (asking (sent_then w (length os))) new left.closed left.rest left.whole in
-        escaped o.after (subst (λ (k : ℕ). HasOpened name left.before.state b ballot p.place os log k left.after o.after) same_number o.has) o.rest o.whole
+        let o = opens_out name left.before b ballot p.index p.node os log left.after left.there can_open left.housed (asking (sent_then w (length os))) new left.closed left.rest left.whole in
+        escaped o.after (subst (λ (k : ℕ). HasOpened name left.before.state b ballot p.index os log k left.after o.after) same_number o.has) o.rest o.whole
 
-  leads : Run (escaping_events w (first ∷ os) can.place holds name bytes) w new → LosesNothing w new → HasEscaped name w new
+  leads : Run (escaping_events w (first ∷ os) can.index holds name bytes) w new → LosesNothing w new → HasEscaped name w new
   leads run none =
       let l = led_to config g past came w r.stands.nodes housed (first ∷ os) name can more new run none in
       let lawful_is = lawful config g past came w r.stands.nodes housed (first ∷ os) name can more new in
       let p = new_primary config r.world r.trail w r.stands past came first os name can more new l lawful_is.0 lawful_is.1 in
       opened l p
-      (leaves name can.core (opening (suc p.place)) l.mid new (core_seen name can.core l.mid.clients w.clients l.clients can.client) l.housed holds held
-      (subst (λ (es : List Event). Run es l.mid new) (more_is (suc p.place) p.number) l.rest) l.whole)
+      (leaves name can.core (opening (suc p.index)) l.mid new (core_seen name can.core l.mid.clients w.clients l.clients can.client) l.housed holds held
+      (subst (λ (es : List Event). Run es l.mid new) (more_is (suc p.index) p.number) l.rest) l.whole)
 
 -- whichever members they are
 pub escaping_leads_out : (members : List ℕ) (name : Client) (w : WorldState) (can : CanEscape members name w) (holds : Bool) → holds ≡ is_open can.core.state.stage →
-    AreHoused (leads_of w.clients) w.connections → LeadsOut name w (escaping_events w members can.place holds name (14 + length can.core.state.client))
+    AreHoused (leads_of w.clients) w.connections → LeadsOut name w (escaping_events w members can.index holds name (14 + length can.core.state.client))
 escaping_leads_out [] name w can holds held housed nodes config cs new r run none = absurd (none-some bad_members (sym can.granted))
 escaping_leads_out (first ∷ os) name w can holds held housed nodes config cs new r run none = leads name w housed first os can holds held nodes config cs r new run none

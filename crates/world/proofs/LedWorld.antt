@@ -42,9 +42,9 @@ use Rattle.world.proofs.NodesGoOn.{nodes_go_join}
 use Rattle.world.proofs.PassesOn.{seen_of}
 
 -- the world then, and the events after it
-pub record LedTo (config : Config) (g : Group) (past : List (Moment State Command Output)) (members : List ℕ) (place : ℕ) (log : List Command) (more : List Event)
+pub record LedTo (config : Config) (g : Group) (past : List (Moment State Command Output)) (members : List ℕ) (index : ℕ) (log : List Command) (more : List Event)
     (w new : WorldState) : Type 0 where
-  pub way : LeadsOut rules config (moment_of g ∷ past) (moment_of g) (configuration_of members) place log
+  pub way : LeadsOut rules config (moment_of g ∷ past) (moment_of g) (configuration_of members) index log
   pub mid : WorldState
   pub followed : AreFollowed (g.master.given + 1) way.last (after_giving (configuration_of members) w.nodes) mid.nodes
   pub nodes : NodesGo w.nodes mid.nodes
@@ -57,9 +57,9 @@ pub record LedTo (config : Config) (g : Group) (past : List (Moment State Comman
 
 -- of the group's events with these after them
 abbrev pub group_events : WorldState → List ℕ → ℕ → List Event
-group_events w members place =
+group_events w members index =
     events.Assign (configuration_of members)
-    ∷ map events.Deliver (way_out (length w.nodes.sent) (length w.nodes.master.members) place (length (configuration_of members).members - 1))
+    ∷ map events.Deliver (way_out (length w.nodes.sent) (length w.nodes.master.members) index (length (configuration_of members).members - 1))
 
 module _ (config : Config) (g : Group) (past : List (Moment State Command Output)) (came : Past rules config (moment_of g ∷ past)) (w : WorldState) (s : NodesStand g w.nodes)
     (housed : AreHoused (leads_of w.clients) w.connections) (members : List ℕ) (name : Client) (can : CanEscape members name w) (more : List Event) (new : WorldState) where
@@ -67,19 +67,19 @@ module _ (config : Config) (g : Group) (past : List (Moment State Command Output
   conf = configuration_of members
 
   abbrev numbers : List ℕ
-  numbers = way_out (length w.nodes.sent) (length w.nodes.master.members) can.place (length conf.members - 1)
+  numbers = way_out (length w.nodes.sent) (length w.nodes.master.members) can.index (length conf.members - 1)
 
-  way : LeadsOut rules config (moment_of g ∷ past) (moment_of g) conf can.place (log_of w.nodes can.source)
-  way = way_of config (moment_of g) past came conf can.place can.source (log_of w.nodes can.source) (can_be_led config g past came w s members name can)
+  way : LeadsOut rules config (moment_of g ∷ past) (moment_of g) conf can.index (log_of w.nodes can.source)
+  way = way_of config (moment_of g) past came conf can.index can.source (log_of w.nodes can.source) (can_be_led config g past came w s members name can)
 
   seen : IsSeen (moment_of g) w.nodes
   seen = seen_as g w.nodes s
 
-  same : way_out (length g.sent) (length g.master.members) can.place (length conf.members - 1) ≡ numbers
-  same = ap (λ (l : List (ℕ × Message Command)). way_out (length l) (length g.master.members) can.place (length conf.members - 1)) s.sent
-      ∙ ap (λ (m : MasterState). way_out (length w.nodes.sent) (length m.members) can.place (length conf.members - 1)) s.master
+  same : way_out (length g.sent) (length g.master.members) can.index (length conf.members - 1) ≡ numbers
+  same = ap (λ (l : List (ℕ × Message Command)). way_out (length l) (length g.master.members) can.index (length conf.members - 1)) s.sent
+      ∙ ap (λ (m : MasterState). way_out (length w.nodes.sent) (length m.members) can.index (length conf.members - 1)) s.master
 
-  pub led_to : Run (group_events w members can.place ++ more) w new → LosesNothing w new → LedTo config g past members can.place (log_of w.nodes can.source) more w new
+  pub led_to : Run (group_events w members can.index ++ more) w new → LosesNothing w new → LedTo config g past members can.index (log_of w.nodes can.source) more w new
   led_to run none =
       let f = first_done (events.Assign conf) (map events.Deliver numbers ++ more) w new run none (λ cannot. cannot can.granted) in
       let given : WorldState = with_nodes (after_giving conf w.nodes) w in

@@ -46,12 +46,12 @@ use Rattle.world.proofs.Turned.{mapped_from}
 -- The primary of a ballot that was led to its start can open a connection in this world, under the next number; these others follow
 -- it, each another node.
 pub record IsNewPrimary (b : Moment State Command Output) (ballot : ℕ) (log : List Command) (first : ℕ) (os : List ℕ) (w : WorldState) : Type 0 where
-  pub place : ℕ
-  pub number : first ≡ suc place
+  pub index : ℕ
+  pub number : first ≡ suc index
   pub node : CountedCore
-  pub can : CanOpen b w.nodes ballot place node os log (port_of (suc (length w.connections)))
+  pub can : CanOpen b w.nodes ballot index node os log (port_of (suc (length w.connections)))
   pub apart : AreApart os
-  pub out : In (place + 1) os → ⊥
+  pub out : In (index + 1) os → ⊥
   pub each : (k : ℕ) → In k os → NodeIs (Follows ballot log) (whole_moment b).world.nodes k
 
 -- ---- the members but the first
@@ -73,7 +73,7 @@ module _ (first : ℕ) (os : List ℕ) (lawful : is_lawful (first ∷ os) first 
 module _ (config : Config) {nodes : ℕ} {cs : List Client} (m : World) (trail : Reached nodes config cs m) (w : WorldState) (s : StandsFor m w)
     (past : List (Moment State Command Output)) (came : Past rules config (moment_of m.group ∷ past)) (first : ℕ) (os : List ℕ) (name : Client)
     (can : CanEscape (first ∷ os) name w) (more : List Event) (new : WorldState)
-    (l : LedTo config m.group past (first ∷ os) can.place (log_of w.nodes can.source) more w new)
+    (l : LedTo config m.group past (first ∷ os) can.index (log_of w.nodes can.source) more w new)
     (lawful : is_lawful (first ∷ os) first ≡ true) (given : w.nodes.master.given < last_ballot) where
   abbrev ballot : ℕ
   ballot = m.group.master.given + 1
@@ -93,30 +93,30 @@ module _ (config : Config) {nodes : ℕ} {cs : List Client} (m : World) (trail :
   each : (k : ℕ) → In k os → NodeIs (Follows ballot log) (whole_moment b).world.nodes k
   each k i = l.way.led.each k (subst (λ (xs : List ℕ). In k xs) (sym others_are) i)
 
-  abbrev place : ℕ
-  place = primary.place
+  abbrev index : ℕ
+  index = primary.index
 
-  number : first ≡ suc place
+  number : first ≡ suc index
   number = let e = primary.number in omega (arith, e)
 
-  -- it is at its place
+  -- it is at its index
   record Standing : Type 0 where
     node : CountedCore
-    stands : slice_get l.mid.nodes.nodes place ≡ Some node
-    serves : Serves ballot log os (place + 1) (whole b.world.archive (replica_of node.core))
+    stands : slice_get l.mid.nodes.nodes index ≡ Some node
+    serves : Serves ballot log os (index + 1) (whole b.world.archive (replica_of node.core))
 
   standing : Standing
   standing =
-      let q = mapped_from (whole b.world.archive) b.world.nodes place primary.replica primary.stands in
-      let core = mapped_from replica_of (cores_of l.mid.nodes.nodes) place q.x
-      (ap (λ (xs : List (ReplicaState State Command)). slice_get xs place) (sym l.followed.seen.nodes) ∙ q.found) in
-      let node = mapped_from (λ (c : CountedCore). c.core) l.mid.nodes.nodes place core.x core.found in
+      let q = mapped_from (whole b.world.archive) b.world.nodes index primary.replica primary.stands in
+      let core = mapped_from replica_of (cores_of l.mid.nodes.nodes) index q.x
+      (ap (λ (xs : List (ReplicaState State Command)). slice_get xs index) (sym l.followed.seen.nodes) ∙ q.found) in
+      let node = mapped_from (λ (c : CountedCore). c.core) l.mid.nodes.nodes index core.x core.found in
       let same : whole b.world.archive (replica_of node.x.core) ≡ primary.replica =
       ap (λ (c : CoreState). whole b.world.archive (replica_of c)) node.is ∙ ap (whole b.world.archive) core.is ∙ q.is in
       record {
         node = node.x;
         stands = node.found;
-        serves = subst (λ (r : WholeState State Command). Serves ballot log os (place + 1) r) (sym same) (subst (λ (k : ℕ). Serves ballot log os k primary.replica) primary.number primary.is);
+        serves = subst (λ (r : WholeState State Command). Serves ballot log os (index + 1) r) (sym same) (subst (λ (k : ℕ). Serves ballot log os k primary.replica) primary.number primary.is);
       }
 
   abbrev node : CountedCore
@@ -127,7 +127,7 @@ module _ (config : Config) {nodes : ℕ} {cs : List Client} (m : World) (trail :
   low =
       let r = runs_here w.nodes.nodes first (each_passes (is_running w.nodes.nodes) (first ∷ os) first can.live here) in
       let here_too : slice_get l.mid.nodes.nodes r.at ≡ Some node =
-      ap (slice_get l.mid.nodes.nodes) (let e : r.at ≡ place = (let x = r.number in let y = primary.number in omega (arith, x, y)) in e) ∙ standing.stands in
+      ap (slice_get l.mid.nodes.nodes) (let e : r.at ≡ index = (let x = r.number in let y = primary.number in omega (arith, x, y)) in e) ∙ standing.stands in
       let kept = ap (λ (x : ConnectionName). x.ballot) (l.followed.names r.at r.node node r.stands here_too) in
       let in_model : slice_get m.group.nodes r.at ≡ Some r.node.core =
       ap (λ (xs : List CoreState). slice_get xs r.at) s.nodes.nodes ∙ get_mapped (λ (c : CountedCore). c.core) w.nodes.nodes r.at r.node r.stands in
@@ -141,7 +141,7 @@ module _ (config : Config) {nodes : ℕ} {cs : List Client} (m : World) (trail :
   most : ballot ≤ 2 ^ 32
   most = let same = ap (λ (x : MasterState). x.given) s.nodes.master in omega (arith, same, given)
 
-  can_open : CanOpen b l.mid.nodes ballot place node os log (port_of (suc (length l.mid.connections)))
+  can_open : CanOpen b l.mid.nodes ballot index node os log (port_of (suc (length l.mid.connections)))
   can_open =
       record {
         seen = l.followed.seen;
@@ -150,14 +150,14 @@ module _ (config : Config) {nodes : ℕ} {cs : List Client} (m : World) (trail :
         serves = standing.serves;
         low = low;
         most = most;
-        free = new_port to.after (reached_on trail to.steps) l.mid to.stands l.housed place node standing.stands;
-        unnamed = new_name to.after (reached_on trail to.steps) l.mid to.stands l.housed place node standing.stands ballot low;
+        free = new_port to.after (reached_on trail to.steps) l.mid to.stands l.housed index node standing.stands;
+        unnamed = new_name to.after (reached_on trail to.steps) l.mid to.stands l.housed index node standing.stands ballot low;
       }
 
   pub new_primary : IsNewPrimary b ballot log first os l.mid
   new_primary =
       record {
-        place = place;
+        index = index;
         number = number;
         node = node;
         can = can_open;

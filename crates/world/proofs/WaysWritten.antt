@@ -84,7 +84,7 @@ can_escape members name w granted live place source fetched at found first stand
     record {
       granted = granted;
       live = live;
-      place = place;
+      index = place;
       first = fetched.first;
       source = source;
       asked = fetched.asked;

@@ -50,10 +50,10 @@ held_in (Some node) = places node.core.replica.state.log
 pub record CanEscape (members : List ℕ) (name : Client) (w : WorldState) : Type 0 where
   pub granted : refusal w.nodes.master (configuration_of members) ≡ None
   pub live : list_all (is_running w.nodes.nodes) members ≡ true
-  pub place : ℕ
-  pub first : position (is_running w.nodes.nodes) w.nodes.master.members ≡ Some place
+  pub index : ℕ
+  pub first : position (is_running w.nodes.nodes) w.nodes.master.members ≡ Some index
   pub source : ℕ
-  pub asked : slice_get w.nodes.master.members place ≡ Some source
+  pub asked : slice_get w.nodes.master.members index ≡ Some source
   pub room : held_in (node_of w.nodes.nodes source) + 2 ≤ most_places
   pub core : Core
   pub client : core_named name w.clients ≡ Some core

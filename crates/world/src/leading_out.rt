@@ -47,7 +47,7 @@ impl World {
         if !self.can_lead(&config) {
             return Err(EscapeError::Idle);
         }
-        let Some((place, source)) = self.fetched() else {
+        let Some((index, source)) = self.fetched() else {
             return Err(EscapeError::Idle);
         };
         let Some(at) = self.index_of_client(client) else {
@@ -58,7 +58,7 @@ impl World {
             return Err(EscapeError::Idle);
         }
         ways_are_short();
-        Ok(self.way_out(config, client, place, at)?)
+        Ok(self.way_out(config, client, index, at)?)
     }
 
     // Says whether the master gives the next ballot to a configuration, and all its members run.
@@ -80,14 +80,14 @@ impl World {
     // more: its index, and its number.
     fn fetched(&self) -> Option<(usize, u8)>
         ensures some { IfSome result (λ found. IsFetchedFrom self.now found.0 found.1) }
-        ensures none { result ≡ None → (place source : ℕ) → IsFetchedFrom self.now place source →
+        ensures none { result ≡ None → (index source : ℕ) → IsFetchedFrom self.now index source →
             ⊥ }
     {
-        let place = self.first_running()?;
+        let index = self.first_running()?;
         let (_, members) = self.nodes.active();
-        let source = members[place];
+        let source = members[index];
         if self.held(source) <= MAX_PLACES - 2 {
-            Some((place, source))
+            Some((index, source))
         } else {
             None
         }
@@ -95,7 +95,7 @@ impl World {
 
     // Returns the index of the first member of the active configuration that runs.
     fn first_running(&self) -> Option<usize>
-        ensures below { IfSome result (λ place. place < length self.now.nodes.master.members) }
+        ensures below { IfSome result (λ index. index < length self.now.nodes.master.members) }
         ensures exact { result
             ≡ position (is_running self.now.nodes.nodes) self.now.nodes.master.members }
     {
@@ -135,23 +135,23 @@ impl World {
         self.nodes.welcomes_back(node, client)
     }
 
-    // Returns the events of a way out for the client at an index, when the member at `place` of the
+    // Returns the events of a way out for the client at an index, when the member at `index` of the
     // active configuration is asked for its log.
     fn way_out(
         &self,
         config: Config,
         client: &ClientId,
-        place: usize,
+        index: usize,
         at: usize,
     ) -> Result<Vec<Event>, Memory>
         requires first { config ≡ configuration_of config.members }
         requires some { 1 ≤ length config.members }
         requires few { length config.members ≤ 7 }
-        requires placed { place < length self.now.nodes.master.members }
+        requires placed { index < length self.now.nodes.master.members }
         requires there { at < length self.now.clients }
         ensures { IfOk result
             (λ events. (found : WorldClient) → slice_get self.now.clients at ≡ Some found →
-            events.items ≡ escaping_events self.now config.members place (is_holding found.piped)
+            events.items ≡ escaping_events self.now config.members index (is_holding found.piped)
             client.now (14 + length found.piped.core.state.client)) }
     {
         let sent = self.nodes.messages();
@@ -164,7 +164,7 @@ impl World {
         let primary = config.primary;
         let number = (self.connections.len() as u64).saturating_add(1);
         let mut way = Vec::new(self.alloc);
-        push_group(self.alloc, &mut way, config, sent, members, place as u64)?;
+        push_group(self.alloc, &mut way, config, sent, members, index as u64)?;
         push_client(&mut way, &self.clients[at].piped, client, primary, number)?;
         let then = sent + members + 5 * others + 4;
         push_answers(self.alloc, &mut way, then, others, number)?;

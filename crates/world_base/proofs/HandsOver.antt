@@ -1,4 +1,4 @@
--- HandsOver.antt: what was queued is handed over at the place of its connection.
+-- HandsOver.antt: what was queued is handed over at the index of its connection.
 use Rattle.std.proofs.Common.{◌≡◌, ℕ, Option, Some, None, List, get_or, set, refl, sym, ap, ◌∙◌}
 use Rattle.std.specs.List.{position, filter}
 use Rattle.node_connections.specs.declared.port.Port.{Port}
@@ -6,20 +6,20 @@ use Rattle.node_connections.specs.declared.connection.Connection.{Connection}
 use Rattle.node_connections.specs.Connections.{handed, is_at, is_listed}
 use Rattle.world_base.specs.Handing.{hands_over, listed_at}
 use Rattle.world_base.specs.Inside.{Running}
-use Rattle.world_base.proofs.Places.{place_changed}
+use Rattle.world_base.proofs.Indices.{index_changed}
 
 pub handed_none : (port : Port) (r : Running) → listed_at port r.core ≡ None → r ≡ record r { core = hands_over port r.core }
 unfolding hands_over
 handed_none port r none = rw none refl
 
-pub handed_there : (port : Port) (r : Running) (place : Option ℕ) (i : ℕ) (c new : Connection) (left : List Connection) →
-    place ≡ position (is_at port) r.core.connections → place ≡ Some i → c ≡ get_or r.core.connections i c →
+pub handed_there : (port : Port) (r : Running) (index : Option ℕ) (i : ℕ) (c new : Connection) (left : List Connection) →
+    index ≡ position (is_at port) r.core.connections → index ≡ Some i → c ≡ get_or r.core.connections i c →
     listed_at port r.core ≡ Some c → new ≡ handed c → left ≡ filter is_listed (set r.core.connections i new) →
     record r { core = record r.core { connections = left } } ≡ record r { core = hands_over port r.core }
 unfolding hands_over
-handed_there port r place i c new left at is here found e kept =
+handed_there port r index i c new left at is here found e kept =
     rw found
     (ap (λ (l : List Connection). record r { core = record r.core { connections = l } })
     (kept ∙ ap (filter is_listed)
     (ap (λ x. set r.core.connections i x) e
-    ∙ sym (place_changed (is_at port) handed r.core.connections i c (sym is ∙ at) here))))
+    ∙ sym (index_changed (is_at port) handed r.core.connections i c (sym is ∙ at) here))))

@@ -34,7 +34,7 @@ use Rattle.world_base.specs.Step.{accepts, acts_on, cuts, opens, takes_in}
 use Rattle.world_base.specs.Turns.{drives, moved, quiet, repeated, then_also}
 use Rattle.world_base.proofs.Accounts.{ran_quietly, ran_then}
 use Rattle.world_base.proofs.Closes.{proposes_nothing}
-use Rattle.world_base.proofs.Places.{none_found, none_placed}
+use Rattle.world_base.proofs.Indices.{none_found, none_indexed}
 use Rattle.world_base.proofs.Silences.{silent_none}
 
 -- ---- nothing, several times
@@ -155,13 +155,13 @@ takes_idle Cut core none = nothing_to_cut none refl
 takes_idle Crash core none = elim none [ ]
 
 -- no connection of a port is open if none is found
-pub none_open_at : (port : Port) (core : CoreState) (place : Option ℕ) (none : Bool) →
-    place ≡ position (is_open_at port) core.connections → is_some place ≡ not none → (none ≡ true) ↔ (open_at port core ≡ None)
+pub none_open_at : (port : Port) (core : CoreState) (index : Option ℕ) (none : Bool) →
+    index ≡ position (is_open_at port) core.connections → is_some index ≡ not none → (none ≡ true) ↔ (open_at port core ≡ None)
 none_open_at port core None true at is = ((λ _. none_found (is_open_at port) core.connections at), (λ _. refl))
 none_open_at port core None false at is = absurd cc
 none_open_at port core (Some i) true at is = absurd cc
 none_open_at port core (Some i) false at is =
-    ((λ e. absurd cc), (λ found. absurd (none_placed (is_open_at port) core.connections i at found)))
+    ((λ e. absurd cc), (λ found. absurd (none_indexed (is_open_at port) core.connections i at found)))
 
 -- the losses that follow from it, if any, are all that is done
 pub turns_ignored : (item : Item) (a b : Running) (x y : List (Effect Command Output)) → DoesNothing item a.core →

@@ -19,7 +19,7 @@ mod Hearing
 mod Idle
 mod ItemsRun
 mod Opens
-mod Places
+mod Indices
 mod ProposalsAreSteps
 mod Proposes
 mod Settles

@@ -25,7 +25,7 @@ impl NodeInStep {
         ensures err { OnErr result (self.new ≡ self.old) }
         ensures same { OnErr result (out.new.items ≡ out.old.items) }
     {
-        let Some(index) = self.place_listed(port) else {
+        let Some(index) = self.index_listed(port) else {
             return Ok(Handed::Closed);
         };
         let connection = &mut self.connections[index];
@@ -49,7 +49,7 @@ impl NodeInStep {
     pub fn standing(&self, port: Port) -> Standing
         ensures { result ≡ standing_of (listed_at port self.now.core) }
     {
-        let Some(index) = self.place_listed(port) else {
+        let Some(index) = self.index_listed(port) else {
             return Standing::Closed;
         };
         let connection = &self.connections[index];
@@ -57,7 +57,7 @@ impl NodeInStep {
     }
 
     // Returns the index of the listed connection of a port.
-    fn place_listed(&self, port: Port) -> Option<usize>
+    fn index_listed(&self, port: Port) -> Option<usize>
         ensures { result ≡ position (is_at port) self.now.core.connections }
     {
         self.connections.iter().position(|c| c.is_at(port))

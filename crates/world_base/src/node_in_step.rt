@@ -148,14 +148,14 @@ impl NodeInStep {
     }
 
     /// Returns the index of the open connection of a port in the list.
-    pub fn place_at(&self, port: Port) -> Option<usize>
+    pub fn index_at(&self, port: Port) -> Option<usize>
         ensures { result ≡ position (is_open_at port) self.now.core.connections }
     {
         self.connections.iter().position(|c| c.is_open_at(port))
     }
 
     /// Returns the index of the open connection of a name in the list.
-    pub fn place_of(&self, name: ConnectionId) -> Option<usize>
+    pub fn index_of(&self, name: ConnectionId) -> Option<usize>
         ensures { result ≡ position (is_open_named name) self.now.core.connections }
     {
         self.connections.iter().position(|c| c.is_open_named(name))
@@ -177,7 +177,7 @@ impl NodeInStep {
 
     /// Returns the index of the first connection that was closed as lost and is still to be
     /// reported to the broker.
-    pub fn place_failed(&self) -> Option<usize>
+    pub fn index_failed(&self) -> Option<usize>
         ensures { result ≡ position has_failed self.now.core.connections }
     {
         self.connections.iter().position(|c| c.has_failed())
@@ -187,7 +187,7 @@ impl NodeInStep {
     pub fn close(&mut self, port: Port)
         ensures { self.new ≡ record self.old { core = changes port closed self.old.core } }
     {
-        if let Some(index) = self.place_at(port) {
+        if let Some(index) = self.index_at(port) {
             self.connections[index].close();
         }
     }
@@ -197,7 +197,7 @@ impl NodeInStep {
         ensures { self.new
             ≡ record self.old { core = changes port (asked keep_alive) self.old.core } }
     {
-        if let Some(index) = self.place_at(port) {
+        if let Some(index) = self.index_at(port) {
             self.connections[index].ask(keep_alive);
         }
     }
@@ -212,7 +212,7 @@ impl NodeInStep {
         if !self.out_of_memory {
             return self.close(port);
         }
-        if let Some(index) = self.place_at(port) {
+        if let Some(index) = self.index_at(port) {
             self.connections[index].fail();
         }
     }
@@ -221,7 +221,7 @@ impl NodeInStep {
     pub fn held(&self, port: Port) -> usize
         ensures { result ≡ unread_of (open_at port self.now.core) }
     {
-        match self.place_at(port) {
+        match self.index_at(port) {
             Some(index) => self.connections[index].unread.len(),
             None => 0,
         }
@@ -234,7 +234,7 @@ impl NodeInStep {
             self.new ≡ record self.old { core = changes port (holding piece.now) self.old.core } }
         ensures same { result ≡ false → self.new ≡ self.old }
     {
-        match self.place_at(port) {
+        match self.index_at(port) {
             Some(index) => self.connections[index].hold(piece).is_ok(),
             None => true,
         }
@@ -246,7 +246,7 @@ impl NodeInStep {
           core = changes_named name closed self.old.core;
         } }
     {
-        if let Some(index) = self.place_of(name) {
+        if let Some(index) = self.index_of(name) {
             self.connections[index].close();
         }
     }
@@ -260,7 +260,7 @@ impl NodeInStep {
             ≡ changes_named name (put_out (spelling packet.now)) self.old.core)
             ⊎ (self.new.core ≡ changes_named name failing self.old.core) }
     {
-        if let Some(index) = self.place_of(name) {
+        if let Some(index) = self.index_of(name) {
             let whole = self.connections[index].put_or_fail(packet);
             if !whole {
                 self.out_of_memory = true;

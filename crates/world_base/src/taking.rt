@@ -159,7 +159,7 @@ impl NodeInStep {
             reads_next now port self.new.core ≡ quiet self.new.core }
         ensures idle { result ≡ false → ReadsNext now port self.new.core (quietly self.new.core) }
     {
-        let Some(index) = self.place_at(port) else {
+        let Some(index) = self.index_at(port) else {
             return false;
         };
         let connection = &mut self.connections[index];
@@ -270,7 +270,7 @@ impl NodeInStep {
         ensures untold { is_told (open_at port self.old.core) ≡ false →
             self.new ≡ record self.old { core = changes port closed self.old.core } }
     {
-        let Some(index) = self.place_at(port) else {
+        let Some(index) = self.index_at(port) else {
             return;
         };
         let connection = &self.connections[index];
@@ -308,7 +308,7 @@ impl NodeInStep {
         ensures done { result ≡ false → loses_failed self.new.core ≡ quiet self.new.core }
         ensures idle { result ≡ false → LosesFailed self.new.core (quietly self.new.core) }
     {
-        let Some(index) = self.place_failed() else {
+        let Some(index) = self.index_failed() else {
             return false;
         };
         let connection = &mut self.connections[index];

@@ -14,23 +14,23 @@ use world_pipes::packet::ClientId;
 use world_pipes::world_base::{Config, Memory};
 
 /// Appends an Assign, and the deliveries that lead its ballot to the start. `sent` messages were
-/// sent before, and the member at `place` of this many `members` is asked for its log.
+/// sent before, and the member at `index` of this many `members` is asked for its log.
 pub fn push_group(
     alloc: Global,
     way: &mut Vec<Event>,
     config: Config,
     sent: u64,
     members: u64,
-    place: u64,
+    index: u64,
 ) -> Result<(), Memory>
     requires some { 1 ≤ length config.members }
-    requires placed { place < members }
+    requires placed { index < members }
     requires bound { sent + members + 4 * (length config.members - 1) + 4 < 2 ^ 64 }
     ensures { OnOk result (way.new.items ≡ way.old.items ++ events.Assign config
-        ∷ map events.Deliver (way_out sent members place (length config.members - 1))) }
+        ∷ map events.Deliver (way_out sent members index (length config.members - 1))) }
 {
     let others = config.members.as_slice().len() as u64 - 1;
-    let numbers = way_out(alloc, sent, members, place, others)?;
+    let numbers = way_out(alloc, sent, members, index, others)?;
     way.push(Event::Assign(config))?;
     push_messages(way, numbers.as_slice())
 }

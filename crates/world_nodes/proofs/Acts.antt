@@ -70,7 +70,7 @@ not_one_more losses low e = omega (arith, low, e)
 
 -- ---- an item
 
--- what was sent to the node of a number was sent to the one at its place
+-- what was sent to the node of a number was sent to the one at its index
 pub node_call_sent : (old : NodesState) (node at : ℕ) (core : CoreState) (item : Item) → at ≡ node - 1 → 0 < node → WasSent node item old.sent
     → (g : Group) → StandsFor g old → NodeCallWasSent g at core (takes item)
 node_call_sent old zero at core item place positive sent g s = absurd (omega (arith, positive))
@@ -110,7 +110,7 @@ turn_takes old node at x new item more true losses t count =
       runs = x.runs;
       way = inl (
           ap (λ (k : ℕ). after_turn_of at new more k old) count ∙ whole_turn old at x.core new item more t
-          ∙ ap (λ (k : ℕ). after_node_call k x.core (takes item) old) x.place
+          ∙ ap (λ (k : ℕ). after_node_call k x.core (takes item) old) x.index
           );
     }
 turn_takes old node at x new item more false losses t count =
@@ -126,12 +126,12 @@ turn_takes old node at x new item more false losses t count =
             thinned = t.thinned;
             is = ap (λ (k : ℕ). after_turn_of at new more k old) count
                 ∙ ap (λ (l : List (ℕ × Message Command)). after_turn_of at new l (one_more old.losses) old) t.is
-                ∙ ap (λ (k : ℕ). after_turn_of k new (old.sent ++ messages t.kept) (one_more old.losses) old) x.place;
+                ∙ ap (λ (k : ℕ). after_turn_of k new (old.sent ++ messages t.kept) (one_more old.losses) old) x.index;
           }
           );
     }
 
--- what is read at a place is the node that is there
+-- what is read at an index is the node that is there
 pub same_core : (nodes : List CountedCore) (at : ℕ) (core z : CountedCore) → slice_get nodes at ≡ Some core → z ≡ get_or nodes at z → z ≡ core
 same_core nodes at core z there is = is ∙ get_or_from_slice_get nodes at core z there
 

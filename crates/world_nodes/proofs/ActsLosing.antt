@@ -80,9 +80,9 @@ pub turn_loses : (old : NodesState) (node at : ℕ) (x : RunsAt old.nodes node a
     → TookItem x.core item new old.sent more whole → WasSent node item old.sent → Acts (node - 1) (takes item) old (after_turn_of at new more losses old)
 turn_loses old node at x new item more whole losses t sent =
     let by = run_of t in
-    subst (λ (k : ℕ). Acts k (takes item) old (after_turn_of at new more losses old)) x.place
+    subst (λ (k : ℕ). Acts k (takes item) old (after_turn_of at new more losses old)) x.index
     (loses_so old at x.core new item more old.archive whole losses x.stands t
-    (λ g s. were_sent g at x.core.core item (node_call_sent old node at x.core.core item x.place x.positive sent g s))
+    (λ g s. were_sent g at x.core.core item (node_call_sent old node at x.core.core item x.index x.positive sent g s))
     (records_none old.archive by.run (by.cuts (no_cut node item old.sent sent))))
 
 -- ---- a cut

@@ -65,7 +65,7 @@ holds_in n g count at stands h =
     record {
       member = h.member;
       is_member = subst (λ (k : MasterState). In h.member k.members) (sym stands.master) h.is_member;
-      place = h.place;
+      index = h.index;
       replica = h.replica;
       stands = ap (λ (l : List (ReplicaState State Command)). slice_get l at) (sym (same_nodes n g stands)) ∙ h.stands;
       long = h.long;
@@ -99,7 +99,7 @@ within_at n told next c at r stands =
 
 -- ---- logs of nodes
 
--- what is read at a place is the replica there
+-- what is read at an index is the replica there
 pub replica_at : (nodes : List CountedCore) (at : ℕ) (core : CountedCore) → at < length nodes → core ≡ get_or nodes at core
     → slice_get (replicas_of nodes) at ≡ Some core.core.replica.state
 replica_at nodes at core below read =
@@ -134,7 +134,7 @@ holds_at nodes members ms i at held core status below same place there read told
     record {
       member = get_or ms i 0;
       is_member = subst (λ us. In (get_or ms i 0) us) same (in_item {X = ℕ} ms i 0 below);
-      place = place;
+      index = place;
       replica = core.core.replica.state;
       stands = replica_at nodes at core there read;
       long = (let e = ap (λ (s : Status). s.held) told in omega (arith, e, long));

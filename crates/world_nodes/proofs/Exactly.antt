@@ -20,7 +20,7 @@ exactly node item old new t none = by t.way
     by (inl is) = record { core = t.core; runs = t.runs; is = is }
     by (inr loses) = absurd (not_one_more old.losses none.1 (sym (ap (λ (n : NodesState). n.losses) loses.is) ∙ none.0))
 
--- the node of a number is at its place
+-- the node of a number is at its index
 pub at_place : (nodes : List CountedCore) (node : ℕ) (core : CountedCore) → node_of nodes node ≡ Some core → slice_get nodes (node - 1) ≡ Some core
 at_place nodes zero core there = absurd (none-some core there)
 at_place nodes (suc n) core there = subst (λ (k : ℕ). slice_get nodes k ≡ Some core) (let e : n ≡ suc n - 1 = omega arith in e) there

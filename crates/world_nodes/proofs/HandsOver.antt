@@ -48,7 +48,7 @@ pub rests : (old : NodesState) (at : ℕ) (z new : CountedCore) → slice_get ol
 rests old at z new found same =
     ap (λ (l : List CountedCore). record old { nodes = l }) (ap (slice_set old.nodes at) same ∙ set_same old.nodes at z found)
 
--- what is read at the place of a number is the node of that number
+-- what is read at the index of a number is the node of that number
 pub same_node : (nodes : List CountedCore) (node : ℕ) (z core : CountedCore) → node_of nodes node ≡ Some z → node_of nodes node ≡ Some core → z ≡ core
 same_node nodes node z core a b = same_some z core (sym a ∙ b)
 

@@ -100,7 +100,7 @@ turn_rests old node at x new item more whole losses t count rests = by whole (t.
           core = x.core;
           runs = x.runs;
           is = ap (λ (k : ℕ). after_turn_of at new more k old) counted ∙ whole_turn old at x.core new item more took
-              ∙ ap (λ (k : ℕ). after_node_call k x.core (takes item) old) x.place;
+              ∙ ap (λ (k : ℕ). after_node_call k x.core (takes item) old) x.index;
         }
 
 -- ---- a message that is skipped

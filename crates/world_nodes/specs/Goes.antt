@@ -23,7 +23,7 @@ use Rattle.world_nodes.specs.Running.{running, node_of, cutting}
 
 -- ---- a call of a node
 
--- the nodes after a call of the one at this place
+-- the nodes after a call of the one at this index
 abbrev pub after_node_call : ℕ → CountedCore → NodeCall → NodesState → NodesState
 after_node_call at node node_call n =
     record n {
@@ -59,7 +59,7 @@ pub record GoesBy (node_call : Option (ℕ × NodeCall)) (g : Group) (new : Node
   pub does : Does g node_call
   pub stands : StandsFor does.after new
 
--- each group that corresponds to the nodes before does so: the node at this place does this call
+-- each group that corresponds to the nodes before does so: the node at this index does this call
 abbrev pub Acts : ℕ → NodeCall → NodesState → NodesState → Type 0
 Acts at node_call old new = (g : Group) → StandsFor g old → GoesBy (Some (at, node_call)) g new
 

@@ -13,7 +13,7 @@ use Rattle.world_nodes.specs.Goes.{Acts, GoesBy}
 use Rattle.world_nodes.specs.Nodes.{NodesState, StandsFor}
 use Rattle.world_nodes.specs.Steps.{forgetful}
 
--- by a call of the node at this place; or nothing happened
+-- by a call of the node at this index; or nothing happened
 abbrev pub ActsOrRests : ℕ → NodeCall → NodesState → NodesState → Type 0
 ActsOrRests at node_call old new = Acts at node_call old new ⊎ (new ≡ forgetful old)
 

@@ -31,10 +31,10 @@ pub record Keeps (given : List (Effect Command Output)) (sent more : List (ℕ �
   pub nothing : given ≡ [] → whole ≡ true
   pub is : more ≡ sent ++ messages kept
 
--- the node of a number runs, at a place
+-- the node of a number runs, at an index
 pub record RunsAt (nodes : List CountedCore) (node at : ℕ) : Type 0 where
   pub core : CountedCore
-  pub place : at ≡ node - 1
+  pub index : at ≡ node - 1
   pub positive : 0 < node
   pub below : at < length nodes
   pub stands : slice_get nodes at ≡ Some core
@@ -47,7 +47,7 @@ WasSent node (Peer message) sent = In (node, message) sent
 WasSent node Cut sent = ⊥
 WasSent node _ sent = Unit {0}
 
--- the message of this number was sent to the node that runs at this place, and ignores it
+-- the message of this number was sent to the node that runs at this index, and ignores it
 pub record IsPassedOver (at number : ℕ) (n : NodesState) : Type 0 where
   pub node : ℕ
   pub message : Message Command

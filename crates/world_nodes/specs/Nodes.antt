@@ -6,7 +6,7 @@ use Rattle.byte_world.specs.broker_spec.declared.command.Command.{Command}
 use Rattle.byte_world.specs.world_base.Core.{CoreState, CountedCore}
 use Rattle.byte_world.specs.node_group.Group.{Group}
 
--- Node n + 1 is at place n; all messages that were ever sent stay, each with its receiver. The
+-- Node n + 1 is at index n; all messages that were ever sent stay, each with its receiver. The
 -- record has the places below the bases of all logs. Losses count the steps in which memory ran
 -- out, up to 2^64 - 1.
 pub record NodesState : Type 0 where

@@ -26,7 +26,7 @@ LosesNothing old new = (new.losses ≡ old.losses) × (old.losses < 2 ^ 64 - 1)
 abbrev pub forgetful : NodesState → NodesState
 forgetful n = record n { losses = one_more n.losses }
 
--- The node at this place did a step on the item with losses, as a node may, and some of its
+-- The node at this index did a step on the item with losses, as a node may, and some of its
 -- messages are missing. No other node, nor the master, has changed.
 pub record ActsWithLosses (at : ℕ) (item : Item) (core : CountedCore)
     (old new : NodesState) : Type 0 where

@@ -48,7 +48,7 @@ impl Nodes {
         Ok(())
     }
 
-    /// Lets the node at this place ignore the message of a number, which was sent to it, as in
+    /// Lets the node at this index ignore the message of a number, which was sent to it, as in
     /// `act`. No copy of the message is made.
     pub(crate) fn pass_over(&mut self, at: usize, number: usize)
         requires { IsPassedOver at number self.old }

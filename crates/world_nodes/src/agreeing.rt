@@ -41,7 +41,7 @@ impl Nodes {
         self.counters.agreed_by(members)
     }
 
-    // Returns the place of a member of the active ballot whose log has at least as many places.
+    // Returns the index of a member of the active ballot whose log has at least as many places.
     fn holder(&self, held: u64) -> Option<usize>
         ensures some { IfSome result (λ at.
             HoldsAt (replicas_of self.now.nodes) self.now.master.members held at) }

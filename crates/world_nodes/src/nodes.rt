@@ -318,7 +318,7 @@ impl Nodes {
         self.sent.len() as u64
     }
 
-    /// Returns the messages that were sent, each with its receiver: the one of number n at place n.
+    /// Returns the messages that were sent, each with its receiver: the one of number n at index n.
     /// Node 0 is the master.
     pub fn sent(&self) -> &[(u8, Message<Command>)]
         ensures { result.now ≡ self.now.sent }

@@ -1,4 +1,4 @@
--- Newest.antt: the last of a list, by its place.
+-- Newest.antt: the last of a list, by its index.
 use Rattle.std.proofs.Common.{Result, Ok, Err, OnOk, ◌≡◌, ℕ, suc, ◌-◌, ◌<◌, List, [], ◌∷◌, ◌++◌, length, take, slice_index_or, slice_set, ap, ap₂, sym, ◌∙◌, arith}
 use Rattle.std.proofs.lemmas.List.{length-append, take-append-drop, length-take-le}
 use Rattle.std.proofs.Math.Seq.{drop-cons, get_or-append_seam, set-append_seam}
@@ -28,13 +28,13 @@ last_set xs d x some =
 
 pub last_index : {X : Type 0} (older : List X) (x d : X) → slice_index_or (older ++ x ∷ []) (length (older ++ x ∷ []) - 1) d ≡ x
 last_index older x d =
-    let place : length (older ++ x ∷ []) - 1 ≡ length older = omega (arith, length-append older (x ∷ [])) in
-    ap (λ n. slice_index_or (older ++ x ∷ []) n d) place ∙ get_or-append_seam older x [] d
+    let index : length (older ++ x ∷ []) - 1 ≡ length older = omega (arith, length-append older (x ∷ [])) in
+    ap (λ n. slice_index_or (older ++ x ∷ []) n d) index ∙ get_or-append_seam older x [] d
 
 pub last_replaced : {X : Type 0} (older : List X) (x y : X) → slice_set (older ++ x ∷ []) (length (older ++ x ∷ []) - 1) y ≡ older ++ y ∷ []
 last_replaced older x y =
-    let place : length (older ++ x ∷ []) - 1 ≡ length older = omega (arith, length-append older (x ∷ [])) in
-    ap (λ n. slice_set (older ++ x ∷ []) n y) place ∙ set-append_seam older x [] y
+    let index : length (older ++ x ∷ []) - 1 ≡ length older = omega (arith, length-append older (x ∷ [])) in
+    ap (λ n. slice_set (older ++ x ∷ []) n y) index ∙ set-append_seam older x [] y
 
 -- ---- what is written goes up on it
 
@@ -42,9 +42,9 @@ moved_up : (core : Core) (ways : List Way) (n : ℕ) (newest : Way) (up : List �
     newest ≡ slice_index_or ways (n - 1) newest → up ≡ newest.up ++ core.out → ways ≡ older ++ way ∷ [] →
     slice_set ways (n - 1) (record newest { up = up }) ≡ older ++ record way { up = way.up ++ core.out } ∷ []
 moved_up core ways n newest up older way counted is moved splits =
-    let place : n - 1 ≡ length (older ++ way ∷ []) - 1 = ap (λ m. m - 1) counted ∙ ap (λ (all : List Way). length all - 1) splits in
-    let same : newest ≡ way = is ∙ ap₂ (λ (all : List Way) m. slice_index_or all m newest) splits place ∙ last_index older way newest in
-    ap₂ (λ (all : List Way) m. slice_set all m (record newest { up = up })) splits place
+    let index : n - 1 ≡ length (older ++ way ∷ []) - 1 = ap (λ m. m - 1) counted ∙ ap (λ (all : List Way). length all - 1) splits in
+    let same : newest ≡ way = is ∙ ap₂ (λ (all : List Way) m. slice_index_or all m newest) splits index ∙ last_index older way newest in
+    ap₂ (λ (all : List Way) m. slice_set all m (record newest { up = up })) splits index
     ∙ last_replaced older way (record newest { up = up })
     ∙ ap (λ u. older ++ record newest { up = u } ∷ []) moved
     ∙ ap (λ (w : Way). older ++ record w { up = w.up ++ core.out } ∷ []) same

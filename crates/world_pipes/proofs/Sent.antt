@@ -108,14 +108,14 @@ pub heard_so : (count : ℕ) (core mid left : Core) (ways between after : List W
     → between ≡ slice_set ways (n - 1) taken → MovesUp mid between left after → Hears count (piped core ways) read (piped left after)
 heard_so count core mid left ways between after n newest taken read some counted is takes set m =
     let older = take (length ways - 1) ways in
-    let place : n - 1 ≡ length ways - 1 = ap (λ k. k - 1) counted in
+    let index : n - 1 ≡ length ways - 1 = ap (λ k. k - 1) counted in
     let put : between ≡ older ++ come_down count newest ∷ [] =
-    set ∙ ap₂ (λ k w. slice_set ways k w) place takes.1 ∙ last_set ways newest (come_down count newest) some in
+    set ∙ ap₂ (λ k w. slice_set ways k w) index takes.1 ∙ last_set ways newest (come_down count newest) some in
     record {
       older = older;
       way = newest;
       newest = last_splits ways newest some
-          ∙ ap (λ (w : Way). older ++ w ∷ []) (ap (λ k. slice_index_or ways k newest) (sym place) ∙ sym is);
+          ∙ ap (λ (w : Way). older ++ w ∷ []) (ap (λ k. slice_index_or ways k newest) (sym index) ∙ sym is);
       core = mid;
       read = read;
       heard = takes.0;
@@ -131,14 +131,14 @@ pub heard_in_vain : (count : ℕ) (core mid : Core) (ways between : List Way) (n
     → between ≡ slice_set ways (n - 1) taken → as_error cause ≡ as_error errors.Memory → Hears count (piped core ways) (Err cause) (broken mid between)
 heard_in_vain count core mid ways between n newest taken read cause some counted is takes set memory =
     let older = take (length ways - 1) ways in
-    let place : n - 1 ≡ length ways - 1 = ap (λ k. k - 1) counted in
+    let index : n - 1 ≡ length ways - 1 = ap (λ k. k - 1) counted in
     let put : between ≡ older ++ come_down count newest ∷ [] =
-    set ∙ ap₂ (λ k w. slice_set ways k w) place takes.1 ∙ last_set ways newest (come_down count newest) some in
+    set ∙ ap₂ (λ k w. slice_set ways k w) index takes.1 ∙ last_set ways newest (come_down count newest) some in
     record {
       older = older;
       way = newest;
       newest = last_splits ways newest some
-          ∙ ap (λ (w : Way). older ++ w ∷ []) (ap (λ k. slice_index_or ways k newest) (sym place) ∙ sym is);
+          ∙ ap (λ (w : Way). older ++ w ∷ []) (ap (λ k. slice_index_or ways k newest) (sym index) ∙ sym is);
       core = mid;
       read = read;
       heard = takes.0;

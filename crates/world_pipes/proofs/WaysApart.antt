@@ -7,7 +7,7 @@ use Rattle.byte_world.specs.World.{Pipe}
 use Rattle.world_pipes.specs.declared.way.Way.{Way}
 use Rattle.world_pipes.specs.Standing.{AreWays, IsWay}
 
--- ---- a place of a list
+-- ---- an index of a list
 
 pub record Parted {X : Type 0} (xs : List X) (i : ℕ) (x : X) : Type 0 where
   pub front : List X

@@ -6,16 +6,16 @@ use Rattle.world_pipes.specs.declared.way.Way.{Way}
 use Rattle.world_pipes.specs.Piped.{Piped}
 use Rattle.world_pipes.specs.Standing.{IsWay, StandsFor}
 
--- if the model has the connection of this place: its newest is the first
-abbrev pub place_in_model : ℕ → Piped → ℕ
-place_in_model at client = length client.ways - 1 - at
+-- if the model has the connection at this index: its newest is the first
+abbrev pub index_in_model : ℕ → Piped → ℕ
+index_in_model at client = length client.ways - 1 - at
 
 -- the model's connection for this one, with its pipe
 pub record HasWay (at : ℕ) (old : Piped) (way : Way) (m : ClientPipes) : Type 0 where
   pub connection : Connection
   pub pipe : Pipe
-  pub connected : slice_get m.connections (place_in_model at old) ≡ Some connection
-  pub piped : slice_get m.pipes (place_in_model at old) ≡ Some pipe
+  pub connected : slice_get m.connections (index_in_model at old) ≡ Some connection
+  pub piped : slice_get m.pipes (index_in_model at old) ≡ Some pipe
   pub is_way : IsWay way pipe
 
 -- this many bytes have come up on it
@@ -24,7 +24,7 @@ pub record FollowsUp (count at : ℕ) (old : Piped) (way : Way) (new : Piped)
   pub there : HasWay at old way m
   pub rest : List ℕ
   pub up : there.pipe.up ≡ take count way.up ++ rest
-  pub stands : StandsFor new (with_pipe (place_in_model at old) (record there.pipe { up = rest }) m)
+  pub stands : StandsFor new (with_pipe (index_in_model at old) (record there.pipe { up = rest }) m)
 
 -- the same for each client of the model that corresponded to it before
 abbrev pub TakingUpFollows : ℕ → ℕ → Piped → Piped → Type 0
@@ -37,7 +37,7 @@ pub record FollowsDown (bytes : List ℕ) (at : ℕ) (old : Piped) (way : Way) (
     (m : ClientPipes) : Type 0 where
   pub there : HasWay at old way m
   pub stands : StandsFor new
-      (with_pipe (place_in_model at old) (record there.pipe { down = bytes }) m)
+      (with_pipe (index_in_model at old) (record there.pipe { down = bytes }) m)
 
 -- the same for each client of the model that corresponded to it before
 abbrev pub SwappingFollows : ℕ → List ℕ → Piped → Piped → Type 0

@@ -12,7 +12,7 @@ use byte_world::world_base::Port;
 use client::ClientError;
 
 impl PipedClient {
-    /// Opens a connection to the node at this place, which is to know it by this port: CONNECT is
+    /// Opens a connection to the node at this index, which is to know it by this port: CONNECT is
     /// then in transit on it. It must not hold a connection before. `Memory` is the only error, and
     /// then there is no new connection.
     pub fn open(&mut self, node: usize, port: Port) -> Result<(), ClientError>

@@ -74,9 +74,9 @@ impl PipedClient {
         self.ways.len()
     }
 
-    /// Returns where a connection leads: the place of its node, and the port by which the node
+    /// Returns where a connection leads: the index of its node, and the port by which the node
     /// knows it.
-    pub fn place(&self, at: usize) -> (usize, Port)
+    pub fn leads_to(&self, at: usize) -> (usize, Port)
         requires { at < length self.now.ways }
         ensures { IfSome (slice_get self.now.ways at) (λ way. result ≡ (way.node, way.port)) }
     {

@@ -10,7 +10,7 @@ use std::alloc::Global;
 /// Where a connection leads, and the bytes in transit on it.
 #[derive(Drop)]
 pub struct Way {
-    /// The place of its node among the nodes, from 0.
+    /// The index of its node among the nodes, from 0.
     pub node: usize,
     /// By which the node knows it.
     pub port: Port,

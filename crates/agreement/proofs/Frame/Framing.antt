@@ -22,7 +22,7 @@ within_of {S = S} {C = C} rules w h s m b k l e t = by_line (s.within m b k t)
     by_line (inl zero) = omega (arith, zero)
     by_line (inr (y, f, below)) = let same : y ≡ l = cc in subst (λ (z : Line C). k ≤ length z.list) same below
 
--- the node at a place after a move
+-- the node at an index after a move
 pub get_moved : {X : Type 0} (xs : List X) (n m : ℕ) (old new r : X) → slice_get xs n ≡ Some old → slice_get xs m ≡ Some r →
     ((m ≡ n) × (r ≡ old) × (slice_get (set xs n new) m ≡ Some new))
     ⊎ ((m ≡ n → ⊥) × (slice_get (set xs n new) m ≡ Some r))

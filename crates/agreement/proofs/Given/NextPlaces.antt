@@ -75,7 +75,7 @@ node_gives {S = S} {C = C} {O = O} rules r input new given ran within inside (in
 pub some_same : {X : Type 0} (o : Option X) (x y : X) → o ≡ Some x → o ≡ Some y → x ≡ y
 some_same o x y e f = cc
 
--- a step of the group, of which the node at place n may be another's
+-- a step of the group, of which the node at index n may be another's
 group_step_gives : {S C O : Type 0} (rules : Rules S C O) (m : MasterState) (w : World S C O) (k : MasterState) (v : World S C O) →
     (step : MayHappen rules m w k v) → (n : ℕ) (old new : ReplicaState S C) → slice_get w.nodes n ≡ Some old → slice_get v.nodes n ≡ Some new →
     (old.stopped ≡ false → old.machine ≡ replay rules (take old.committed old.log)) → old.committed ≤ length old.log →

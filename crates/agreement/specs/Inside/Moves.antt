@@ -35,7 +35,7 @@ pub record TellsNow {S C : Type 0} (line : ℕ →
   pub lined : line b ≡ Some told
   pub within : k ≤ length told.list
 
--- a move of the node at place n: it went back to no lower ballot, and only it acknowledged more, in
+-- a move of the node at index n: it went back to no lower ballot, and only it acknowledged more, in
 -- no ballot that it left
 pub record Moves {S C O : Type 0} (w : World S C O) (h : History C) (line : ℕ →
     Option (Line C)) (n : ℕ)

@@ -48,8 +48,8 @@ pub fn hears(
 /// Says whether a replica runs with this ballot and role, and these held and committed places.
 pub fn shows(replica: &Replica<Tally>, ballot: u64, role: Role, held: u64, committed: u64) -> bool {
     let status = replica.status();
-    let place = status.held == held && status.committed == committed;
-    status.ballot == ballot && status.role == role && place && !status.stopped
+    let counts = status.held == held && status.committed == committed;
+    status.ballot == ballot && status.role == role && counts && !status.stopped
 }
 
 /// Says whether these commands are what the log keeps.
@@ -57,7 +57,7 @@ pub fn logs(replica: &Replica<Tally>, commands: &[TallyCommand]) -> bool {
     replica.rest() == commands
 }
 
-/// Says whether the effect at a place is this output.
+/// Says whether the effect at an index is this output.
 pub fn gives(out: &[Effect<TallyCommand, u64>], at: usize, place: u64, total: u64) -> bool {
     match out.get(at) {
         Some(Effect::Out(left, output)) => *left == place && *output == total,
@@ -68,7 +68,7 @@ pub fn gives(out: &[Effect<TallyCommand, u64>], at: usize, place: u64, total: u6
 /// The way of a message: its sender and its receiver.
 pub type Way = (u8, u8);
 
-// Returns what is said on a way by the effect at a place.
+// Returns what is said on a way by the effect at an index.
 fn said(out: &[Effect<TallyCommand, u64>], at: usize, way: Way) -> Option<&Body<TallyCommand>> {
     match out.get(at) {
         Some(Effect::To(receiver, message)) if (message.from, *receiver) == way => {

@@ -47,9 +47,9 @@ fn is_refused(alloc: Global, bytes: &[u8]) -> bool {
     BrokerMachine::thaw(alloc, bytes).err() == Some(ThawFault::Shape)
 }
 
-// Puts another byte at a place of bytes, and says whether there is such a place.
-fn is_changed(bytes: &mut [u8], place: usize, byte: u8) -> bool {
-    match bytes.get_mut(place) {
+// Puts another byte at an index of bytes, and says whether there is such an index.
+fn is_changed(bytes: &mut [u8], index: usize, byte: u8) -> bool {
+    match bytes.get_mut(index) {
         Some(changed) => {
             *changed = byte;
             true
@@ -59,17 +59,17 @@ fn is_changed(bytes: &mut [u8], place: usize, byte: u8) -> bool {
 }
 
 // Says whether the bytes of [`ONE_ENTRY`] with one changed are refused.
-fn is_refused_when_changed(alloc: Global, place: usize, byte: u8) -> bool {
+fn is_refused_when_changed(alloc: Global, index: usize, byte: u8) -> bool {
     let mut bytes = Vec::new(alloc);
     bytes.extend_from_slice(ONE_ENTRY).is_ok()
-        && is_changed(bytes.as_mut_slice(), place, byte)
+        && is_changed(bytes.as_mut_slice(), index, byte)
         && is_refused(alloc, bytes.as_slice())
 }
 
-// Returns the first change, by its place in the list, with which the bytes are not refused.
+// Returns the first change, by its index in the list, with which the bytes are not refused.
 fn first_change(alloc: Global, changes: &[(usize, u8)]) -> Option<usize> {
-    for (row, (place, byte)) in changes.iter().enumerate() {
-        if !is_refused_when_changed(alloc, *place, *byte) {
+    for (row, (index, byte)) in changes.iter().enumerate() {
+        if !is_refused_when_changed(alloc, *index, *byte) {
             return Some(row);
         }
     }
@@ -85,7 +85,7 @@ const OTHER_FORMS: &[&[u8]] = &[
     &[2, 0x20, 0, 0, 0, 0],
 ];
 
-// Returns the first of these bytes, by its place in the list, that are not refused.
+// Returns the first of these bytes, by its index in the list, that are not refused.
 fn first_form(alloc: Global, forms: &[&[u8]]) -> Option<usize> {
     forms.iter().position(|bytes| !is_refused(alloc, bytes))
 }

@@ -121,9 +121,9 @@ fn is_form(alloc: Global, broker: &BrokerMachine, wanted: Option<&[u8]>) -> bool
 
 // Returns which step leaves a broker with other answers or bytes, if there is one.
 fn other_bytes(alloc: Global, broker: &mut BrokerMachine, steps: &[Step<'_>]) -> Option<usize> {
-    for (place, (event, wanted, bytes)) in steps.iter().enumerate() {
+    for (index, (event, wanted, bytes)) in steps.iter().enumerate() {
         if !is_answered(alloc, broker, *event, wanted) || !is_form(alloc, broker, *bytes) {
-            return Some(place);
+            return Some(index);
         }
     }
     None

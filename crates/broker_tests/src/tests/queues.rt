@@ -27,7 +27,7 @@ pub(crate) const WAITS: &[Row<'static>] = &[(
     &[(1, &[0x40, 2, 0, 9])],
 )];
 
-/// The last place is taken, and then there is none.
+/// The last slot is taken, and then there is none.
 const REFUSED: &[Row<'static>] = &[
     (Event::Bytes(1, PUBLISH), &[(1, &[0x50, 2, 0, 1])]),
     (
@@ -146,7 +146,7 @@ const LAST: &[Row<'static>] = &[
     (Event::Bytes(3, &[0x40, 2, 0, 4]), NOTHING),
 ];
 
-/// All places except one are taken by 4,095 entries of QoS 1. Of these 4,093 are left once there is
+/// All slots except one are taken by 4,095 entries of QoS 1. Of these 4,093 are left once there is
 /// room for `y` and `z`, sixty-four of them sent, so 4,029 are to follow.
 const FULL: &[Part<'static>] = &[
     (1, BEFORE),
@@ -176,9 +176,9 @@ pub(crate) fn other_part(
     broker: &mut BrokerMachine,
     parts: &[Part<'_>],
 ) -> Option<usize> {
-    for (place, part) in parts.iter().enumerate() {
+    for (index, part) in parts.iter().enumerate() {
         if !is_part_answered(alloc, broker, *part) {
-            return Some(place);
+            return Some(index);
         }
     }
     None

@@ -80,7 +80,7 @@ pub record TookTurn {S C O : Type 0} (rules : Rules S C O) (old : GroupState S C
   pub state : ReplicaState S C
   pub given : List (Effect C O)
   pub moment : new.moment
-      ≡ record old.moment { world = moved old.moment.world t.place state given }
+      ≡ record old.moment { world = moved old.moment.world t.index state given }
   pub way : ((state ≡ t.outcome.state) × (given ≡ t.outcome.effects) × (new.losses ≡ old.losses))
       ⊎ (Loses rules t.before t.outcome state given × (new.losses ≡ one_more old.losses))
   pub quiet : IsQuiet t.before t.outcome →

@@ -100,7 +100,7 @@ pub fn agrees(group: &Group<Tally>, commands: &[TallyCommand]) -> bool {
     }
 }
 
-/// Says whether the output at a place among those that left is this one.
+/// Says whether the output at an index among those that left is this one.
 pub fn gave(group: &Group<Tally>, at: usize, place: u64, total: u64) -> bool {
     match group.left().get(at) {
         Some(Effect::Out(left, output)) => *left == place && *output == total,

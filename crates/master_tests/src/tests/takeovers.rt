@@ -117,7 +117,7 @@ fn takeovers_lose_nothing(rt: HostRuntime) {
     );
 }
 
-// Returns the place of the output at a place among those that left.
+// Returns the place of the output at an index among those that left.
 fn left_at(group: &Group<Tally>, at: usize) -> Option<u64> {
     match group.left().get(at) {
         Some(Effect::Out(place, _)) => Some(*place),

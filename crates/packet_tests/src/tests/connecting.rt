@@ -30,16 +30,16 @@ fn connect_is_read_and_written(rt: HostRuntime) {
     assert_eq!(rt; finished_front(rt.alloc(), &CONNECT), None);
 }
 
-// That CONNECT with another byte at a place.
+// That CONNECT with another byte at an index.
 fn changed(at: usize, byte: u8) -> [u8; 15] {
     let mut bytes = CONNECT;
-    if let Some(place) = bytes.get_mut(at) {
-        *place = byte;
+    if let Some(changed) = bytes.get_mut(at) {
+        *changed = byte;
     }
     bytes
 }
 
-/// A place of that CONNECT, the byte there, and what it is then.
+/// An index of that CONNECT, the byte there, and what it is then.
 type Change = (usize, u8, Answer);
 
 // Returns the first row whose CONNECT is answered otherwise.

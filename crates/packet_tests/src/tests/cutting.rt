@@ -69,7 +69,7 @@ fn is_stream(alloc: Global, pieces: &[&[u8]]) -> bool {
     are_cut(&mut cutter, pieces, &mut out) && out.as_slice() == STREAM.as_slice()
 }
 
-// Returns the first place at which the stream may not be cut in two.
+// Returns the first index at which the stream may not be cut in two.
 fn first_cut(alloc: Global, stream: &[u8]) -> Option<usize> {
     for at in 0..=stream.len() {
         if !is_stream(alloc, &[&stream[..at], &stream[at..]]) {

@@ -23,9 +23,9 @@ pub(crate) enum Call<'a> {
 
 // Returns which call of a row an index does not answer as expected, if there is one.
 fn other_answer<I: SubIndex>(alloc: Global, index: &mut I, row: &[Call<'_>]) -> Option<usize> {
-    for (place, call) in row.iter().enumerate() {
+    for (number, call) in row.iter().enumerate() {
         if !is_answered(alloc, index, *call) {
-            return Some(place);
+            return Some(number);
         }
     }
     None

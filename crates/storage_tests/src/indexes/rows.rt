@@ -122,8 +122,8 @@ const ROWS: &[&[Call<'static>]] = &[
 // Returns the first row, and its first call, that an index does not answer as expected.
 fn first_row<I: SubIndex>(alloc: Global, rows: &[&[Call<'_>]]) -> Option<(usize, usize)> {
     for (number, row) in rows.iter().enumerate() {
-        if let Some(place) = first_fault::<I>(alloc, row) {
-            return Some((number, place));
+        if let Some(call) = first_fault::<I>(alloc, row) {
+            return Some((number, call));
         }
     }
     None

@@ -13,19 +13,19 @@ use Rattle.world.specs.World.{WorldState}
 -- ---- the member of the active configuration whose log is fetched
 
 -- the first that runs is at this index and has this number, and its log has room for two more
-pub record IsFetchedFrom (w : WorldState) (place source : ℕ) : Type 0 where
-  pub first : position (is_running w.nodes.nodes) w.nodes.master.members ≡ Some place
-  pub asked : slice_get w.nodes.master.members place ≡ Some source
+pub record IsFetchedFrom (w : WorldState) (index source : ℕ) : Type 0 where
+  pub first : position (is_running w.nodes.nodes) w.nodes.master.members ≡ Some index
+  pub asked : slice_get w.nodes.master.members index ≡ Some source
   pub room : held_in (node_of w.nodes.nodes source) + 2 ≤ most_places
 
 -- ---- the events
 
 -- the ballot is led to its start
 abbrev pub group_events : WorldState → List ℕ → ℕ → List Event
-group_events w members place =
+group_events w members index =
     events.Assign (configuration_of members)
     ∷ map events.Deliver
-    (way_out (length w.nodes.sent) (length w.nodes.master.members) place (length members - 1))
+    (way_out (length w.nodes.sent) (length w.nodes.master.members) index (length members - 1))
 
 -- how many messages were sent when the ballot has begun
 abbrev pub sent_then : WorldState → ℕ → ℕ
@@ -33,8 +33,8 @@ sent_then w others = length w.nodes.sent + length w.nodes.master.members + 5 * o
 
 -- the whole list
 abbrev pub escaping_events : WorldState → List ℕ → ℕ → Bool → List ℕ → ℕ → List Event
-escaping_events w members place holds name bytes =
-    group_events w members place
+escaping_events w members index holds name bytes =
+    group_events w members index
     ++ (client_events holds name (configuration_of members).primary
     (suc (length w.connections)) bytes
     ++ answer_events (sent_then w (length members - 1)) (length members - 1)

@@ -13,14 +13,14 @@ fn is_cut_once(world: &mut World, node: u8) -> bool {
     world.step(&Event::Cut(node)).is_err()
 }
 
-// Says whether each row holds if a node cuts its log after the row at this place, or after each row
-// for the place after the last one.
+// Says whether each row holds if a node cuts its log after the row at this index, or after each row
+// for the index after the last one.
 fn all_hold(alloc: Global, world: &mut World, rows: &[Row], at: usize, node: u8) -> bool {
-    for (place, row) in rows.iter().enumerate() {
+    for (index, row) in rows.iter().enumerate() {
         if !is_right(alloc, world, row) {
             return false;
         }
-        if (at == place || at == rows.len()) && !is_cut_once(world, node) {
+        if (at == index || at == rows.len()) && !is_cut_once(world, node) {
             return false;
         }
     }
@@ -34,7 +34,7 @@ fn hold_from_the_opening(alloc: Global, rows: &[Row], at: usize, node: u8) -> bo
     }
 }
 
-// Returns the first place after which a cut of a node changes what a row says.
+// Returns the first index after which a cut of a node changes what a row says.
 fn changed_by(alloc: Global, rows: &[Row], node: u8) -> Option<usize> {
     for at in 0..rows.len().saturating_add(1) {
         if !hold_from_the_opening(alloc, rows, at, node) {

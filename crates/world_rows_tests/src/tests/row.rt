@@ -93,8 +93,8 @@ fn config_of(alloc: Global, members: &[u8], primary: u8) -> Option<Config> {
     })
 }
 
-/// Returns the first of these tables that has a row which does not hold, and the place of that row;
-/// the place after the last one if a step ran out of memory.
+/// Returns the first of these tables that has a row which does not hold, and the index of that row;
+/// the index after the last one if a step ran out of memory.
 pub fn fault_in(alloc: Global, tables: &[Table]) -> Option<(&'static str, usize)> {
     for table in tables {
         if let Some(at) = fault_of(alloc, table) {

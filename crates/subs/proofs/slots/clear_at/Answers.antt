@@ -7,5 +7,5 @@ use Rattle.subs.proofs.slots.clear_at.Goals as goal
 pub returns-in-Some-clause-after : goal.returns-in-Some-clause-after
 returns-in-Some-clause-after c =
     let there = sym c.in-Some.ensures.value in
-    written c.args.nodes.now (with_value c.args.nodes.now c.args.place.node.number c.clear.new.self) c.args.place.node.number c.in-Some.node.now c.clear.new.self there
-    (wrote c.args.nodes.now c.args.place.node.number c.in-Some.node.now c.clear.new.self there) c.args.place.rest c.args.client.now None c.clear.ensures.after c.clear.ensures.child
+    written c.args.nodes.now (with_value c.args.nodes.now c.args.slot.node.number c.clear.new.self) c.args.slot.node.number c.in-Some.node.now c.clear.new.self there
+    (wrote c.args.nodes.now c.args.slot.node.number c.in-Some.node.now c.clear.new.self there) c.args.slot.rest c.args.client.now None c.clear.ensures.after c.clear.ensures.child

@@ -8,5 +8,5 @@ use Rattle.subs.proofs.slots.put_at.Goals as goal
 pub returns-in-Some : goal.returns-in-Some
 returns-in-Some c =
     let there = sym c.in-Some.ensures.value in
-    filled c.args.nodes.now (with_value c.args.nodes.now c.args.place.node.number c.put.new.self) c.args.place.node.number c.in-Some.node.now c.put.new.self there
-    (wrote c.args.nodes.now c.args.place.node.number c.in-Some.node.now c.put.new.self there) c.args.place.rest (row_at c.args.rows) c.put.ensures.rows c.put.ensures.child
+    filled c.args.nodes.now (with_value c.args.nodes.now c.args.slot.node.number c.put.new.self) c.args.slot.node.number c.in-Some.node.now c.put.new.self there
+    (wrote c.args.nodes.now c.args.slot.node.number c.in-Some.node.now c.put.new.self there) c.args.slot.rest (row_at c.args.rows) c.put.ensures.rows c.put.ensures.child

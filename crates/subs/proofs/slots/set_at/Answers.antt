@@ -10,8 +10,8 @@ returns-in-Some-clause-ok c =
     let there = sym c.in-Some.ensures.value in
     on_ok c.set.result
     (λ sets.
-    written c.args.nodes.now (with_value c.args.nodes.now c.args.place.node.number c.set.new.self) c.args.place.node.number c.in-Some.node.now c.set.new.self there
-    (wrote c.args.nodes.now c.args.place.node.number c.in-Some.node.now c.set.new.self there) c.args.place.rest c.args.client.now (Some c.args.qos) sets c.set.ensures.child)
+    written c.args.nodes.now (with_value c.args.nodes.now c.args.slot.node.number c.set.new.self) c.args.slot.node.number c.in-Some.node.now c.set.new.self there
+    (wrote c.args.nodes.now c.args.slot.node.number c.in-Some.node.now c.set.new.self there) c.args.slot.rest c.args.client.now (Some c.args.qos) sets c.set.ensures.child)
     c.set.ensures.ok
 
 pub returns-in-Some-clause-err : goal.returns-in-Some-clause-err
@@ -19,6 +19,6 @@ returns-in-Some-clause-err c =
     let there = sym c.in-Some.ensures.value in
     on_err c.set.result
     (λ same.
-    stayed c.args.nodes.now (with_value c.args.nodes.now c.args.place.node.number c.set.new.self) c.args.place.node.number c.in-Some.node.now c.set.new.self there
-    (wrote c.args.nodes.now c.args.place.node.number c.in-Some.node.now c.set.new.self there) c.set.ensures.child same)
+    stayed c.args.nodes.now (with_value c.args.nodes.now c.args.slot.node.number c.set.new.self) c.args.slot.node.number c.in-Some.node.now c.set.new.self there
+    (wrote c.args.nodes.now c.args.slot.node.number c.in-Some.node.now c.set.new.self there) c.set.ensures.child same)
     c.set.ensures.err

@@ -65,7 +65,8 @@ fn is_right(alloc: Global, client: &mut PipedClient, row: Row<'_>) -> bool {
     match row {
         Row::Open(node, port) => !client.is_open() && client.open(node, Port(port)).is_ok(),
         Row::Count(count) => client.len() == count,
-        Row::Leads(at, node, port) => at < client.len() && client.place(at) == (node, Port(port)),
+        Row::Leads(at, node, port) => at < client.len()
+            && client.leads_to(at) == (node, Port(port)),
         Row::Up(at, bytes) => goes_up(client, at, bytes, bytes.len()),
         Row::UpSome(at, bytes, count) => goes_up(client, at, bytes, count),
         Row::Down(bytes, first) => comes_down(alloc, client, bytes, first),

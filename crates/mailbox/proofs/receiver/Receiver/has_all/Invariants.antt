@@ -1,6 +1,6 @@
 use Rattle.std.proofs.Common.{ℕ, ◌<◌}
-use Rattle.mailbox.proofs.AllLanesByPlace.{Placed}
+use Rattle.mailbox.proofs.AllLanesByIndex.{Placed}
 use Rattle.mailbox.proofs.receiver.Receiver.has_all.Given as goal
 
-abbrev pub invariant-loop-place : goal.invariant-loop-place
-invariant-loop-place g l = (k : ℕ) → k < l.place → Placed l.self l.lanes k
+abbrev pub invariant-loop-index : goal.invariant-loop-index
+invariant-loop-index g l = (k : ℕ) → k < l.index → Placed l.self l.lanes k

@@ -19,12 +19,12 @@ pub returns-in-Some : goal.returns-in-Some
 returns-in-Some c =
     let same : c.self.inside.in_flight.entries ≡ c.args.self.now.in_flight = ap (λ (q : Queue). q.in_flight) c.self.view_is in
     let distinct = apart (ids_of c.args.self.now.in_flight) (subst (λ (fs : List Flight). IsDistinctBy (λ i j. i == j) (ids_of fs)) same c.get_index_of.ensures.unique) in
-    let at : position (λ k. c.args.id == k) (keys_of c.args.self.now.in_flight) ≡ Some c.in-Some.place
+    let at : position (λ k. c.args.id == k) (keys_of c.args.self.now.in_flight) ≡ Some c.in-Some.index
     = ap (λ (fs : List Flight). position (λ k. c.args.id == k) (keys_of fs)) (sym same) ∙ sym c.get_index_of.ensures.index ∙ c.in-Some.is in
     ap₂ (λ fs ms. record { in_flight = fs; waiting = ms })
     (c.move_index.ensures.entries
-    ∙ ap₂ (λ fs n. move_index fs c.in-Some.place n) (c.mark_released.ensures.entries ∙ ap (with_released c.args.id) same) c.released-after.ensures
-    ∙ released_in_place c.args.id c.args.self.now.in_flight c.in-Some.place distinct c.requires.first c.requires.awaited at)
+    ∙ ap₂ (λ fs n. move_index fs c.in-Some.index n) (c.mark_released.ensures.entries ∙ ap (with_released c.args.id) same) c.released-after.ensures
+    ∙ released_in_place c.args.id c.args.self.now.in_flight c.in-Some.index distinct c.requires.first c.requires.awaited at)
     (ap (λ (q : Queue). q.waiting) c.self.view_is)
 
 pub returns-in_default : goal.returns-in_default

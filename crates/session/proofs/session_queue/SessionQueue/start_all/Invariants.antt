@@ -5,11 +5,11 @@ use Rattle.session_base.specs.Queue.{filled, fill}
 use Rattle.session_base.specs.Sending.{fill_sends}
 use Rattle.session.proofs.session_queue.SessionQueue.start_all.Given as goal
 
-abbrev pub invariant-loop-place : goal.invariant-loop-place
-invariant-loop-place l = record {
-  state : fill l.window l.self.in_flight (drop l.place l.initial.self.waiting) ≡ filled l.window l.initial.self;
+abbrev pub invariant-loop-index : goal.invariant-loop-index
+invariant-loop-index l = record {
+  state : fill l.window l.self.in_flight (drop l.index l.initial.self.waiting) ≡ filled l.window l.initial.self;
   sends :
-      l.out.items ++ fill_sends l.window l.self.in_flight (drop l.place l.initial.self.waiting)
+      l.out.items ++ fill_sends l.window l.self.in_flight (drop l.index l.initial.self.waiting)
       ≡ l.initial.out.items ++ fill_sends l.window l.initial.self.in_flight l.initial.self.waiting;
   waiting : l.self.waiting ≡ l.initial.self.waiting;
   first : IsReleasedFirst l.initial.self.in_flight → IsReleasedFirst l.self.in_flight;

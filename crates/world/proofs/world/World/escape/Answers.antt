@@ -29,22 +29,22 @@ can c =
     can_escape c.args.members.now c.args.client.now c.args.self.now
     (ap (refusal c.args.self.now.nodes.master) (sym c.in_ok-config.ensures) ∙ (c.can_lead.ensures.0 c.if-not-can_lead.false).0)
     (ap (list_all (is_running c.args.self.now.nodes.nodes)) (sym (its_members c.args.members.now c.in_ok-config.config c.in_ok-config.ensures)) ∙ (c.can_lead.ensures.0 c.if-not-can_lead.false).1)
-    c.in-Some.place c.in-Some.source c.in-Some.ensures.some c.in-Some-index_of_client.at c.index.result.now (sym c.in-Some-index_of_client.ensures.exact) (stands c)
+    c.in-Some.index c.in-Some.source c.in-Some.ensures.some c.in-Some-index_of_client.at c.index.result.now (sym c.in-Some-index_of_client.ensures.exact) (stands c)
     (ap (session_of (past_of usual_limits (log_of c.args.self.now.nodes c.in-Some.source))) (sym (named c)) ∙ c.in_ok-has_session.ensures.yes c.if-not-branch.false)
 
 -- the list that was written
 written : (c : goal.In_ok-way_out) → c.in_ok-way_out.field-0.items
-    ≡ escaping_events c.args.self.now c.args.members.now c.in-Some.place (is_holding c.index.result.now.piped) c.args.client.now (14 + length c.index.result.now.piped.core.state.client)
+    ≡ escaping_events c.args.self.now c.args.members.now c.in-Some.index (is_holding c.index.result.now.piped) c.args.client.now (14 + length c.index.result.now.piped.core.state.client)
 written c =
     c.in_ok-way_out.ensures c.index.result.now (stands c)
-    ∙ ap (λ (ms : List ℕ). escaping_events c.args.self.now ms c.in-Some.place (is_holding c.index.result.now.piped) c.args.client.now (14 + length c.index.result.now.piped.core.state.client))
+    ∙ ap (λ (ms : List ℕ). escaping_events c.args.self.now ms c.in-Some.index (is_holding c.index.result.now.piped) c.args.client.now (14 + length c.index.result.now.piped.core.state.client))
     (its_members c.args.members.now c.in_ok-config.config c.in_ok-config.ensures)
 
 pub returns-clause-short : goal.returns-clause-short
 returns-clause-short c =
     let some = (some_members c.args.self.now.nodes.master c.in_ok-config.config (c.can_lead.ensures.0 c.if-not-can_lead.false).0).0 in
     subst (λ (l : List Event). length l ≤ 6 * length c.args.members.now + 5) (sym (written c))
-    (short_way c.ways_are_short.ensures c.args.self.now c.args.members.now c.in-Some.place (is_holding c.index.result.now.piped) c.args.client.now (14 + length c.index.result.now.piped.core.state.client)
+    (short_way c.ways_are_short.ensures c.args.self.now c.args.members.now c.in-Some.index (is_holding c.index.result.now.piped) c.args.client.now (14 + length c.index.result.now.piped.core.state.client)
     (subst (λ (ms : List ℕ). 1 ≤ length ms) (its_members c.args.members.now c.in_ok-config.config c.in_ok-config.ensures) some))
 
 pub returns-clause-leads_out : goal.returns-clause-leads_out

@@ -24,7 +24,7 @@ returns c = λ found stands.
     let number : c.saturating_add-number.result ≡ suc (length c.args.self.now.connections) = rw (← c.self.view_is) counted in
     let later : c.messages-sent.result + length c.active.result.1.now + 5 * (length c.as_slice.result.now - 1) + 4 ≡ sent_then c.args.self.now (length c.args.config.members - 1) =
     omega (arith, sent, members, others) in
-    whole_way c.args.self.now c.args.config (is_holding found.piped) c.args.client.now c.messages-sent.result (length c.active.result.1.now) c.args.place
+    whole_way c.args.self.now c.args.config (is_holding found.piped) c.args.client.now c.messages-sent.result (length c.active.result.1.now) c.args.index
     (length c.as_slice.result.now - 1) (14 + length found.piped.core.state.client) c.saturating_add-number.result (c.messages-sent.result + length c.active.result.1.now + 5 * (length c.as_slice.result.now - 1) + 4)
     c.new-way.result.items c.push_group.new.way.items c.push_client.new.way.items c.push_answers.new.way.items (search rules) c.in_ok-push_group.ensures client c.in_ok-push_answers.ensures
     c.requires.first sent members others number later

@@ -4,8 +4,8 @@ use Rattle.world_base.proofs.node_in_step.NodeInStep.ask_at.Goals as goal
 
 pub returns-in-Some : goal.returns-in-Some
 returns-in-Some c =
-    rw (← c.self.view_is) (changed_there c.args.port (asked c.args.keep_alive) _ c.place_at.result c.in-Some.index c.index_mut.result.now _
-    (rw (← c.self.view_is) at c.place_at.ensures) c.in-Some.is c.index_mut.ensures.value c.ask.ensures)
+    rw (← c.self.view_is) (changed_there c.args.port (asked c.args.keep_alive) _ c.index_at.result c.in-Some.index c.index_mut.result.now _
+    (rw (← c.self.view_is) at c.index_at.ensures) c.in-Some.is c.index_mut.ensures.value c.ask.ensures)
 
 pub returns-in_default : goal.returns-in_default
-returns-in_default c = changed_nowhere c.args.port (asked c.args.keep_alive) _ c.place_at.result c.place_at.ensures c.in_default.is
+returns-in_default c = changed_nowhere c.args.port (asked c.args.keep_alive) _ c.index_at.result c.index_at.ensures c.in_default.is

@@ -4,8 +4,8 @@ use Rattle.world_base.proofs.node_in_step.NodeInStep.close.Goals as goal
 
 pub returns-in-Some : goal.returns-in-Some
 returns-in-Some c =
-    rw (← c.self.view_is) (changed_there c.args.port closed _ c.place_at.result c.in-Some.index c.index_mut.result.now _
-    (rw (← c.self.view_is) at c.place_at.ensures) c.in-Some.is c.index_mut.ensures.value c.close.ensures)
+    rw (← c.self.view_is) (changed_there c.args.port closed _ c.index_at.result c.in-Some.index c.index_mut.result.now _
+    (rw (← c.self.view_is) at c.index_at.ensures) c.in-Some.is c.index_mut.ensures.value c.close.ensures)
 
 pub returns-in_default : goal.returns-in_default
-returns-in_default c = changed_nowhere c.args.port closed _ c.place_at.result c.place_at.ensures c.in_default.is
+returns-in_default c = changed_nowhere c.args.port closed _ c.index_at.result c.index_at.ensures c.in_default.is

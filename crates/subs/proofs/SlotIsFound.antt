@@ -1,11 +1,11 @@
--- What is asked for at the place of a filter.
+-- What is asked for at the slot of a filter.
 use Rattle.std.proofs.Common.{◌≡◌, ℕ, List, Bool, true, false, ◌&&◌, cond, Option, Some, None, refl, sym, ◌∙◌, ap, subst, bytes_eq}
 use Rattle.std.specs.Cmp.Lexicographic.{bytes_decides}
 use Rattle.std.proofs.lemmas.Bool.{and_parts}
 use Rattle.topics.specs.Text.{Levels}
 use Rattle.subs_base.specs.packet.declared.qos.QoS.{QoS}
 use Rattle.subs.specs.Shape.{Children, Shape, rows}
-use Rattle.subs.specs.Ways.{reach, led, place, IsTree}
+use Rattle.subs.specs.Ways.{reach, led, slot, IsTree}
 use Rattle.subs.specs.Changes.{Writes}
 use Rattle.subs.specs.Inside.{Asked, same_levels, with_asked}
 use Rattle.subs.proofs.Ways.{row_at, rows_are, same_levels_is}
@@ -15,11 +15,11 @@ use Rattle.subs.proofs.Written.{written}
 pub from_root : (child : Children) (root : Option ℕ) (at : ℕ) (p : Levels) → root ≡ Some at → led child root p ≡ reach child at p
 from_root child root at p is = ap (λ r. led child r p) is
 
-pub row_found : (s : Shape) (root : Option ℕ) (f : Levels) (at : ℕ) (c : List ℕ) → led s.child root (place f).0 ≡ Some at → rows s root f c ≡ s.held at (place f).1 c
-row_found s root f at c way = rows_are s root f c ∙ ap (λ o. row_at s.held o (place f).1 c) way
+pub row_found : (s : Shape) (root : Option ℕ) (f : Levels) (at : ℕ) (c : List ℕ) → led s.child root (slot f).0 ≡ Some at → rows s root f c ≡ s.held at (slot f).1 c
+row_found s root f at c way = rows_are s root f c ∙ ap (λ o. row_at s.held o (slot f).1 c) way
 
-pub row_missing : (s : Shape) (root : Option ℕ) (f : Levels) (c : List ℕ) → led s.child root (place f).0 ≡ None → rows s root f c ≡ None
-row_missing s root f c way = rows_are s root f c ∙ ap (λ o. row_at s.held o (place f).1 c) way
+pub row_missing : (s : Shape) (root : Option ℕ) (f : Levels) (c : List ℕ) → led s.child root (slot f).0 ≡ None → rows s root f c ≡ None
+row_missing s root f c way = rows_are s root f c ∙ ap (λ o. row_at s.held o (slot f).1 c) way
 
 -- nothing goes if there was nothing
 pub nothing_goes : (a : Asked) (filter : Levels) (client : List ℕ) → a filter client ≡ None → a ≡ with_asked a filter client None
@@ -36,13 +36,13 @@ nothing_goes a filter client none = λ i f c. go f c i
           | false ↦ λ e. refl
         ] refl
 
--- a row that is written at a place whose side is known to be that of the filter
+-- a row that is written at a slot whose side is known to be that of the filter
 pub written_at :
     (old new : Shape) (root : Option ℕ) (f : Levels) (at : ℕ) (rest : Bool) (client : List ℕ) (kept : Option QoS)
-    → IsTree old.child old.used root → led old.child root (place f).0 ≡ Some at → rest ≡ (place f).1
+    → IsTree old.child old.used root → led old.child root (slot f).0 ≡ Some at → rest ≡ (slot f).1
     → Writes old new at rest client kept → rows new root ≡ with_asked (rows old root) f client kept
 written_at old new root f at rest client kept tree way side writes =
     written old new root f at client kept tree way (subst (λ (r : Bool). Writes old new at r client kept) side writes)
 
-pub row_of : (s : Shape) (root : Option ℕ) (f : Levels) (at : ℕ) (rest : Bool) (c : List ℕ) → led s.child root (place f).0 ≡ Some at → rest ≡ (place f).1 → rows s root f c ≡ s.held at rest c
+pub row_of : (s : Shape) (root : Option ℕ) (f : Levels) (at : ℕ) (rest : Bool) (c : List ℕ) → led s.child root (slot f).0 ≡ Some at → rest ≡ (slot f).1 → rows s root f c ≡ s.held at rest c
 row_of s root f at rest c way side = row_found s root f at c way ∙ ap (λ r. s.held at r c) (sym side)

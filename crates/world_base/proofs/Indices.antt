@@ -1,4 +1,4 @@
--- Places.antt: a connection that was looked up by a test is at a place of the list, and changing it
+-- Indices.antt: a connection that was looked up by a test is at an index of the list, and changing it
 -- there is the change of the first connection that passes the test.
 use Rattle.std.proofs.Common.{◌≡◌, ℕ, ◌<◌, zero, suc, Bool, true, false, cond, ltb, Option, Some, None, List, [], ◌∷◌, length, get_or, set, refl, sym, ap, ◌∙◌, arith}
 use Rattle.std.specs.List.{position, position_or_len, find}
@@ -62,33 +62,33 @@ pub none_changed : (test : Connection → Bool) (change : Connection → Connect
     None ≡ position test cs → changed test change cs ≡ cs
 none_changed test change cs e = fails_changed test change cs (none_fails test cs (sym e))
 
--- the connection at the place is found, and changed
-pub place_found : (test : Connection → Bool) (cs : List Connection) (i : ℕ) (c : Connection) →
+-- the connection at the index is found, and changed
+pub index_found : (test : Connection → Bool) (cs : List Connection) (i : ℕ) (c : Connection) →
     Some i ≡ position test cs → c ≡ get_or cs i c → find test cs ≡ Some c
-place_found test cs i c e is =
+index_found test cs i c e is =
     let at = position-Some test cs i c (sym e) in
     passes_found test cs i c at.0 at.1 at.2 ∙ ap Some (sym is)
 
-pub place_changed : (test : Connection → Bool) (change : Connection → Connection) (cs : List Connection)
+pub index_changed : (test : Connection → Bool) (change : Connection → Connection) (cs : List Connection)
     (i : ℕ) (c : Connection) → Some i ≡ position test cs → c ≡ get_or cs i c →
     changed test change cs ≡ set cs i (change c)
-place_changed test change cs i c e is =
+index_changed test change cs i c e is =
     let at = position-Some test cs i c (sym e) in
     passes_changed test change cs i c at.0 at.1 at.2 ∙ ap (λ x. set cs i (change x)) (sym is)
 
-pub found_there : (test : Connection → Bool) (cs : List Connection) (place : Option ℕ) (i : ℕ) (c : Connection) →
-    place ≡ position test cs → place ≡ Some i → c ≡ get_or cs i c → find test cs ≡ Some c
-found_there test cs place i c at is here = place_found test cs i c (sym is ∙ at) here
+pub found_there : (test : Connection → Bool) (cs : List Connection) (index : Option ℕ) (i : ℕ) (c : Connection) →
+    index ≡ position test cs → index ≡ Some i → c ≡ get_or cs i c → find test cs ≡ Some c
+found_there test cs index i c at is here = index_found test cs i c (sym is ∙ at) here
 
 -- what is found is one connection
 pub same_found : (test : Connection → Bool) (cs : List Connection) (c d : Connection) → find test cs ≡ Some c →
     find test cs ≡ Some d → d ≡ c
 same_found test cs c d found again = cc
 
--- who is at a place is found
-pub none_placed : (test : Connection → Bool) (cs : List Connection) (i : ℕ) → Some i ≡ position test cs → find test cs ≡ None → ⊥
-none_placed test [] i e none = absurd cc
-none_placed test (c ∷ cs) i e none =
+-- who is at an index is found
+pub none_indexed : (test : Connection → Bool) (cs : List Connection) (i : ℕ) → Some i ≡ position test cs → find test cs ≡ None → ⊥
+none_indexed test [] i e none = absurd cc
+none_indexed test (c ∷ cs) i e none =
     let at = position-Some test (c ∷ cs) i c (sym e) in
     let found = passes_found test (c ∷ cs) i c at.0 at.1 at.2 in
     absurd cc

@@ -1,4 +1,4 @@
--- Lanes are all lanes of an inbox exactly if there are as many, and each has its place's number.
+-- Lanes are all lanes of an inbox exactly if there are as many, and each has its index as its number.
 use Rattle.std.specs.Prelude.{◌≡◌, ◌≢◌, ℕ, zero, suc, ◌<◌, List, [], ◌∷◌, length, map, slice_index_or, refl}
 use Rattle.std.proofs.Common.{sym, ◌∙◌, ap, ⊎_elim, length-append, arith}
 use Rattle.std.proofs.lemmas.List.{ext_get_or, length-map}
@@ -34,17 +34,17 @@ module _ {T : Type 0} where
       ∙ fresh_at inbox lanes k d (omega arith))
       (same_or_other k lanes)
 
-  -- each lane has the number of the inbox and that of its place
+  -- each lane has the number of the inbox and its index
   abbrev pub Placed : Taker T → List (Sender T) → ℕ → Type 0
   Placed r lanes k =
       (d : Sender T)
       → ((slice_index_or lanes k d).inbox ≡ r.inbox) × ((slice_index_or lanes k d).lane ≡ k)
 
-  pub all_by_place : (r : Taker T) (lanes : List (Sender T))
+  pub all_by_index : (r : Taker T) (lanes : List (Sender T))
       → length lanes ≡ r.lanes
       → ((k : ℕ) → k < length lanes → Placed r lanes k)
       → AreAllLanes r lanes
-  all_by_place r lanes size placed =
+  all_by_index r lanes size placed =
       let d : Sender T = fresh 0 0 in
       ext_get_or d (map as_made lanes) (fresh_lanes r.inbox r.lanes)
       (length-map lanes as_made ∙ size ∙ sym (length-fresh T r.inbox r.lanes))

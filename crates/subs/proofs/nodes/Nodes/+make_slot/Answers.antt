@@ -9,7 +9,7 @@ use Rattle.subs.specs.Standing.{root_of, rows_of}
 use Rattle.subs.proofs.TextCut.{path, fewer}
 use Rattle.subs.proofs.ChildIsMade.{none_after}
 use Rattle.subs.proofs.ContentOfTree.{anyhow}
-use Rattle.subs.proofs.nodes.Nodes.+make_place.Goals as goal
+use Rattle.subs.proofs.nodes.Nodes.+make_slot.Goals as goal
 
 pub returns-in_err-child-clause-none : goal.returns-in_err-child-clause-none
 returns-in_err-child-clause-none t c =
@@ -21,8 +21,8 @@ returns-in_err-child-clause-none t c =
     ∙ none_after (shape_of c.args.self.now.slab) (root_of c.args.self.now) way c.args.at.number c.split_level.result.0.now (levels_of c.split_level.result.1) client
     leads other c.in_err-child.ensures.none)
 
-pub make_place-requires : goal.make_place-requires
-make_place-requires t c =
+pub make_slot-requires : goal.make_slot-requires
+make_slot-requires t c =
     let less = fewer c.args.text c.in-Some.text c.split_level.result.0.now c.split_level.result.1 (record { some = c.in-Some.is; cut = c.split_level.ensures }) in (
       search (rules, less),
       (
@@ -34,10 +34,10 @@ make_place-requires t c =
 pub returns-clause-none : goal.returns-clause-none
 returns-clause-none t c =
     let cut = path c.args.text c.in-Some.text c.split_level.result.0.now c.split_level.result.1 (record { some = c.in-Some.is; cut = c.split_level.ensures }) in
-    on_err c.make_place.result
+    on_err c.make_slot.result
     (λ none way client leads.
     ap (λ (ls : Levels). rows_of c.args.self.now (way ++ ls) client) cut
     ∙ ap (λ (p : Levels). rows_of c.args.self.now p client) (sym (append_assoc way (c.split_level.result.0.now ∷ []) (levels_of c.split_level.result.1)))
     ∙ ap (λ (a : Asked). a ((way ++ c.split_level.result.0.now ∷ []) ++ levels_of c.split_level.result.1) client) (sym c.in_ok-child.ensures.rows)
     ∙ none (way ++ c.split_level.result.0.now ∷ []) client (c.in_ok-child.ensures.leads way leads))
-    c.make_place.ensures.none
+    c.make_slot.ensures.none
