@@ -2,7 +2,7 @@
 pub mod AgreedExists
 pub mod AppliedAgreed
 pub mod Agreeing
-pub mod MostTold
+pub mod MaxTold
 pub mod PastTells
 pub mod PastChosen
 pub mod PastAgrees

@@ -66,15 +66,15 @@ pub data AssignRefusal : Type 0 where
   ballots_spent : AssignRefusal  -- no number is left for a ballot
 
 -- the last ballot that can be given
-abbrev pub last_ballot : ℕ
-last_ballot = 2 ^ 32
+abbrev pub max_ballot : ℕ
+max_ballot = 2 ^ 32
 
 -- members that no ballot may have are refused, and after the last ballot any configuration; the
 -- members are tested first. Which nodes there are the master does not know
 abbrev pub refusal : MasterState → Config → Option AssignRefusal
 refusal m config =
     if is_lawful config.members config.primary
-    then if nat_le last_ballot m.given then Some ballots_spent else None
+    then if nat_le max_ballot m.given then Some ballots_spent else None
     else Some bad_members
 
 -- the master after an Assign: if it is refused, nothing changes

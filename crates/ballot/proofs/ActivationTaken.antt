@@ -16,7 +16,7 @@ use Rattle.ballot_base.proofs.LongerLogs.{last_pushed, part_pushed, places_pushe
 use Rattle.ballot_base.specs.Losses.{IsQuiet, halted, one_more}
 use Rattle.ballot_base.specs.Sending.{Outcome, message_to_followed}
 use Rattle.ballot_base.specs.Applying.{applied_to}
-use Rattle.ballot_base.specs.Serving.{commit, commit_at, least, most_places, added}
+use Rattle.ballot_base.specs.Serving.{commit, commit_at, least, max_places, added}
 use Rattle.ballot_base.specs.Activating.{on_activated}
 use Rattle.ballot_base.proofs.ChangeRows.{on_activated-adds}
 use Rattle.ballot_base.proofs.StepRows.{added-commits, added-log, commit-stopped}
@@ -27,7 +27,7 @@ use Rattle.ballot_base.proofs.SendsJoin.{Sends-then}
 
 -- a ballot may begin at a replica
 abbrev pub may_begin : {S C : Type 0} → ReplicaState S C → ℕ → Bool
-may_begin r b = (r.joined == b && is_installing r.role) && (nat_le (length r.lacking) 0 && nat_lt (places r.log) most_places)
+may_begin r b = (r.joined == b && is_installing r.role) && (nat_le (length r.lacking) 0 && nat_lt (places r.log) max_places)
 
 -- a replica that becomes active, before its start is added, and then
 abbrev pub active_of : {S C O : Type 0} → Rules S C O → ReplicaState S C → ReplicaState S C
@@ -123,7 +123,7 @@ activated_begun {S = S} {C = C} {O = O} rules (Ok x) old active new b committed 
 activated_begun {S = S} {C = C} {O = O} rules (Err x) old active new b committed waiting before after may a m w (same, n) =
     let role : old.state.role ≡ Installing =
     installing_is old.state.role (and_parts (old.state.joined == b) (is_installing old.state.role)
-    (and_parts (old.state.joined == b && is_installing old.state.role) (nat_le (length old.state.lacking) 0 && nat_lt (places old.state.log) most_places) may).0).1 in
+    (and_parts (old.state.joined == b && is_installing old.state.role) (nat_le (length old.state.lacking) 0 && nat_lt (places old.state.log) max_places) may).0).1 in
     let is : new ≡ record { state = halted rules old.state; losses = one_more old.losses } =
     n ∙ ap (λ (y : CountedReplica S C). let x : CountedReplica S C = record {
       state = record y.state {

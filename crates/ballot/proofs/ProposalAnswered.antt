@@ -8,7 +8,7 @@ use Rattle.ballot_base.specs.Replica.{ReplicaState, CountedReplica, is_active}
 use Rattle.ballot_base.specs.Logs.{places}
 use Rattle.ballot_base.specs.Losses.{Done, Stepped, Steps, one_more}
 use Rattle.ballot_base.specs.Sending.{Outcome, nothing_done}
-use Rattle.ballot_base.specs.Serving.{added, most_places, proposed}
+use Rattle.ballot_base.specs.Serving.{added, max_places, proposed}
 use Rattle.ballot_base.proofs.StepRows.{proposed-adds}
 use Rattle.ballot.specs.declared.error.ProposeError.{ProposeError}
 use Rattle.ballot.specs.declared.error.ProposeError.TheVariants.{NotActive, LogFull, Memory, Halted}
@@ -63,7 +63,7 @@ answered_steps {S = S} {C = C} (Err Halted) {old = old} {new = new} {before = be
 -- an active primary with room adds what is proposed
 pub answered_proposed : {S C O T : Type 0} (rules : Rules S C O) (old : CountedReplica S C) (command : C)
     (result : Result T ProposeError) (new : CountedReplica S C) (before after : List (Effect C O)) →
-    is_active old.state.role ≡ true → places old.state.log < most_places →
+    is_active old.state.role ≡ true → places old.state.log < max_places →
     MatchResult result (λ _. Done old (added rules old.state command) new before after) (λ e. Lacks rules e old new) →
     OnErr result (after ≡ before) → Stepped rules old (proposed rules old.state command) new before after
 answered_proposed {S = S} {C = C} {O = O} rules old command result new before after active room d same =

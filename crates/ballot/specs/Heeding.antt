@@ -11,7 +11,7 @@ use Rattle.ballot_base.specs.declared.status.Role.TheVariants.{Backup, Fetching,
 use Rattle.ballot_base.specs.Changing.{waits_for, lacks}
 use Rattle.ballot_base.specs.Logs.{places}
 use Rattle.ballot_base.specs.Replica.{ReplicaState, is_installing}
-use Rattle.ballot_base.specs.Serving.{least, raised, most_places, follows, leads}
+use Rattle.ballot_base.specs.Serving.{least, raised, max_places, follows, leads}
 
 -- whether a member is known to hold less than this
 abbrev pub rises : ℕ → ℕ → List Progress → Bool
@@ -31,7 +31,7 @@ is_heeded r from (Installed ballot held) =
 is_heeded r from (Activate ballot) = false
 is_heeded r from (Activated ballot) =
     (r.joined == ballot && is_installing r.role)
-    && (nat_le (length r.lacking) 0 && nat_lt (places r.log) most_places)
+    && (nat_le (length r.lacking) 0 && nat_lt (places r.log) max_places)
 is_heeded r from (Superseded ballot) = r.joined == ballot && is_installing r.role
 is_heeded r from (Append ballot place command) = follows r ballot && nat_le place (places r.log)
 is_heeded r from (Held ballot held) =

@@ -9,7 +9,7 @@ ghost use Rattle.ballot_base.specs.LawfulConfig.{is_lawful};
 ghost use Rattle.ballot_base.specs.Logs.{places};
 ghost use Rattle.ballot_base.specs.Losses.{Stepped, Done, halted, one_more};
 ghost use Rattle.ballot_base.specs.Replica.{is_active, opening, status_of};
-ghost use Rattle.ballot_base.specs.Serving.{added, commit_at, most_places, proposed};
+ghost use Rattle.ballot_base.specs.Serving.{added, commit_at, max_places, proposed};
 
 use crate::error::{OpeningError, ProposeError};
 use ballot_base::machine::{Halted, Machine};
@@ -205,7 +205,7 @@ impl<M: Machine> Replica<M> {
         ensures full { IsErrOf result ProposeError.LogFull
             ↔ ((self.old.state.stopped ≡ false) ×
             (is_active self.old.state.role ≡ true) ×
-            (most_places ≤ places self.old.state.log)) }
+            (max_places ≤ places self.old.state.log)) }
 
         // What stays.
         ensures memory { IsErrOf result ProposeError.Memory →

@@ -9,7 +9,7 @@ use Rattle.ballot_base.specs.declared.status.Role.TheVariants.{Backup, Active}
 use Rattle.ballot_base.specs.Sending.{Outcome, nothing_done, message_to, master}
 use Rattle.ballot_base.specs.Applying.{applied_to}
 use Rattle.ballot_base.specs.Logs.{places}
-use Rattle.ballot_base.specs.Serving.{most_places, added}
+use Rattle.ballot_base.specs.Serving.{max_places, added}
 use Rattle.ballot_base.specs.Replica.{ReplicaState, is_installing, others, progress_at}
 
 -- with the last that lacked the log the master may activate the ballot
@@ -35,7 +35,7 @@ on_activated {O = O} rules r ballot =
       progress = progress_at (places r.log) (others r.id r.members);
     } in
     if (r.joined == ballot && is_installing r.role)
-    && (nat_le (length r.lacking) 0 && nat_lt (places r.log) most_places)
+    && (nat_le (length r.lacking) 0 && nat_lt (places r.log) max_places)
     then added rules active (rules.start_of ballot)
     else nothing_done O r
 

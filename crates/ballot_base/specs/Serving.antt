@@ -43,8 +43,8 @@ unfoldable pub commit : {S C O : Type 0} → Rules S C O → ReplicaState S C �
 commit rules r = commit_at rules r (least (places r.log) r.progress)
 
 -- the most places of a log
-abbrev pub most_places : ℕ
-most_places = 2 ^ 40
+abbrev pub max_places : ℕ
+max_places = 2 ^ 40
 
 -- a command is appended to the log and sent to the other members; what all hold is committed
 unfoldable pub added : {S C O : Type 0} → Rules S C O → ReplicaState S C → C → Outcome S C O
@@ -56,7 +56,7 @@ added {O = O} rules r command =
 -- a proposal counts at an active primary whose log has room
 unfoldable pub proposed : {S C O : Type 0} → Rules S C O → ReplicaState S C → C → Outcome S C O
 proposed {O = O} rules r command =
-    if is_active r.role && nat_lt (places r.log) most_places
+    if is_active r.role && nat_lt (places r.log) max_places
     then added rules r command
     else nothing_done O r
 

@@ -19,7 +19,7 @@ use session_base::{Publication, body_length, keep, read_flag, read_long_number, 
 use std::alloc::Global;
 
 /// The most bytes of a body, this broker's own limit.
-const LONGEST_BODY: usize = 1_048_572;
+const MAX_BODY: usize = 1_048_572;
 
 /// Memory ran out.
 pub(crate) const OUT_OF_MEMORY: Stop = Stop::Malformed(MalformedKind::Memory);
@@ -166,7 +166,7 @@ fn retainable(publication: Publication) -> Result<(TopicName, RetainedPublicatio
         (retainable
         (publication.topic, record { qos = publication.qos; payload = publication.payload })) }
 {
-    keep(!publication.payload.as_slice().is_empty() && body_length(&publication) <= LONGEST_BODY)?;
+    keep(!publication.payload.as_slice().is_empty() && body_length(&publication) <= MAX_BODY)?;
     let kept = RetainedPublication {
         qos: publication.qos,
         payload: publication.payload,

@@ -2,7 +2,7 @@
 use Rattle.std.proofs.Common.{◌≡◌, ℕ, ◌≤◌, Bool, false, List, [], ◌++◌, ◌+◌, suc, length, arith}
 use Rattle.std.proofs.lemmas.List.{length-append}
 use Rattle.packet_base.specs.Spelling.{IsId, number}
-use Rattle.packet.specs.Spelling.{IsPacket, longest_body}
+use Rattle.packet.specs.Spelling.{IsPacket, max_body}
 use Rattle.packet.specs.declared.packet.Packet.TheVariants as packets
 use Rattle.packet.specs.declared.qos.QoS.{QoS}
 use Rattle.packet.specs.declared.qos.QoS.TheVariants as levels
@@ -25,14 +25,14 @@ spell_length id topic payload =
     omega (arith, e, f)
 
 -- without an identifier a body is shorter
-shorter : (topic payload : List ℕ) → suc (suc (length (topic ++ number 1 ++ payload))) ≤ longest_body → suc (suc (length (topic ++ [] ++ payload))) ≤ longest_body
+shorter : (topic payload : List ℕ) → suc (suc (length (topic ++ number 1 ++ payload))) ≤ max_body → suc (suc (length (topic ++ [] ++ payload))) ≤ max_body
 shorter topic payload h =
     let e = spell_length 1 topic payload in
     let f = length-append (topic ++ []) payload in let g : length (topic ++ []) ≡ length topic + 0 = length-append topic [] in
     omega (arith, e, f, g, h)
 
 -- with one it is as long as with another
-same_length : (id other : ℕ) (topic payload : List ℕ) → suc (suc (length (topic ++ number other ++ payload))) ≤ longest_body → suc (suc (length (topic ++ number id ++ payload))) ≤ longest_body
+same_length : (id other : ℕ) (topic payload : List ℕ) → suc (suc (length (topic ++ number other ++ payload))) ≤ max_body → suc (suc (length (topic ++ number id ++ payload))) ≤ max_body
 same_length id other topic payload h =
     let e = spell_length id topic payload in let f = spell_length other topic payload in omega (arith, e, f, h)
 

@@ -12,7 +12,7 @@ use Rattle.packet_base.proofs.FieldsAgain.{number_again}
 use Rattle.packet_base.proofs.FieldsFound.{IsBytes, Splits, text_found, topic_found, ended_found}
 use Rattle.packet_base.specs.topics.Text.{is_topic}
 use Rattle.packet.specs.ClientId.{is_client}
-use Rattle.packet.specs.Spelling.{longest_body}
+use Rattle.packet.specs.Spelling.{max_body}
 use Rattle.broker_spec.specs.retained.declared.retained_publication.RetainedPublication.{RetainedPublication}
 use Rattle.broker_spec.specs.retained.Retained.{RetainedTopics}
 use Rattle.session_base.specs.Counted.{counted, counted_at}
@@ -165,7 +165,7 @@ both false b e = absurd (cc)
 retainable_found : (row : List ℕ × RetainedPublication) → is_topic row.0 ≡ true → IfOk (retainable row) IsRetained
 retainable_found row topic =
     check_if (is_retainable row) _ _ IsRetained (λ test.
-    let parts = both (nat_lt 0 (length row.1.payload)) (nat_le (body_length (as_publication row)) longest_body) test in
+    let parts = both (nat_lt 0 (length row.1.payload)) (nat_le (body_length (as_publication row)) max_body) test in
     let some : 0 < length row.1.payload = ltb-true _ _ parts.0 in
     (omega (arith, some), sent_of (as_publication row) topic (leb-true _ _ parts.1)))
 

@@ -6,7 +6,7 @@ use Rattle.packet_base.specs.declared.stop.Stop.{Stop}
 use Rattle.packet_base.specs.Reading.{◌>>=◌, ◌>>◌, byte_at, front_at, number_at, text_at, ended}
 use Rattle.packet_base.specs.TopicFields.{topic_at}
 use Rattle.packet.specs.ClientId.{is_client}
-use Rattle.packet.specs.Spelling.{longest_body}
+use Rattle.packet.specs.Spelling.{max_body}
 use Rattle.broker_spec.specs.retained.declared.retained_publication.RetainedPublication.{RetainedPublication}
 use Rattle.session_base.specs.Counted.{keep, counted_at}
 use Rattle.session_base.specs.Form.{long_number_at, flag_at, qos_at, body_length, state_at}
@@ -57,7 +57,7 @@ row_at window bytes = do
 -- a retained publication has a payload, and its PUBLISH is within the limit
 abbrev pub is_retainable : List ℕ × RetainedPublication → Bool
 is_retainable row =
-    nat_lt 0 (length row.1.payload) && nat_le (body_length (as_publication row)) longest_body
+    nat_lt 0 (length row.1.payload) && nat_le (body_length (as_publication row)) max_body
 
 -- any other publication stops the reading
 abbrev pub retainable : List ℕ × RetainedPublication → Result (List ℕ × RetainedPublication) Stop

@@ -1,14 +1,14 @@
 -- Packets that a log may hold, and the refusal of the others.
 use Rattle.std.specs.Prelude.{ℕ, ◌≤◌, length}
 use Rattle.retained.specs.packet.declared.packet.Packet.{Packet}
-use Rattle.retained.specs.packet.Spelling.{IsListed, body, longest_body}
+use Rattle.retained.specs.packet.Spelling.{IsListed, body, max_body}
 use Rattle.broker_spec.specs.declared.sized_packet.Unspellable.{Unspellable}
 use Rattle.broker_spec.specs.declared.sized_packet.Unspellable.TheVariants.{TooLarge, Shape}
 
 -- a packet that can be written down: none of its lists is empty, and its body is within this
 -- broker's limit
 abbrev pub IsSized : Packet → Type 0
-IsSized packet = IsListed packet × (length (body packet) ≤ longest_body)
+IsSized packet = IsListed packet × (length (body packet) ≤ max_body)
 
 -- the numbers of the refusals, as in the table of refusals
 abbrev pub unspellable_number : Unspellable → ℕ

@@ -26,7 +26,7 @@ use Rattle.node_group.specs.world_base.declared.item.Item.{Item}
 use Rattle.node_group.specs.ballot.Cutting.{can_cut}
 use Rattle.node_group.specs.world_base.declared.item.Item.TheVariants.{Peer, Tick, Opened, Bytes, Ended, Expel, Cut, Crash}
 use Rattle.node_group.specs.world_base.declared.Port.{Port}
-use Rattle.node_group.specs.world_base.Connections.{asked, changed, closed, failing, fresh, handed, holding, is_at, is_first, is_listed, is_open_at, is_open_named, is_proposed, left_with, most_pending, put_out, putting}
+use Rattle.node_group.specs.world_base.Connections.{asked, changed, closed, failing, fresh, handed, holding, is_at, is_first, is_listed, is_open_at, is_open_named, is_proposed, left_with, max_pending, put_out, putting}
 use Rattle.node_group.specs.world_base.Core.{CoreState, Turn, serves}
 use Rattle.node_group.specs.world_base.Handing.{hands_over, left_by, listed_at}
 use Rattle.node_group.specs.world_base.KeepAlive.{ends_if, ends_silent, lowest_silent}
@@ -49,7 +49,7 @@ pub is_shut : (c : Connection) → IsLater c (closed c)
 is_shut c = record { port = refl; name = refl; lives = λ e. absurd cc }
 
 pub is_put_out : (bytes : List ℕ) (c : Connection) → IsLater c (put_out bytes c)
-is_put_out bytes c = record { port = port (nat_le (length c.pending + length bytes) most_pending); name = put_out_name bytes c; lives = lives (nat_le (length c.pending + length bytes) most_pending) }
+is_put_out bytes c = record { port = port (nat_le (length c.pending + length bytes) max_pending); name = put_out_name bytes c; lives = lives (nat_le (length c.pending + length bytes) max_pending) }
   where
     port : (b : Bool) → (let d : Connection = if b then putting bytes c else failing c in d).port ≡ c.port
     port true = refl

@@ -21,7 +21,7 @@ use cutter::topics::TopicName;
 use std::alloc::AllocError;
 
 /// The most publications that are kept.
-const WINDOW: usize = 64;
+const MAX_KEPT: usize = 64;
 
 impl ClientCore {
     /// Publishes. At QoS 1 and 2 the publication is kept until its handshake has ended. It is sent
@@ -107,7 +107,7 @@ impl ClientCore {
     pub(crate) fn publication_id(&self) -> Result<PacketId, ClientError>
         ensures { PublicationId self.now.state result }
     {
-        if self.kept() >= WINDOW {
+        if self.kept() >= MAX_KEPT {
             return Err(ClientError::WindowFull);
         }
         self.free_id().ok_or(ClientError::WindowFull)

@@ -12,7 +12,7 @@ use client_base::session_base::Publication;
 use cutter::packet::QoS;
 
 /// The most bytes of a packet's body.
-const LONGEST_BODY: usize = 1_048_572;
+const MAX_BODY: usize = 1_048_572;
 
 impl ClientCore {
     /// Says whether [`ClientCore::publish`] refuses a publication for another cause than `Memory`.
@@ -40,7 +40,7 @@ fn is_long(publication: &Publication) -> bool
     ensures { (id : ℕ) → result
         ≡ is_over_limit (packets.Publish (publish_of false id publication.now)) }
 {
-    body_len(publication) > LONGEST_BODY
+    body_len(publication) > MAX_BODY
 }
 
 // Returns how many bytes its body has: the topic with two bytes for its length, two for an

@@ -3,7 +3,7 @@ use Rattle.std.specs.Prelude.{ℕ, Bool, false, not, ◌&&◌, nat_lt, if◌then
 use Rattle.std.specs.Prelude.{length, Option, Some, None}
 use Rattle.session_base.specs.packet.declared.packet.Packet.{Packet}
 use Rattle.session_base.specs.packet.declared.packet.Packet.TheVariants as packets
-use Rattle.session_base.specs.packet.Spelling.{body, longest_body}
+use Rattle.session_base.specs.packet.Spelling.{body, max_body}
 use Rattle.session_base.specs.declared.publication.Publication.{Publication}
 use Rattle.session_base.specs.Publication.{publish_of, is_answered}
 use Rattle.session_base.specs.Identifiers.{least_free}
@@ -31,7 +31,7 @@ publish_packet p state = packets.Publish (publish_of false (next_id state) p)
 
 -- whether the packet is too large to be spelled
 abbrev pub is_over_limit : Packet → Bool
-is_over_limit packet = nat_lt longest_body (length (body packet))
+is_over_limit packet = nat_lt max_body (length (body packet))
 
 -- why a publication is refused: at QoS 1 and 2 if the window is full, at QoS 0 while the client is
 -- offline, or as too large

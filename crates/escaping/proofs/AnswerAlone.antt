@@ -18,7 +18,7 @@ use Rattle.packet_world.specs.packet.Verdict.{verdict}
 use Rattle.node_moves.specs.ballot.Effect.{Effect}
 use Rattle.node_moves.specs.ballot.Effect.TheVariants.{Out}
 use Rattle.node_moves.specs.ballot.Logs.{places}
-use Rattle.node_moves.specs.ballot.Serving.{most_places, proposed}
+use Rattle.node_moves.specs.ballot.Serving.{max_places, proposed}
 use Rattle.packet_world.specs.broker_spec.declared.command.Command.{Command}
 use Rattle.packet_world.specs.broker_spec.declared.command.Command.TheVariants as commands
 use Rattle.packet_world.specs.broker_spec.Connection.{ConnectionName}
@@ -27,7 +27,7 @@ use Rattle.packet_world.specs.broker_spec.declared.command.Output.TheVariants as
 use Rattle.node_moves.specs.world_base.declared.Connection.{Connection}
 use Rattle.node_moves.specs.world_base.declared.item.Item.TheVariants.{Bytes}
 use Rattle.node_moves.specs.world_base.declared.Port.{Port}
-use Rattle.node_moves.specs.world_base.Connections.{asked, changed, closed, holding, is_at, is_first, is_open_at, is_open_named, is_over, is_proposed, left_with, most_pending}
+use Rattle.node_moves.specs.world_base.Connections.{asked, changed, closed, holding, is_at, is_first, is_open_at, is_open_named, is_over, is_proposed, left_with, max_pending}
 use Rattle.node_moves.specs.world_base.Core.{CoreState, Turn, rules, serves}
 use Rattle.node_moves.specs.world_base.Handing.{listed_at}
 use Rattle.node_moves.specs.world_base.Reading.{begins, changes, loses, open_at, reads, reads_all, reads_next, reads_of, refused, says, unread_of}
@@ -120,7 +120,7 @@ module _ (core : CoreState) (port : Port) (now : ℕ) (piece : List ℕ) (c : Co
     (named : find (is_open_named c.name) core.connections ≡ Some c) (awaits : is_first c.stage ≡ true) (unread : c.unread ≡ []) (none : c.pending ≡ [])
     (whole : verdict piece ≡ Ok (packets.Connect connect, []))
     (effects : (proposal_at core (commands.Connect c.name connect.client connect.clean)).effects ≡ map (Out place) (outputs.Send c.name packet ∷ others) ++ more)
-    (some : 0 < length (spelling packet)) (short : length (spelling packet) ≤ most_pending) where
+    (some : 0 < length (spelling packet)) (short : length (spelling packet) ≤ max_pending) where
   abbrev command : Command
   command = commands.Connect c.name connect.client connect.clean
 
@@ -131,7 +131,7 @@ module _ (core : CoreState) (port : Port) (now : ℕ) (piece : List ℕ) (c : Co
   now_asked = asked_now now connect.keep_alive
 
   leads : serves core ≡ true
-  leads = (and_parts (serves core) (nat_lt (places core.replica.state.log) most_places) room).0
+  leads = (and_parts (serves core) (nat_lt (places core.replica.state.log) max_places) room).0
 
   -- it is open, with its CONNECT
   is_open : is_open_at port c ≡ true

@@ -19,7 +19,7 @@ use Rattle.packet_world.specs.broker_spec.declared.command.Output.TheVariants as
 use Rattle.node_moves.specs.world_base.declared.Connection.{Connection}
 use Rattle.node_moves.specs.world_base.declared.item.Item.TheVariants.{Peer}
 use Rattle.node_moves.specs.world_base.declared.Port.{Port}
-use Rattle.node_moves.specs.world_base.Connections.{changed, closed, failing, has_failed, is_at, is_listed, is_open_named, is_over, most_pending, put_out, putting}
+use Rattle.node_moves.specs.world_base.Connections.{changed, closed, failing, has_failed, is_at, is_listed, is_open_named, is_over, max_pending, put_out, putting}
 use Rattle.node_moves.specs.world_base.Core.{CoreState, Turn, rules, serves}
 use Rattle.node_moves.specs.world_base.Failing.{closes_failed, loses_all_failed, loses_failed, loses_if}
 use Rattle.node_moves.specs.world_base.Handing.{listed_at}
@@ -115,7 +115,7 @@ module _ (port : Port) (front : List ℕ) (some : 0 < length front) where
   closed_keeps = record { port_of = λ d. refl; front_of = λ d first. first }
 
   pub put_keeps : (bytes : List ℕ) → Keeps (put_out bytes)
-  put_keeps bytes = record { port_of = λ d. port_by d (nat_le (length d.pending + length bytes) most_pending); front_of = λ d first. front_by d first (nat_le (length d.pending + length bytes) most_pending) }
+  put_keeps bytes = record { port_of = λ d. port_by d (nat_le (length d.pending + length bytes) max_pending); front_of = λ d first. front_by d first (nat_le (length d.pending + length bytes) max_pending) }
     where
       port_by : (d : Connection) (b : Bool) → (if b then putting bytes d else failing d).port ≡ d.port
       port_by d true = refl
@@ -192,7 +192,7 @@ found_both one two f (d ∷ cs) c p q r found here = by (one d) (two d) refl ref
     by false true e g rest x y = absurd (both_ways (one d) e (ap one (one_some d c x) ∙ p))
     by false false e g rest x y = ap (λ (z : Bool). if z then Some d else find two (changed one f cs)) g ∙ rest x y
 
-pub first_put : (port : Port) (x : ConnectionName) (packet : Packet) (core : CoreState) (c : Connection) (some : 0 < length (spelling packet)) → length (spelling packet) ≤ most_pending →
+pub first_put : (port : Port) (x : ConnectionName) (packet : Packet) (core : CoreState) (c : Connection) (some : 0 < length (spelling packet)) → length (spelling packet) ≤ max_pending →
     listed_at port core ≡ Some c → find (is_open_named x) core.connections ≡ Some c → c.pending ≡ [] →
     FrontOf port (spelling packet) some (served_by (outputs.Send x packet) core).connections
 unfolding changes_named
@@ -207,7 +207,7 @@ first_put port x packet core c some short listed opened none =
   where
     puts : put_out (spelling packet) c ≡ putting (spelling packet) c
     puts = ap (λ (b : Bool). if b then putting (spelling packet) c else failing c)
-        (le-leb (length c.pending + length (spelling packet)) most_pending (let e = ap length none in omega (arith, e, short)))
+        (le-leb (length c.pending + length (spelling packet)) max_pending (let e = ap length none in omega (arith, e, short)))
 
 pub answer_is_put_out : AnswerIsPutOut
 unfolding drives

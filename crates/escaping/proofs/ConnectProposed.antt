@@ -14,7 +14,7 @@ use Rattle.node_moves.specs.ballot.Logs.{places, pushed}
 use Rattle.node_moves.specs.ballot.Replica.{CountedReplica, ReplicaState, is_active}
 use Rattle.node_moves.specs.ballot.Sending.{Outcome, message_to_followed, sent_first}
 use Rattle.node_moves.specs.ballot.Body.TheVariants.{Append}
-use Rattle.node_moves.specs.ballot.Serving.{added, least, most_places, proposed}
+use Rattle.node_moves.specs.ballot.Serving.{added, least, max_places, proposed}
 use Rattle.node_moves.proofs.of_ballot.StepRows.{added-is, commit_at-goes, commit_at-stays}
 use Rattle.packet_world.specs.snapshots.World.{outputs}
 use Rattle.packet_world.specs.broker_spec.declared.command.Command.{Command}
@@ -84,11 +84,11 @@ added_serves r command = by (cases_lt r.committed held)
 proposed_serves : (core : CoreState) (command : Command) → has_room core ≡ true → serves (with_replica (proposal_at core command).state core) ≡ true
 unfolding proposed
 proposed_serves core command room =
-    let z = and_parts (serves core) (nat_lt (places core.replica.state.log) most_places) room in
+    let z = and_parts (serves core) (nat_lt (places core.replica.state.log) max_places) room in
     let a = and_parts (is_active core.replica.state.role) (not core.replica.state.stopped) z.0 in
     let k = added_serves core.replica.state command in
     ap (λ (b : Bool). let r : ReplicaState State Command = (if b then added rules core.replica.state command else record { state = core.replica.state; effects = [] }).state in
-    is_active r.role && not r.stopped) (ap (λ (b : Bool). b && nat_lt (places core.replica.state.log) most_places) a.0 ∙ z.1)
+    is_active r.role && not r.stopped) (ap (λ (b : Bool). b && nat_lt (places core.replica.state.log) max_places) a.0 ∙ z.1)
     ∙ ap (λ role. is_active role && not (added rules core.replica.state command).state.stopped) k.0
     ∙ ap (λ (b : Bool). is_active core.replica.state.role && not b) k.1 ∙ z.0
 
@@ -129,7 +129,7 @@ module _ (core : CoreState) (port : Port) (now : ℕ) (piece : List ℕ) (c : Co
   after = with_replica (proposal_at core command).state (with_change (asked_now now connect.keep_alive))
 
   leads : serves core ≡ true
-  leads = (and_parts (serves core) (nat_lt (places core.replica.state.log) most_places) room).0
+  leads = (and_parts (serves core) (nat_lt (places core.replica.state.log) max_places) room).0
 
   still_open : (d : Connection) → is_open_at port d ≡ true → is_open_at port (asked_now now connect.keep_alive d) ≡ true
   still_open d e = (and_parts (not (is_over d.stage)) (is_at port d) e).1

@@ -19,7 +19,7 @@ use Rattle.packet_world.specs.broker_spec.declared.command.Output.TheVariants.{S
 use Rattle.node_moves.specs.world_base.declared.Connection.{Connection}
 use Rattle.node_moves.specs.world_base.declared.item.Item.TheVariants.{Bytes, Peer}
 use Rattle.node_moves.specs.world_base.declared.Port.{Port}
-use Rattle.node_moves.specs.world_base.Connections.{is_first, is_open_named, most_pending}
+use Rattle.node_moves.specs.world_base.Connections.{is_first, is_open_named, max_pending}
 use Rattle.node_moves.specs.world_base.Core.{CoreState}
 use Rattle.node_moves.specs.world_base.Handing.{listed_at}
 use Rattle.node_moves.specs.world_base.Reading.{open_at}
@@ -45,7 +45,7 @@ AnswerIsPutOut =
     c.pending ≡ [] →
     (heard_by core message).effects ≡ map (Out place) (Send x packet ∷ others) ++ more →
     0 < length (spelling packet) →
-    length (spelling packet) ≤ most_pending →
+    length (spelling packet) ≤ max_pending →
     PutsOutFirst port (spelling packet) (node_step (Peer message) core).core
 
 -- the same if a sole member reads the CONNECT, and its proposal is answered at once
@@ -60,5 +60,5 @@ AnswerAloneIsPutOut =
     verdict piece ≡ Ok (packets.Connect connect, []) →
     (proposal_at core (commands.Connect c.name connect.client connect.clean)).effects
     ≡ map (Out place) (Send c.name packet ∷ others) ++ more →
-    0 < length (spelling packet) → length (spelling packet) ≤ most_pending →
+    0 < length (spelling packet) → length (spelling packet) ≤ max_pending →
     PutsOutFirst port (spelling packet) (node_step (Bytes port piece now) core).core

@@ -12,7 +12,7 @@ use Rattle.escaping.specs.ballot.Protocol.{received, replica_step}
 use Rattle.escaping.specs.ballot.Protocol.Input.{Proposes}
 use Rattle.escaping.specs.ballot.Replica.{CountedReplica, ReplicaState, is_active}
 use Rattle.escaping.specs.ballot.Sending.{Outcome}
-use Rattle.escaping.specs.ballot.Serving.{most_places}
+use Rattle.escaping.specs.ballot.Serving.{max_places}
 use Rattle.escaping.specs.packet.declared.connect.Connect.{Connect}
 use Rattle.escaping.specs.packet.Spelling.{spelling}
 use Rattle.escaping.specs.broker_spec.declared.command.Command.{Command}
@@ -35,7 +35,7 @@ use Rattle.ways_out.specs.snapshots.World.{messages, outputs}
 use Rattle.escaping.specs.world_base.declared.Connection.{Connection}
 use Rattle.escaping.specs.world_base.declared.item.Item.TheVariants.{Bytes, Peer}
 use Rattle.escaping.specs.world_base.declared.Port.{Port}
-use Rattle.escaping.specs.world_base.Connections.{is_open_named, most_pending}
+use Rattle.escaping.specs.world_base.Connections.{is_open_named, max_pending}
 use Rattle.escaping.specs.world_base.Core.{CoreState, CountedCore, Turn, rules, serves}
 use Rattle.escaping.specs.world_base.Handing.{hands_over}
 use Rattle.escaping.specs.world_base.Step.{node_step}
@@ -161,7 +161,7 @@ some_spelled : 0 < length (spelling session_present)
 unfolding spelling
 some_spelled = omega arith
 
-short_spelled : length (spelling session_present) ≤ most_pending
+short_spelled : length (spelling session_present) ≤ max_pending
 unfolding spelling
 short_spelled = omega arith
 
@@ -200,9 +200,9 @@ module _ (config : Config) (a : Moment State Command Output) (past : List (Momen
 
   room : has_room core ≡ true
   room =
-      and_from (serves core) (nat_lt (places r.log) most_places)
+      and_from (serves core) (nat_lt (places r.log) max_places)
       (ap (λ (b : Bool). b && not r.stopped) (ap is_active leads.role) ∙ ap not leads.runs)
-      (lt-ltb (places r.log) most_places (subst (λ k. k < most_places) (sym long) can.room))
+      (lt-ltb (places r.log) max_places (subst (λ k. k < max_places) (sym long) can.room))
 
   proposes_c : commands.Connect connection.name connect.client connect.clean ≡ c
   proposes_c = ap (λ (y : ConnectionName). commands.Connect y connect.client connect.clean) can.awaits.name ∙ ap (λ (b : Bool). commands.Connect x connect.client b) can.kept

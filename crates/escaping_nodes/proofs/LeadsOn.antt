@@ -14,7 +14,7 @@ use Rattle.escaping.specs.ballot.Replica.{ReplicaState, is_active, is_backup, is
 use Rattle.escaping.specs.ballot.Role.TheVariants.{Active, Backup}
 use Rattle.escaping.specs.ballot.Sending.{Outcome, message_to, nothing_done}
 use Rattle.escaping.specs.ballot.Taking.{taken}
-use Rattle.escaping.specs.ballot.Serving.{added, commit, commit_at, follows, leads, least, most_places, on_append, on_commit, on_held, proposed, raised}
+use Rattle.escaping.specs.ballot.Serving.{added, commit, commit_at, follows, leads, least, max_places, on_append, on_commit, on_held, proposed, raised}
 use Rattle.escaping.proofs.of_ballot.StepRows.{commit_at-goes, commit_at-stays}
 
 -- it is the active primary of this ballot, in which its log was installed, and it runs
@@ -109,9 +109,9 @@ module _ {S C O : Type 0} (rules : Rules S C O) (ballot : ℕ) (r : ReplicaState
   activated : (b : ℕ) → LeadsAt ballot (on_activated {O = O} rules r b).state
   unfolding on_activated
   activated b =
-      by_test ballot ((r.joined == b && is_installing r.role) && (nat_le (length r.lacking) 0 && nat_lt (places r.log) most_places)) _ (nothing_done O r)
+      by_test ballot ((r.joined == b && is_installing r.role) && (nat_le (length r.lacking) 0 && nat_lt (places r.log) max_places)) _ (nothing_done O r)
       (λ e. absurd (fails_last (r.joined == b) (is_installing r.role) installing
-      (and_parts (r.joined == b && is_installing r.role) (nat_le (length r.lacking) 0 && nat_lt (places r.log) most_places) e).0)) (λ e. l)
+      (and_parts (r.joined == b && is_installing r.role) (nat_le (length r.lacking) 0 && nat_lt (places r.log) max_places) e).0)) (λ e. l)
 
   superseded : (b : ℕ) → LeadsAt ballot (on_superseded O r b).state
   unfolding on_superseded
@@ -144,7 +144,7 @@ module _ {S C O : Type 0} (rules : Rules S C O) (ballot : ℕ) (r : ReplicaState
 
   pub leads_proposing : (c : C) → LeadsAt ballot (proposed {O = O} rules r c).state
   unfolding proposed
-  leads_proposing c = by_test ballot (is_active r.role && nat_lt (places r.log) most_places) _ (nothing_done O r) (λ e. added_leads c) (λ e. l)
+  leads_proposing c = by_test ballot (is_active r.role && nat_lt (places r.log) max_places) _ (nothing_done O r) (λ e. added_leads c) (λ e. l)
 
   pub leads_on : (from : ℕ) (body : Body C) → (received {O = O} rules r from body).state.joined ≡ ballot → LeadsAt ballot (received {O = O} rules r from body).state
   leads_on from (NewBallot b members a old) after = new_ballot b members a old after

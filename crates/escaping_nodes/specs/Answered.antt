@@ -4,7 +4,7 @@ use Rattle.ways_out.specs.lists.Lists.{In}
 use Rattle.escaping.specs.ballot.Body.TheVariants.{Held}
 use Rattle.escaping.specs.ballot.Config.{Config}
 use Rattle.escaping.specs.ballot.Message.{Message}
-use Rattle.escaping.specs.ballot.Serving.{most_places}
+use Rattle.escaping.specs.ballot.Serving.{max_places}
 use Rattle.escaping.specs.packet.declared.connack.Connack.TheVariants as connacks
 use Rattle.escaping.specs.packet.declared.connect.Connect.{Connect}
 use Rattle.escaping.specs.packet.declared.packet.Packet.{Packet}
@@ -54,7 +54,7 @@ pub record CanAsk (a : Moment State Command Output) (n : NodesState) (ballot ind
   pub stands : slice_get n.nodes index ≡ Some node
   pub serves : Serves ballot (begun list start) others_of (index + 1)
       (whole a.world.archive (replica_of node.core))
-  pub room : length (begun list start) < most_places
+  pub room : length (begun list start) < max_places
   pub awaits : AwaitsConnect port x node.core
   pub session : session_of (past_of usual_limits list) connect.client ≡ Some false
   pub is_connect : verdict piece ≡ Ok (packets.Connect connect, [])

@@ -11,7 +11,7 @@ use Rattle.ballot.specs.Protocol.{Input, replica_step}
 use Rattle.ballot.specs.Protocol.Input.{Proposes, Ticks}
 use Rattle.ballot.specs.Replica.{ReplicaState, CountedReplica, is_active}
 use Rattle.ballot.specs.Sending.{Outcome}
-use Rattle.ballot.specs.Serving.{most_places, proposed}
+use Rattle.ballot.specs.Serving.{max_places, proposed}
 use Rattle.ballot.proofs.StepRows.{added-log, proposed-adds, proposed-full, proposed-not_active}
 use Rattle.ballot.proofs.ThinnedEffects.{Thinned-same}
 use Rattle.ballot.proofs.TicksTaken.{ticked-state}
@@ -71,7 +71,7 @@ ticks_called {S = S} {C = C} {O = O} rules old new before after s still =
 
 -- a proposal that is taken makes the log longer
 pub proposal_busy : {S C O : Type 0} {P : Type 0} (rules : Rules S C O) (r : ReplicaState S C) (command : C) → is_active r.role ≡ true →
-    places r.log < most_places → IsQuiet r (proposed rules r command) → P
+    places r.log < max_places → IsQuiet r (proposed rules r command) → P
 proposal_busy {S = S} {C = C} {O = O} rules r command active room quiet =
     let e = ap (λ (o : Outcome S C O). places o.state.log) (sym (proposed-adds rules r command active room)) in
     let same = ap places quiet.same_log in
@@ -81,15 +81,15 @@ proposal_busy {S = S} {C = C} {O = O} rules r command active room quiet =
 -- so one that does not is refused
 pub proposes_called : {S C O : Type 0} (rules : Rules S C O) (old new : CountedReplica S C) (command : C) (before after : List (Effect C O)) →
     Stepped rules old (proposed rules old.state command) new before after → (is_active old.state.role ≡ false → new ≡ old) →
-    (is_active old.state.role ≡ true → most_places ≤ places old.state.log → new ≡ old) → Called rules old (Proposes command) new before after
+    (is_active old.state.role ≡ true → max_places ≤ places old.state.log → new ≡ old) → Called rules old (Proposes command) new before after
 proposes_called {S = S} {C = C} {O = O} rules old new command before after s idle full =
-    record { stepped = s; quiet = λ q r. by_role (cases_Bool (is_active old.state.role)) (cases_lt (places old.state.log) most_places) q }
+    record { stepped = s; quiet = λ q r. by_role (cases_Bool (is_active old.state.role)) (cases_lt (places old.state.log) max_places) q }
   where
     with_outcome : Outcome S C O → CountedReplica S C
     with_outcome o = record { state = o.state; losses = old.losses }
 
     by_role : (is_active old.state.role ≡ true) ⊎ (is_active old.state.role ≡ false) →
-        (places old.state.log < most_places) ⊎ (most_places ≤ places old.state.log) → IsQuiet old.state (proposed rules old.state command) →
+        (places old.state.log < max_places) ⊎ (max_places ≤ places old.state.log) → IsQuiet old.state (proposed rules old.state command) →
         new ≡ record old { state = (proposed rules old.state command).state }
     by_role (inl on) (inl room) q = proposal_busy rules old.state command on room q
     by_role (inl on) (inr past) q = full on past ∙ ap with_outcome (sym (proposed-full rules old.state command on past))

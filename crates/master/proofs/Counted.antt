@@ -22,9 +22,9 @@ use Rattle.snapshots.specs.agreement.Inside.Chosen.{ChosenList, IsAgreedIn}
 use Rattle.snapshots.specs.agreement.Inside.Serves.{Serves}
 use Rattle.snapshots.specs.agreement.Inside.Sound.{IsSound}
 use Rattle.snapshots.specs.agreement.Inside.Saying.{Says}
-use Rattle.snapshots.specs.agreement.Inside.ToldLengths.{chosen_length, least_of, most_told, told_by, told_in, told_length}
+use Rattle.snapshots.specs.agreement.Inside.ToldLengths.{chosen_length, least_of, max_told, told_by, told_in, told_length}
 use Rattle.snapshots.proofs.of_agreement.Agreed.AgreedExists.{least_each, least_most, least_top, newest_agreed}
-use Rattle.snapshots.proofs.of_agreement.Agreed.MostTold.{one_given, told_whole}
+use Rattle.snapshots.proofs.of_agreement.Agreed.MaxTold.{one_given, told_whole}
 use Rattle.snapshots.proofs.of_agreement.Agreed.PastAgrees.{agreed_known, has_agreed, nodes_agree}
 use Rattle.snapshots.proofs.of_agreement.Agreed.PastKnown.{past_known}
 use Rattle.snapshots.proofs.of_agreement.Frame.Bases.{chosen_told, one_line}
@@ -178,7 +178,7 @@ primary_silent w h b g to from (Held x held) says given is = by_ballot (cases_eq
 primary_silent w h b g to from (Commit x held) says given is = refl
 
 primary_told : {S C O : Type 0} (rules : Rules S C O) (w : World S C O) (h : History C) (b : ℕ) (g : Given) → IsSound rules w h → h.given b ≡ Some g →
-    most_told g.primary b w.sent ≡ 0
+    max_told g.primary b w.sent ≡ 0
 primary_told {S = S} {C = C} rules w h b g s given = told_none g.primary b w.sent (λ x i. by_sender x i (cases_eq x.1.from g.primary))
   where
     by_sender : (x : ℕ × Message C) → In x w.sent → (x.1.from ≡ g.primary) ⊎ (x.1.from ≡ g.primary → ⊥) → told_in g.primary b x.1 ≡ 0
@@ -246,12 +246,12 @@ front_length rules a xs f =
 
 -- what another member acknowledged
 other_told : {S C O : Type 0} (a : Moment S C O) (g : Given) (l : Line C) (m : ℕ) → (m ≡ g.primary → ⊥) →
-    told_length a.world.sent a.master.active g l m ≡ most_told m a.master.active a.world.sent
-other_told a g l m ne = ap (λ k. cond k (length l.list) (most_told m a.master.active a.world.sent)) (ne_eqb m g.primary ne)
+    told_length a.world.sent a.master.active g l m ≡ max_told m a.master.active a.world.sent
+other_told a g l m ne = ap (λ k. cond k (length l.list) (max_told m a.master.active a.world.sent)) (ne_eqb m g.primary ne)
 
 primary_length : {S C O : Type 0} (a : Moment S C O) (g : Given) (l : Line C) (m : ℕ) → m ≡ g.primary →
     told_length a.world.sent a.master.active g l m ≡ length l.list
-primary_length a g l m e = ap (λ k. cond k (length l.list) (most_told m a.master.active a.world.sent)) (eq-eqb m g.primary e)
+primary_length a g l m e = ap (λ k. cond k (length l.list) (max_told m a.master.active a.world.sent)) (eq-eqb m g.primary e)
 
 -- it lies within the ballot's list
 told_within : {S C O : Type 0} (rules : Rules S C O) (a : Moment S C O) (xs : List C) → (f : IsFront rules a xs) → (m : ℕ) → In m a.master.members →
@@ -269,7 +269,7 @@ told_within rules a xs f m i =
 
 -- with two members and more, the agreed list is as long as what all but the primary acknowledged
 pub counted_length : {S C O : Type 0} (rules : Rules S C O) (config : Config) (a : Moment S C O) (past : List (Moment S C O)) (xs : List C) (told : ToldIn) (top : ℕ) →
-    Past rules config (a ∷ past) → IsAgreed config (a ∷ past) xs → told.ballot ≡ a.master.active → ((m : ℕ) → m < 16 → get_or told.held m 0 ≡ most_told m told.ballot a.world.sent) →
+    Past rules config (a ∷ past) → IsAgreed config (a ∷ past) xs → told.ballot ≡ a.master.active → ((m : ℕ) → m < 16 → get_or told.held m 0 ≡ max_told m told.ballot a.world.sent) →
     ((m : ℕ) → get_or told.held m 0 ≤ top) → (length a.master.members ≡ 1 → ⊥) →
     least_but_one told.held top top a.master.members ≡ length xs
 counted_length {S = S} {C = C} {O = O} rules config a past xs told top came agreed active counted bound several =
@@ -286,8 +286,8 @@ counted_length {S = S} {C = C} {O = O} rules config a past xs told top came agre
     led : In f.given.primary a.master.members
     led = subst (λ ms. In f.given.primary ms) f.members (f.serves.sound.ballots.led a.master.active f.given f.is_given)
 
-    counts : (m : ℕ) → In m a.master.members → get_or told.held m 0 ≡ most_told m a.master.active a.world.sent
-    counts m i = counted m (rising_above 0 a.master.members m lawful.active i).1 ∙ ap (λ b. most_told m b a.world.sent) active
+    counts : (m : ℕ) → In m a.master.members → get_or told.held m 0 ≡ max_told m a.master.active a.world.sent
+    counts m i = counted m (rising_above 0 a.master.members m lawful.active i).1 ∙ ap (λ b. max_told m b a.world.sent) active
 
     none : get_or told.held f.given.primary 0 ≡ 0
     none = counts f.given.primary led ∙ primary_told rules a.world f.history a.master.active f.given f.serves.sound f.is_given

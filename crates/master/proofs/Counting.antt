@@ -10,7 +10,7 @@ use Rattle.ballot.specs.Losses.{Loses, halted, one_more}
 use Rattle.ballot.specs.Protocol.{Input, replica_step}
 use Rattle.ballot.specs.Protocol.Input.{Receives, Proposes}
 use Rattle.ballot.specs.Replica.{ReplicaState, is_active, status_of}
-use Rattle.ballot.specs.Serving.{most_places}
+use Rattle.ballot.specs.Serving.{max_places}
 use Rattle.ballot.specs.Cutting.{can_cut}
 use Rattle.ballot.specs.Logs.{places}
 use Rattle.master.specs.declared.event.Event.{Event}
@@ -217,20 +217,20 @@ get_past (y ∷ xs) (suc k) past = get_past xs k (omega arith)
 
 -- whether a proposal is taken, by the status
 pub proposal_refused : {S C : Type 0} (r : ReplicaState S C) (status : Status) (active : Bool) (command : C) → status ≡ status_of r → active ≡ is_active status.role →
-    (active ≡ false) ⊎ ((active ≡ true) × (most_places ≤ status.held)) → can_take r (Proposes command) ≡ false
+    (active ≡ false) ⊎ ((active ≡ true) × (max_places ≤ status.held)) → can_take r (Proposes command) ≡ false
 proposal_refused r status active command e a (inl off) =
-    ap (λ b. b && nat_lt (places r.log) most_places) (ap (λ (s : Status). is_active s.role) (sym e) ∙ sym a ∙ off)
+    ap (λ b. b && nat_lt (places r.log) max_places) (ap (λ (s : Status). is_active s.role) (sym e) ∙ sym a ∙ off)
 proposal_refused r status active command e a (inr (on, full)) =
     let long : status.held ≡ places r.log = ap (λ (s : Status). s.held) e in
-    ap (λ b. b && nat_lt (places r.log) most_places) (ap (λ (s : Status). is_active s.role) (sym e) ∙ sym a ∙ on)
-    ∙ le-ltb (places r.log) most_places (omega (arith, long, full))
+    ap (λ b. b && nat_lt (places r.log) max_places) (ap (λ (s : Status). is_active s.role) (sym e) ∙ sym a ∙ on)
+    ∙ le-ltb (places r.log) max_places (omega (arith, long, full))
 
 pub proposal_taken : {S C : Type 0} (r : ReplicaState S C) (status : Status) (active : Bool) (command : C) → status ≡ status_of r → active ≡ is_active status.role →
-    active ≡ true → status.held < most_places → can_take r (Proposes command) ≡ true
+    active ≡ true → status.held < max_places → can_take r (Proposes command) ≡ true
 proposal_taken r status active command e a on room =
     let long : status.held ≡ places r.log = ap (λ (s : Status). s.held) e in
-    ap (λ b. b && nat_lt (places r.log) most_places) (ap (λ (s : Status). is_active s.role) (sym e) ∙ sym a ∙ on)
-    ∙ lt-ltb (places r.log) most_places (omega (arith, long, room))
+    ap (λ b. b && nat_lt (places r.log) max_places) (ap (λ (s : Status). is_active s.role) (sym e) ∙ sym a ∙ on)
+    ∙ lt-ltb (places r.log) max_places (omega (arith, long, room))
 
 -- a ballot that is given
 pub gives_turn : {S C O : Type 0} (rules : Rules S C O) (a : Moment S C O) (config : Config) → refusal a.master config ≡ None →

@@ -21,9 +21,9 @@ use Rattle.snapshots.specs.Masters.{assigned, activated}
 use Rattle.snapshots.specs.Past.{Moment, Past, opening_moment}
 use Rattle.snapshots.specs.Past.Past.{began, went_on}
 use Rattle.snapshots.specs.Steps.{tells_from_master}
-use Rattle.master.specs.ToldLengths.{most_told, told_by, told_in}
+use Rattle.master.specs.ToldLengths.{max_told, told_by, told_in}
 use Rattle.master.proofs.Untold.{whole_untold}
-use Rattle.master.proofs.WholeTold.{most_told_whole}
+use Rattle.master.proofs.WholeTold.{max_told_whole}
 use Rattle.snapshots.specs.Past.{whole_moment}
 use Rattle.snapshots.proofs.PastsKept.{past_stands}
 use Rattle.std.specs.Bool.{OnTrue, OnFalse}
@@ -48,27 +48,27 @@ use Rattle.master.proofs.Happening.IsTurn.{it_takes, it_stops}
 use Rattle.master.proofs.Happening.IsMasterTurn.{it_gives, it_answers}
 
 -- a message more
-pub most_told_more : {C : Type 0} (m b : ℕ) (sent more : List (ℕ × Message C)) →
-    most_told m b (sent ++ more) ≡ max (most_told m b sent) (most_told m b more)
-most_told_more m b [] more = let e : most_told m b more ≡ max 0 (most_told m b more) = omega arith in e
-most_told_more m b (x ∷ sent) more =
-    let e = most_told_more m b sent more in
+pub max_told_more : {C : Type 0} (m b : ℕ) (sent more : List (ℕ × Message C)) →
+    max_told m b (sent ++ more) ≡ max (max_told m b sent) (max_told m b more)
+max_told_more m b [] more = let e : max_told m b more ≡ max 0 (max_told m b more) = omega arith in e
+max_told_more m b (x ∷ sent) more =
+    let e = max_told_more m b sent more in
     ap (max (told_in m b x.1)) e
-    ∙ (let f : max (told_in m b x.1) (max (most_told m b sent) (most_told m b more)) ≡ max (max (told_in m b x.1) (most_told m b sent)) (most_told m b more) = omega arith in f)
+    ∙ (let f : max (told_in m b x.1) (max (max_told m b sent) (max_told m b more)) ≡ max (max (told_in m b x.1) (max_told m b sent)) (max_told m b more) = omega arith in f)
 
 -- messages that say nothing
-pub most_told_none : {C : Type 0} (m b : ℕ) (sent : List (ℕ × Message C)) → ((x : ℕ × Message C) → In x sent → told_in m b x.1 ≡ 0) →
-    most_told m b sent ≡ 0
-most_told_none m b [] all = refl
-most_told_none m b (x ∷ sent) all =
-    let e = all x here in let f = most_told_none m b sent (λ y i. all y (there i)) in omega (arith, e, f)
+pub max_told_none : {C : Type 0} (m b : ℕ) (sent : List (ℕ × Message C)) → ((x : ℕ × Message C) → In x sent → told_in m b x.1 ≡ 0) →
+    max_told m b sent ≡ 0
+max_told_none m b [] all = refl
+max_told_none m b (x ∷ sent) all =
+    let e = all x here in let f = max_told_none m b sent (λ y i. all y (there i)) in omega (arith, e, f)
 
 -- what is counted stays so after a message that says nothing
 pub counted_still : {C : Type 0} (sent : List (ℕ × Message C)) (x : ℕ × Message C) (t : ToldIn) → ((m b : ℕ) → told_in m b x.1 ≡ 0) →
     HasCounted sent t → HasCounted (sent ++ x ∷ []) t
 counted_still {C = C} sent x t none h m low =
-    let e = most_told_more m t.ballot sent (x ∷ []) in
-    let f : most_told m t.ballot (x ∷ []) ≡ 0 = (let z = none m t.ballot in omega (arith, z)) in
+    let e = max_told_more m t.ballot sent (x ∷ []) in
+    let f : max_told m t.ballot (x ∷ []) ≡ 0 = (let z = none m t.ballot in omega (arith, z)) in
     let y = h m low in omega (arith, e, f, y)
 
 -- what one body acknowledges
@@ -91,10 +91,10 @@ answer_silent C from ballot false m b = silent {C = C} m b from (Superseded ball
 
 -- nothing was acknowledged in the ballot that comes next
 pub untold_next : {S C O : Type 0} (rules : Rules S C O) (config : Config) (a : Moment S C O) (past : List (Moment S C O)) → Past rules config (a ∷ past) →
-    (m : ℕ) → most_told m (a.master.given + 1) a.world.sent ≡ 0
+    (m : ℕ) → max_told m (a.master.given + 1) a.world.sent ≡ 0
 untold_next {S = S} {C = C} {O = O} rules config a past came m =
     let q = past_stands rules config a past came in
-    most_told_whole m (a.master.given + 1) a.world.archive a.world.sent ∙ whole_untold rules config (whole_moment a) q.earlier q.kept.came m
+    max_told_whole m (a.master.given + 1) a.world.archive a.world.sent ∙ whole_untold rules config (whole_moment a) q.earlier q.kept.came m
 
 -- a group opens
 pub group_opens : {S C O : Type 0} (rules : Rules S C O) (nodes : ℕ) (config : Config) (a : Moment S C O) (told next : ToldIn) → can_open nodes config ≡ true →
@@ -149,7 +149,7 @@ group_gives {S = S} {C = C} {O = O} rules a v config told next next' g granted m
         ballot ∙ ap (λ (y : ℕ × Config). y.0) both
 
     empty : HasCounted a.world.sent next'
-    empty m low = none m ∙ sym (untold_next rules g.config a g.past g.came m) ∙ ap (λ b. most_told m b a.world.sent) (sym ballot)
+    empty m low = none m ∙ sym (untold_next rules g.config a g.past g.came m) ∙ ap (λ b. max_told m b a.world.sent) (sym ballot)
 
     made : (w : World S C O) → MayGo rules a (record { master = assigning a.master config; world = w }) → v.world ≡ w →
         HasCounted w.sent told → HasCounted w.sent next' → IsGroup rules v told next'
@@ -273,10 +273,10 @@ pub counted_next : {C : Type 0} (sent : List (ℕ × Message C)) (i : ℕ) (x : 
     HasCounted (take i sent) t → HasCounted (take (i + 1) sent) u
 counted_next {C = C} sent i x t u below read ballot heard h m low =
     let now : take (i + 1) sent ≡ take i sent ++ x ∷ [] = take_more sent i x below ∙ ap (λ (y : ℕ × Message C). take i sent ++ y ∷ []) (sym read) in
-    let e = most_told_more m t.ballot (take i sent) (x ∷ []) in
+    let e = max_told_more m t.ballot (take i sent) (x ∷ []) in
     let a = heard m low in let b = h m low in
-    a ∙ (let z : max (get_or t.held m 0) (told_in m t.ballot x.1) ≡ most_told m t.ballot (take i sent ++ x ∷ []) = omega (arith, b, e) in z)
-    ∙ ap (λ us. most_told m t.ballot us) (sym now) ∙ ap (λ k. most_told m k (take (i + 1) sent)) (sym ballot)
+    a ∙ (let z : max (get_or t.held m 0) (told_in m t.ballot x.1) ≡ max_told m t.ballot (take i sent ++ x ∷ []) = omega (arith, b, e) in z)
+    ∙ ap (λ us. max_told m t.ballot us) (sym now) ∙ ap (λ k. max_told m k (take (i + 1) sent)) (sym ballot)
 
 -- all of them were received
 pub counted_all : {C : Type 0} (sent : List (ℕ × Message C)) (i : ℕ) (t : ToldIn) → length sent ≤ i → HasCounted (take i sent) t → HasCounted sent t

@@ -13,7 +13,7 @@ use Rattle.ballot.specs.Protocol.{Input, replica_step}
 use Rattle.ballot.specs.Protocol.Input.{Receives, Proposes, Ticks}
 use Rattle.ballot.specs.Replica.{ReplicaState, is_active}
 use Rattle.ballot.specs.Sending.{Outcome, nothing_done}
-use Rattle.ballot.specs.Serving.{most_places}
+use Rattle.ballot.specs.Serving.{max_places}
 use Rattle.ballot.proofs.TicksTaken.{ticked-state}
 use Rattle.snapshots.specs.agreement.MasterState.{AssignRefusal, refusal}
 use Rattle.snapshots.specs.Masters.{MasterOutcome}
@@ -117,8 +117,8 @@ master_needs rules a event o e stops (is_quiet s f still) = let g = sym e ∙ f 
 pub proposal_does : {S C O : Type 0} {P : Type 0} (rules : Rules S C O) (r : ReplicaState S C) (command : C) → can_take r (Proposes command) ≡ true →
     IsQuiet r (replica_step rules r (Proposes command)) → P
 proposal_does {S = S} {C = C} {O = O} rules r command can quiet =
-    let p = and_parts (is_active r.role) (nat_lt (places r.log) most_places) can in
-    proposal_busy rules r command p.0 (ltb-true (places r.log) most_places p.1) quiet
+    let p = and_parts (is_active r.role) (nat_lt (places r.log) max_places) can in
+    proposal_busy rules r command p.0 (ltb-true (places r.log) max_places p.1) quiet
 
 -- a tick that is quiet does nothing
 tick_nothing : {S C O : Type 0} (rules : Rules S C O) (r : ReplicaState S C) → IsQuiet r (replica_step rules r Ticks) → replica_step rules r Ticks ≡ nothing_done O r

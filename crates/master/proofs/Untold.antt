@@ -10,14 +10,14 @@ use Rattle.snapshots.specs.whole.Messages.{Body, Message}
 use Rattle.snapshots.specs.whole.Messages.Body.{NewBallot, Join, State, Install, Installed, Activate, Activated, Superseded, Append, Held, Commit}
 use Rattle.snapshots.specs.agreement.Inside.Ballots.{Given, History}
 use Rattle.snapshots.specs.agreement.Inside.Saying.{Says}
-use Rattle.snapshots.specs.agreement.Inside.ToldLengths.{most_told, told_by, told_in}
+use Rattle.snapshots.specs.agreement.Inside.ToldLengths.{max_told, told_by, told_in}
 use Rattle.snapshots.specs.agreement.Past.{Moment, Past}
 use Rattle.snapshots.specs.agreement.World.{World}
 use Rattle.snapshots.proofs.of_agreement.Agreed.PastKnown.{past_known}
 
 -- messages that say nothing
 pub told_none : {C : Type 0} (m b : ℕ) (sent : List (ℕ × Message C)) → ((x : ℕ × Message C) → In x sent → told_in m b x.1 ≡ 0) →
-    most_told m b sent ≡ 0
+    max_told m b sent ≡ 0
 told_none m b [] all = refl
 told_none m b (x ∷ sent) all =
     let e = all x here in let f = told_none m b sent (λ y i. all y (there i)) in omega (arith, e, f)
@@ -49,7 +49,7 @@ untold_body w h given to from (Held b held) says low =
 untold_body w h given to from (Commit b held) says low = refl
 
 pub whole_untold : {S C O : Type 0} (rules : Rules S C O) (config : Config) (a : Moment S C O) (past : List (Moment S C O)) → Past rules config (a ∷ past) →
-    (m : ℕ) → most_told m (a.master.given + 1) a.world.sent ≡ 0
+    (m : ℕ) → max_told m (a.master.given + 1) a.world.sent ≡ 0
 whole_untold {S = S} {C = C} {O = O} rules config a past came m =
     let q = past_known rules config a past came in
     told_none m (a.master.given + 1) a.world.sent

@@ -11,7 +11,7 @@ use Rattle.ballot.specs.Effect.{Effect}
 use Rattle.ballot.specs.Logs.{places}
 use Rattle.ballot.specs.lists.Lists.{Each, In}
 use Rattle.ballot.specs.Replica.{ReplicaState, CountedReplica}
-use Rattle.master.specs.ToldLengths.{most_told}
+use Rattle.master.specs.ToldLengths.{max_told}
 use Rattle.snapshots.specs.agreement.MasterState.{MasterState}
 use Rattle.snapshots.specs.Past.{Moment, Past}
 use Rattle.snapshots.specs.World.{World, outputs}
@@ -76,7 +76,7 @@ pub record ToldIn : Type 0 where
 
 -- these are the numbers that the messages say
 abbrev pub HasCounted : {C : Type 0} → List (ℕ × Message C) → ToldIn → Type 0
-HasCounted sent t = (m : ℕ) → m < 16 → get_or t.held m 0 ≡ most_told m t.ballot sent
+HasCounted sent t = (m : ℕ) → m < 16 → get_or t.held m 0 ≡ max_told m t.ballot sent
 
 -- how a group came about, and what it counts: what was acknowledged in the active ballot, and in
 -- the ballot that waits

@@ -24,6 +24,6 @@ abbrev pub told_in : {C : Type 0} → ℕ → ℕ → Message C → ℕ
 told_in m b message = if message.from == m then told_by b message.body else 0
 
 -- the greatest length that a node acknowledged in these messages
-abbrev pub most_told : {C : Type 0} → ℕ → ℕ → List (ℕ × Message C) → ℕ
-most_told m b [] = 0
-most_told m b (x ∷ sent) = max (told_in m b x.1) (most_told m b sent)
+abbrev pub max_told : {C : Type 0} → ℕ → ℕ → List (ℕ × Message C) → ℕ
+max_told m b [] = 0
+max_told m b (x ∷ sent) = max (told_in m b x.1) (max_told m b sent)

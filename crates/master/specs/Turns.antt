@@ -9,7 +9,7 @@ use Rattle.ballot.specs.Protocol.{Input, replica_step}
 use Rattle.ballot.specs.Protocol.Input.{Receives, Proposes, Ticks}
 use Rattle.ballot.specs.Replica.{ReplicaState, is_active}
 use Rattle.ballot.specs.Sending.{Outcome}
-use Rattle.ballot.specs.Serving.{most_places}
+use Rattle.ballot.specs.Serving.{max_places}
 use Rattle.snapshots.specs.Masters.{MasterOutcome}
 
 -- the node of a number, if it exists and has not stopped
@@ -38,7 +38,7 @@ pub data Turn (S C O : Type 0) : Type 0 where
 
 -- a proposal needs an active primary whose log has room
 abbrev pub can_take : {S C : Type 0} → ReplicaState S C → Input C → Bool
-can_take r (Proposes command) = is_active r.role && nat_lt (places r.log) most_places
+can_take r (Proposes command) = is_active r.role && nat_lt (places r.log) max_places
 can_take r (Receives message) = true
 can_take r Ticks = true
 

@@ -20,7 +20,7 @@ pub use copying::{config_of, copy_of};
 pub use error::AssignError;
 pub use event::{Event, Idle};
 pub use group::Group;
-pub use master::{LAST_BALLOT, Master};
+pub use master::{MAX_BALLOT, Master};
 pub use recording::record;
 pub use telling::{answer_of, asks_for, tell};
 pub use told::{Told, turn_over};

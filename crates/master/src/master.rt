@@ -12,8 +12,8 @@ use crate::error::AssignError;
 use ballot::{Config, Members};
 use std::marker::Model;
 
-/// The last ballot that can be given.
-pub const LAST_BALLOT: u64 = 1 << 32;
+/// The greatest ballot that can be given.
+pub const MAX_BALLOT: u64 = 1 << 32;
 
 /// The active ballot with its members, and at most one ballot that waits to be activated. None of
 /// its calls takes memory.
@@ -27,7 +27,7 @@ pub struct Master {
 
 impl Model for Master {
     ghost use Rattle.std.specs.Prelude.{◌≤◌};
-    ghost use Rattle.snapshots.specs.agreement.MasterState.{MasterState, last_ballot};
+    ghost use Rattle.snapshots.specs.agreement.MasterState.{MasterState, max_ballot};
 
     ghost Value = { MasterState };
 
@@ -39,7 +39,7 @@ impl Model for Master {
           given = m.given;
         } };
 
-    ghost invariant = { λ m. m.given ≤ last_ballot };
+    ghost invariant = { λ m. m.given ≤ max_ballot };
 }
 
 impl Master {
@@ -66,7 +66,7 @@ impl Master {
     pub fn can_assign(&self, config: &Config) -> bool
         ensures { (result ≡ true) ↔ (refusal self.now config.now ≡ None) }
     {
-        config.is_lawful() && self.given < LAST_BALLOT
+        config.is_lawful() && self.given < MAX_BALLOT
     }
 
     /// Gives the next ballot to a configuration and lets it wait. A ballot that waited is
@@ -84,7 +84,7 @@ impl Master {
         if !config.is_lawful() {
             return Err(AssignError::BadMembers);
         }
-        if self.given >= LAST_BALLOT {
+        if self.given >= MAX_BALLOT {
             return Err(AssignError::BallotsSpent);
         }
         self.given += 1;

@@ -2,16 +2,16 @@
 use Rattle.std.specs.Prelude.{◌≡◌, true, Some, None}
 use Rattle.master.specs.ballot.Config.{Config}
 use Rattle.master.specs.ballot.LawfulConfig.{is_lawful}
-use Rattle.master.specs.ballot_base.Serving.{most_places}
+use Rattle.master.specs.ballot_base.Serving.{max_places}
 use Rattle.master.specs.agreement.MasterState.{MasterState, refusal, ballots_spent}
 
 -- the 4,294,967,296th ballot is given, and none after it
-abbrev pub LastBallotIs : Type 0
-LastBallotIs =
+abbrev pub MaxBallotIs : Type 0
+MaxBallotIs =
     (m : MasterState) (config : Config) → is_lawful config.members config.primary ≡ true →
     (m.given ≡ 4294967295 → refusal m config ≡ None)
     × (m.given ≡ 4294967296 → refusal m config ≡ Some ballots_spent)
 
 -- a log has room for 1,099,511,627,776 commands
-abbrev pub MostPlacesAre : Type 0
-MostPlacesAre = most_places ≡ 1099511627776
+abbrev pub MaxPlacesAre : Type 0
+MaxPlacesAre = max_places ≡ 1099511627776

@@ -1,9 +1,9 @@
 // Rows of the definitions. The call does nothing; its contract is the rows.
 
-ghost use Rattle.master_tests.specs.Ranges.{LastBallotIs, MostPlacesAre};
+ghost use Rattle.master_tests.specs.Ranges.{MaxBallotIs, MaxPlacesAre};
 
 /// Shows the last ballot that a master gives, and how many places a log has.
 pub fn ranges_have_their_edges()
-    ensures ballots { LastBallotIs }
-    ensures places { MostPlacesAre }
+    ensures ballots { MaxBallotIs }
+    ensures places { MaxPlacesAre }
 {}

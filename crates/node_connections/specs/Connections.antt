@@ -96,8 +96,8 @@ abbrev pub putting : List ℕ → Connection → Connection
 putting bytes c = record c { pending = c.pending ++ bytes }
 
 -- how many bytes may wait to be handed over on one connection
-abbrev pub most_pending : ℕ
-most_pending = 134217728
+abbrev pub max_pending : ℕ
+max_pending = 134217728
 
 -- closed as lost: the loss is to be reported to the broker, if its CONNECT was proposed
 abbrev pub failing : Connection → Connection
@@ -106,7 +106,7 @@ failing c = record (closed c) { stage = if is_proposed c.stage then Failed else 
 -- bytes are queued if there is room for them; otherwise the connection is closed as lost
 abbrev pub put_out : List ℕ → Connection → Connection
 put_out bytes c =
-    if nat_le (length c.pending + length bytes) most_pending then putting bytes c else failing c
+    if nat_le (length c.pending + length bytes) max_pending then putting bytes c else failing c
 
 -- what was queued is handed over
 abbrev pub handed : Connection → Connection

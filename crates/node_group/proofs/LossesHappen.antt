@@ -8,7 +8,7 @@ use Rattle.node_moves.specs.ballot.Protocol.{Input}
 use Rattle.node_moves.specs.ballot.Protocol.Input.{Proposes}
 use Rattle.node_moves.specs.ballot.Replica.{CountedReplica, ReplicaState, is_active}
 use Rattle.node_moves.specs.ballot.Sending.{Outcome, nothing_done}
-use Rattle.node_moves.specs.ballot.Serving.{added, most_places, proposed}
+use Rattle.node_moves.specs.ballot.Serving.{added, max_places, proposed}
 use Rattle.node_moves.proofs.of_ballot.StepRows.{proposed-adds}
 use Rattle.packet_world.specs.broker_base.State.{State}
 use Rattle.packet_world.specs.broker_spec.declared.command.Command.{Command}
@@ -109,9 +109,9 @@ takes_happen g n core between command did kept at same taken t config earlier ca
         ∙ taken.room
 
     serving : serves core ≡ true
-    serving = room_serves core (nat_lt (places (replica_of core).log) most_places) room
+    serving = room_serves core (nat_lt (places (replica_of core).log) max_places) room
 
-    fits : nat_lt (places (replica_of core).log) most_places ≡ true
+    fits : nat_lt (places (replica_of core).log) max_places ≡ true
     fits = room_is core room
 
     active : is_active (replica_of core).role ≡ true
@@ -120,7 +120,7 @@ takes_happen g n core between command did kept at same taken t config earlier ca
     outcome : added rules (replica_of between) command ≡ proposed rules (replica_of core) command
     outcome =
         ap (λ (r : ReplicaState State Command). added rules r command) (state_of between core same)
-        ∙ sym (proposed-adds rules (replica_of core) command active (ltb-true (places (replica_of core).log) most_places fits))
+        ∙ sym (proposed-adds rules (replica_of core) command active (ltb-true (places (replica_of core).log) max_places fits))
 
     is : new ≡ (proposed rules (replica_of core) command).state
     is = taken.done.state ∙ ap (λ (o : Outcome State Command Output). o.state) outcome

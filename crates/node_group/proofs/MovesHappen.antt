@@ -14,7 +14,7 @@ use Rattle.node_moves.specs.ballot.Protocol.{Input, replica_step}
 use Rattle.node_moves.specs.ballot.Protocol.Input.{Receives, Proposes, Ticks}
 use Rattle.node_moves.specs.ballot.Replica.{CountedReplica, ReplicaState}
 use Rattle.node_moves.specs.ballot.Sending.{Outcome, nothing_done}
-use Rattle.node_moves.specs.ballot.Serving.{most_places, proposed}
+use Rattle.node_moves.specs.ballot.Serving.{max_places, proposed}
 use Rattle.packet_world.specs.broker_base.State.{State}
 use Rattle.packet_world.specs.broker_spec.declared.command.Command.{Command}
 use Rattle.packet_world.specs.broker_spec.declared.command.Command.TheVariants as commands
@@ -380,8 +380,8 @@ lost_happens : (g : Group) (n : ℕ) (core between : CoreState) (command : Comma
 lost_happens g n core between command kept at same room true e t = put_happens g n core between command kept at same e room t
 lost_happens g n core between command kept at same room false e t = lost_unheard g n core between command kept at same e t
 
-pub room_is : (core : CoreState) → has_room core ≡ true → nat_lt (places (replica_of core).log) most_places ≡ true
-room_is core room = right_true (serves core) (nat_lt (places (replica_of core).log) most_places) room
+pub room_is : (core : CoreState) → has_room core ≡ true → nat_lt (places (replica_of core).log) max_places ≡ true
+room_is core room = right_true (serves core) (nat_lt (places (replica_of core).log) max_places) room
   where
     right_true : (a b : Bool) → (a && b) ≡ true → b ≡ true
     right_true true b e = e
@@ -411,10 +411,10 @@ moves_happen g n core turn (holds port piece) kept at sent t = quietly g n core 
 moves_happen g n core turn (reads_first now port c connect rest is_at first is room) kept at sent t =
     put_happens g n core (changes port (asked connect.keep_alive) (changes port (left_with now rest) core)) _ kept at
     (changes_keep port (asked connect.keep_alive) (changes port (left_with now rest) core) ∙ changes_keep port (left_with now rest) core)
-    (room_serves core (nat_lt (places (replica_of core).log) most_places) room) (λ x is_one. room_is core room) t
+    (room_serves core (nat_lt (places (replica_of core).log) max_places) room) (λ x is_one. room_is core room) t
 moves_happen g n core turn (reads_later now port c packet rest is_at later is room) kept at sent t =
     put_happens g n core (changes port (left_with now rest) core) _ kept at (changes_keep port (left_with now rest) core)
-    (room_serves core (nat_lt (places (replica_of core).log) most_places) room) (λ x is_one. room_is core room) t
+    (room_serves core (nat_lt (places (replica_of core).log) max_places) room) (λ x is_one. room_is core room) t
 moves_happen g n core turn (closes port) kept at sent t = quietly g n core _ kept at (changed_state port closed core) t
 moves_happen g n core turn (refuses port c code is_at first is) kept at sent t = quietly g n core _ kept at (changed_state port (refused code) core) t
 moves_happen g n core turn (loses_one port c is_at was_asked) kept at sent t =

@@ -8,7 +8,7 @@ use Rattle.node_moves.specs.ballot.Logs.{Log, places}
 use Rattle.node_moves.specs.ballot.Protocol.{Input}
 use Rattle.node_moves.specs.ballot.Protocol.Input.{Receives, Proposes, Ticks}
 use Rattle.node_moves.specs.ballot.Replica.{ReplicaState, is_active}
-use Rattle.node_moves.specs.ballot.Serving.{most_places, proposed}
+use Rattle.node_moves.specs.ballot.Serving.{max_places, proposed}
 use Rattle.packet_world.specs.broker_base.State.{State}
 use Rattle.packet_world.specs.broker_spec.declared.command.Command.{Command}
 use Rattle.packet_world.specs.broker_spec.Connection.{ConnectionName}
@@ -30,7 +30,7 @@ AreTaken r new input = (x : ConnectionName) → packets_in x (taken_by r new inp
 
 -- there is room for the command, if it is a packet of a connection
 abbrev pub HasRoomFor : CoreState → Command → Type 0
-HasRoomFor core command = (x : ConnectionName) → is_packet_of command x ≡ true → nat_lt (places (replica_of core).log) most_places ≡ true
+HasRoomFor core command = (x : ConnectionName) → is_packet_of command x ≡ true → nat_lt (places (replica_of core).log) max_places ≡ true
 
 nothing_if : (b : Bool) (x : ConnectionName) → packets_in x (if b then [] else []) ≡ []
 nothing_if true x = refl
@@ -43,7 +43,7 @@ none_taken r new Ticks other = λ x. nothing_if (nat_lt (places r.log) (places n
 none_taken r new (Proposes command) other = absurd cc
 
 -- if there is room the log grows
-grows : (r : ReplicaState State Command) (command : Command) → is_active r.role ≡ true → nat_lt (places r.log) most_places ≡ true
+grows : (r : ReplicaState State Command) (command : Command) → is_active r.role ≡ true → nat_lt (places r.log) max_places ≡ true
     → nat_lt (places r.log) (places (proposed rules r command).state.log) ≡ true
 grows r command active room =
     let same = ap (λ (l : Log Command). places l) (proposed_log r command active room) in

@@ -6,7 +6,7 @@ use Rattle.packet_world.specs.lists.Lists.{Each, In}
 use Rattle.packet_world.specs.lists.Lists.In.{here}
 use Rattle.packet_world.proofs.of_lists.OfEach.{each_append}
 use Rattle.node_moves.specs.ballot.Logs.{places}
-use Rattle.node_moves.specs.ballot.Serving.{most_places}
+use Rattle.node_moves.specs.ballot.Serving.{max_places}
 use Rattle.packet_world.specs.broker_spec.declared.command.Command.{Command}
 use Rattle.packet_world.specs.broker_spec.declared.command.Command.TheVariants as commands
 use Rattle.packet_world.specs.broker_spec.Connection.{ConnectionName}
@@ -55,17 +55,17 @@ proposed_in core turn m command o of serving is x named =
 -- who takes a command after a change of connections serves
 serves_who_takes : (core between : CoreState) (command : Command) (did : Account) → between.replica ≡ core.replica → Takes command between did → serves core ≡ true
 serves_who_takes core between command did same taken =
-    sym (serves_as between core same) ∙ room_serves between (nat_lt (places (replica_of between).log) most_places) taken.room
+    sym (serves_as between core same) ∙ room_serves between (nat_lt (places (replica_of between).log) max_places) taken.room
 
 exactly_in : (core : CoreState) (turn : Turn) (m : Moves core turn) → IsOrderly core → AreWhereItServes core → Each IsInItsBallot (exactly_put m)
 exactly_in core turn (reads_first now port c connect rest at first is room) o of = (
   proposed_in core turn (exactly (reads_first now port c connect rest at first is room)) (commands.Connect c.name connect.client connect.clean) o of
-      (room_serves core (nat_lt (places (replica_of core).log) most_places) room) refl,
+      (room_serves core (nat_lt (places (replica_of core).log) max_places) room) refl,
   tt,
 )
 exactly_in core turn (reads_later now port c packet rest at later is room) o of = (
   proposed_in core turn (exactly (reads_later now port c packet rest at later is room)) (commands.Packet c.name packet) o of
-      (room_serves core (nat_lt (places (replica_of core).log) most_places) room) refl,
+      (room_serves core (nat_lt (places (replica_of core).log) max_places) room) refl,
   tt,
 )
 exactly_in core turn (loses_one port c at asked_before) o of = none_of_a_packet core c.name (serves core)

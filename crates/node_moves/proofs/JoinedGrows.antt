@@ -15,7 +15,7 @@ use Rattle.world_base.specs.ballot.Protocol.{Input, received, ticked, replica_st
 use Rattle.world_base.specs.ballot.Protocol.Input.{Receives, Proposes, Ticks}
 use Rattle.world_base.specs.ballot.Replica.{ReplicaState, is_active, is_installing}
 use Rattle.world_base.specs.ballot.Sending.{Outcome, nothing_done}
-use Rattle.world_base.specs.ballot.Serving.{most_places, least, follows, leads, commit_at, commit, added, proposed, on_append, on_held, on_commit, on_tick_active}
+use Rattle.world_base.specs.ballot.Serving.{max_places, least, follows, leads, commit_at, commit, added, proposed, on_append, on_held, on_commit, on_tick_active}
 use Rattle.node_moves.proofs.NamesInOrder.{same_le}
 
 abbrev pub Up : {S C O : Type 0} → ReplicaState S C → Outcome S C O → Type 0
@@ -108,12 +108,12 @@ up_added rules r command = up_commit rules (record r { log = pushed r.log comman
 pub up_proposed : {S C O : Type 0} (rules : Rules S C O) (r : ReplicaState S C) (command : C) → Up r (proposed rules r command)
 unfolding proposed
 up_proposed {O = O} rules r command =
-    up_if r (is_active r.role && nat_lt (places r.log) most_places) (added rules r command) (nothing_done O r) (λ e. up_added rules r command) (λ e. up_nothing O r)
+    up_if r (is_active r.role && nat_lt (places r.log) max_places) (added rules r command) (nothing_done O r) (λ e. up_added rules r command) (λ e. up_nothing O r)
 
 up_activated : {S C O : Type 0} (rules : Rules S C O) (r : ReplicaState S C) (ballot : ℕ) → Up r (on_activated rules r ballot)
 unfolding on_activated
 up_activated {O = O} rules r ballot =
-    up_if r ((r.joined == ballot && is_installing r.role) && (nat_le (length r.lacking) 0 && nat_lt (places r.log) most_places)) _ (nothing_done O r)
+    up_if r ((r.joined == ballot && is_installing r.role) && (nat_le (length r.lacking) 0 && nat_lt (places r.log) max_places)) _ (nothing_done O r)
     (λ e. up_added rules _ (rules.start_of ballot)) (λ e. up_nothing O r)
 
 up_append : {S C : Type 0} (O : Type 0) (r : ReplicaState S C) (from ballot place : ℕ) (command : C) → Up r (on_append O r from ballot place command)

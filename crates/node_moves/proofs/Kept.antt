@@ -18,7 +18,7 @@ use Rattle.world_base.specs.declared.Port.{Port}
 use Rattle.world_base.specs.declared.Connection.{Connection}
 use Rattle.world_base.specs.declared.Stage.{Stage}
 use Rattle.world_base.specs.declared.Stage.TheVariants.{Awaits, Proposed, Over, Failed}
-use Rattle.world_base.specs.Connections.{is_over, is_proposed, is_failed, has_failed, is_at, is_open_at, is_open_named, is_listed, most_pending, closed, failing, put_out, putting, handed, changed}
+use Rattle.world_base.specs.Connections.{is_over, is_proposed, is_failed, has_failed, is_at, is_open_at, is_open_named, is_listed, max_pending, closed, failing, put_out, putting, handed, changed}
 use Rattle.world_base.specs.Core.{CoreState, Turn, rules, serves}
 use Rattle.world_base.specs.Failing.{closes_failed}
 use Rattle.world_base.specs.Handing.{hands_over, left_by, listed_at}
@@ -141,7 +141,7 @@ failing_over c = by (is_proposed c.stage)
     by false = refl
 
 pub put_out_name : (bytes : List ℕ) (c : Connection) → (put_out bytes c).name ≡ c.name
-put_out_name bytes c = by (nat_le (length c.pending + length bytes) most_pending)
+put_out_name bytes c = by (nat_le (length c.pending + length bytes) max_pending)
   where
     by : (b : Bool) → (let d : Connection = if b then putting bytes c else failing c in d).name ≡ c.name
     by true = refl
@@ -151,7 +151,7 @@ pub put_out_is_mild : (bytes : List ℕ) → IsMild (put_out bytes)
 put_out_is_mild bytes = record { name = put_out_name bytes; stage = stays_or_ends }
   where
     stays_or_ends : (c : Connection) → (((put_out bytes c).stage ≡ c.stage) × ((put_out bytes c).unread ≡ c.unread)) ⊎ (is_over (put_out bytes c).stage ≡ true)
-    stays_or_ends c = by (nat_le (length c.pending + length bytes) most_pending)
+    stays_or_ends c = by (nat_le (length c.pending + length bytes) max_pending)
       where
         by : (b : Bool) → (((let d : Connection = if b then putting bytes c else failing c in d).stage ≡ c.stage)
             × ((let d : Connection = if b then putting bytes c else failing c in d).unread ≡ c.unread))

@@ -21,7 +21,7 @@ use Rattle.world_base.specs.declared.Connection.{Connection}
 use Rattle.world_base.specs.ballot.Protocol.{Input}
 use Rattle.world_base.specs.ballot.Replica.{CountedReplica, ReplicaState}
 use Rattle.world_base.specs.Step.{settled, opens}
-use Rattle.world_base.specs.Connections.{asked, holding, left_with, is_listed, is_at, is_open_at, is_open_named, most_pending, closed, failing, put_out, putting, changed}
+use Rattle.world_base.specs.Connections.{asked, holding, left_with, is_listed, is_at, is_open_at, is_open_named, max_pending, closed, failing, put_out, putting, changed}
 use Rattle.world_base.specs.Core.{CoreState, Turn, rules, serves}
 use Rattle.world_base.specs.Failing.{closes_failed}
 use Rattle.world_base.specs.Reading.{changes, refused}
@@ -88,7 +88,7 @@ puts_nothing x test f cs one lives name pending = by (find test cs) refl
 
 -- bytes are queued, if the connection stays open
 put_out_pending : (bytes : List ℕ) (c : Connection) → live (put_out bytes c) ≡ true → (put_out bytes c).pending ≡ c.pending ++ bytes
-put_out_pending bytes c = by (nat_le (length c.pending + length bytes) most_pending)
+put_out_pending bytes c = by (nat_le (length c.pending + length bytes) max_pending)
   where
     by : (b : Bool) → live (if b then putting bytes c else failing c) ≡ true
         → (let d : Connection = if b then putting bytes c else failing c in d).pending ≡ c.pending ++ bytes

@@ -18,7 +18,7 @@ use Rattle.world_base.specs.ballot.Replica.{ReplicaState, is_active, is_installi
 use Rattle.world_base.specs.ballot.Role.{Role}
 use Rattle.world_base.specs.ballot.Role.TheVariants.{Backup, Fetching, Installing, Active}
 use Rattle.world_base.specs.ballot.Sending.{Outcome, message_to, nothing_done}
-use Rattle.world_base.specs.ballot.Serving.{commit, follows, leads, least, most_places, on_append, on_commit, on_held, on_tick_active, raised}
+use Rattle.world_base.specs.ballot.Serving.{commit, follows, leads, least, max_places, on_append, on_commit, on_held, on_tick_active, raised}
 use Rattle.world_base.proofs.of_ballot.ChangeRows.{on_activated-adds, on_activated-stays}
 use Rattle.node_moves.proofs.ReplicaStays.{added_same, commit_same, proposed_same}
 
@@ -109,10 +109,10 @@ commit_stays rules r b held = by (cases_Bool (follows r b && nat_le held (places
 
 activated_stays : {S C O : Type 0} (rules : Rules S C O) (r : ReplicaState S C) (b : ℕ) → StaysOr r (on_activated rules r b).state
 activated_stays {S = S} {C = C} {O = O} rules r b =
-    by (cases_Bool ((r.joined == b && is_installing r.role) && (nat_le (length r.lacking) 0 && nat_lt (places r.log) most_places)))
+    by (cases_Bool ((r.joined == b && is_installing r.role) && (nat_le (length r.lacking) 0 && nat_lt (places r.log) max_places)))
   where
-    by : (((r.joined == b && is_installing r.role) && (nat_le (length r.lacking) 0 && nat_lt (places r.log) most_places)) ≡ true)
-        ⊎ (((r.joined == b && is_installing r.role) && (nat_le (length r.lacking) 0 && nat_lt (places r.log) most_places)) ≡ false) → StaysOr r (on_activated rules r b).state
+    by : (((r.joined == b && is_installing r.role) && (nat_le (length r.lacking) 0 && nat_lt (places r.log) max_places)) ≡ true)
+        ⊎ (((r.joined == b && is_installing r.role) && (nat_le (length r.lacking) 0 && nat_lt (places r.log) max_places)) ≡ false) → StaysOr r (on_activated rules r b).state
     by (inl e) =
         subst (λ (o : Outcome S C O). StaysOr r o.state) (sym (on_activated-adds rules r b e))
         (inl (added_same rules (record (applied_to rules r (places r.log)) { role = Active; progress = progress_at (places r.log) (others r.id r.members) })

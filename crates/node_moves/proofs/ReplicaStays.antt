@@ -5,7 +5,7 @@ use Rattle.world_base.specs.ballot.Machine.{Rules}
 use Rattle.world_base.specs.ballot.Logs.{places, pushed}
 use Rattle.world_base.specs.ballot.Replica.{ReplicaState, is_active}
 use Rattle.world_base.specs.ballot.Sending.{Outcome}
-use Rattle.world_base.specs.ballot.Serving.{added, commit_at, least, most_places, proposed}
+use Rattle.world_base.specs.ballot.Serving.{added, commit_at, least, max_places, proposed}
 use Rattle.world_base.proofs.of_ballot.StepRows.{added-is, commit_at-goes, commit_at-stays, proposed-adds, proposed-full, proposed-not_active}
 
 -- the role, the ballot, the base of the log, and whether it stopped stay
@@ -29,12 +29,12 @@ added_same {S = S} {C = C} {O = O} rules r c =
     record { role = k.role; joined = k.joined; stopped = k.stopped; base = k.base })
 
 pub proposed_same : {S C O : Type 0} (rules : Rules S C O) (r : ReplicaState S C) (c : C) → Same r (proposed rules r c).state
-proposed_same {S = S} {C = C} {O = O} rules r c = by (cases_Bool (is_active r.role)) (cases_lt (places r.log) most_places)
+proposed_same {S = S} {C = C} {O = O} rules r c = by (cases_Bool (is_active r.role)) (cases_lt (places r.log) max_places)
   where
     nothing : Same r r
     nothing = record { role = refl; joined = refl; stopped = refl; base = refl }
 
-    by : (is_active r.role ≡ true) ⊎ (is_active r.role ≡ false) → (places r.log < most_places) ⊎ (most_places ≤ places r.log) → Same r (proposed rules r c).state
+    by : (is_active r.role ≡ true) ⊎ (is_active r.role ≡ false) → (places r.log < max_places) ⊎ (max_places ≤ places r.log) → Same r (proposed rules r c).state
     by (inl a) (inl room) = subst (λ (o : Outcome S C O). Same r o.state) (sym (proposed-adds rules r c a room)) (added_same rules r c)
     by (inl a) (inr full) = subst (λ (o : Outcome S C O). Same r o.state) (sym (proposed-full rules r c a full)) nothing
     by (inr a) room = subst (λ (o : Outcome S C O). Same r o.state) (sym (proposed-not_active rules r c a)) nothing

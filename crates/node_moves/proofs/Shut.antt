@@ -8,7 +8,7 @@ use Rattle.exactly_once.specs.broker_spec.Connection.{ConnectionName}
 use Rattle.exactly_once.specs.lists.Lists.{IsPrefixOf}
 use Rattle.exactly_once.proofs.of_lists.Beginnings.{prefix_then}
 use Rattle.world_base.specs.declared.Connection.{Connection}
-use Rattle.world_base.specs.Connections.{closed, changed, failing, most_pending, put_out, putting}
+use Rattle.world_base.specs.Connections.{closed, changed, failing, max_pending, put_out, putting}
 use Rattle.node_moves.specs.Ends.{AtMostOne}
 use Rattle.node_moves.proofs.Views.{view, found_each, found_passes, same_some, some_none, none_changes, view_of_others, view_of_changed}
 use Rattle.node_moves.proofs.Kept.{failing_over, live, named, named_kept}
@@ -60,7 +60,7 @@ shuts_closed c = by (live c) refl
 
 -- bytes are queued if there is room for them, and otherwise it is closed
 pub put_out_shuts : (bytes : List ℕ) (c : Connection) → live c ≡ true → Shuts bytes (Some c) (Some (put_out bytes c))
-put_out_shuts bytes c lives = by (nat_le (length c.pending + length bytes) most_pending)
+put_out_shuts bytes c lives = by (nat_le (length c.pending + length bytes) max_pending)
   where
     by : (b : Bool) → Shuts bytes (Some c) (Some (if b then putting bytes c else failing c))
     by true = stays_open lives lives refl

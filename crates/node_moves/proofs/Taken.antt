@@ -7,7 +7,7 @@ use Rattle.world_base.specs.ballot.Effect.TheVariants.{To, Out}
 use Rattle.world_base.specs.ballot.Logs.{places, pushed}
 use Rattle.world_base.specs.ballot.Replica.{CountedReplica, ReplicaState, is_active}
 use Rattle.world_base.specs.ballot.Sending.{Outcome}
-use Rattle.world_base.specs.ballot.Serving.{most_places, proposed}
+use Rattle.world_base.specs.ballot.Serving.{max_places, proposed}
 use Rattle.world_base.proofs.of_ballot.StepRows.{added-log}
 use Rattle.exactly_once.specs.broker_base.State.{State}
 use Rattle.exactly_once.specs.broker_spec.declared.command.Command.{Command}
@@ -28,7 +28,7 @@ right_true : (a b : Bool) → (a && b) ≡ true → b ≡ true
 right_true true b e = e
 right_true false b e = absurd cc
 
-pub proposed_log : (r : ReplicaState State Command) (command : Command) → is_active r.role ≡ true → nat_lt (places r.log) most_places ≡ true
+pub proposed_log : (r : ReplicaState State Command) (command : Command) → is_active r.role ≡ true → nat_lt (places r.log) max_places ≡ true
     → (proposed rules r command).state.log ≡ pushed r.log command
 unfolding proposed
 proposed_log r command active room = rw (active, room) (added-log rules r command)
@@ -55,11 +55,11 @@ moved_log outcome core =
 proposes_log : (command : Command) (core : CoreState) → has_room core ≡ true → (proposes command core).core.replica.state.log ≡ pushed core.replica.state.log command
 unfolding proposes
 proposes_log command core room =
-    let serving : serves core ≡ true = left_true (serves core) (nat_lt (places core.replica.state.log) most_places) room in
+    let serving : serves core ≡ true = left_true (serves core) (nat_lt (places core.replica.state.log) max_places) room in
     let active : is_active core.replica.state.role ≡ true = left_true (is_active core.replica.state.role) _ serving in
     rw serving
     (moved_log (proposed rules core.replica.state command) core
-    ∙ proposed_log core.replica.state command active (right_true (serves core) (nat_lt (places core.replica.state.log) most_places) room))
+    ∙ proposed_log core.replica.state command active (right_true (serves core) (nat_lt (places core.replica.state.log) max_places) room))
 
 changed_replica : (port : Port) (f : Connection → Connection) (core : CoreState) → (changes port f core).replica ≡ core.replica
 unfolding changes

@@ -12,7 +12,7 @@ use Rattle.exactly_once.specs.broker_spec.declared.command.Output.{Output}
 use Rattle.exactly_once.specs.broker_spec.declared.command.Output.TheVariants as outputs
 use Rattle.exactly_once.specs.broker_spec.Connection.{ConnectionName}
 use Rattle.world_base.specs.declared.Connection.{Connection}
-use Rattle.world_base.specs.Connections.{is_open_named, most_pending, closed, failing, putting, put_out, changed}
+use Rattle.world_base.specs.Connections.{is_open_named, max_pending, closed, failing, putting, put_out, changed}
 use Rattle.world_base.specs.Core.{CoreState, Turn, rules, serves}
 use Rattle.world_base.specs.Turns.{quiet, repeated, served, moved, proposes, changes_named}
 use Rattle.node_moves.proofs.NamesInOrder.{same_le}
@@ -52,7 +52,7 @@ total_lowered w test f (c ∷ cs) d found less = by (test c) (λ g. total_lowere
 
 -- what holds where bytes are queued, and if the connection is closed as lost
 pub put_or_failing : (P : Connection → Type 0) (bytes : List ℕ) (c : Connection) → P (putting bytes c) → P (failing c) → P (put_out bytes c)
-put_or_failing P bytes c p q = by (nat_le (length c.pending + length bytes) most_pending)
+put_or_failing P bytes c p q = by (nat_le (length c.pending + length bytes) max_pending)
   where
     by : (b : Bool) → P (if b then putting bytes c else failing c)
     by true = p

@@ -21,7 +21,7 @@ use Rattle.packet.specs.declared.decoding.Step.{Step}
 use Rattle.packet.specs.declared.decoding.Step.TheVariants as steps
 use Rattle.packet.specs.declared.error.DecodeFault.{DecodeFault}
 use Rattle.packet.specs.declared.error.DecodeFault.TheVariants as faults
-use Rattle.packet.specs.Spelling.{Spells, longest_body}
+use Rattle.packet.specs.Spelling.{Spells, max_body}
 use Rattle.packet.specs.Verdict.{body_of, verdict, Decodes, IsWithin, IsSpelledSo, ReadsWhatIsSpelled}
 use Rattle.packet.proofs.PacketReads.{Begins, verdict_found, verdict_again}
 
@@ -41,7 +41,7 @@ rest_dropped bytes rest n len e =
     end_rest bytes (drop len rest) (h.0 ++ take len rest) parts
 
 -- the verdict if each step continues
-pub verdict_whole : (first : ℕ) (bytes rest front after : List ℕ) (h : Header) (n : ℕ) (p : Packet) → header_of first ≡ Ok h → length_at 3 bytes ≡ Ok (n, rest) → n ≤ longest_body → n ≤ length rest
+pub verdict_whole : (first : ℕ) (bytes rest front after : List ℕ) (h : Header) (n : ℕ) (p : Packet) → header_of first ≡ Ok h → length_at 3 bytes ≡ Ok (n, rest) → n ≤ max_body → n ≤ length rest
     → front ≡ take n rest → after ≡ drop n rest → body_of h front ≡ Ok p → verdict (first ∷ bytes) ≡ Ok (p, drop (length bytes - length after) bytes)
 unfolding verdict
 verdict_whole first bytes rest front after h n p said len small there is_front is_after read =

@@ -9,7 +9,7 @@ use Rattle.packet_base.specs.Header.{header_of}
 use Rattle.packet_base.specs.Reading.{◌>>=◌, ◌>>◌, check, length_at}
 use Rattle.packet_base.proofs.Growing.{StandsWithMore, grows_check, grows_same, grows_then, length_grows}
 use Rattle.packet.specs.declared.packet.Packet.{Packet}
-use Rattle.packet.specs.Spelling.{longest_body}
+use Rattle.packet.specs.Spelling.{max_body}
 use Rattle.packet.specs.Verdict.{body_of, verdict}
 use Rattle.packet.specs.Laws.{FrontsAreUnfinished, FaultsStay}
 use Rattle.packet.proofs.PacketReads.{verdict_again}
@@ -41,7 +41,7 @@ verdict_grows [] more = tt
 verdict_grows (first ∷ bytes) more =
     grows_same more (header_of first) _ _ (λ h _.
     grows_then more (length_at 3 bytes) (length_at 3 (bytes ++ more)) _ _ (length_grows 3 bytes more) (λ n rest.
-    grows_check more (leb n longest_body) _ _ _ (λ _.
+    grows_check more (leb n max_body) _ _ _ (λ _.
     body_grows more h n rest (leb n (length rest)) refl)))
 
 abbrev failed : Stop → Result (Packet × List ℕ) Stop

@@ -12,7 +12,7 @@ use Rattle.packet_base.proofs.FieldsFound.{IsBytes, IsBytes-take}
 use Rattle.packet_base.proofs.LengthForms.{Heads, length_found, length_again, short_form}
 use Rattle.packet_base.proofs.HeaderReads.{header_found, header_again}
 use Rattle.packet.specs.declared.packet.Packet.{Packet}
-use Rattle.packet.specs.Spelling.{header, body, Spells, IsPacket, longest_body}
+use Rattle.packet.specs.Spelling.{header, body, Spells, IsPacket, max_body}
 use Rattle.packet.specs.Verdict.{body_of, verdict}
 use Rattle.packet.proofs.BodyReads.{IsBody, body_found, body_again}
 
@@ -24,7 +24,7 @@ pub record Begins (bytes : List ℕ) (p : Packet) (rest : List ℕ) : Type 0 whe
   pub whole : IsPacket p
 
 -- what was read, put together
-made : (first : ℕ) (bytes : List ℕ) (h : Header) (n : ℕ) (after : List ℕ) (p : Packet) → first_byte h ≡ first → Heads bytes n after → n ≤ longest_body → n ≤ length after
+made : (first : ℕ) (bytes : List ℕ) (h : Header) (n : ℕ) (after : List ℕ) (p : Packet) → first_byte h ≡ first → Heads bytes n after → n ≤ max_body → n ≤ length after
     → IsBody h (take n after) p → Begins (first ∷ bytes) p (drop n after)
 made first bytes h n after p said heads small there body_is =
     let len : length (body p) ≡ n = ap length (sym body_is.spelled) ∙ (let l : length (take n after) ≡ n = omega (arith, length-take n after) in l) in
@@ -46,7 +46,7 @@ verdict_found (first ∷ bytes) fits =
     let Q : Packet × List ℕ → Type 0 = λ x. Begins (first ∷ bytes) x.0 x.1 in
     then_if (header_of first) _ (λ h. first_byte h ≡ first) Q (header_found first) (λ h said.
     then_if (length_at 3 bytes) _ (λ x. Heads bytes x.0 x.1) Q (length_found 3 bytes (λ i. fits (suc i))) (λ len heads.
-    check_if (leb len.0 longest_body) _ _ Q (λ small.
+    check_if (leb len.0 max_body) _ _ Q (λ small.
     check_if (leb len.0 (length len.1)) _ _ Q (λ there.
     then_if (body_of h (take len.0 len.1)) _ (IsBody h (take len.0 len.1)) Q (body_found h (take len.0 len.1) (IsBytes-take len.0 len.1 heads.left)) (λ p body_is.
     made first bytes h len.0 len.1 p said heads (leb-true _ _ small) (leb-true _ _ there) body_is)))))

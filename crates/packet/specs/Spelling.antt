@@ -87,16 +87,16 @@ IsListed (packets.Unsubscribe u) = 0 < length u.filters
 IsListed _ = Unit {0}
 
 -- the most bytes after the Remaining Length, this broker's own limit
-abbrev pub longest_body : ℕ
-longest_body = 1048572
+abbrev pub max_body : ℕ
+max_body = 1048572
 
 -- a packet over the limit
 abbrev pub IsTooLarge : Packet → Type 0
-IsTooLarge p = longest_body < length (body p)
+IsTooLarge p = max_body < length (body p)
 
 -- a packet that has a spelling
 abbrev pub IsPacket : Packet → Type 0
-IsPacket p = Fits p × IsListed p × (length (body p) ≤ longest_body)
+IsPacket p = Fits p × IsListed p × (length (body p) ≤ max_body)
 
 -- new is old with the spelling of the packet appended
 abbrev pub AppendsSpelling : List ℕ → List ℕ → Packet → Type 0

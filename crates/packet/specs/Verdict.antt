@@ -17,7 +17,7 @@ use Rattle.packet.specs.declared.decoding.Step.{Step}
 use Rattle.packet.specs.declared.decoding.Step.TheVariants as steps
 use Rattle.packet.specs.declared.error.DecodeFault.{DecodeFault}
 use Rattle.packet.specs.declared.error.DecodeFault.TheVariants as faults
-use Rattle.packet.specs.Spelling.{longest_body, Spells, IsPacket}
+use Rattle.packet.specs.Spelling.{max_body, Spells, IsPacket}
 use Rattle.packet.specs.Connect.{connect_of}
 use Rattle.packet.specs.Connack.{connack_of}
 use Rattle.packet.specs.Publish.{publish_of}
@@ -55,7 +55,7 @@ verdict [] = Err stops.More
 verdict (first ∷ bytes) = do
   header ← header_of first
   len ← length_at 3 bytes
-  check (nat_le len.0 longest_body) (stops.Malformed kinds.TooLarge)
+  check (nat_le len.0 max_body) (stops.Malformed kinds.TooLarge)
   check (nat_le len.0 (length len.1)) stops.More
   packet ← body_of header (take len.0 len.1)
   Ok (packet, drop len.0 len.1)
@@ -81,7 +81,7 @@ asks_memory [] = Err stops.More
 asks_memory (first ∷ bytes) = do
   header ← header_of first
   len ← length_at 3 bytes
-  check (nat_le len.0 longest_body) (stops.Malformed kinds.TooLarge)
+  check (nat_le len.0 max_body) (stops.Malformed kinds.TooLarge)
   check (nat_le len.0 (length len.1)) stops.More
   Ok (asks_in_body header (take len.0 len.1))
 

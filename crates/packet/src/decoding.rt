@@ -6,7 +6,7 @@ ghost use Rattle.packet.specs.Verdict.{verdict, Decodes, IsWithin, IsSpelledSo};
 ghost use Rattle.packet.specs.Verdict.{ReadsWhatIsSpelled, MayNeedMemory};
 
 use crate::error::DecodeFault;
-use crate::packet::{MAX_REMAINING, Packet};
+use crate::packet::{MAX_BODY, Packet};
 use packet_base::topics::MalformedKind;
 use packet_base::{Header, Reader, Stop, take_length};
 use std::alloc::Global;
@@ -72,7 +72,7 @@ fn front_packet(alloc: Global, first: u8, more: &[u8]) -> Result<(Packet, usize)
     let header = Header::of(first)?;
     let (len, rest) = take_length(more)?;
     let len = len as usize;
-    if len > MAX_REMAINING {
+    if len > MAX_BODY {
         return Err(Stop::Malformed(MalformedKind::TooLarge));
     }
     if len > rest.len() {

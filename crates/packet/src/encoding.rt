@@ -6,7 +6,7 @@ ghost use Rattle.packet.specs.Spelling.{IsListed, IsTooLarge, IsPacket};
 ghost use Rattle.packet.specs.Spelling.{AppendsSpelling, spelled_len};
 
 use crate::error::EncodeFault;
-use crate::packet::{MAX_REMAINING, Packet};
+use crate::packet::{MAX_BODY, Packet};
 use packet_base::{length_size, put_byte, put_length};
 
 /// Appends the spelling of a packet to the vector. `TooLarge` comes exactly if the body has more
@@ -27,7 +27,7 @@ pub fn encode(packet: &Packet, out: &mut Vec<u8>) -> Result<(), EncodeFault>
 {
     packet.known();
     let len = packet.body_len();
-    if len > MAX_REMAINING {
+    if len > MAX_BODY {
         return Err(EncodeFault::TooLarge);
     }
     let short_len = len as u32;

@@ -30,7 +30,7 @@ use packet_base::{Header, PacketId, Reader, Stop, put_number};
 use std::alloc::{AllocError, Global};
 
 /// The most bytes after the Remaining Length.
-pub(crate) const MAX_REMAINING: usize = 1_048_572;
+pub(crate) const MAX_BODY: usize = 1_048_572;
 
 /// A Control Packet (MQTT 2). What MQTT's table of packets does not allow cannot be built, except
 /// empty lists.
@@ -99,7 +99,7 @@ impl Packet {
     pub fn is_too_large(&self) -> bool
         ensures { IsTrue result ↔ IsTooLarge self.now }
     {
-        self.body_len() > MAX_REMAINING
+        self.body_len() > MAX_BODY
     }
 
     /// Says whether no list of the packet is empty, which `encode` requires.

@@ -6,7 +6,7 @@ use Rattle.std.proofs.lemmas.Nat.{from_be_bytes-to_be_bytes_4}
 use Rattle.packet_base.specs.Spelling.{IsId, number, text, bit}
 use Rattle.packet_base.proofs.FieldsAgain.{front_again, id_again, topic_again, filter_again}
 use Rattle.packet.specs.QoS.{qos_number}
-use Rattle.packet.specs.Spelling.{longest_body}
+use Rattle.packet.specs.Spelling.{max_body}
 use Rattle.packet.specs.declared.qos.QoS.{QoS}
 use Rattle.packet.specs.declared.qos.QoS.TheVariants as levels
 use Rattle.session_base.specs.declared.publication.Publication.{Publication}
@@ -37,21 +37,21 @@ long_again n rest small = rw (front_again (long_number n) rest 4 refl, from_be_b
 -- ---- publications
 
 -- a publication that can be sent has a body within the limit
-pub size_of : (p : Publication) → CanBeSent p → body_length p ≤ longest_body
+pub size_of : (p : Publication) → CanBeSent p → body_length p ≤ max_body
 size_of p h = by p.qos h
   where
-    with_id : length ((text p.topic ++ number 1) ++ p.payload) ≤ longest_body → 2 + length p.topic + 2 + length p.payload ≤ longest_body
+    with_id : length ((text p.topic ++ number 1) ++ p.payload) ≤ max_body → 2 + length p.topic + 2 + length p.payload ≤ max_body
     with_id k =
         let e = length-append (p.topic ++ number 1) p.payload in let f : length (p.topic ++ number 1) ≡ length p.topic + 2 = length-append p.topic (number 1) in
-        let k : suc (suc (length ((p.topic ++ number 1) ++ p.payload))) ≤ longest_body = k in omega (arith, e, f, k)
+        let k : suc (suc (length ((p.topic ++ number 1) ++ p.payload))) ≤ max_body = k in omega (arith, e, f, k)
 
-    without_id : length ((text p.topic ++ []) ++ p.payload) ≤ longest_body → 2 + length p.topic + 0 + length p.payload ≤ longest_body
+    without_id : length ((text p.topic ++ []) ++ p.payload) ≤ max_body → 2 + length p.topic + 0 + length p.payload ≤ max_body
     without_id k =
         let e = length-append (p.topic ++ []) p.payload in let f : length (p.topic ++ []) ≡ length p.topic + 0 = length-append p.topic [] in
-        let k : suc (suc (length ((p.topic ++ []) ++ p.payload))) ≤ longest_body = k in omega (arith, e, f, k)
+        let k : suc (suc (length ((p.topic ++ []) ++ p.payload))) ≤ max_body = k in omega (arith, e, f, k)
 
     by : (q : QoS) → CanBeSent (record { retain = p.retain; qos = q; topic = p.topic; payload = p.payload }) →
-        2 + length p.topic + (if is_answered q then 2 else 0) + length p.payload ≤ longest_body
+        2 + length p.topic + (if is_answered q then 2 else 0) + length p.payload ≤ max_body
     by levels.AtMostOnce h = without_id h.2
     by levels.AtLeastOnce h = with_id h.2
     by levels.ExactlyOnce h = with_id h.2

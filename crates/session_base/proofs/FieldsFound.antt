@@ -10,7 +10,7 @@ use Rattle.packet_base.specs.Reading.{byte_at, front_at, number_at, id_at}
 use Rattle.packet_base.specs.TopicFields.{topic_at, filter_at}
 use Rattle.packet_base.proofs.Steps.{then_if, check_if}
 use Rattle.packet_base.proofs.FieldsFound.{IsBytes, Splits, byte_found, front_found, number_found, id_found, topic_found, filter_found}
-use Rattle.packet.specs.Spelling.{longest_body}
+use Rattle.packet.specs.Spelling.{max_body}
 use Rattle.packet.specs.QoS.{qos_of}
 use Rattle.packet.specs.declared.qos.QoS.{QoS}
 use Rattle.packet.specs.declared.qos.QoS.TheVariants as levels
@@ -66,27 +66,27 @@ a_long_number bytes fits =
 -- ---- publications
 
 -- a body within the limit is one that can be sent
-pub sent_of : (p : Publication) → is_topic p.topic ≡ true → body_length p ≤ longest_body → CanBeSent p
+pub sent_of : (p : Publication) → is_topic p.topic ≡ true → body_length p ≤ max_body → CanBeSent p
 sent_of p topic h = by p.qos h
   where
-    with_id : 2 + length p.topic + 2 + length p.payload ≤ longest_body → length ((text p.topic ++ number 1) ++ p.payload) ≤ longest_body
+    with_id : 2 + length p.topic + 2 + length p.payload ≤ max_body → length ((text p.topic ++ number 1) ++ p.payload) ≤ max_body
     with_id k =
         let e = length-append (p.topic ++ number 1) p.payload in let f : length (p.topic ++ number 1) ≡ length p.topic + 2 = length-append p.topic (number 1) in
-        let goal : suc (suc (length ((p.topic ++ number 1) ++ p.payload))) ≤ longest_body = omega (arith, e, f, k) in goal
+        let goal : suc (suc (length ((p.topic ++ number 1) ++ p.payload))) ≤ max_body = omega (arith, e, f, k) in goal
 
-    without_id : 2 + length p.topic + 0 + length p.payload ≤ longest_body → length ((text p.topic ++ []) ++ p.payload) ≤ longest_body
+    without_id : 2 + length p.topic + 0 + length p.payload ≤ max_body → length ((text p.topic ++ []) ++ p.payload) ≤ max_body
     without_id k =
         let e = length-append (p.topic ++ []) p.payload in let f : length (p.topic ++ []) ≡ length p.topic + 0 = length-append p.topic [] in
-        let goal : suc (suc (length ((p.topic ++ []) ++ p.payload))) ≤ longest_body = omega (arith, e, f, k) in goal
+        let goal : suc (suc (length ((p.topic ++ []) ++ p.payload))) ≤ max_body = omega (arith, e, f, k) in goal
 
-    by : (q : QoS) → 2 + length p.topic + (if is_answered q then 2 else 0) + length p.payload ≤ longest_body →
+    by : (q : QoS) → 2 + length p.topic + (if is_answered q then 2 else 0) + length p.payload ≤ max_body →
         CanBeSent (record { retain = p.retain; qos = q; topic = p.topic; payload = p.payload })
     by levels.AtMostOnce k = ((topic, tt), tt, without_id k)
     by levels.AtLeastOnce k = ((topic, (omega arith, omega arith)), tt, with_id k)
     by levels.ExactlyOnce k = ((topic, (omega arith, omega arith)), tt, with_id k)
 
 pub sized_found : (p : Publication) → is_topic p.topic ≡ true → IfOk (sized p) CanBeSent
-sized_found p topic = check_if (nat_le (body_length p) longest_body) _ _ CanBeSent (λ test. sent_of p topic (leb-true _ _ test))
+sized_found p topic = check_if (nat_le (body_length p) max_body) _ _ CanBeSent (λ test. sent_of p topic (leb-true _ _ test))
 
 pub a_publication : IsFound publication_at CanBeSent
 unfolding publication_at

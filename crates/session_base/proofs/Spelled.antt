@@ -11,7 +11,7 @@ use Rattle.packet_base.specs.TopicFields.{topic_at, filter_at}
 use Rattle.packet_base.proofs.Steps.{then_if, check_if}
 use Rattle.packet_base.proofs.FieldsFound.{IsBytes, Splits, Splits-then, byte_found, front_found, number_found, id_found, topic_found, filter_found}
 use Rattle.packet.specs.QoS.{qos_number, qos_of}
-use Rattle.packet.specs.Spelling.{longest_body}
+use Rattle.packet.specs.Spelling.{max_body}
 use Rattle.packet.specs.declared.qos.QoS.{QoS}
 use Rattle.packet.proofs.QoSReads.{qos_found}
 use Rattle.session_base.specs.declared.publication.Publication.{Publication}
@@ -78,7 +78,7 @@ long_spelled given fits =
 -- ---- publications and filters
 
 sized_is : (p : Publication) → IfOk (sized p) (λ q. q ≡ p)
-sized_is p = check_if (nat_le (body_length p) longest_body) _ _ (λ (q : Publication). q ≡ p) (λ test. refl)
+sized_is p = check_if (nat_le (body_length p) max_body) _ _ (λ (q : Publication). q ≡ p) (λ test. refl)
 
 -- a payload with its length
 pub payload_spelled : (given : List ℕ) (n : ℕ) (middle payload rest : List ℕ) → Splits given (long_number n) middle → Splits middle payload rest → length payload ≡ n →

@@ -8,7 +8,7 @@ use Rattle.packet_base.specs.Reading.{◌>>=◌, ◌>>◌, byte_at, front_at, nu
 use Rattle.packet_base.specs.TopicFields.{topic_at, filter_at}
 use Rattle.packet.specs.QoS.{qos_of}
 use Rattle.packet.specs.declared.qos.QoS.{QoS}
-use Rattle.packet.specs.Spelling.{longest_body}
+use Rattle.packet.specs.Spelling.{max_body}
 use Rattle.session_base.specs.declared.publication.Publication.{Publication}
 use Rattle.session_base.specs.declared.awaits.Awaits.{Awaits}
 use Rattle.session_base.specs.declared.awaits.Awaits.TheVariants as waits_for
@@ -51,7 +51,7 @@ body_length p = 2 + length p.topic + (if is_answered p.qos then 2 else 0) + leng
 -- a publication whose PUBLISH is within the limit
 abbrev pub sized : Publication → Result Publication Stop
 sized p = do
-  keep (nat_le (body_length p) longest_body)
+  keep (nat_le (body_length p) max_body)
   Ok p
 
 -- a publication: RETAIN, QoS, topic, and the payload with its length before it

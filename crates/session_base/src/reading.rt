@@ -3,7 +3,7 @@
 
 ghost use Rattle.std.specs.Prelude.{◌≡◌, Ok};
 ghost use Rattle.packet.specs.QoS.{qos_of};
-ghost use Rattle.packet.specs.Spelling.{longest_body};
+ghost use Rattle.packet.specs.Spelling.{max_body};
 ghost use Rattle.packet_base.specs.Outcome.{Gives, Reads};
 ghost use Rattle.session_base.specs.Counted.{keep};
 ghost use Rattle.session_base.specs.Form.{flag_at, long_number_at, qos_at, body_length};
@@ -17,7 +17,7 @@ use packet_base::{Reader, Stop};
 use std::alloc::Global;
 
 /// The most bytes of a body, this broker's own limit.
-const LONGEST_BODY: usize = 1_048_572;
+const MAX_BODY: usize = 1_048_572;
 
 /// Continues if the test holds; otherwise the bytes are not of the form.
 pub fn keep(test: bool) -> Result<(), Stop>
@@ -84,7 +84,7 @@ pub fn read_publication(alloc: Global, reader: &mut Reader) -> Result<Publicatio
         topic,
         payload,
     };
-    keep(body_length(&publication) <= LONGEST_BODY)?;
+    keep(body_length(&publication) <= MAX_BODY)?;
     Ok(publication)
 }
 

@@ -8,7 +8,7 @@ use Rattle.agreement.specs.machine.Machine.{Rules}
 use Rattle.agreement.specs.ballot_base.declared.status.Progress.{Progress}
 use Rattle.agreement.specs.ballot_base.Replica.{is_active, is_installing, others, progress_at, ReplicaState}
 use Rattle.agreement.specs.ballot_base.declared.status.Role.TheVariants.{Backup, Fetching, Installing, Active}
-use Rattle.agreement.specs.ballot_base.Serving.{least, most_places, raised, added, append_at, appends_after, commit, commit_at, extended, follows, leads, on_append, on_commit, on_held, on_tick_active, proposed}
+use Rattle.agreement.specs.ballot_base.Serving.{least, max_places, raised, added, append_at, appends_after, commit, commit_at, extended, follows, leads, on_append, on_commit, on_held, on_tick_active, proposed}
 use Rattle.agreement.specs.lists.Lists.{In}
 use Rattle.agreement.specs.lists.Lists.In.{here, there}
 use Rattle.agreement.proofs.of_lists.Members.{in_append}
@@ -149,7 +149,7 @@ added_keeps {O = O} rules r c =
 
 pub proposed_keeps : {S C O : Type 0} (rules : Rules S C O) (r : ReplicaState S C) (c : C) → KeepsBase {O = O} r (proposed rules r c)
 unfolding proposed
-proposed_keeps {O = O} rules r c = if_keeps (is_active r.role && nat_lt (places r.log) most_places) r _ _ (λ e. added_keeps rules r c) (keeps_nothing O r)
+proposed_keeps {O = O} rules r c = if_keeps (is_active r.role && nat_lt (places r.log) max_places) r _ _ (λ e. added_keeps rules r c) (keeps_nothing O r)
 
 pub held_keeps : {S C O : Type 0} (rules : Rules S C O) (r : ReplicaState S C) (from b held : ℕ) → KeepsBase {O = O} r (on_held rules r from b held)
 unfolding on_held
@@ -232,7 +232,7 @@ superseded_keeps O r b =
 pub activated_keeps : {S C O : Type 0} (rules : Rules S C O) (r : ReplicaState S C) (b : ℕ) → r.committed ≤ places r.log → KeepsBase {O = O} r (on_activated rules r b)
 unfolding on_activated
 activated_keeps {O = O} rules r b within =
-    if_keeps ((r.joined == b && is_installing r.role) && (nat_le (length r.lacking) 0 && nat_lt (places r.log) most_places)) r _ _
+    if_keeps ((r.joined == b && is_installing r.role) && (nat_le (length r.lacking) 0 && nat_lt (places r.log) max_places)) r _ _
     (λ e. keeps_from r (record (applied_to rules r (places r.log)) { role = Active; progress = progress_at (places r.log) (others r.id r.members) }) _ refl refl within
     (added_keeps rules (record (applied_to rules r (places r.log)) { role = Active; progress = progress_at (places r.log) (others r.id r.members) }) (rules.start_of b)))
     (keeps_nothing O r)

@@ -8,7 +8,7 @@ use Rattle.agreement.specs.whole.Replica.{ReplicaState as WholeState}
 use Rattle.agreement.specs.ballot_base.Replica.{is_installing, others, progress_at, ReplicaState}
 use Rattle.agreement.specs.ballot_base.declared.status.Role.TheVariants.{Backup, Active}
 use Rattle.agreement.specs.whole.Sending.{message_to_each as whole_each}
-use Rattle.agreement.specs.ballot_base.Serving.{most_places, added}
+use Rattle.agreement.specs.ballot_base.Serving.{max_places, added}
 use Rattle.agreement.specs.whole.Serving.{added as whole_added}
 use Rattle.agreement.specs.whole.Changing.{on_new_ballot as whole_on_new_ballot, on_join as whole_on_join, installs as whole_installs, on_tick_fetching as whole_on_tick_fetching, on_tick_installing as whole_on_tick_installing}
 use Rattle.agreement.specs.whole.Activating.{activates as whole_activates, on_installed as whole_on_installed, on_activated as whole_on_activated, on_superseded as whole_on_superseded}
@@ -76,7 +76,7 @@ pub activated_matches : {S C O : Type 0} (rules : Rules S C O) (archive : List C
 unfolding on_activated whole_on_activated
 activated_matches {S = S} {C = C} {O = O} rules archive r ballot b =
     if_matches archive _ _ _ _ _ _
-    (ap (λ n. (r.joined == ballot && is_installing r.role) && (nat_le (length r.lacking) 0 && nat_lt n most_places)) (sym long))
+    (ap (λ n. (r.joined == ballot && is_installing r.role) && (nat_le (length r.lacking) 0 && nat_lt n max_places)) (sym long))
     (subst (λ (x : WholeState S C). Matches {O = O} archive (added rules active (rules.start_of ballot)) (whole_added rules x (rules.start_of ballot))) same
     (added_matches rules archive active (rules.start_of ballot) (record { within = b.within; low = omega arith })))
     (matches_nothing O archive r)

@@ -14,7 +14,7 @@ use Rattle.agreement.specs.whole.Replica.{ReplicaState as WholeState}
 use Rattle.agreement.specs.ballot_base.Replica.{is_active, ReplicaState}
 use Rattle.agreement.specs.whole.Sending.{Outcome as WholeOutcome, message_to_followed as whole_followed, nothing_done as whole_nothing, sent_first as whole_sent_first}
 use Rattle.agreement.specs.whole.Applying.{outputs_from as whole_outputs_from}
-use Rattle.agreement.specs.ballot_base.Serving.{least, most_places, raised, extended, added, append_at, appends_after, commit, commit_at, follows, leads, on_append, on_commit, on_held, on_tick_active, proposed}
+use Rattle.agreement.specs.ballot_base.Serving.{least, max_places, raised, extended, added, append_at, appends_after, commit, commit_at, follows, leads, on_append, on_commit, on_held, on_tick_active, proposed}
 use Rattle.agreement.specs.whole.Serving.{commit as whole_commit, commit_at as whole_commit_at, added as whole_added, proposed as whole_proposed, on_append as whole_on_append, on_held as whole_on_held, on_commit as whole_on_commit, on_tick_active as whole_on_tick_active, appends_after as whole_appends_after, append_at as whole_append_at, extended as whole_extended}
 use Rattle.agreement.specs.ballot_base.Logs.{Log, command_at, part, places, pushed}
 use Rattle.snapshots.specs.Whole.{whole_log, whole, whole_body, whole_effect, whole_effects}
@@ -136,7 +136,7 @@ pub proposed_matches : {S C O : Type 0} (rules : Rules S C O) (archive : List C)
     Matches {O = O} archive (proposed rules r c) (whole_proposed rules (whole archive r) c)
 unfolding proposed whole_proposed
 proposed_matches {O = O} rules archive r c b =
-    if_matches archive _ _ _ _ _ _ (ap (λ n. is_active r.role && nat_lt n most_places) (sym (whole_long archive r.log b.within)))
+    if_matches archive _ _ _ _ _ _ (ap (λ n. is_active r.role && nat_lt n max_places) (sym (whole_long archive r.log b.within)))
     (added_matches rules archive r c b) (matches_nothing O archive r)
 
 -- Held and Commit

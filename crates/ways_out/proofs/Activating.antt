@@ -11,7 +11,7 @@ use Rattle.snapshots.specs.whole.Messages.Effect.{Out}
 use Rattle.snapshots.specs.whole.Protocol.{received}
 use Rattle.snapshots.specs.whole.Replica.{ReplicaState, others, progress_at}
 use Rattle.snapshots.specs.whole.Sending.{Outcome, message_to_followed}
-use Rattle.snapshots.specs.whole.Serving.{most_places}
+use Rattle.snapshots.specs.whole.Serving.{max_places}
 use Rattle.snapshots.specs.agreement.MasterState.{MasterOutcome, MasterState, activated}
 use Rattle.snapshots.specs.agreement.Past.{Moment}
 use Rattle.snapshots.specs.agreement.World.{messages, outputs}
@@ -53,7 +53,7 @@ pub record IsActivated {S C O : Type 0} (rules : Rules S C O) (b : ℕ) (log : L
   pub told : (m : ℕ) → In m os → In (index + 1, record { from = m; body = Held b (length log) }) after.world.sent
 
 module _ {S C O : Type 0} (rules : Rules S C O) (b : ℕ) (log : List C) (index : ℕ) (r : ReplicaState S C) (config : Config) (runs : r.stopped ≡ false)
-    (id : r.id ≡ index + 1) (joined : r.joined ≡ b) (room : length log < most_places) (silent : (s : S) → rules.gives s (rules.start_of b) ≡ []) (a : Moment S C O)
+    (id : r.id ≡ index + 1) (joined : r.joined ≡ b) (room : length log < max_places) (silent : (s : S) → rules.gives s (rules.start_of b) ≡ []) (a : Moment S C O)
     (asked : ℕ) (asks : slice_get a.world.sent asked ≡ Some (0, record { from = index + 1; body = Activate b })) (last : length a.world.sent ≡ asked + 1)
     (waits : a.master.waiting ≡ Some (b, config)) (stands : slice_get a.world.nodes index ≡ Some (installing b log r [])) where
   told_is : after_activate (index + 1) b a ≡ record {

@@ -16,7 +16,7 @@ use Rattle.snapshots.specs.whole.Activating.{activates, on_installed, on_activat
 use Rattle.snapshots.specs.whole.Protocol.{received}
 use Rattle.snapshots.specs.whole.Replica.{ReplicaState, is_active, is_fetching, is_installing, others, progress_at}
 use Rattle.snapshots.specs.whole.Sending.{Outcome, message_to, nothing_done}
-use Rattle.snapshots.specs.whole.Serving.{added, extended, follows, leads, most_places, on_append, on_commit, on_held}
+use Rattle.snapshots.specs.whole.Serving.{added, extended, follows, leads, max_places, on_append, on_commit, on_held}
 use Rattle.snapshots.proofs.of_whole.AppliesInOrder.{replay_goes_on}
 use Rattle.snapshots.proofs.of_whole.ChangeRows.{on_install-answers, on_install-stays, on_state-stays}
 
@@ -175,7 +175,7 @@ module _ {S C O : Type 0} (rules : Rules S C O) (ballot : ℕ) (p : ReplicaState
       AreLike {O = O} rules ballot (on_activated rules p b) (on_activated rules s b)
   unfolding on_activated
   activated b low replays =
-      if_like rules ballot ((p.joined == b && is_installing p.role) && (nat_le (length p.lacking) 0 && nat_lt (length p.log) most_places))
+      if_like rules ballot ((p.joined == b && is_installing p.role) && (nat_le (length p.lacking) 0 && nat_lt (length p.log) max_places))
       (λ e. subst (λ (x : S). AreLike {O = O} rules ballot (added rules (with_all (replay_from rules p.machine (drop p.committed (take (length p.log) p.log)))) (rules.start_of b))
       (added rules (with_all x) (rules.start_of b))) one (record { state = inl refl; effects = refl })) (λ e. stays)
     where

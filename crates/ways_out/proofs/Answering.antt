@@ -16,7 +16,7 @@ use Rattle.snapshots.specs.whole.Protocol.{received, replica_step}
 use Rattle.snapshots.specs.whole.Protocol.Input.{Proposes}
 use Rattle.snapshots.specs.whole.Replica.{ReplicaState, is_active, progress_at}
 use Rattle.snapshots.specs.whole.Sending.{Outcome, message_to_followed}
-use Rattle.snapshots.specs.whole.Serving.{added, most_places}
+use Rattle.snapshots.specs.whole.Serving.{added, max_places}
 use Rattle.snapshots.proofs.of_whole.StepRows.{proposed-adds}
 use Rattle.snapshots.specs.agreement.Past.{Moment}
 use Rattle.snapshots.specs.agreement.World.{messages, outputs}
@@ -36,7 +36,7 @@ use Rattle.ways_out.proofs.Rows.{append_answers, messages_to_followed}
 use Rattle.ways_out.proofs.Standing.{StandFrom, stand_at, stand_in, stand_new}
 
 module _ {S C O : Type 0} (rules : Rules S C O) (b index : ℕ) (r : ReplicaState S C) (log : List C) (os : List ℕ) (c : C)
-    (serves : Serves b log os (index + 1) r) (room : length log < most_places) (machine : r.machine ≡ replay rules log) where
+    (serves : Serves b log os (index + 1) r) (room : length log < max_places) (machine : r.machine ≡ replay rules log) where
   abbrev longer : ReplicaState S C
   longer = record r { log = r.log ++ c ∷ [] }
 

@@ -27,7 +27,7 @@ use Rattle.snapshots.specs.ballot_base.Protocol.{received, replica_step}
 use Rattle.snapshots.specs.ballot_base.Protocol.Input.{Proposes}
 use Rattle.snapshots.specs.ballot_base.Replica.{ReplicaState}
 use Rattle.snapshots.specs.ballot_base.Sending.{Outcome}
-use Rattle.snapshots.specs.ballot_base.Serving.{most_places}
+use Rattle.snapshots.specs.ballot_base.Serving.{max_places}
 use Rattle.snapshots.specs.Past.{Moment, Past, whole_moment}
 use Rattle.snapshots.specs.Past.Past.{went_on}
 use Rattle.snapshots.specs.Steps.{MayHappen}
@@ -122,7 +122,7 @@ answers_cut rules archive ballot log c os m ow o z like =
 
 module _ {S C O : Type 0} (rules : Rules S C O) (config : Config) (a : Moment S C O) (past : List (Moment S C O)) (came : Past rules config (a ∷ past)) (ballot index : ℕ)
     (r : ReplicaState S C) (log : List C) (os : List ℕ) (c : C) (stands : slice_get a.world.nodes index ≡ Some r)
-    (serves : Serves ballot log os (index + 1) (whole a.world.archive r)) (room : length log < most_places) where
+    (serves : Serves ballot log os (index + 1) (whole a.world.archive r)) (room : length log < max_places) where
   q : StandsFor rules config a past
   q = past_stands rules config a past came
 

@@ -15,7 +15,7 @@ use Rattle.snapshots.specs.whole.Protocol.{received}
 use Rattle.snapshots.specs.whole.Replica.{ReplicaState, others, progress_at, is_active, is_fetching}
 use Rattle.snapshots.specs.whole.Role.TheVariants.{Fetching, Active}
 use Rattle.snapshots.specs.whole.Sending.{Outcome, master, message_to, message_to_followed, sent_first}
-use Rattle.snapshots.specs.whole.Serving.{added, commit_at, least, most_places, raised, raised_progress}
+use Rattle.snapshots.specs.whole.Serving.{added, commit_at, least, max_places, raised, raised_progress}
 use Rattle.snapshots.proofs.of_whole.ChangeRows.{on_state-takes, on_installed-counts, on_activated-adds}
 use Rattle.snapshots.proofs.of_whole.MessageRows.{on_held-raises}
 use Rattle.snapshots.proofs.of_whole.StepRows.{added-is, commit_at-goes, commit_at-stays}
@@ -74,12 +74,12 @@ abbrev pub activated_one : {S C O : Type 0} → Rules S C O → ℕ → List C �
 activated_one rules b log r =
     record (applied_to rules (installing b log r []) (length log)) { role = Active; progress = progress_at (length log) (others r.id r.members) }
 
-pub activated_row : {S C O : Type 0} (rules : Rules S C O) (b : ℕ) (log : List C) (r : ReplicaState S C) → r.joined ≡ b → length log < most_places →
+pub activated_row : {S C O : Type 0} (rules : Rules S C O) (b : ℕ) (log : List C) (r : ReplicaState S C) → r.joined ≡ b → length log < max_places →
     received rules (installing b log r []) 0 (Activated b) ≡ added rules (activated_one rules b log r) (rules.start_of b)
 activated_row rules b log r joined room =
     on_activated-adds rules (installing b log r []) b
-    (both (r.joined == b && true) (true && nat_lt (length log) most_places) (both (r.joined == b) true (eq-eqb r.joined b joined) refl)
-    (both true (nat_lt (length log) most_places) refl (lt-ltb (length log) most_places room)))
+    (both (r.joined == b && true) (true && nat_lt (length log) max_places) (both (r.joined == b) true (eq-eqb r.joined b joined) refl)
+    (both true (nat_lt (length log) max_places) refl (lt-ltb (length log) max_places room)))
 
 -- ---- what is added
 

@@ -25,7 +25,7 @@ use Rattle.snapshots.specs.ballot_base.Logs.{Log, part, places, pushed}
 use Rattle.snapshots.specs.ballot_base.Protocol.{received}
 use Rattle.snapshots.specs.ballot_base.Replica.{ReplicaState, is_active, is_installing, others, progress_at}
 use Rattle.snapshots.specs.ballot_base.Sending.{Outcome, message_to_followed, nothing_done}
-use Rattle.snapshots.specs.ballot_base.Serving.{added, commit, commit_at, extended, follows, leads, least, most_places, on_append, on_commit, on_held, proposed, raised}
+use Rattle.snapshots.specs.ballot_base.Serving.{added, commit, commit_at, extended, follows, leads, least, max_places, on_append, on_commit, on_held, proposed, raised}
 use Rattle.snapshots.specs.Matches.{IsBased}
 use Rattle.snapshots.specs.Whole.{whole, whole_body, whole_effect, whole_effects, whole_log}
 use Rattle.snapshots.proofs.Changing.{whole_to_each}
@@ -101,7 +101,7 @@ pub proposed_same : {S C O : Type 0} (rules : Rules S C O) (archive : List C) (r
     IsSame {O = O} archive (proposed rules r c) (whole_proposed rules (whole archive r) c)
 unfolding proposed whole_proposed
 proposed_same {O = O} rules archive r c b =
-    if_same archive _ _ _ _ _ _ (ap (λ n. is_active r.role && nat_lt n most_places) (sym (whole_long archive r.log b.within)))
+    if_same archive _ _ _ _ _ _ (ap (λ n. is_active r.role && nat_lt n max_places) (sym (whole_long archive r.log b.within)))
     (added_same rules archive r c b) (same_nothing O archive r)
 
 held_same : {S C O : Type 0} (rules : Rules S C O) (archive : List C) (r : ReplicaState S C) (from ballot held : ℕ) → IsBased archive r →
@@ -199,7 +199,7 @@ activated_same : {S C O : Type 0} (rules : Rules S C O) (archive : List C) (r : 
 unfolding on_activated whole_on_activated
 activated_same {S = S} {C = C} {O = O} rules archive r ballot b =
     if_same archive _ _ _ _ _ _
-    (ap (λ n. (r.joined == ballot && is_installing r.role) && (nat_le (length r.lacking) 0 && nat_lt n most_places)) (sym long))
+    (ap (λ n. (r.joined == ballot && is_installing r.role) && (nat_le (length r.lacking) 0 && nat_lt n max_places)) (sym long))
     (subst (λ (x : WholeState S C). IsSame {O = O} archive (added rules active (rules.start_of ballot)) (whole_added rules x (rules.start_of ballot))) same
     (added_same rules archive active (rules.start_of ballot) (record { within = b.within; low = omega arith })))
     (same_nothing O archive r)

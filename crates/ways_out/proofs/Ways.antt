@@ -6,7 +6,7 @@ use Rattle.snapshots.specs.lists.Lists.{In}
 use Rattle.snapshots.specs.whole.Messages.Body.{Held}
 use Rattle.snapshots.specs.whole.Config.{Config}
 use Rattle.snapshots.specs.whole.Replica.{ReplicaState, others}
-use Rattle.snapshots.specs.whole.Serving.{most_places}
+use Rattle.snapshots.specs.whole.Serving.{max_places}
 use Rattle.snapshots.specs.agreement.MasterState.{MasterState, assigning}
 use Rattle.snapshots.specs.agreement.Past.{Moment}
 use Rattle.ways_out.specs.Deliveries.{AreApart, Delivered, NodeIs, asked_at, assigned_moment, numbers_from, way_out}
@@ -54,7 +54,7 @@ module _ {S C O : Type 0} (rules : Rules S C O) (silent : (s : S) (b : ℕ) → 
     (stands : slice_get a.world.nodes index ≡ Some rp) (fresh : rp.joined < a.master.given + 1) (can : CanTake (a.master.given + 1) (length log) (index + 1) rp)
     (gives_stands : slice_get a.world.nodes source ≡ Some rs) (gives : CanGive (a.master.given + 1) a.master.active log (source + 1) rs)
     (member : slice_get a.master.members i ≡ Some (source + 1))
-    (each : (m : ℕ) → In m os → NodeIs (CanTake (a.master.given + 1) (length log)) a.world.nodes m) (room : length log < most_places) where
+    (each : (m : ℕ) → In m os → NodeIs (CanTake (a.master.given + 1) (length log)) a.world.nodes m) (room : length log < max_places) where
   -- the new primary, from NewBallot on
   abbrev r1 : ReplicaState S C
   r1 = fetching (a.master.given + 1) config.members a.master.active a.master.members rp

@@ -11,7 +11,7 @@ use Rattle.snapshots.specs.whole.Protocol.{received, replica_step}
 use Rattle.snapshots.specs.whole.Protocol.Input.{Proposes}
 use Rattle.snapshots.specs.whole.Replica.{ReplicaState}
 use Rattle.snapshots.specs.whole.Sending.{Outcome}
-use Rattle.snapshots.specs.whole.Serving.{most_places}
+use Rattle.snapshots.specs.whole.Serving.{max_places}
 use Rattle.snapshots.specs.agreement.Past.{Moment, Past, IsAgreed}
 use Rattle.snapshots.specs.agreement.World.{outputs}
 use Rattle.ways_out.specs.Deliveries.{AreApart, Delivered, NodeIs, after_outcome, numbers_from}
@@ -72,7 +72,7 @@ CommandsAreAnswered {S} {C} {O} rules =
     (config : Config) (a : Moment S C O) (past : List (Moment S C O)) →
     Past rules config (a ∷ past) → (ballot index : ℕ) (r : ReplicaState S C) (log : List C)
     (others_of : List ℕ) (c : C) → slice_get a.world.nodes index ≡ Some r →
-    Serves ballot log others_of (index + 1) r → length log < most_places →
+    Serves ballot log others_of (index + 1) r → length log < max_places →
     (others_of ≡ [] → AnswersCommand rules ballot log c [] (index + 1)
     (replica_step rules r (Proposes c)))
     × ((front : List ℕ) (last : ℕ) → others_of ≡ front ++ last ∷ [] → AreApart others_of →

@@ -12,7 +12,7 @@ use Rattle.snapshots.specs.ballot_base.Protocol.{received, replica_step}
 use Rattle.snapshots.specs.ballot_base.Protocol.Input.{Proposes}
 use Rattle.snapshots.specs.ballot_base.Replica.{ReplicaState}
 use Rattle.snapshots.specs.ballot_base.Sending.{Outcome}
-use Rattle.snapshots.specs.ballot_base.Serving.{most_places}
+use Rattle.snapshots.specs.ballot_base.Serving.{max_places}
 use Rattle.snapshots.specs.Past.{Moment, Past, whole_moment}
 use Rattle.snapshots.specs.Whole.{whole}
 use Rattle.snapshots.specs.World.{outputs}
@@ -67,7 +67,7 @@ CutGroupsAnswer {S} {C} {O} rules =
     (config : Config) (a : Moment S C O) (past : List (Moment S C O)) →
     Past rules config (a ∷ past) → (ballot index : ℕ) (r : ReplicaState S C) (log : List C)
     (others_of : List ℕ) (c : C) → slice_get a.world.nodes index ≡ Some r →
-    Serves ballot log others_of (index + 1) (whole a.world.archive r) → length log < most_places →
+    Serves ballot log others_of (index + 1) (whole a.world.archive r) → length log < max_places →
     (others_of ≡ [] → AnswersCommand rules a.world.archive ballot log c [] (index + 1)
     (replica_step rules r (Proposes c)))
     × ((front : List ℕ) (last : ℕ) → others_of ≡ front ++ last ∷ [] → AreApart others_of →

@@ -7,7 +7,7 @@ use Rattle.snapshots.specs.lists.Lists.{In, IsPrefixOf}
 use Rattle.snapshots.specs.whole.Messages.Body.{Held}
 use Rattle.snapshots.specs.whole.Config.{Config}
 use Rattle.snapshots.specs.whole.Replica.{others}
-use Rattle.snapshots.specs.whole.Serving.{most_places}
+use Rattle.snapshots.specs.whole.Serving.{max_places}
 use Rattle.snapshots.specs.agreement.MasterState.{refusal}
 use Rattle.snapshots.specs.agreement.Past.{Moment, Past, IsAgreed}
 use Rattle.ways_out.specs.Deliveries.{Delivered, NodeIs, assigned_moment, way_out}
@@ -26,7 +26,7 @@ pub record CanBeLed {S C O : Type 0} (a : Moment S C O) (new : Config) (index so
   pub live : (m : ℕ) → In m new.members → NodeIs Runs a.world.nodes m
   pub asked : slice_get a.master.members index ≡ Some source
   pub gives : NodeIs (RunsWith log) a.world.nodes source
-  pub room : length log < most_places
+  pub room : length log < max_places
 
 -- a moment at which a ballot is active, all its members hold this log, and its primary has applied
 -- it and knows that they do

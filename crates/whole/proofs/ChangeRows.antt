@@ -11,7 +11,7 @@ use Rattle.ballot_base.specs.declared.status.Role.{Role}
 use Rattle.whole.specs.Protocol.{ticked}
 use Rattle.whole.specs.Replica.{ReplicaState, is_backup, is_fetching, is_installing, others, progress_at}
 use Rattle.whole.specs.Sending.{nothing_done, message_to, message_to_each}
-use Rattle.whole.specs.Serving.{most_places, added}
+use Rattle.whole.specs.Serving.{max_places, added}
 use Rattle.whole.specs.Changing.{on_new_ballot, on_join, on_install, installs, on_state, on_tick_fetching, on_tick_installing}
 use Rattle.whole.specs.Activating.{on_superseded, activates, on_installed, on_activated}
 
@@ -117,13 +117,13 @@ on_superseded-leaves O r b e = rw e refl
 
 -- Activated
 pub on_activated-stays : {S C O : Type 0} (rules : Rules S C O) (r : ReplicaState S C) (b : ℕ) →
-    ((r.joined == b && is_installing r.role) && (nat_le (length r.lacking) 0 && nat_lt (length r.log) most_places)) ≡ false →
+    ((r.joined == b && is_installing r.role) && (nat_le (length r.lacking) 0 && nat_lt (length r.log) max_places)) ≡ false →
     on_activated rules r b ≡ nothing_done O r
 unfolding on_activated
 on_activated-stays rules r b e = rw e refl
 
 pub on_activated-adds : {S C O : Type 0} (rules : Rules S C O) (r : ReplicaState S C) (b : ℕ) →
-    ((r.joined == b && is_installing r.role) && (nat_le (length r.lacking) 0 && nat_lt (length r.log) most_places)) ≡ true →
+    ((r.joined == b && is_installing r.role) && (nat_le (length r.lacking) 0 && nat_lt (length r.log) max_places)) ≡ true →
     on_activated rules r b ≡ added rules
     (record (applied_to rules r (length r.log)) { role = Active; progress = progress_at (length r.log) (others r.id r.members) })
     (rules.start_of b)

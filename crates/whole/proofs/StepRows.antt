@@ -6,7 +6,7 @@ use Rattle.whole.specs.Messages.Body.{Append, Commit}
 use Rattle.whole.specs.Replica.{ReplicaState, is_active}
 use Rattle.whole.specs.Sending.{Outcome, nothing_done, message_to_followed, sent_first}
 use Rattle.whole.specs.Applying.{outputs_to, applied_to}
-use Rattle.whole.specs.Serving.{least, commit_at, commit, most_places, added, proposed}
+use Rattle.whole.specs.Serving.{least, commit_at, commit, max_places, added, proposed}
 pub use Rattle.ballot_base.proofs.StepRows.{least-le}
 
 -- nothing new is committed
@@ -36,9 +36,9 @@ added-is rules r command = refl
 
 -- a proposal is added
 pub proposed-adds : {S C O : Type 0} (rules : Rules S C O) (r : ReplicaState S C) (command : C) →
-    is_active r.role ≡ true → length r.log < most_places → proposed rules r command ≡ added rules r command
+    is_active r.role ≡ true → length r.log < max_places → proposed rules r command ≡ added rules r command
 unfolding proposed
-proposed-adds rules r command active room = rw (active, lt-ltb (length r.log) most_places room) refl
+proposed-adds rules r command active room = rw (active, lt-ltb (length r.log) max_places room) refl
 
 -- a proposal is not taken by a replica that is no active primary
 pub proposed-not_active : {S C O : Type 0} (rules : Rules S C O) (r : ReplicaState S C) (command : C) →
@@ -48,9 +48,9 @@ proposed-not_active rules r command inactive = rw inactive refl
 
 -- nor by one whose log is full
 pub proposed-full : {S C O : Type 0} (rules : Rules S C O) (r : ReplicaState S C) (command : C) →
-    is_active r.role ≡ true → most_places ≤ length r.log → proposed rules r command ≡ nothing_done O r
+    is_active r.role ≡ true → max_places ≤ length r.log → proposed rules r command ≡ nothing_done O r
 unfolding proposed
-proposed-full rules r command active full = rw (active, le-ltb (length r.log) most_places full) refl
+proposed-full rules r command active full = rw (active, le-ltb (length r.log) max_places full) refl
 
 -- committing stops no replica
 pub commit_at-stopped : {S C O : Type 0} (rules : Rules S C O) (r : ReplicaState S C) (held : ℕ) →

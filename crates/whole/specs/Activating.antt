@@ -7,7 +7,7 @@ use Rattle.whole.specs.Messages.{Effect}
 use Rattle.ballot_base.specs.declared.status.Role.TheVariants.{Backup, Active}
 use Rattle.whole.specs.Sending.{Outcome, nothing_done, message_to, master}
 use Rattle.whole.specs.Applying.{applied_to}
-use Rattle.whole.specs.Serving.{most_places, added}
+use Rattle.whole.specs.Serving.{max_places, added}
 use Rattle.whole.specs.Replica.{ReplicaState, is_installing, others, progress_at}
 
 -- with the last that lacked the log the master may activate the ballot
@@ -33,7 +33,7 @@ on_activated {O = O} rules r ballot =
       progress = progress_at (length r.log) (others r.id r.members);
     } in
     if (r.joined == ballot && is_installing r.role)
-    && (nat_le (length r.lacking) 0 && nat_lt (length r.log) most_places)
+    && (nat_le (length r.lacking) 0 && nat_lt (length r.log) max_places)
     then added rules active (rules.start_of ballot)
     else nothing_done O r
 

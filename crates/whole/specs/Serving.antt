@@ -10,7 +10,7 @@ use Rattle.ballot_base.specs.declared.status.Progress.{Progress}
 use Rattle.whole.specs.Applying.{outputs_to, applied_to}
 use Rattle.whole.specs.Sending.{Outcome, nothing_done, message_to, message_to_followed, sent_first}
 use Rattle.whole.specs.Replica.{ReplicaState, is_active, is_backup}
-pub use Rattle.ballot_base.specs.Serving.{least, raised_progress, raised, most_places}
+pub use Rattle.ballot_base.specs.Serving.{least, raised_progress, raised, max_places}
 
 -- places below `held` that are not yet applied are applied, their outputs returned, and the other
 -- members sent a Commit
@@ -38,7 +38,7 @@ added {O = O} rules r command =
 -- a proposal counts at an active primary whose log has room
 unfoldable pub proposed : {S C O : Type 0} → Rules S C O → ReplicaState S C → C → Outcome S C O
 proposed {O = O} rules r command =
-    if is_active r.role && nat_lt (length r.log) most_places
+    if is_active r.role && nat_lt (length r.log) max_places
     then added rules r command
     else nothing_done O r
 

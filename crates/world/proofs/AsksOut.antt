@@ -5,7 +5,7 @@ use Rattle.std.proofs.Common.{◌≡◌, ◌⊎◌, inl, inr, ◌<◌, ◌≤◌
 use Rattle.std.specs.List.{position}
 use Rattle.std.proofs.lemmas.List.{length-append, map-append}
 use Rattle.headline.specs.ballot.Config.{Config}
-use Rattle.headline.specs.ballot.Serving.{most_places}
+use Rattle.headline.specs.ballot.Serving.{max_places}
 use Rattle.headline.specs.broker_spec.declared.command.Command.{Command}
 use Rattle.headline.specs.broker_spec.declared.command.Command.TheVariants as commands
 use Rattle.headline.specs.broker_spec.Commands.{past_of, usual_limits}
@@ -63,7 +63,7 @@ split (x ∷ xs) = by (split xs)
 module _ (name : List ℕ) (v : WorldState) (i at number place : ℕ) (core : Core) (up : List ℕ) (positive : 0 < number) (newest : IsNewest i at number (suc place) core up [] true v)
     (housed : AreHoused (leads_of v.clients) v.connections) (first : position (is_named name) v.clients ≡ Some i)
     (config : Config) (a : Moment State Command Output) (past : List (Moment State Command Output)) (came : Past rules config (a ∷ past)) (ballot : ℕ) (os : List ℕ)
-    (list : List Command) (o : IsOpened a v.nodes ballot place os (begun list ballot) (port_of number)) (room : length list + 2 ≤ most_places) (connect : Connect)
+    (list : List Command) (o : IsOpened a v.nodes ballot place os (begun list ballot) (port_of number)) (room : length list + 2 ≤ max_places) (connect : Connect)
     (session : session_of (past_of usual_limits list) connect.client ≡ Some false) (is_connect : verdict up ≡ Ok (packets.Connect connect, [])) (kept : connect.clean ≡ false)
     (count : ℕ) (many : length up ≡ count) (some : 0 < count) (apart : AreApart os) (out : In (place + 1) os → ⊥)
     (each : (m : ℕ) → In m os → NodeIs (Follows ballot (begun list ballot)) (whole_moment a).world.nodes m) (more : List Event) (new : WorldState) where

@@ -7,7 +7,7 @@ use Rattle.std.proofs.lemmas.List.Quantifiers.{position-Some}
 use Rattle.std.proofs.lemmas.Option.{get_or_from_slice_get}
 use Rattle.headline.specs.agreement.MasterState.{MasterState, refusal}
 use Rattle.headline.specs.ballot.Config.{Config}
-use Rattle.headline.specs.ballot.Serving.{most_places}
+use Rattle.headline.specs.ballot.Serving.{max_places}
 use Rattle.headline.specs.broker_spec.declared.command.Command.{Command}
 use Rattle.headline.specs.broker_spec.declared.command.Output.{Output}
 use Rattle.headline.specs.broker_spec.Place.{Client}
@@ -90,7 +90,7 @@ module _ (config : Config) (g : Group) (past : List (Moment State Command Output
   log_is : whole_log g.archive source.node.core.replica.state.log ≡ log_of w.nodes can.source
   log_is = ap (λ (l : List Command). whole_log l source.node.core.replica.state.log) s.archive ∙ sym (ap (log_in w.nodes.archive) node_is)
 
-  pub long : length (log_of w.nodes can.source) + 2 ≤ most_places
+  pub long : length (log_of w.nodes can.source) + 2 ≤ max_places
   long =
       let q = past_stands rules config a past came in
       let within = (q.kept.nodes source.at (replica_of source.node.core) (replica_at a w.nodes seen source.at source.node source.stands)).0.within in

@@ -2,7 +2,7 @@
 use Rattle.std.proofs.Common.{◌≡◌, inr, ◌<◌, ◌-◌, ◌+◌, ℕ, Bool, true, false, if◌then◌else◌, List, ◌∷◌, ◌++◌, None, Some, length, map, refl, ap, ◌∙◌, subst, arith}
 use Rattle.std.specs.Prelude.{nat_le}
 use Rattle.std.proofs.lemmas.Bool.{leb-false}
-use Rattle.headline.specs.agreement.MasterState.{MasterState, last_ballot}
+use Rattle.headline.specs.agreement.MasterState.{MasterState, max_ballot}
 use Rattle.headline.specs.agreement.MasterState.AssignRefusal.{bad_members, ballots_spent}
 use Rattle.headline.specs.ballot.Config.{Config}
 use Rattle.headline.specs.ballot.LawfulConfig.{is_lawful}
@@ -107,11 +107,11 @@ module _ (config : Config) (g : Group) (past : List (Moment State Command Output
 
   -- ---- the ballot that it gives is one that there is
 
-  pub lawful : (is_lawful conf.members conf.primary ≡ true) × (w.nodes.master.given < last_ballot)
-  lawful = by (is_lawful conf.members conf.primary) (nat_le last_ballot w.nodes.master.given) refl refl can.granted
+  pub lawful : (is_lawful conf.members conf.primary ≡ true) × (w.nodes.master.given < max_ballot)
+  lawful = by (is_lawful conf.members conf.primary) (nat_le max_ballot w.nodes.master.given) refl refl can.granted
     where
-      by : (l t : Bool) → is_lawful conf.members conf.primary ≡ l → nat_le last_ballot w.nodes.master.given ≡ t →
-          (if l then (if t then Some ballots_spent else None) else Some bad_members) ≡ None → (is_lawful conf.members conf.primary ≡ true) × (w.nodes.master.given < last_ballot)
-      by true false e f h = (e, leb-false last_ballot w.nodes.master.given f)
+      by : (l t : Bool) → is_lawful conf.members conf.primary ≡ l → nat_le max_ballot w.nodes.master.given ≡ t →
+          (if l then (if t then Some ballots_spent else None) else Some bad_members) ≡ None → (is_lawful conf.members conf.primary ≡ true) × (w.nodes.master.given < max_ballot)
+      by true false e f h = (e, leb-false max_ballot w.nodes.master.given f)
       by true true e f h = cc
       by false t e f h = cc

@@ -3,7 +3,7 @@ use Rattle.std.proofs.Common.{◌≡◌, ◌<◌, ◌≤◌, ◌+◌, ◌^◌, �
 use Rattle.std.specs.Prelude.{nat_le}
 use Rattle.std.specs.List.{list_any}
 use Rattle.std.proofs.lemmas.Bool.{and_parts}
-use Rattle.headline.specs.agreement.MasterState.{MasterState, last_ballot}
+use Rattle.headline.specs.agreement.MasterState.{MasterState, max_ballot}
 use Rattle.headline.specs.whole.Replica.{ReplicaState as WholeState}
 use Rattle.headline.specs.ballot.Config.{Config}
 use Rattle.headline.specs.ballot.LawfulConfig.{are_rising, is_lawful}
@@ -74,7 +74,7 @@ module _ (config : Config) {nodes : ℕ} {cs : List Client} (m : World) (trail :
     (past : List (Moment State Command Output)) (came : Past rules config (moment_of m.group ∷ past)) (first : ℕ) (os : List ℕ) (name : Client)
     (can : CanEscape (first ∷ os) name w) (more : List Event) (new : WorldState)
     (l : LedTo config m.group past (first ∷ os) can.index (log_of w.nodes can.source) more w new)
-    (lawful : is_lawful (first ∷ os) first ≡ true) (given : w.nodes.master.given < last_ballot) where
+    (lawful : is_lawful (first ∷ os) first ≡ true) (given : w.nodes.master.given < max_ballot) where
   abbrev ballot : ℕ
   ballot = m.group.master.given + 1
 

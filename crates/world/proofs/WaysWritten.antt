@@ -5,11 +5,11 @@ use Rattle.std.specs.List.{list_all, list_any, position}
 use Rattle.std.proofs.lemmas.Bool.{and_parts, false≢true, leb-true}
 use Rattle.std.proofs.lemmas.List.{append_assoc, get_or_default, length-append, length-map}
 use Rattle.std.proofs.lemmas.Option.{none-some, same_Some}
-use Rattle.headline.specs.agreement.MasterState.{MasterState, last_ballot, refusal}
+use Rattle.headline.specs.agreement.MasterState.{MasterState, max_ballot, refusal}
 use Rattle.headline.specs.agreement.MasterState.AssignRefusal.{bad_members, ballots_spent}
 use Rattle.headline.specs.ballot.Config.{Config}
 use Rattle.headline.specs.ballot.LawfulConfig.{are_rising, is_lawful}
-use Rattle.headline.specs.ballot.Serving.{most_places}
+use Rattle.headline.specs.ballot.Serving.{max_places}
 use Rattle.headline.specs.broker_spec.Commands.{past_from, past_of, usual_limits}
 use Rattle.headline.specs.broker_spec.Past.{session_of}
 use Rattle.headline.specs.broker_spec.Place.{Client}
@@ -60,7 +60,7 @@ short_way short w members place holds name bytes some =
 -- ---- a configuration that is given has members
 
 pub lawful_given : (m : MasterState) (config : Config) → refusal m config ≡ None → is_lawful config.members config.primary ≡ true
-lawful_given m config = by (is_lawful config.members config.primary) (nat_le last_ballot m.given) refl
+lawful_given m config = by (is_lawful config.members config.primary) (nat_le max_ballot m.given) refl
   where
     by : (l t : Bool) → is_lawful config.members config.primary ≡ l →
         (if l then (if t then Some ballots_spent else None) else Some bad_members) ≡ None → is_lawful config.members config.primary ≡ true
@@ -148,24 +148,24 @@ session_no P Q (Ok has) both = both.1
 -- ---- the member whose log is fetched
 
 pub fetched_here : (w : WorldState) (members : List ℕ) (place held : ℕ) → members ≡ w.nodes.master.members → place < length members →
-    position (is_running w.nodes.nodes) w.nodes.master.members ≡ Some place → held ≡ held_in (node_of w.nodes.nodes (get_or members place 0)) → held + 2 ≤ most_places →
+    position (is_running w.nodes.nodes) w.nodes.master.members ≡ Some place → held ≡ held_in (node_of w.nodes.nodes (get_or members place 0)) → held + 2 ≤ max_places →
     IsFetchedFrom w place (get_or members place 0)
 fetched_here w members place held same below first is room =
     record {
       first = first;
       asked = ap (λ (l : List ℕ). slice_get l place) (sym same) ∙ get_there members place (get_or members place 0) below (get_or_default members place 0 (get_or members place 0) below);
-      room = subst (λ (k : ℕ). k + 2 ≤ most_places) is room;
+      room = subst (λ (k : ℕ). k + 2 ≤ max_places) is room;
     }
 
 pub fetched_nowhere : (w : WorldState) (members : List ℕ) (place held : ℕ) → members ≡ w.nodes.master.members → place < length members →
-    position (is_running w.nodes.nodes) w.nodes.master.members ≡ Some place → held ≡ held_in (node_of w.nodes.nodes (get_or members place 0)) → most_places < held + 2 →
+    position (is_running w.nodes.nodes) w.nodes.master.members ≡ Some place → held ≡ held_in (node_of w.nodes.nodes (get_or members place 0)) → max_places < held + 2 →
     (other source : ℕ) → IsFetchedFrom w other source → ⊥
 fetched_nowhere w members place held same below first is full other source f =
     let here : other ≡ place = same_Some other place (sym f.first ∙ first) in
     let there : get_or members place 0 ≡ source =
     same_Some (get_or members place 0) source (sym (get_there members place (get_or members place 0) below (get_or_default members place 0 (get_or members place 0) below))
     ∙ ap (λ (l : List ℕ). slice_get l place) same ∙ ap (slice_get w.nodes.master.members) (sym here) ∙ f.asked) in
-    let room : held + 2 ≤ most_places = subst (λ (k : ℕ). k + 2 ≤ most_places) (sym (is ∙ ap (λ (m : ℕ). held_in (node_of w.nodes.nodes m)) there)) f.room in
+    let room : held + 2 ≤ max_places = subst (λ (k : ℕ). k + 2 ≤ max_places) (sym (is ∙ ap (λ (m : ℕ). held_in (node_of w.nodes.nodes m)) there)) f.room in
     omega (arith, room, full)
 
 -- ---- the list, piece by piece

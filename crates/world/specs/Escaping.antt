@@ -5,7 +5,7 @@ use Rattle.escaping_client.specs.lists.Lists.{IsPrefixOf}
 use Rattle.headline.specs.agreement.MasterState.{refusal}
 use Rattle.headline.specs.ballot.Config.{Config}
 use Rattle.headline.specs.ballot.Logs.{places}
-use Rattle.headline.specs.ballot.Serving.{most_places}
+use Rattle.headline.specs.ballot.Serving.{max_places}
 use Rattle.headline.specs.broker_spec.declared.command.Command.{Command}
 use Rattle.headline.specs.broker_spec.Commands.{past_of, usual_limits}
 use Rattle.headline.specs.broker_spec.Past.{session_of}
@@ -54,7 +54,7 @@ pub record CanEscape (members : List ℕ) (name : Client) (w : WorldState) : Typ
   pub first : position (is_running w.nodes.nodes) w.nodes.master.members ≡ Some index
   pub source : ℕ
   pub asked : slice_get w.nodes.master.members index ≡ Some source
-  pub room : held_in (node_of w.nodes.nodes source) + 2 ≤ most_places
+  pub room : held_in (node_of w.nodes.nodes source) + 2 ≤ max_places
   pub core : Core
   pub client : core_named name w.clients ≡ Some core
   pub session :

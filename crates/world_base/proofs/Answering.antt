@@ -14,7 +14,7 @@ use Rattle.ballot.specs.Losses.{Done, Stepped, Steps, halted, one_more}
 use Rattle.ballot.specs.Protocol.{Input, replica_step}
 use Rattle.ballot.specs.Replica.{CountedReplica, ReplicaState, is_active}
 use Rattle.ballot.specs.Sending.{Outcome, nothing_done}
-use Rattle.ballot.specs.Serving.{added, most_places, proposed}
+use Rattle.ballot.specs.Serving.{added, max_places, proposed}
 use Rattle.world_base.specs.Core.{CoreState, rules, serves}
 use Rattle.world_base.specs.Inside.{Acts, Answered, Delivered, ProposedBy, Ran}
 use Rattle.world_base.specs.Lossy.{Account, Delivers, Drives, quietly}
@@ -98,15 +98,15 @@ running_in : (old : CoreState) → serves old ≡ true → old.replica.state.sto
 running_in old serving = right_false (is_active old.replica.state.role) old.replica.state.stopped serving
 
 -- the log has room, or is full
-room_in : (old : CoreState) → serves old ≡ true → (most_places ≤ places old.replica.state.log → ⊥) → has_room old ≡ true
-room_in old serving not_full = by (cases_lt (places old.replica.state.log) most_places)
+room_in : (old : CoreState) → serves old ≡ true → (max_places ≤ places old.replica.state.log → ⊥) → has_room old ≡ true
+room_in old serving not_full = by (cases_lt (places old.replica.state.log) max_places)
   where
-    by : (places old.replica.state.log < most_places) ⊎ (most_places ≤ places old.replica.state.log) → has_room old ≡ true
-    by (inl room) = sym (has_room_by old true serving (sym (lt-ltb (places old.replica.state.log) most_places room)))
+    by : (places old.replica.state.log < max_places) ⊎ (max_places ≤ places old.replica.state.log) → has_room old ≡ true
+    by (inl room) = sym (has_room_by old true serving (sym (lt-ltb (places old.replica.state.log) max_places room)))
     by (inr over) = absurd (not_full over)
 
-full_in : (old : CoreState) → serves old ≡ true → most_places ≤ places old.replica.state.log → has_room old ≡ false
-full_in old serving over = sym (has_room_by old false serving (sym (le-ltb (places old.replica.state.log) most_places over)))
+full_in : (old : CoreState) → serves old ≡ true → max_places ≤ places old.replica.state.log → has_room old ≡ false
+full_in old serving over = sym (has_room_by old false serving (sym (le-ltb (places old.replica.state.log) max_places over)))
 
 -- a replica that is stopped after a proposal found no memory
 stopped_by : (old : CountedReplica State Command) (command : Command) (new : CountedReplica State Command) (given : List (Effect Command Output)) →
@@ -132,8 +132,8 @@ pub answered : (result : Result (Unit {0}) ProposeError) (old : CoreState) (new 
     OnOk result (Done old.replica (added rules old.replica.state command) new before later) →
     (IsErrOf result Halted → new.state.stopped ≡ true) →
     (IsErrOf result NotActive → (old.replica.state.stopped ≡ false) × (is_active old.replica.state.role ≡ false)) →
-    (IsErrOf result LogFull → most_places ≤ places old.replica.state.log) →
-    (most_places ≤ places old.replica.state.log → IsErrOf result LogFull) →
+    (IsErrOf result LogFull → max_places ≤ places old.replica.state.log) →
+    (max_places ≤ places old.replica.state.log → IsErrOf result LogFull) →
     (IsErrOf result Memory → new ≡ record old.replica { losses = one_more old.replica.losses }) →
     (IsErrOf result LogFull → new ≡ old.replica) →
     OnErr result (later ≡ before) →
@@ -172,8 +172,8 @@ pub answered_kept : (result : Result (Unit {0}) ProposeError) (old : CoreState) 
     OnOk result (Done old.replica (added rules old.replica.state command) new before later) →
     (IsErrOf result Halted → new.state.stopped ≡ true) →
     (IsErrOf result NotActive → (old.replica.state.stopped ≡ false) × (is_active old.replica.state.role ≡ false)) →
-    (IsErrOf result LogFull → most_places ≤ places old.replica.state.log) →
-    (most_places ≤ places old.replica.state.log → IsErrOf result LogFull) →
+    (IsErrOf result LogFull → max_places ≤ places old.replica.state.log) →
+    (max_places ≤ places old.replica.state.log → IsErrOf result LogFull) →
     (IsErrOf result Memory → new ≡ record old.replica { losses = one_more old.replica.losses }) →
     (IsErrOf result LogFull → new ≡ old.replica) →
     OnErr result (later ≡ before) → after ≡ record old { replica = new } →

@@ -12,7 +12,7 @@ use Rattle.ballot.specs.Effect.{Effect}
 use Rattle.ballot.specs.Losses.{Stepped, Steps, one_more}
 use Rattle.ballot.specs.Replica.{CountedReplica, ReplicaState, is_active}
 use Rattle.ballot.specs.Sending.{Outcome}
-use Rattle.ballot.specs.Serving.{most_places, proposed}
+use Rattle.ballot.specs.Serving.{max_places, proposed}
 use Rattle.ballot.proofs.StepRows.{proposed-adds, proposed-full, added-stopped}
 use Rattle.world_base.specs.Core.{CoreState, rules, serves}
 use Rattle.world_base.specs.Turns.{has_room}
@@ -30,9 +30,9 @@ right_false false b t = absurd cc
 -- a proposal stops no replica
 pub proposed-stopped : (r : ReplicaState State Command) (command : Command) → is_active r.role ≡ true →
     (proposed rules r command).state.stopped ≡ r.stopped
-proposed-stopped r command active = by_order (cases_lt (places r.log) most_places)
+proposed-stopped r command active = by_order (cases_lt (places r.log) max_places)
   where
-    by_order : (places r.log < most_places) ⊎ (most_places ≤ places r.log) →
+    by_order : (places r.log < max_places) ⊎ (max_places ≤ places r.log) →
         (proposed rules r command).state.stopped ≡ r.stopped
     by_order (inl room) =
         ap (λ (o : Outcome State Command Output). o.state.stopped) (proposed-adds rules r command active room)
@@ -50,22 +50,22 @@ pub room_answered : (result : Result (Unit {0}) ProposeError) (old new : Counted
     Stepped rules old (proposed rules old.state command) new before after →
     (IsErrOf result Halted → new.state.stopped ≡ true) →
     (IsErrOf result NotActive → (old.state.stopped ≡ false) × (is_active old.state.role ≡ false)) →
-    (IsErrOf result LogFull → most_places ≤ places old.state.log) →
-    (most_places ≤ places old.state.log → IsErrOf result LogFull) →
+    (IsErrOf result LogFull → max_places ≤ places old.state.log) →
+    (max_places ≤ places old.state.log → IsErrOf result LogFull) →
     (IsErrOf result Memory → new ≡ record old { losses = one_more old.losses }) →
     new.losses ≡ old.losses → old.losses < 2 ^ 64 - 1 →
-    is_ok result ≡ nat_lt (places old.state.log) most_places
+    is_ok result ≡ nat_lt (places old.state.log) max_places
 room_answered (Ok x) old new command before after active running stepped halted inactive full is_full memory same below =
-    by_order (cases_lt (places old.state.log) most_places)
+    by_order (cases_lt (places old.state.log) max_places)
   where
-    by_order : (places old.state.log < most_places) ⊎ (most_places ≤ places old.state.log) →
-        true ≡ nat_lt (places old.state.log) most_places
-    by_order (inl room) = sym (lt-ltb (places old.state.log) most_places room)
+    by_order : (places old.state.log < max_places) ⊎ (max_places ≤ places old.state.log) →
+        true ≡ nat_lt (places old.state.log) max_places
+    by_order (inl room) = sym (lt-ltb (places old.state.log) max_places room)
     by_order (inr over) = let e = is_full over in absurd cc
 room_answered (Err NotActive) old new command before after active running stepped halted inactive full is_full memory same below =
     let e = (inactive refl).1 in absurd cc
 room_answered (Err LogFull) old new command before after active running stepped halted inactive full is_full memory same below =
-    sym (le-ltb (places old.state.log) most_places (full refl))
+    sym (le-ltb (places old.state.log) max_places (full refl))
 room_answered (Err Memory) old new command before after active running stepped halted inactive full is_full memory same below =
     absurd (no_loss old.losses new.losses (ap (λ (z : CountedReplica State Command). z.losses) (memory refl)) same below)
 room_answered (Err Halted) old new command before after active running stepped halted inactive full is_full memory same below =
@@ -81,5 +81,5 @@ room_answered (Err Halted) old new command before after active running stepped h
 
 -- what room means for a node that serves clients
 pub has_room_by : (core : CoreState) (b : Bool) → serves core ≡ true →
-    b ≡ nat_lt (places core.replica.state.log) most_places → b ≡ has_room core
+    b ≡ nat_lt (places core.replica.state.log) max_places → b ≡ has_room core
 has_room_by core b serving e = rw serving e

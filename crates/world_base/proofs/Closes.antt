@@ -6,7 +6,7 @@ use Rattle.node_connections.specs.broker_spec.declared.command.Command.TheVarian
 use Rattle.node_connections.specs.broker_spec.declared.command.Output.{Output}
 use Rattle.ballot.specs.Logs.{places}
 use Rattle.ballot.specs.Effect.{Effect}
-use Rattle.ballot.specs.Serving.{most_places}
+use Rattle.ballot.specs.Serving.{max_places}
 use Rattle.ballot.proofs.StepRows.{proposed-full}
 use Rattle.node_connections.specs.declared.port.Port.{Port}
 use Rattle.node_connections.specs.declared.connection.Connection.{Connection}
@@ -47,22 +47,22 @@ room_false : (a b : Bool) → (a && b) ≡ false → (a ≡ false) ⊎ ((a ≡ t
 room_false true b e = inr (refl, e)
 room_false false b e = inl refl
 
-full_of : (core : CoreState) → nat_lt (places core.replica.state.log) most_places ≡ false →
-    most_places ≤ places core.replica.state.log
-full_of core full = by_order (cases_lt (places core.replica.state.log) most_places)
+full_of : (core : CoreState) → nat_lt (places core.replica.state.log) max_places ≡ false →
+    max_places ≤ places core.replica.state.log
+full_of core full = by_order (cases_lt (places core.replica.state.log) max_places)
   where
-    by_order : (places core.replica.state.log < most_places) ⊎ (most_places ≤ places core.replica.state.log) →
-        most_places ≤ places core.replica.state.log
-    by_order (inl room) = let e = lt-ltb (places core.replica.state.log) most_places room in absurd cc
+    by_order : (places core.replica.state.log < max_places) ⊎ (max_places ≤ places core.replica.state.log) →
+        max_places ≤ places core.replica.state.log
+    by_order (inl room) = let e = lt-ltb (places core.replica.state.log) max_places room in absurd cc
     by_order (inr over) = over
 
 pub proposes_nothing : (command : Command) (core : CoreState) → has_room core ≡ false → proposes command core ≡ quiet core
 unfolding proposes
 proposes_nothing command core e =
-    by_parts (room_false (serves core) (nat_lt (places core.replica.state.log) most_places) e)
+    by_parts (room_false (serves core) (nat_lt (places core.replica.state.log) max_places) e)
   where
     by_parts : (serves core ≡ false)
-        ⊎ ((serves core ≡ true) × (nat_lt (places core.replica.state.log) most_places ≡ false)) →
+        ⊎ ((serves core ≡ true) × (nat_lt (places core.replica.state.log) max_places ≡ false)) →
         proposes command core ≡ quiet core
     by_parts (inl idle) = rw idle refl
     by_parts (inr full) =

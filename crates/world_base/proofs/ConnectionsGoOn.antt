@@ -17,7 +17,7 @@ use Rattle.ballot.specs.Effect.TheVariants.{To, Out}
 use Rattle.ballot.specs.Message.{Message}
 use Rattle.node_connections.specs.declared.connection.Connection.{Connection}
 use Rattle.node_connections.specs.declared.connection.Stage.TheVariants.{Over, Failed}
-use Rattle.node_connections.specs.Connections.{changed, closed, failing, is_open_named, is_over, is_proposed, most_pending, put_out, putting}
+use Rattle.node_connections.specs.Connections.{changed, closed, failing, is_open_named, is_over, is_proposed, max_pending, put_out, putting}
 use Rattle.world_base.specs.Core.{CoreState}
 use Rattle.world_base.specs.Going.{AreNamedApart, EachGoesOn, GoesOn, bytes_by, bytes_for}
 use Rattle.world_base.specs.Lossy.{Delivers, Serves}
@@ -92,7 +92,7 @@ goes_refused code c stays =
 
 -- bytes that are queued come after all others, or the connection is closed
 goes_put : (bytes : List ℕ) (c : Connection) → is_over c.stage ≡ false → GoesOn bytes c (put_out bytes c)
-goes_put bytes c stays = by (nat_le (length c.pending + length bytes) most_pending)
+goes_put bytes c stays = by (nat_le (length c.pending + length bytes) max_pending)
   where
     by : (fits : Bool) → GoesOn bytes c (if fits then putting bytes c else failing c)
     by true =

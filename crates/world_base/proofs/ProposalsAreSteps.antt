@@ -10,7 +10,7 @@ use Rattle.ballot.specs.Effect.{Effect}
 use Rattle.ballot.specs.Losses.{Done, Steps, Thinned, halted, one_more}
 use Rattle.ballot.specs.Replica.{CountedReplica, is_active}
 use Rattle.ballot.specs.Sending.{Outcome}
-use Rattle.ballot.specs.Serving.{added, most_places, proposed}
+use Rattle.ballot.specs.Serving.{added, max_places, proposed}
 use Rattle.ballot.proofs.StepRows.{proposed-adds, proposed-full}
 use Rattle.world_base.specs.Core.{CoreState, rules, serves}
 use Rattle.world_base.specs.Lossy.{Account, Moves}
@@ -33,23 +33,23 @@ right_true : (a b : Bool) → (a && b) ≡ true → b ≡ true
 right_true true b e = e
 right_true false b e = absurd cc
 
-room_of : (core : CoreState) → has_room core ≡ true → places core.replica.state.log < most_places
-room_of core room = by (cases_lt (places core.replica.state.log) most_places)
+room_of : (core : CoreState) → has_room core ≡ true → places core.replica.state.log < max_places
+room_of core room = by (cases_lt (places core.replica.state.log) max_places)
   where
-    by : (places core.replica.state.log < most_places) ⊎ (most_places ≤ places core.replica.state.log) → places core.replica.state.log < most_places
+    by : (places core.replica.state.log < max_places) ⊎ (max_places ≤ places core.replica.state.log) → places core.replica.state.log < max_places
     by (inl below) = below
     by (inr over) =
-        let full = le-ltb (places core.replica.state.log) most_places over in
-        let fits = right_true (serves core) (nat_lt (places core.replica.state.log) most_places) room in
+        let full = le-ltb (places core.replica.state.log) max_places over in
+        let fits = right_true (serves core) (nat_lt (places core.replica.state.log) max_places) room in
         absurd cc
 
-full_of : (core : CoreState) → serves core ≡ true → has_room core ≡ false → most_places ≤ places core.replica.state.log
-full_of core serving full = by (cases_lt (places core.replica.state.log) most_places)
+full_of : (core : CoreState) → serves core ≡ true → has_room core ≡ false → max_places ≤ places core.replica.state.log
+full_of core serving full = by (cases_lt (places core.replica.state.log) max_places)
   where
-    by : (places core.replica.state.log < most_places) ⊎ (most_places ≤ places core.replica.state.log) → most_places ≤ places core.replica.state.log
+    by : (places core.replica.state.log < max_places) ⊎ (max_places ≤ places core.replica.state.log) → max_places ≤ places core.replica.state.log
     by (inl below) =
-        let fits = lt-ltb (places core.replica.state.log) most_places below in
-        let none : nat_lt (places core.replica.state.log) most_places ≡ false = rw serving at full in
+        let fits = lt-ltb (places core.replica.state.log) max_places below in
+        let none : nat_lt (places core.replica.state.log) max_places ≡ false = rw serving at full in
         absurd cc
     by (inr over) = over
 
@@ -58,7 +58,7 @@ active_of core serving = left_true (is_active core.replica.state.role) (not core
 
 not_idle : (core : CoreState) → has_room core ≡ true → serves core ≡ false → ⊥
 not_idle core room idle =
-    let serving = left_true (serves core) (nat_lt (places core.replica.state.log) most_places) room in
+    let serving = left_true (serves core) (nat_lt (places core.replica.state.log) max_places) room in
     absurd cc
 
 pub proposals_are_steps : ProposalsAreSteps

@@ -12,7 +12,7 @@ use Rattle.ballot.specs.Effect.TheVariants.{To, Out}
 use Rattle.ballot.specs.Protocol.{Input, replica_step}
 use Rattle.ballot.specs.Replica.{ReplicaState}
 use Rattle.ballot.specs.Sending.{Outcome, nothing_done}
-use Rattle.ballot.specs.Serving.{proposed, most_places}
+use Rattle.ballot.specs.Serving.{proposed, max_places}
 use Rattle.node_connections.specs.declared.connection.Connection.{Connection}
 use Rattle.node_connections.specs.Connections.{is_open_named, closed, put_out, changed}
 use Rattle.world_base.specs.Core.{CoreState, Turn, rules, serves}
@@ -87,4 +87,4 @@ drives input core = moved (heard input core.replica.state) core
 
 -- whether a proposal is taken: by an active primary whose log has room
 abbrev pub has_room : CoreState → Bool
-has_room core = serves core && nat_lt (places core.replica.state.log) most_places
+has_room core = serves core && nat_lt (places core.replica.state.log) max_places

@@ -8,7 +8,7 @@ use Rattle.client.specs.packet_base.Spelling.{IsId}
 use Rattle.client.proofs.of_packet_base.FieldsAgain.{filter_parts}
 use Rattle.client.specs.packet.Delivery.{FitsDelivery}
 use Rattle.client.specs.packet.QoS.{qos_number}
-use Rattle.client.specs.packet.Spelling.{IsPacket, body, longest_body}
+use Rattle.client.specs.packet.Spelling.{IsPacket, body, max_body}
 use Rattle.client.specs.packet.Subscribe.{FitsSubscription}
 use Rattle.client.specs.packet.declared.packet.Packet.{Packet}
 use Rattle.client.specs.packet.declared.packet.Packet.TheVariants as packets
@@ -47,21 +47,21 @@ subscribe_is : (id : ℕ) (filter : List ℕ) (qos : QoS) → IsId id → IsTrue
     IsPacket (packets.Subscribe (record { id = id; filters = record { filter = filter; qos = qos } ∷ [] }))
 subscribe_is id filter qos one good = ((one, all_one FitsSubscription (record { filter = filter; qos = qos }) good), omega arith, short)
   where
-    short : length (body (packets.Subscribe (record { id = id; filters = record { filter = filter; qos = qos } ∷ [] }))) ≤ longest_body
+    short : length (body (packets.Subscribe (record { id = id; filters = record { filter = filter; qos = qos } ∷ [] }))) ≤ max_body
     short =
         let few : length filter < 2 ^ 16 = (filter_parts filter good).1 in
         let e : length ((filter ++ qos_number qos ∷ []) ++ []) ≡ length (filter ++ qos_number qos ∷ []) + 0 = length-append (filter ++ qos_number qos ∷ []) [] in
         let f : length (filter ++ qos_number qos ∷ []) ≡ length filter + 1 = length-append filter (qos_number qos ∷ []) in
-        let goal : suc (suc (suc (suc (length ((filter ++ qos_number qos ∷ []) ++ []))))) ≤ longest_body = omega (arith, e, f, few) in goal
+        let goal : suc (suc (suc (suc (length ((filter ++ qos_number qos ∷ []) ++ []))))) ≤ max_body = omega (arith, e, f, few) in goal
 
 unsubscribe_is : (id : ℕ) (filter : List ℕ) → IsId id → IsTrue (is_filter filter) → IsPacket (packets.Unsubscribe (record { id = id; filters = filter ∷ [] }))
 unsubscribe_is id filter one good = ((one, all_one (λ f. IsTrue (is_filter f)) filter good), omega arith, short)
   where
-    short : length (body (packets.Unsubscribe (record { id = id; filters = filter ∷ [] }))) ≤ longest_body
+    short : length (body (packets.Unsubscribe (record { id = id; filters = filter ∷ [] }))) ≤ max_body
     short =
         let few : length filter < 2 ^ 16 = (filter_parts filter good).1 in
         let e : length (filter ++ []) ≡ length filter + 0 = length-append filter [] in
-        let goal : suc (suc (suc (suc (length (filter ++ []))))) ≤ longest_body = omega (arith, e, few) in goal
+        let goal : suc (suc (suc (suc (length (filter ++ []))))) ≤ max_body = omega (arith, e, few) in goal
 
 delivery_fits : (qos : QoS) (id : ℕ) → (is_answered qos ≡ true → IsId id) → FitsDelivery (delivery_at qos false id)
 delivery_fits levels.AtMostOnce id named = tt
@@ -73,7 +73,7 @@ publish_is p state good taken =
     let is = is_published p state taken in (
       (good, delivery_fits p.qos (next_id state) (λ e. id_fits state (is.named e))),
       tt,
-      ltb-false longest_body (length (body (publish_packet p state))) is.small,
+      ltb-false max_body (length (body (publish_packet p state))) is.small,
     )
 
 -- ---- publishing

@@ -18,7 +18,7 @@ use Rattle.agreement.proofs.Frame.Apart.{chosen_within}
 use Rattle.agreement.proofs.Masters.Assigned.{at_most_newest}
 use Rattle.agreement.proofs.Frame.Framing.{within_of}
 use Rattle.agreement.proofs.Frame.SaysLater.{told_less}
-use Rattle.agreement.proofs.Agreed.MostTold.{told_whole, told_at_most}
+use Rattle.agreement.proofs.Agreed.MaxTold.{told_whole, told_at_most}
 use Rattle.agreement.proofs.Frame.Bases.{chosen_told, base_is, one_line}
 use Rattle.agreement.proofs.Frame.Taking.{activated_base}
 

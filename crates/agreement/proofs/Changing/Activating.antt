@@ -10,7 +10,7 @@ use Rattle.whole.specs.Progress.{Progress}
 use Rattle.whole.specs.Role.TheVariants.{Active}
 use Rattle.whole.specs.Replica.{ReplicaState, is_installing, others, progress_at}
 use Rattle.whole.specs.Sending.{Outcome}
-use Rattle.whole.specs.Serving.{most_places}
+use Rattle.whole.specs.Serving.{max_places}
 use Rattle.whole.specs.Activating.{on_activated}
 use Rattle.agreement.specs.World.{World}
 use Rattle.whole.specs.lists.Lists.{In, IsPrefixOf}
@@ -99,18 +99,18 @@ pub keeps_activated : {S C O : Type 0} (rules : Rules S C O) (w : World S C O) (
     (from b : ℕ) → IsSound rules w h → slice_get w.nodes n ≡ Some r → r.machine ≡ replay rules (take r.committed r.log) →
     In (n + 1, record { from = from; body = Activated b }) w.sent → KeepsAdding rules w h n (λ c x. x ≡ rules.start_of c) (on_activated rules r b)
 keeps_activated {S = S} {C = C} {O = O} rules w h n r from b s stands ran sent =
-    by_condition (cases_Bool ((r.joined == b && is_installing r.role) && (nat_le (length r.lacking) 0 && nat_lt (length r.log) most_places)))
+    by_condition (cases_Bool ((r.joined == b && is_installing r.role) && (nat_le (length r.lacking) 0 && nat_lt (length r.log) max_places)))
   where
     said : Says w h (n + 1) from (Activated b)
     said = s.said (n + 1) _ sent
 
-    by_condition : (((r.joined == b && is_installing r.role) && (nat_le (length r.lacking) 0 && nat_lt (length r.log) most_places)) ≡ true)
-        ⊎ (((r.joined == b && is_installing r.role) && (nat_le (length r.lacking) 0 && nat_lt (length r.log) most_places)) ≡ false) →
+    by_condition : (((r.joined == b && is_installing r.role) && (nat_le (length r.lacking) 0 && nat_lt (length r.log) max_places)) ≡ true)
+        ⊎ (((r.joined == b && is_installing r.role) && (nat_le (length r.lacking) 0 && nat_lt (length r.log) max_places)) ≡ false) →
         KeepsAdding rules w h n (λ c x. x ≡ rules.start_of c) (on_activated rules r b)
     by_condition (inl e) =
-        let p = and_parts (r.joined == b && is_installing r.role) (nat_le (length r.lacking) 0 && nat_lt (length r.log) most_places) e in
+        let p = and_parts (r.joined == b && is_installing r.role) (nat_le (length r.lacking) 0 && nat_lt (length r.log) max_places) e in
         let a = and_parts (r.joined == b) (is_installing r.role) p.0 in
-        let z = and_parts (nat_le (length r.lacking) 0) (nat_lt (length r.log) most_places) p.1 in
+        let z = and_parts (nat_le (length r.lacking) 0) (nat_lt (length r.log) max_places) p.1 in
         let t = s.nodes n r stands in
         let none = none_of r.lacking (leb-true (length r.lacking) 0 z.0) in
         subst (λ (o : Outcome S C O). KeepsAdding rules w h n (λ c x. x ≡ rules.start_of c) o) (sym (on_activated-adds rules r b e))

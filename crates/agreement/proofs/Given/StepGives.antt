@@ -13,7 +13,7 @@ use Rattle.whole.specs.Protocol.Input.{Receives, Proposes, Ticks}
 use Rattle.whole.specs.Replica.{ReplicaState, is_active, is_backup, is_installing, others, progress_at}
 use Rattle.whole.specs.Role.TheVariants.{Active}
 use Rattle.whole.specs.Sending.{Outcome, message_to_followed, nothing_done}
-use Rattle.whole.specs.Serving.{added, commit, follows, leads, least, most_places, on_commit, on_held, proposed, raised}
+use Rattle.whole.specs.Serving.{added, commit, follows, leads, least, max_places, on_commit, on_held, proposed, raised}
 use Rattle.whole.proofs.AppliesInOrder.{replay_goes_on}
 use Rattle.whole.proofs.ChangeRows.{on_activated-adds, on_activated-stays}
 use Rattle.whole.proofs.StepRows.{added-is, proposed-adds, proposed-full, proposed-not_active}
@@ -66,9 +66,9 @@ added_gives {S = S} {C = C} {O = O} rules old r c ran within active from =
 -- a proposal
 proposed_gives : {S C O : Type 0} (rules : Rules S C O) (r : ReplicaState S C) (c : C) → r.machine ≡ replay rules (take r.committed r.log) →
     r.committed ≤ length r.log → Gives rules r (proposed rules r c)
-proposed_gives {S = S} {C = C} {O = O} rules r c ran within = by_role (cases_Bool (is_active r.role)) (cases_lt (length r.log) most_places)
+proposed_gives {S = S} {C = C} {O = O} rules r c ran within = by_role (cases_Bool (is_active r.role)) (cases_lt (length r.log) max_places)
   where
-    by_role : (is_active r.role ≡ true) ⊎ (is_active r.role ≡ false) → (length r.log < most_places) ⊎ (most_places ≤ length r.log) →
+    by_role : (is_active r.role ≡ true) ⊎ (is_active r.role ≡ false) → (length r.log < max_places) ⊎ (max_places ≤ length r.log) →
         Gives rules r (proposed rules r c)
     by_role (inl a) (inl room) =
         subst (λ (o : Outcome S C O). Gives rules r o) (sym (proposed-adds rules r c a room))
@@ -107,16 +107,16 @@ commit_gives_nothing rules r b held = by_condition (cases_Bool (follows r b && n
 activated_gives : {S C O : Type 0} (rules : Rules S C O) (r : ReplicaState S C) (b : ℕ) → r.machine ≡ replay rules (take r.committed r.log) →
     r.committed ≤ length r.log → Gives rules r (on_activated rules r b)
 activated_gives {S = S} {C = C} {O = O} rules r b ran within =
-    by_condition (cases_Bool ((r.joined == b && is_installing r.role) && (nat_le (length r.lacking) 0 && nat_lt (length r.log) most_places)))
+    by_condition (cases_Bool ((r.joined == b && is_installing r.role) && (nat_le (length r.lacking) 0 && nat_lt (length r.log) max_places)))
   where
     active : ReplicaState S C
     active = record (applied_to rules r (length r.log)) { role = Active; progress = progress_at (length r.log) (others r.id r.members) }
 
-    by_condition : (((r.joined == b && is_installing r.role) && (nat_le (length r.lacking) 0 && nat_lt (length r.log) most_places)) ≡ true)
-        ⊎ (((r.joined == b && is_installing r.role) && (nat_le (length r.lacking) 0 && nat_lt (length r.log) most_places)) ≡ false) →
+    by_condition : (((r.joined == b && is_installing r.role) && (nat_le (length r.lacking) 0 && nat_lt (length r.log) max_places)) ≡ true)
+        ⊎ (((r.joined == b && is_installing r.role) && (nat_le (length r.lacking) 0 && nat_lt (length r.log) max_places)) ≡ false) →
         Gives rules r (on_activated rules r b)
     by_condition (inl e) =
-        let p = (and_parts (r.joined == b && is_installing r.role) (nat_le (length r.lacking) 0 && nat_lt (length r.log) most_places) e).0 in
+        let p = (and_parts (r.joined == b && is_installing r.role) (nat_le (length r.lacking) 0 && nat_lt (length r.log) max_places) e).0 in
         let installing = role_installing r.role (and_parts (r.joined == b) (is_installing r.role) p).1 in
         subst (λ (o : Outcome S C O). Gives rules r o) (sym (on_activated-adds rules r b e))
         (added_gives rules r active (rules.start_of b) (replay_goes_on rules r.machine r.log r.committed (length r.log) within ran) (omega arith) refl

@@ -13,7 +13,7 @@ use Rattle.whole.specs.Protocol.{Input, received, ticked, replica_step}
 use Rattle.whole.specs.Protocol.Input.{Receives, Proposes, Ticks}
 use Rattle.whole.specs.Replica.{ReplicaState, is_installing, is_active, others, progress_at}
 use Rattle.whole.specs.Sending.{Outcome}
-use Rattle.whole.specs.Serving.{most_places, proposed, follows, leads, least, raised, commit, on_append, on_held, on_commit, on_tick_active}
+use Rattle.whole.specs.Serving.{max_places, proposed, follows, leads, least, raised, commit, on_append, on_held, on_commit, on_tick_active}
 use Rattle.whole.proofs.StepRows.{proposed-adds, proposed-full, proposed-not_active}
 use Rattle.agreement.proofs.Machines.Applies.{Applies, applies_nothing, applies_to, commit_applies, added_applies, added_after}
 use Rattle.whole.proofs.ChangeRows.{on_activated-stays, on_activated-adds}
@@ -55,7 +55,7 @@ commit_is_applied rules r b held = by_condition (cases_Bool (follows r b && nat_
 activated_applies : {S C O : Type 0} (rules : Rules S C O) (r : ReplicaState S C) (b : ℕ) → r.committed ≤ length r.log →
     Applies rules r (on_activated rules r b).state
 activated_applies {S = S} {C = C} {O = O} rules r b within =
-    by_condition (cases_Bool ((r.joined == b && is_installing r.role) && (nat_le (length r.lacking) 0 && nat_lt (length r.log) most_places)))
+    by_condition (cases_Bool ((r.joined == b && is_installing r.role) && (nat_le (length r.lacking) 0 && nat_lt (length r.log) max_places)))
   where
     active : ReplicaState S C
     active = record (applied_to rules r (length r.log)) { role = Active; progress = progress_at (length r.log) (others r.id r.members) }
@@ -63,8 +63,8 @@ activated_applies {S = S} {C = C} {O = O} rules r b within =
     first : Applies rules r active
     first = let a = applies_to rules r r (length r.log) refl refl within in record { up = a.up; machine = a.machine }
 
-    by_condition : (((r.joined == b && is_installing r.role) && (nat_le (length r.lacking) 0 && nat_lt (length r.log) most_places)) ≡ true)
-        ⊎ (((r.joined == b && is_installing r.role) && (nat_le (length r.lacking) 0 && nat_lt (length r.log) most_places)) ≡ false) →
+    by_condition : (((r.joined == b && is_installing r.role) && (nat_le (length r.lacking) 0 && nat_lt (length r.log) max_places)) ≡ true)
+        ⊎ (((r.joined == b && is_installing r.role) && (nat_le (length r.lacking) 0 && nat_lt (length r.log) max_places)) ≡ false) →
         Applies rules r (on_activated rules r b).state
     by_condition (inl e) =
         subst (λ (o : Outcome S C O). Applies rules r o.state) (sym (on_activated-adds rules r b e))
@@ -98,9 +98,9 @@ ticked_applies rules r Active = applies_nothing rules r r refl refl
 
 -- a proposal
 proposed_applies : {S C O : Type 0} (rules : Rules S C O) (r : ReplicaState S C) (c : C) → Applies rules r (proposed rules r c).state
-proposed_applies {S = S} {C = C} {O = O} rules r c = by_role (cases_Bool (is_active r.role)) (cases_lt (length r.log) most_places)
+proposed_applies {S = S} {C = C} {O = O} rules r c = by_role (cases_Bool (is_active r.role)) (cases_lt (length r.log) max_places)
   where
-    by_role : (is_active r.role ≡ true) ⊎ (is_active r.role ≡ false) → (length r.log < most_places) ⊎ (most_places ≤ length r.log) →
+    by_role : (is_active r.role ≡ true) ⊎ (is_active r.role ≡ false) → (length r.log < max_places) ⊎ (max_places ≤ length r.log) →
         Applies rules r (proposed rules r c).state
     by_role (inl a) (inl room) = subst (λ (o : Outcome S C O). Applies rules r o.state) (sym (proposed-adds rules r c a room)) (added_applies rules r c)
     by_role (inl a) (inr full) = subst (λ (o : Outcome S C O). Applies rules r o.state) (sym (proposed-full rules r c a full)) (applies_nothing rules r r refl refl)

@@ -8,7 +8,7 @@ use Rattle.whole.specs.Config.{Config}
 use Rattle.agreement.specs.World.{can_open}
 use Rattle.whole.specs.lists.Lists.{In}
 use Rattle.whole.specs.lists.Lists.In.{here, there}
-use Rattle.agreement.specs.MasterState.{AssignRefusal, refusal, last_ballot, master_after, MasterState, activated}
+use Rattle.agreement.specs.MasterState.{AssignRefusal, refusal, max_ballot, master_after, MasterState, activated}
 use Rattle.agreement.specs.Inside.Masters.{AreNodes, IsServing}
 use Rattle.agreement.specs.MasterState.AssignRefusal.{bad_members, ballots_spent}
 use Rattle.agreement.proofs.LawfulConfigs.{lawful_config, any_in}
@@ -40,17 +40,17 @@ can_open_is nodes config e =
 
 -- what is not refused may be, and is not the last ballot
 pub not_refused : (m : MasterState) (config : Config) → refusal m config ≡ None →
-    (is_lawful config.members config.primary ≡ true) × (m.given < last_ballot)
+    (is_lawful config.members config.primary ≡ true) × (m.given < max_ballot)
 not_refused m config e = by_members (is_lawful config.members config.primary) refl e
   where
-    by_count : (b : Bool) → nat_le last_ballot m.given ≡ b → cond b (Some ballots_spent) None ≡ None → m.given < last_ballot
+    by_count : (b : Bool) → nat_le max_ballot m.given ≡ b → cond b (Some ballots_spent) None ≡ None → m.given < max_ballot
     by_count true f g = cc
-    by_count false f g = let z = leb-false last_ballot m.given f in omega (arith, z)
+    by_count false f g = let z = leb-false max_ballot m.given f in omega (arith, z)
 
     by_members : (b : Bool) → is_lawful config.members config.primary ≡ b →
-        cond b (cond (nat_le last_ballot m.given) (Some ballots_spent) None) (Some bad_members) ≡ None →
-        (is_lawful config.members config.primary ≡ true) × (m.given < last_ballot)
-    by_members true f g = (f, by_count (nat_le last_ballot m.given) refl g)
+        cond b (cond (nat_le max_ballot m.given) (Some ballots_spent) None) (Some bad_members) ≡ None →
+        (is_lawful config.members config.primary ≡ true) × (m.given < max_ballot)
+    by_members true f g = (f, by_count (nat_le max_ballot m.given) refl g)
     by_members false f g = cc
 
 -- an Assign keeps what the master has

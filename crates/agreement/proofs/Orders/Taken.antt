@@ -11,7 +11,7 @@ use Rattle.whole.specs.Losses.Thinned.{none}
 use Rattle.whole.specs.Protocol.Input.{Proposes}
 use Rattle.whole.specs.Replica.{ReplicaState, is_active}
 use Rattle.whole.specs.Sending.{Outcome, nothing_done}
-use Rattle.whole.specs.Serving.{added, most_places, proposed}
+use Rattle.whole.specs.Serving.{added, max_places, proposed}
 use Rattle.whole.proofs.StepRows.{proposed-adds, proposed-full, proposed-not_active}
 use Rattle.agreement.specs.Proposals.{taken_by}
 
@@ -29,14 +29,14 @@ pub proposal_went : {S C O : Type 0} (rules : Rules S C O) (r : ReplicaState S C
     (given : List (Effect C O)) → Loses rules r (proposed rules r c) new given → Went rules r c new given
 proposal_went rules r c new given (inr (inl (e, f))) = was_refused e f
 proposal_went rules r c new given (inr (inr (e, f))) = has_stopped e f
-proposal_went {S = S} {C = C} {O = O} rules r c new given (inl (e, thinned)) = by_role (cases_Bool (is_active r.role)) (cases_lt (length r.log) most_places)
+proposal_went {S = S} {C = C} {O = O} rules r c new given (inl (e, thinned)) = by_role (cases_Bool (is_active r.role)) (cases_lt (length r.log) max_places)
   where
     refused : proposed rules r c ≡ nothing_done O r → Went rules r c new given
     refused f =
         was_refused (e ∙ ap (λ (o : Outcome S C O). o.state) f)
         (nothing_thinned (subst (λ (o : Outcome S C O). Thinned given o.effects) f thinned))
 
-    by_role : (is_active r.role ≡ true) ⊎ (is_active r.role ≡ false) → (length r.log < most_places) ⊎ (most_places ≤ length r.log) →
+    by_role : (is_active r.role ≡ true) ⊎ (is_active r.role ≡ false) → (length r.log < max_places) ⊎ (max_places ≤ length r.log) →
         Went rules r c new given
     by_role (inl a) (inl room) = was_added a (e ∙ ap (λ (o : Outcome S C O). o.state) (proposed-adds rules r c a room))
     by_role (inl a) (inr full) = refused (proposed-full rules r c a full)

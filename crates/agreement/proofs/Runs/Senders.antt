@@ -17,7 +17,7 @@ use Rattle.whole.specs.Replica.{ReplicaState, is_active, is_fetching, is_install
 use Rattle.whole.specs.Role.{Role}
 use Rattle.whole.specs.Role.TheVariants.{Backup, Fetching, Installing, Active}
 use Rattle.whole.specs.Sending.{Outcome, message_to_each, message_to_followed}
-use Rattle.whole.specs.Serving.{append_at, appends_after, follows, leads, commit_at, commit, most_places, added, proposed, on_append, on_held, on_commit, on_tick_active}
+use Rattle.whole.specs.Serving.{append_at, appends_after, follows, leads, commit_at, commit, max_places, added, proposed, on_append, on_held, on_commit, on_tick_active}
 use Rattle.whole.proofs.StepRows.{commit_at-stays, commit_at-goes}
 use Rattle.agreement.specs.World.{messages}
 use Rattle.whole.specs.lists.Lists.{In}
@@ -155,10 +155,10 @@ from_installed O r from b =
 from_activated : {S C O : Type 0} (rules : Rules S C O) (r : ReplicaState S C) (b : ℕ) → AreFrom r.id (on_activated rules r b).effects
 unfolding on_activated
 from_activated {S = S} {C = C} {O = O} rules r b =
-    by_condition (cases_Bool ((r.joined == b && is_installing r.role) && (nat_le (length r.lacking) 0 && nat_lt (length r.log) most_places)))
+    by_condition (cases_Bool ((r.joined == b && is_installing r.role) && (nat_le (length r.lacking) 0 && nat_lt (length r.log) max_places)))
   where
-    by_condition : (((r.joined == b && is_installing r.role) && (nat_le (length r.lacking) 0 && nat_lt (length r.log) most_places)) ≡ true)
-        ⊎ (((r.joined == b && is_installing r.role) && (nat_le (length r.lacking) 0 && nat_lt (length r.log) most_places)) ≡ false) →
+    by_condition : (((r.joined == b && is_installing r.role) && (nat_le (length r.lacking) 0 && nat_lt (length r.log) max_places)) ≡ true)
+        ⊎ (((r.joined == b && is_installing r.role) && (nat_le (length r.lacking) 0 && nat_lt (length r.log) max_places)) ≡ false) →
         AreFrom r.id (on_activated rules r b).effects
     by_condition (inl e) = rw e (from_added rules _ (rules.start_of b))
     by_condition (inr e) = rw e none
@@ -201,9 +201,9 @@ from_commit rules r b held = by_condition (cases_Bool (follows r b && nat_le hel
 -- a proposal, and ticks
 from_proposed : {S C O : Type 0} (rules : Rules S C O) (r : ReplicaState S C) (command : C) → AreFrom r.id (proposed rules r command).effects
 unfolding proposed
-from_proposed rules r command = by_condition (cases_Bool (is_active r.role && nat_lt (length r.log) most_places))
+from_proposed rules r command = by_condition (cases_Bool (is_active r.role && nat_lt (length r.log) max_places))
   where
-    by_condition : ((is_active r.role && nat_lt (length r.log) most_places) ≡ true) ⊎ ((is_active r.role && nat_lt (length r.log) most_places) ≡ false) →
+    by_condition : ((is_active r.role && nat_lt (length r.log) max_places) ≡ true) ⊎ ((is_active r.role && nat_lt (length r.log) max_places) ≡ false) →
         AreFrom r.id (proposed rules r command).effects
     by_condition (inl e) = rw e (from_added rules r command)
     by_condition (inr e) = rw e none

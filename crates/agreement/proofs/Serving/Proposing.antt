@@ -5,7 +5,7 @@ use Rattle.std.proofs.lemmas.Bool.{cases_Bool, cases_lt}
 use Rattle.whole.specs.machine.Machine.{Rules, replay}
 use Rattle.whole.specs.Replica.{ReplicaState, is_active}
 use Rattle.whole.specs.Sending.{Outcome}
-use Rattle.whole.specs.Serving.{proposed, most_places}
+use Rattle.whole.specs.Serving.{proposed, max_places}
 use Rattle.whole.proofs.StepRows.{proposed-adds, proposed-not_active, proposed-full}
 use Rattle.agreement.specs.World.{World}
 use Rattle.agreement.specs.Inside.Ballots.{History}
@@ -23,7 +23,7 @@ pub keeps_proposed : {S C O : Type 0} (rules : Rules S C O) (w : World S C O) (h
     KeepsAdding rules w h n (λ b x. (b ≡ r.joined) × (x ≡ c)) (proposed rules r c)
 keeps_proposed {S = S} {C = C} {O = O} rules w h n r c s stands ran = by_role (cases_Bool (is_active r.role))
   where
-    by_room : is_active r.role ≡ true → (length r.log < most_places) ⊎ (most_places ≤ length r.log) → KeepsAdding rules w h n (λ b x. (b ≡ r.joined) × (x ≡ c)) (proposed rules r c)
+    by_room : is_active r.role ≡ true → (length r.log < max_places) ⊎ (max_places ≤ length r.log) → KeepsAdding rules w h n (λ b x. (b ≡ r.joined) × (x ≡ c)) (proposed rules r c)
     by_room e (inl room) =
         let t = s.nodes n r stands in let role = role_active r.role e in
         subst (λ (o : Outcome S C O). KeepsAdding rules w h n (λ b x. (b ≡ r.joined) × (x ≡ c)) o) (sym (proposed-adds rules r c e room))
@@ -31,5 +31,5 @@ keeps_proposed {S = S} {C = C} {O = O} rules w h n r c s stands ran = by_role (c
     by_room e (inr full) = adds_less rules w h n _ (λ b x. (b ≡ r.joined) × (x ≡ c)) _ (λ b x e. absurd e) (keeps_nothing rules w h n r _ s stands (proposed-full rules r c e full))
 
     by_role : (is_active r.role ≡ true) ⊎ (is_active r.role ≡ false) → KeepsAdding rules w h n (λ b x. (b ≡ r.joined) × (x ≡ c)) (proposed rules r c)
-    by_role (inl e) = by_room e (cases_lt (length r.log) most_places)
+    by_role (inl e) = by_room e (cases_lt (length r.log) max_places)
     by_role (inr e) = adds_less rules w h n _ (λ b x. (b ≡ r.joined) × (x ≡ c)) _ (λ b x e. absurd e) (keeps_nothing rules w h n r _ s stands (proposed-not_active rules r c e))

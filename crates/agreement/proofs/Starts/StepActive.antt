@@ -13,7 +13,7 @@ use Rattle.whole.specs.Protocol.{Input, received, ticked, replica_step}
 use Rattle.whole.specs.Protocol.Input.{Receives, Proposes, Ticks}
 use Rattle.whole.specs.Replica.{ReplicaState, is_active, is_installing, others, progress_at}
 use Rattle.whole.specs.Sending.{Outcome}
-use Rattle.whole.specs.Serving.{most_places, proposed, on_tick_active}
+use Rattle.whole.specs.Serving.{max_places, proposed, on_tick_active}
 use Rattle.whole.proofs.StepRows.{proposed-adds, proposed-not_active, proposed-full}
 use Rattle.whole.specs.Activating.{on_activated}
 use Rattle.agreement.proofs.Frame.Roles.{role_active, role_installing}
@@ -31,13 +31,13 @@ pub record Begins {S C O : Type 0} (r : ReplicaState S C) (o : Outcome S C O) : 
 activated_begins : {S C O : Type 0} (rules : Rules S C O) (r : ReplicaState S C) (b : ℕ) →
     StaysActive r (on_activated rules r b) ⊎ Begins r (on_activated rules r b)
 activated_begins {S = S} {C = C} {O = O} rules r b =
-    by_condition (cases_Bool ((r.joined == b && is_installing r.role) && (nat_le (length r.lacking) 0 && nat_lt (length r.log) most_places)))
+    by_condition (cases_Bool ((r.joined == b && is_installing r.role) && (nat_le (length r.lacking) 0 && nat_lt (length r.log) max_places)))
   where
-    by_condition : (((r.joined == b && is_installing r.role) && (nat_le (length r.lacking) 0 && nat_lt (length r.log) most_places)) ≡ true)
-        ⊎ (((r.joined == b && is_installing r.role) && (nat_le (length r.lacking) 0 && nat_lt (length r.log) most_places)) ≡ false) →
+    by_condition : (((r.joined == b && is_installing r.role) && (nat_le (length r.lacking) 0 && nat_lt (length r.log) max_places)) ≡ true)
+        ⊎ (((r.joined == b && is_installing r.role) && (nat_le (length r.lacking) 0 && nat_lt (length r.log) max_places)) ≡ false) →
         StaysActive r (on_activated rules r b) ⊎ Begins r (on_activated rules r b)
     by_condition (inl e) =
-        let p = and_parts (r.joined == b && is_installing r.role) (nat_le (length r.lacking) 0 && nat_lt (length r.log) most_places) e in
+        let p = and_parts (r.joined == b && is_installing r.role) (nat_le (length r.lacking) 0 && nat_lt (length r.log) max_places) e in
         let a = and_parts (r.joined == b) (is_installing r.role) p.0 in
         let f = on_activated-adds rules r b e in
         let k = added_keeps rules (record (applied_to rules r (length r.log)) { role = Active; progress = progress_at (length r.log) (others r.id r.members) }) (rules.start_of b) in
@@ -75,9 +75,9 @@ ticked_stays O r Active f = (f, refl)
 
 -- a proposal
 proposed_stays : {S C O : Type 0} (rules : Rules S C O) (r : ReplicaState S C) (c : C) → StaysActive r (proposed rules r c)
-proposed_stays {S = S} {C = C} {O = O} rules r c = by_role (cases_Bool (is_active r.role)) (cases_lt (length r.log) most_places)
+proposed_stays {S = S} {C = C} {O = O} rules r c = by_role (cases_Bool (is_active r.role)) (cases_lt (length r.log) max_places)
   where
-    by_role : (is_active r.role ≡ true) ⊎ (is_active r.role ≡ false) → (length r.log < most_places) ⊎ (most_places ≤ length r.log) →
+    by_role : (is_active r.role ≡ true) ⊎ (is_active r.role ≡ false) → (length r.log < max_places) ⊎ (max_places ≤ length r.log) →
         StaysActive r (proposed rules r c)
     by_role (inl a) (inl room) = subst (λ (o : Outcome S C O). StaysActive r o) (sym (proposed-adds rules r c a room))
         (λ f. (role_active r.role a, (added_keeps rules r c).1))

@@ -3,7 +3,7 @@ use Rattle.std.specs.Prelude.{ℕ, ◌+◌, ◌<◌, ◌≤◌, ◌≡◌, List,
 use Rattle.whole.specs.Config.{Config}
 use Rattle.agreement.specs.Inside.Ballots.{Given, History}
 use Rattle.whole.specs.lists.Lists.{In}
-use Rattle.agreement.specs.MasterState.{MasterState, last_ballot}
+use Rattle.agreement.specs.MasterState.{MasterState, max_ballot}
 
 -- the master's fields are those of the history
 pub record IsMaster {C : Type 0} (m : MasterState) (h : History C) : Type 0 where
@@ -24,4 +24,4 @@ AreNodes members = (x : ℕ) → In x members → (n : ℕ) × (x ≡ n + 1)
 -- and at most the last ballot was given
 pub record IsServing (m : MasterState) : Type 0 where
   pub waiting : (b : ℕ) (config : Config) → m.waiting ≡ Some (b, config) → AreNodes config.members
-  pub given : m.given < last_ballot + 1
+  pub given : m.given < max_ballot + 1

@@ -26,13 +26,13 @@ abbrev pub told_in : {C : Type 0} → ℕ → ℕ → Message C → ℕ
 told_in m b message = if message.from == m then told_by b message.body else 0
 
 -- the greatest length that a member acknowledged in these messages
-abbrev pub most_told : {C : Type 0} → ℕ → ℕ → List (ℕ × Message C) → ℕ
-most_told m b [] = 0
-most_told m b (x ∷ sent) = max (told_in m b x.1) (most_told m b sent)
+abbrev pub max_told : {C : Type 0} → ℕ → ℕ → List (ℕ × Message C) → ℕ
+max_told m b [] = 0
+max_told m b (x ∷ sent) = max (told_in m b x.1) (max_told m b sent)
 
 -- the primary acknowledges all of its list, another member what it sent
 abbrev pub told_length : {C : Type 0} → List (ℕ × Message C) → ℕ → Given → Line C → ℕ → ℕ
-told_length sent b g l m = if m == g.primary then length l.list else most_told m b sent
+told_length sent b g l m = if m == g.primary then length l.list else max_told m b sent
 
 -- the least of the members' lengths, and at most a bound
 abbrev pub least_of : ℕ → (ℕ → ℕ) → List ℕ → ℕ

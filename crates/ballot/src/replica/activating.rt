@@ -7,7 +7,7 @@ ghost use Rattle.ballot.specs.Inside.{Begins, Went};
 ghost use Rattle.ballot_base.specs.Activating.{on_activated};
 ghost use Rattle.ballot_base.specs.Logs.{Log, places, popped, pushed};
 ghost use Rattle.ballot_base.specs.Replica.{is_installing, others, progress_at};
-ghost use Rattle.ballot_base.specs.Serving.{commit, most_places};
+ghost use Rattle.ballot_base.specs.Serving.{commit, max_places};
 ghost use Rattle.ballot_base.specs.Sending.{message_to_followed};
 ghost use Rattle.ballot_base.specs.Losses.{halted, one_more};
 ghost use Rattle.ballot_base.specs.Applying.{applied_to};
@@ -206,7 +206,7 @@ impl<M: Machine> Replica<M> {
         ensures { result ≡ ((self.now.state.joined == ballot
             && is_installing self.now.state.role)
             && (nat_le (length self.now.state.lacking) 0
-            && nat_lt (places self.now.state.log) most_places)) }
+            && nat_lt (places self.now.state.log) max_places)) }
     {
         self.installs(ballot) && (self.lacking.is_empty() && self.log.places() < MAX_PLACES)
     }

@@ -1,7 +1,7 @@
 -- The events of a way out, by arithmetic, and the member whose log is fetched.
 use Rattle.std.specs.Prelude.{◌≡◌, ◌≤◌, ℕ, suc, ◌+◌, ◌-◌, ◌*◌, Bool, List, ◌∷◌, ◌++◌, Some, length, map, slice_get}
 use Rattle.std.specs.List.{position}
-use Rattle.headline.specs.ballot.Serving.{most_places}
+use Rattle.headline.specs.ballot.Serving.{max_places}
 use Rattle.escaping_nodes.specs.ways_out.Deliveries.{way_out}
 use Rattle.escaping_nodes.specs.world_nodes.Running.{node_of}
 use Rattle.world_events.specs.declared.event.Event.{Event}
@@ -16,7 +16,7 @@ use Rattle.world.specs.World.{WorldState}
 pub record IsFetchedFrom (w : WorldState) (index source : ℕ) : Type 0 where
   pub first : position (is_running w.nodes.nodes) w.nodes.master.members ≡ Some index
   pub asked : slice_get w.nodes.master.members index ≡ Some source
-  pub room : held_in (node_of w.nodes.nodes source) + 2 ≤ most_places
+  pub room : held_in (node_of w.nodes.nodes source) + 2 ≤ max_places
 
 -- ---- the events
 

@@ -1,4 +1,4 @@
--- MostTold.antt: the front of a ballot's list that all members acknowledged, by the messages, is
+-- MaxTold.antt: the front of a ballot's list that all members acknowledged, by the messages, is
 -- chosen, and nothing longer is.
 use Rattle.std.proofs.Common.{◌≡◌, ℕ, ◌<◌, ◌≤◌, ◌⊎◌, inl, inr, cond, max, List, [], ◌∷◌, length, Some, Option, refl, ap, sym, ◌∙◌, subst, arith}
 use Rattle.std.specs.Prelude.{◌==◌}
@@ -12,7 +12,7 @@ use Rattle.whole.specs.lists.Lists.In.{here, there}
 use Rattle.agreement.specs.Inside.Ballots.{Given, Line, History, Told}
 use Rattle.agreement.specs.Inside.Ballots.Told.{told_at_opening, told_by_held, told_by_installed, told_as_primary}
 use Rattle.agreement.specs.Inside.Sound.{IsSound}
-use Rattle.agreement.specs.Inside.ToldLengths.{told_by, told_in, most_told, told_length}
+use Rattle.agreement.specs.Inside.ToldLengths.{told_by, told_in, max_told, told_length}
 use Rattle.agreement.proofs.Frame.Framing.{within_of}
 
 -- there is one ballot of a number
@@ -68,14 +68,14 @@ of_max P x y p q = by_order (cases_lt x y)
 
 -- the most that a member acknowledged was acknowledged
 told_most : {S C O : Type 0} (w : World S C O) (h : History C) (m b : ℕ) (sent : List (ℕ × Message C)) → Told w h m b 0 →
-    ((x : ℕ × Message C) → In x sent → In x w.sent) → Told w h m b (most_told m b sent)
+    ((x : ℕ × Message C) → In x sent → In x w.sent) → Told w h m b (max_told m b sent)
 told_most w h m b [] t all = t
 told_most w h m b (x ∷ sent) t all =
-    of_max (Told w h m b) (told_in m b x.1) (most_told m b sent)
+    of_max (Told w h m b) (told_in m b x.1) (max_told m b sent)
     (told_of_message w h m b x.0 x.1 t (all x here)) (told_most w h m b sent t (λ y i. all y (there i)))
 
 -- and no message acknowledges more
-most_of : {C : Type 0} (m b : ℕ) (sent : List (ℕ × Message C)) (x : ℕ × Message C) → In x sent → told_in m b x.1 ≤ most_told m b sent
+most_of : {C : Type 0} (m b : ℕ) (sent : List (ℕ × Message C)) (x : ℕ × Message C) → In x sent → told_in m b x.1 ≤ max_told m b sent
 most_of m b [] x i = elim i [ ]
 most_of m b (y ∷ sent) x here = omega arith
 most_of m b (y ∷ sent) x (there i) = let z = most_of m b sent x i in omega (arith, z)
@@ -93,12 +93,12 @@ pub told_whole : {S C O : Type 0} (w : World S C O) (h : History C) (m b : ℕ) 
     h.line b ≡ Some l → Told w h m b 0 → Told w h m b (told_length w.sent b g l m)
 told_whole w h m b g l given lined t = by_primary (cases_eq m g.primary)
   where
-    by_primary : (m ≡ g.primary) ⊎ (m ≡ g.primary → ⊥) → Told w h m b (cond (m == g.primary) (length l.list) (most_told m b w.sent))
+    by_primary : (m ≡ g.primary) ⊎ (m ≡ g.primary → ⊥) → Told w h m b (cond (m == g.primary) (length l.list) (max_told m b w.sent))
     by_primary (inl e) =
-        subst (λ k. Told w h m b (cond k (length l.list) (most_told m b w.sent))) (sym (eq-eqb m g.primary e))
+        subst (λ k. Told w h m b (cond k (length l.list) (max_told m b w.sent))) (sym (eq-eqb m g.primary e))
         (told_as_primary g l given (sym e) lined (omega arith))
     by_primary (inr ne) =
-        subst (λ k. Told w h m b (cond k (length l.list) (most_told m b w.sent))) (sym (ne_eqb m g.primary ne))
+        subst (λ k. Told w h m b (cond k (length l.list) (max_told m b w.sent))) (sym (ne_eqb m g.primary ne))
         (told_most w h m b w.sent t (λ x i. i))
 
 -- and no node acknowledged more
@@ -106,7 +106,7 @@ pub told_at_most : {S C O : Type 0} (rules : Rules S C O) (w : World S C O) (h :
     IsSound rules w h → h.given b ≡ Some g → h.line b ≡ Some l → Told w h m b j → j ≤ told_length w.sent b g l m
 told_at_most {S = S} {C = C} rules w h m b j g l s given lined t = by_primary (cases_eq m g.primary)
   where
-    by_told : (m ≡ g.primary → ⊥) → Told w h m b j → j ≤ most_told m b w.sent
+    by_told : (m ≡ g.primary → ⊥) → Told w h m b j → j ≤ max_told m b w.sent
     by_told ne (told_at_opening k one none first member) = omega (arith, none)
     by_told ne (told_by_held receiver held i below) =
         let z = most_of m b w.sent _ i in let e = held_is C m b held in omega (arith, z, e, below)
@@ -115,8 +115,8 @@ told_at_most {S = S} {C = C} rules w h m b j g l s given lined t = by_primary (c
     by_told ne (told_as_primary k y is primary line below) =
         absurd (ne (sym primary ∙ ap (λ (x : Given). x.primary) (one_given (h.given b) k g is given)))
 
-    by_primary : (m ≡ g.primary) ⊎ (m ≡ g.primary → ⊥) → j ≤ cond (m == g.primary) (length l.list) (most_told m b w.sent)
+    by_primary : (m ≡ g.primary) ⊎ (m ≡ g.primary → ⊥) → j ≤ cond (m == g.primary) (length l.list) (max_told m b w.sent)
     by_primary (inl e) =
-        subst (λ k. j ≤ cond k (length l.list) (most_told m b w.sent)) (sym (eq-eqb m g.primary e)) (within_of rules w h s m b j l lined t)
+        subst (λ k. j ≤ cond k (length l.list) (max_told m b w.sent)) (sym (eq-eqb m g.primary e)) (within_of rules w h s m b j l lined t)
     by_primary (inr ne) =
-        subst (λ k. j ≤ cond k (length l.list) (most_told m b w.sent)) (sym (ne_eqb m g.primary ne)) (by_told ne t)
+        subst (λ k. j ≤ cond k (length l.list) (max_told m b w.sent)) (sym (ne_eqb m g.primary ne)) (by_told ne t)
