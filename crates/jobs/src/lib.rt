@@ -13,7 +13,7 @@ mod talking;
 pub use command_line;
 pub use command_line::packet;
 pub use fault::Fault;
-pub use performing::{perform, tell};
+pub use performing::{perform, print_fault};
 pub use refusing::refuse;
 pub use scripts::{escape_text, play_text};
 pub use serving::serve_table;

@@ -148,7 +148,7 @@ where
 {
     match order {
         Order::Quit => {}
-        Order::Status => tell_all(rt, cluster, nodes, output),
+        Order::Status => print_all(rt, cluster, nodes, output),
         Order::Assign(config) => match cluster.assign(rt, config) {
             Ok(ballot) => {
                 let _ = writeln!(output, "ballot {ballot}");
@@ -187,7 +187,7 @@ fn refuse<O: Write>(output: &mut O, number: u8) {
 }
 
 // Prints the status of each node, in the order of their numbers.
-fn tell_all<R, O>(rt: &R, cluster: &Cluster, nodes: &[ListeningNode], output: &mut O)
+fn print_all<R, O>(rt: &R, cluster: &Cluster, nodes: &[ListeningNode], output: &mut O)
 where
     R: Wait + Clock,
     O: Write,
@@ -195,14 +195,14 @@ where
     for number in 1..=15u8 {
         if nodes.iter().any(|node| node.id == number) {
             if let Some(status) = cluster.status(rt, number) {
-                tell(number, &status, output);
+                print_status(number, &status, output);
             }
         }
     }
 }
 
 // Prints the status of one node.
-fn tell<O: Write>(number: u8, status: &Status, output: &mut O) {
+fn print_status<O: Write>(number: u8, status: &Status, output: &mut O) {
     let ballot = status.ballot;
     let role = role_of(status);
     let held = status.held;

@@ -37,12 +37,12 @@ where
     };
     match done {
         Ok(()) => 0,
-        Err(fault) => tell(faults, &fault),
+        Err(fault) => print_fault(faults, &fault),
     }
 }
 
 /// Prints a fault in one line, and returns its exit status.
-pub fn tell<E: Write>(faults: &mut E, fault: &Fault) -> u8
+pub fn print_fault<E: Write>(faults: &mut E, fault: &Fault) -> u8
     ensures { result ≡ status_of fault.now }
 {
     // There is nowhere else to print it.

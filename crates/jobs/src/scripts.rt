@@ -43,14 +43,14 @@ where
         None => rest_of(rt.alloc(), input)?,
     };
     match &job.escape {
-        Some(escape) => tell_way(rt.alloc(), text.as_slice(), escape, output),
+        Some(escape) => print_way(rt.alloc(), text.as_slice(), escape, output),
         None => play_text(rt.alloc(), text.as_slice(), output),
     }
 }
 
 // Plays a script, and writes a way out of the world in which it ends, for the members and the
 // client that the words name.
-fn tell_way<O: Write>(
+fn print_way<O: Write>(
     alloc: Global,
     text: &[u8],
     job: &Escape<'_>,

@@ -111,7 +111,7 @@ where
         listeners.push(Listener::new(rt.alloc(), node.id, listen(rt, node)?)?)?;
     }
     for (node, listener) in nodes.iter().zip(&listeners) {
-        tell(listener, node.id, faults);
+        print_address(listener, node.id, faults);
     }
     Ok(listeners)
 }
@@ -133,7 +133,7 @@ where
 
 // Prints where a node listens, and whether other machines may reach it. Clients are served also if
 // nothing can be printed.
-fn tell<E: Write>(listener: &Listener, id: u8, faults: &mut E) {
+fn print_address<E: Write>(listener: &Listener, id: u8, faults: &mut E) {
     if let Ok(address) = listener.address() {
         let _ = writeln!(faults, "node {id} listens on {address}");
         if !address.ip().is_loopback() {

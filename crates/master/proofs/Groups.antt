@@ -289,14 +289,14 @@ in_item (x ∷ xs) zero d below = here
 in_item (x ∷ xs) (suc i) d below = there (in_item xs i d (omega (arith, below)))
 
 -- the master says something, or its message is lost
-pub master_tells : {S C O : Type 0} (archive : List C) (nodes : List (CountedReplica S C)) (sent more : List (ℕ × Message C)) (left : List (Effect C O)) (losses counted : ℕ) (o : MasterOutcome C)
+pub master_sends : {S C O : Type 0} (archive : List C) (nodes : List (CountedReplica S C)) (sent more : List (ℕ × Message C)) (left : List (Effect C O)) (losses counted : ℕ) (o : MasterOutcome C)
     (body : Body C) (whole : Bool) → body ≡ o.body → OnTrue whole (more ≡ sent ++ (o.receiver, record { from = 0; body = body }) ∷ []) → OnFalse whole (more ≡ sent) →
     counted ≡ cond (whole && true) losses (one_more losses) →
     ((world_of archive nodes more left ≡ tells_from_master (world_of archive nodes sent left) o) × (counted ≡ losses))
     ⊎ ((world_of archive nodes more left ≡ world_of archive nodes sent left) × (counted ≡ one_more losses))
-master_tells {S = S} {C = C} {O = O} archive nodes sent more left losses counted o body true same told lost count =
+master_sends {S = S} {C = C} {O = O} archive nodes sent more left losses counted o body true same told lost count =
     inl (ap (λ us. world_of archive nodes us left) (told ∙ ap (λ x. sent ++ (o.receiver, let z : Message C = record { from = 0; body = x } in z) ∷ []) same), count)
-master_tells {S = S} {C = C} {O = O} archive nodes sent more left losses counted o body false same told lost count = inr (ap (λ us. world_of archive nodes us left) lost, count)
+master_sends {S = S} {C = C} {O = O} archive nodes sent more left losses counted o body false same told lost count = inr (ap (λ us. world_of archive nodes us left) lost, count)
 
 -- so it took its turn
 pub master_took : {S C O : Type 0} (archive : List C) (m k : MasterState) (nodes : List (CountedReplica S C)) (sent more : List (ℕ × Message C)) (left : List (Effect C O)) (losses counted : ℕ)

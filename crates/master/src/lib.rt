@@ -9,7 +9,7 @@ mod group;
 mod master;
 mod opening;
 mod recording;
-mod telling;
+mod sending;
 mod told;
 mod turning;
 
@@ -22,5 +22,5 @@ pub use event::{Event, Idle};
 pub use group::Group;
 pub use master::{MAX_BALLOT, Master};
 pub use recording::record;
-pub use telling::{answer_of, asks_for, tell};
+pub use sending::{answer_of, asks_for, send};
 pub use told::{Told, turn_over};

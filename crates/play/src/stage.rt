@@ -79,7 +79,7 @@ impl Stage {
     {
         let came = self.happens(order)?;
         self.write_line(index, came, transcript)?;
-        tell_all(
+        write_all_new(
             self.alloc,
             &self.world,
             self.listeners.as_mut_slice(),
@@ -157,7 +157,7 @@ fn listeners_of(alloc: Global, clients: &[ClientId]) -> Result<Vec<Listener>, Pl
 }
 
 // Appends what the clients accepted and was not yet written.
-fn tell_all(
+fn write_all_new(
     alloc: Global,
     world: &World,
     listeners: &mut [Listener],
@@ -169,13 +169,13 @@ fn tell_all(
     ensures memory { OnErr result (IsErrOf result PlayError.Memory) }
 {
     for listener in listeners.iter_mut() {
-        tell_new(alloc, world, listener, transcript)?;
+        write_new(alloc, world, listener, transcript)?;
     }
     Ok(())
 }
 
 // Appends what a client accepted and was not yet written.
-fn tell_new(
+fn write_new(
     alloc: Global,
     world: &World,
     listener: &mut Listener,
@@ -188,7 +188,7 @@ fn tell_new(
 {
     let accepted = accepted_in(world, &listener.client);
     let told = listener.told.min(accepted.len());
-    tell(alloc, &listener.client, &accepted[told..], transcript)?;
+    write_each(alloc, &listener.client, &accepted[told..], transcript)?;
     listener.told = accepted.len();
     Ok(())
 }
@@ -204,7 +204,7 @@ fn accepted_in<'a>(world: &'a World, client: &ClientId) -> &'a [Accepted]
 }
 
 // Appends the lines of publications that a client accepted.
-fn tell(
+fn write_each(
     alloc: Global,
     client: &ClientId,
     accepted: &[Accepted],

@@ -7,7 +7,7 @@ mod standard_error;
 ghost use Rattle.std.specs.Prelude.{◌≡◌, ◌≢◌};
 
 use jobs::command_line::line;
-use jobs::{Fault, perform, refuse, tell};
+use jobs::{Fault, perform, print_fault, refuse};
 use standard_error::StandardError;
 use std::io::ErrorKind;
 use std::net::{Net, TcpListener, TcpStream};
@@ -33,7 +33,7 @@ where
     let mut faults = StandardError::new(rt);
     let words = match words(rt) {
         Ok(words) => words,
-        Err(fault) => return tell(&mut faults, &fault),
+        Err(fault) => return print_fault(&mut faults, &fault),
     };
     match line(rt.alloc(), words.as_slice()) {
         Ok(job) => {

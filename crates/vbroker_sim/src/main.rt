@@ -49,7 +49,7 @@ fn simulate(rt: &HostRuntime, options: &Options) -> Result<()> {
             bail!("seed {seed}: out of memory");
         };
         if options.counts {
-            tell(rt, seed, run.counts)?;
+            print_counts(rt, seed, run.counts)?;
         }
         if options.scripts {
             print(rt, &run, &[])?;
@@ -64,7 +64,7 @@ fn simulate(rt: &HostRuntime, options: &Options) -> Result<()> {
 }
 
 // Prints how far a run went.
-fn tell(rt: &HostRuntime, seed: u64, counts: Counts) -> Result<()> {
+fn print_counts(rt: &HostRuntime, seed: u64, counts: Counts) -> Result<()> {
     let (happened, agreed, messages) = (counts.happened, counts.agreed, counts.messages);
     let (ballot, accepted) = (counts.ballot, counts.accepted);
     println!(rt;

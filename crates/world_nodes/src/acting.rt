@@ -21,7 +21,7 @@ use crate::turning::{cut_back, pass_over, take_in};
 use byte_world::world_base::{
     Body, BrokerMachine, Command, Config, Item, Members, Memory, Message,
 };
-use master::{Idle, answer_of, config_of, record, tell};
+use master::{Idle, answer_of, config_of, record, send};
 
 impl Nodes {
     /// Lets a node that runs take an item. `Idle` comes if it is unknown or has stopped.
@@ -124,8 +124,8 @@ impl Nodes {
         Some(at)
     }
 
-    /// Lets the master give a ballot and tell its primary. `Memory` comes if memory ran out before
-    /// it gave any.
+    /// Lets the master give a ballot, which is sent to its primary. `Memory` comes if memory ran
+    /// out before it gave any.
     pub(crate) fn give(&mut self, config: &Config) -> Result<(), Memory>
         requires { refusal self.old.master config.now ≡ None }
         ensures step { OnOk result (GivesIn config.now self.old self.new) }
@@ -142,8 +142,8 @@ impl Nodes {
         };
         self.counters.begin(ballot);
         let body = Body::NewBallot(ballot, members, previous, previous_members);
-        let told = tell(&mut self.sent, config.primary, body);
-        self.losses = counted(self.losses, told, true);
+        let kept = send(&mut self.sent, config.primary, body);
+        self.losses = counted(self.losses, kept, true);
         Ok(())
     }
 
@@ -158,8 +158,8 @@ impl Nodes {
         let activation = self.master.activate(ballot);
         let (after, _) = self.master.active();
         self.counters.turn_over(before, after);
-        let told = tell(&mut self.sent, from, answer_of(activation, ballot));
-        self.losses = counted(self.losses, told, true);
+        let kept = send(&mut self.sent, from, answer_of(activation, ballot));
+        self.losses = counted(self.losses, kept, true);
     }
 
     /// Counts that nothing happened, because memory ran out.

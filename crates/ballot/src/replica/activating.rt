@@ -145,7 +145,7 @@ impl<M: Machine> Replica<M> {
             })) }
     {
         let before = out.len();
-        match self.tell_start(out) {
+        match self.send_start(out) {
             Ok(sent) => {
                 self.losses = counted(self.losses, sent);
                 Ok(())
@@ -165,7 +165,7 @@ impl<M: Machine> Replica<M> {
     // Sends the last place to the other members, and commits what all hold. Returns whether there
     // was memory for all messages. On an error the replica has stopped, and some outputs may have
     // been appended to `out`.
-    fn tell_start(&mut self, out: &mut Vec<Effect<M::Command, M::Output>>) -> Result<bool, Halted>
+    fn send_start(&mut self, out: &mut Vec<Effect<M::Command, M::Output>>) -> Result<bool, Halted>
         requires running { self.old.state.stopped ≡ false }
         requires some { 0 < length self.old.state.log.rest }
         ensures state { OnOk result
@@ -196,8 +196,8 @@ impl<M: Machine> Replica<M> {
             out,
         );
         let held = least_held(self.log.places(), &self.progress);
-        let told = self.commit_at(held, out)?;
-        Ok(sent & told)
+        let committed = self.commit_at(held, out)?;
+        Ok(sent & committed)
     }
 
     /// Says whether an activated ballot begins here: all members hold its log, and there is a place

@@ -50,12 +50,12 @@ impl<M: Machine> Replica<M> {
                 send_joins(self.id, self.joined, self.previous, receivers, out)
             }
             Role::Installing => self.hand_over(out),
-            Role::Active => self.tell(out),
+            Role::Active => self.send_missing(out),
         }
     }
 
     // Sends what the other members of an active primary may lack, and what is committed.
-    fn tell(&self, out: &mut Vec<Effect<M::Command, M::Output>>) -> bool
+    fn send_missing(&self, out: &mut Vec<Effect<M::Command, M::Output>>) -> bool
         ensures { Sends out.old.items out.new.items
             (appends_after M.Output self.now.state.id self.now.state.joined self.now.state.log
             self.now.state.progress ++ message_to_followed M.Output self.now.state.id
@@ -70,8 +70,8 @@ impl<M: Machine> Replica<M> {
             &self.progress,
             out,
         );
-        let told = send_commits(self.id, self.joined, self.committed, &self.progress, out);
-        after & told
+        let commits = send_commits(self.id, self.joined, self.committed, &self.progress, out);
+        after & commits
     }
 
     /// Sends the log to the members that lack it; if there is none, the master may activate the

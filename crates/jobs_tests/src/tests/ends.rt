@@ -2,7 +2,7 @@
 
 use crate::tests::hand::{does, ends};
 use jobs::command_line::LineFault;
-use jobs::{Fault, refuse, serve_table, tell};
+use jobs::{Fault, print_fault, refuse, serve_table};
 use std::alloc::Global;
 use std::net::{Net, TcpListener, TcpStream};
 use std::rt::Files;
@@ -186,7 +186,7 @@ where
     match serve_table(rt, text, &mut input, &mut output, &mut faults) {
         Ok(()) => false,
         Err(fault) => {
-            tell(&mut faults, &fault);
+            print_fault(&mut faults, &fault);
             output.is_empty() && faults.as_slice() == told.as_bytes()
         }
     }
@@ -195,7 +195,7 @@ where
 // Says whether a fault has this text and this exit status.
 fn is_told(alloc: Global, fault: Fault, text: &str, status: u8) -> bool {
     let mut faults = Vec::new(alloc);
-    tell(&mut faults, &fault) == status && faults.as_slice() == text.as_bytes()
+    print_fault(&mut faults, &fault) == status && faults.as_slice() == text.as_bytes()
 }
 
 #[test]

@@ -1,6 +1,6 @@
 // Inputs of a server that end, that fail, and that give no order.
 
-use jobs::{serve_table, tell};
+use jobs::{print_fault, serve_table};
 use std::io::{BufRead, BufReader, ErrorKind, Read};
 use std::net::{Net, TcpListener, TcpStream};
 use std::sync::Wait;
@@ -33,7 +33,7 @@ where
     let mut faults = Vec::new(rt.alloc());
     let ended = match serve_table(rt, table, input, &mut output, &mut faults) {
         Ok(()) => 0,
-        Err(fault) => tell(&mut faults, &fault),
+        Err(fault) => print_fault(&mut faults, &fault),
     };
     ended == status
         && output.as_slice() == printed.as_bytes()

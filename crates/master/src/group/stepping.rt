@@ -17,7 +17,7 @@ use super::Group;
 use crate::copying::{config_of, copy_of};
 use crate::event::{Event, Idle};
 use crate::recording::record;
-use crate::telling::{answer_of, asks_for, tell};
+use crate::sending::{answer_of, asks_for, send};
 use crate::told::turn_over;
 use crate::turning::{Taken, counted};
 use ballot::machine::{Machine, Memory};
@@ -66,7 +66,7 @@ impl<M: Machine> Group<M> {
         Ok(())
     }
 
-    // Lets the master give a ballot and tell its primary.
+    // Lets the master give a ballot, which is sent to its primary.
     fn give(&mut self, config: &Config) -> Result<(), Memory>
         requires { refusal self.old.moment.master config.now ≡ None }
         ensures ok { OnOk result (MasterTook self.old
@@ -80,8 +80,8 @@ impl<M: Machine> Group<M> {
         let ballot = self.master.give(given);
         self.next.begin(ballot);
         let body = Body::NewBallot(ballot, members, previous, previous_members);
-        let told = tell(&mut self.sent, config.primary, body);
-        self.losses = counted(self.losses, told, true);
+        let kept = send(&mut self.sent, config.primary, body);
+        self.losses = counted(self.losses, kept, true);
         Ok(())
     }
 
@@ -129,8 +129,8 @@ impl<M: Machine> Group<M> {
         let activation = self.master.activate(ballot);
         let (after, _) = self.master.active();
         turn_over(&mut self.told, &mut self.next, before, after);
-        let told = tell(&mut self.sent, from, answer_of(activation, ballot));
-        self.losses = counted(self.losses, told, true);
+        let kept = send(&mut self.sent, from, answer_of(activation, ballot));
+        self.losses = counted(self.losses, kept, true);
     }
 
     /// Lets a node repeat what others may have missed; [`Idle`] comes if it does not run.

@@ -11,4 +11,4 @@ returns-in-Backup g c =
 pub returns-in-Active : goal.returns-in-Active
 returns-in-Active g c =
     told_ticks g.row.M-Output.Denot c.args.self.now.state c.args.self.now.state.role _ _ _
-    (ap (λ (z : CountedReplica _ _). z.state.role) (sym c.self.view_is) ∙ c.in-Active.is) c.tell.ensures
+    (ap (λ (z : CountedReplica _ _). z.state.role) (sym c.self.view_is) ∙ c.in-Active.is) c.send_missing.ensures

@@ -20,10 +20,10 @@ returns-clause-step c =
       archive = c.self.inside.archive.items;
       losses = c.self.inside.losses;
     } in
-    subst (λ (n : NodesState). HearsIn c.args.from (Activate c.args.ballot) n (master_turn c.activate-activation.new.self c.tell-told.new.sent.items c.counted-self-inside.result old))
+    subst (λ (n : NodesState). HearsIn c.args.from (Activate c.args.ballot) n (master_turn c.activate-activation.new.self c.send-kept.new.sent.items c.counted-self-inside.result old))
     c.self.view_is
-    (answers_ballot old c.args.from c.args.ballot c.activate-activation.new.self c.answer_of.result c.tell-told.new.sent.items c.tell-told.result c.counted-self-inside.result
-    c.activate-activation.ensures.state body c.tell-told.ensures.told c.tell-told.ensures.lost c.counted-self-inside.ensures)
+    (answers_ballot old c.args.from c.args.ballot c.activate-activation.new.self c.answer_of.result c.send-kept.new.sent.items c.send-kept.result c.counted-self-inside.result
+    c.activate-activation.ensures.state body c.send-kept.ensures.kept c.send-kept.ensures.lost c.counted-self-inside.ensures)
 
 pub returns-clause-acts : goal.returns-clause-acts
 returns-clause-acts c =
@@ -37,8 +37,8 @@ returns-clause-acts c =
       sent = c.self.inside.sent.items;
       archive = c.self.inside.archive.items;
       losses = c.self.inside.losses;
-    } in old) c.args.from c.args.ballot c.activate-activation.new.self c.answer_of.result c.tell-told.new.sent.items c.tell-told.result c.counted-self-inside.result
-    sent c.activate-activation.ensures.state body c.tell-told.ensures.told c.tell-told.ensures.lost)
+    } in old) c.args.from c.args.ballot c.activate-activation.new.self c.answer_of.result c.send-kept.new.sent.items c.send-kept.result c.counted-self-inside.result
+    sent c.activate-activation.ensures.state body c.send-kept.ensures.kept c.send-kept.ensures.lost)
 
 pub invariant_of-self : goal.invariant_of-self
 invariant_of-self c =
@@ -54,8 +54,8 @@ invariant_of-self c =
       sent = c.self.inside.sent.items;
       archive = c.self.inside.archive.items;
       losses = c.self.inside.losses;
-    } in old) c.args.from c.args.ballot c.activate-activation.new.self c.answer_of.result c.tell-told.new.sent.items c.tell-told.result c.counted-self-inside.result
-    counters.told counters.next turned_to.told turned_to.next c.self.invariant sent c.activate-activation.ensures.state body c.tell-told.ensures.told c.tell-told.ensures.lost
+    } in old) c.args.from c.args.ballot c.activate-activation.new.self c.answer_of.result c.send-kept.new.sent.items c.send-kept.result c.counted-self-inside.result
+    counters.told counters.next turned_to.told turned_to.next c.self.invariant sent c.activate-activation.ensures.state body c.send-kept.ensures.kept c.send-kept.ensures.lost
     (turned counters.told counters.next turned_to.told turned_to.next m.active c.activate-activation.new.self.active
     (λ e. c.turn_over.ensures.stays (c.active-before.ensures.ballot ∙ e ∙ sym c.active-after.ensures.ballot))
     (λ ne. c.turn_over.ensures.turns (λ e. ne (sym c.active-before.ensures.ballot ∙ e ∙ c.active-after.ensures.ballot))))

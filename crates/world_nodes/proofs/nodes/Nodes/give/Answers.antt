@@ -25,8 +25,8 @@ returns-clause-step c =
       sent = c.self.inside.sent.items;
       archive = c.self.inside.archive.items;
       losses = c.self.inside.losses;
-    } in old) c.args.config.now c.assign.new.self _ c.tell-told.new.sent.items c.tell-told.result c.counted-self-inside.result
-    state body c.tell-told.ensures.told c.tell-told.ensures.lost c.counted-self-inside.ensures)
+    } in old) c.args.config.now c.assign.new.self _ c.send-kept.new.sent.items c.send-kept.result c.counted-self-inside.result
+    state body c.send-kept.ensures.kept c.send-kept.ensures.lost c.counted-self-inside.ensures)
 
 pub returns-clause-acts : goal.returns-clause-acts
 returns-clause-acts c =
@@ -45,8 +45,8 @@ returns-clause-acts c =
       sent = c.self.inside.sent.items;
       archive = c.self.inside.archive.items;
       losses = c.self.inside.losses;
-    } in old) c.args.config.now c.assign.new.self _ c.tell-told.new.sent.items c.tell-told.result c.counted-self-inside.result
-    granted state body c.tell-told.ensures.told c.tell-told.ensures.lost)
+    } in old) c.args.config.now c.assign.new.self _ c.send-kept.new.sent.items c.send-kept.result c.counted-self-inside.result
+    granted state body c.send-kept.ensures.kept c.send-kept.ensures.lost)
 
 pub invariant_of-self-2 : goal.invariant_of-self-2
 invariant_of-self-2 c =
@@ -65,8 +65,8 @@ invariant_of-self-2 c =
       sent = c.self.inside.sent.items;
       archive = c.self.inside.archive.items;
       losses = c.self.inside.losses;
-    } in old) c.args.config.now c.assign.new.self _ c.tell-told.new.sent.items c.tell-told.result c.counted-self-inside.result
-    c.self.inside.counters.told c.self.inside.counters.next c.begin.new.self.next c.self.invariant granted state body c.tell-told.ensures.told c.tell-told.ensures.lost
+    } in old) c.args.config.now c.assign.new.self _ c.send-kept.new.sent.items c.send-kept.result c.counted-self-inside.result
+    c.self.inside.counters.told c.self.inside.counters.next c.begin.new.self.next c.self.invariant granted state body c.send-kept.ensures.kept c.send-kept.ensures.lost
     (c.begin.ensures.waits ∙ c.in-Ok.ensures.ok) c.begin.ensures.untold)
 
 pub invariant_of-self : goal.invariant_of-self

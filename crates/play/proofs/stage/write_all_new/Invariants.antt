@@ -1,6 +1,6 @@
 use Rattle.std.proofs.Common.{◌≡◌, ◌++◌, drop, map, take}
 use Rattle.play.specs.Inside.{lines_untold, told_at}
-use Rattle.play.proofs.stage.tell_all.Given as goal
+use Rattle.play.proofs.stage.write_all_new.Given as goal
 
 abbrev pub invariant-loop-listener : goal.invariant-loop-listener
 invariant-loop-listener l = record {

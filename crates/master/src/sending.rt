@@ -9,8 +9,8 @@ use ballot::{Body, Message};
 
 /// Appends a message of the master to those that were sent. Returns whether there was memory for
 /// it.
-pub fn tell<C: Drop>(sent: &mut Vec<(u8, Message<C>)>, receiver: u8, body: Body<C>) -> bool
-    ensures told { OnTrue result
+pub fn send<C: Drop>(sent: &mut Vec<(u8, Message<C>)>, receiver: u8, body: Body<C>) -> bool
+    ensures kept { OnTrue result
         (sent.new.items ≡ sent.old.items ++ (receiver, record { from = 0; body = body }) ∷ []) }
     ensures lost { OnFalse result (sent.new.items ≡ sent.old.items) }
 {
