@@ -18,7 +18,7 @@ const WINDOWS: [u32; 3] = [1, 16, 64];
 /// How many bytes a publication carries.
 const PAYLOAD: [u8; 64] = [7; 64];
 
-/// Prints the time of an entry in each window, from its place in the queue to its answer.
+/// Prints the time of an entry in each window, from its queueing to its answer.
 pub fn run(rt: &HostRuntime) -> Result<()> {
     for window in &WINDOWS {
         measure(rt, *window)?;

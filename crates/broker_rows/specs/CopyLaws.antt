@@ -27,7 +27,7 @@ CopiesJoin =
     × (copies_sent window (copies ++ more) queue
     ≡ copies_sent window copies queue ++ copies_sent window more (copies_left window copies queue))
 
--- each copy of QoS 1 or 2 takes one place, whether it starts or waits
+-- each copy of QoS 1 or 2 takes one slot, whether it starts or waits
 abbrev pub CopiesTakeRoom : Type 0
 CopiesTakeRoom =
     (window limit : ℕ) → (copies : List Publication) → (queue : Queue) →

@@ -5,7 +5,7 @@ ghost use Rattle.broker_rows.specs.CopyLaws.{CopiesJoin, CopiesTakeRoom};
 ghost use Rattle.broker_rows.specs.CopyLaws.{CopiesFindRoom, SubscribesInTurn};
 
 /// Copies that come to a session in two parts leave and send what all of them do together. Each of
-/// QoS 1 or 2 takes one place of its room, so each finds room if there is enough for all (MQTT
+/// QoS 1 or 2 takes one slot of its room, so each finds room if there is enough for all (MQTT
 /// 4.6).
 pub fn copies_in_parts()
     ensures joins { CopiesJoin }
