@@ -14,12 +14,9 @@ use broker_tables::retained::RetainedPublication;
 use broker_tables::session::Session;
 use packet::packet_base::{Reader, Stop};
 use packet::topics::{MalformedKind, TopicName};
-use packet::{ClientId, Payload};
+use packet::{ClientId, MAX_BODY, Payload};
 use session_base::{Publication, body_length, keep, read_flag, read_long_number, read_qos};
 use std::alloc::Global;
-
-/// The most bytes of a body, this broker's own limit.
-const MAX_BODY: usize = 1_048_572;
 
 /// Memory ran out.
 pub(crate) const OUT_OF_MEMORY: Stop = Stop::Malformed(MalformedKind::Memory);

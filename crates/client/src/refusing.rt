@@ -9,10 +9,7 @@ ghost use Rattle.client_base.specs.Steps.{request_refusal};
 
 use crate::client_core::ClientCore;
 use client_base::session_base::Publication;
-use cutter::packet::QoS;
-
-/// The most bytes of a packet's body.
-const MAX_BODY: usize = 1_048_572;
+use cutter::packet::{MAX_BODY, QoS};
 
 impl ClientCore {
     /// Says whether [`ClientCore::publish`] refuses a publication for another cause than `Memory`.

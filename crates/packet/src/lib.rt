@@ -30,7 +30,7 @@ pub use error::{DecodeFault, EncodeFault};
 pub use laws::{
     faults_stay, fronts_are_unfinished, no_spelling_begins_another, one_spelling, spelling_spells,
 };
-pub use packet::Packet;
+pub use packet::{MAX_BODY, Packet};
 pub use packet_base;
 pub use packet_base::{PacketId, PacketList, RefusalCode, topics};
 pub use payload::Payload;

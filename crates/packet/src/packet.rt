@@ -29,8 +29,8 @@ use crate::unsubscribe::Unsubscribe;
 use packet_base::{Header, PacketId, Reader, Stop, put_number};
 use std::alloc::{AllocError, Global};
 
-/// The most bytes after the Remaining Length.
-pub(crate) const MAX_BODY: usize = 1_048_572;
+/// The most bytes of a body, after the Remaining Length. It is this broker's own limit.
+pub const MAX_BODY: usize = 1_048_572;
 
 /// A Control Packet (MQTT 2). What MQTT's table of packets does not allow cannot be built, except
 /// empty lists.

@@ -11,13 +11,10 @@ ghost use Rattle.session_base.specs.Form.{publication_at, held_at, waiting_at, s
 ghost use Rattle.session_base.specs.Form.{awaits_at, flight_at};
 
 use crate::{Awaits, Publication};
-use packet::{PacketId, Payload, QoS};
+use packet::{MAX_BODY, PacketId, Payload, QoS};
 use packet_base::topics::{Filter, MalformedKind};
 use packet_base::{Reader, Stop};
 use std::alloc::Global;
-
-/// The most bytes of a body, this broker's own limit.
-const MAX_BODY: usize = 1_048_572;
 
 /// Continues if the test holds; otherwise the bytes are not of the form.
 pub fn keep(test: bool) -> Result<(), Stop>
