@@ -19,7 +19,7 @@ use crate::reading::{OUT_OF_MEMORY, read_head, read_topic};
 use crate::rows::Rows;
 use broker_form::thawed_is_in_range;
 use broker_tables::broker_spec::Window;
-use broker_tables::retained::{RetainedPublication, RetainedStore};
+use broker_tables::retained::{MAX_TOPICS, RetainedPublication, RetainedStore};
 use broker_tables::session::Session;
 use broker_tables::subs::{ListIndex, SubIndex, TreeIndex};
 use broker_tables::{ClientRow, Tables};
@@ -29,9 +29,6 @@ use packet::{ClientId, QoS};
 use session_base::keep;
 use std::alloc::{AllocError, Global};
 use std::collections::BTreeMap;
-
-/// The most topics with a retained publication.
-const MAX_TOPICS: usize = 16_384;
 
 /// Returns the tables of the broker that these bytes are frozen from. Bytes that are not of the
 /// form stop the reading.

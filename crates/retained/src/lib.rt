@@ -13,4 +13,4 @@ pub use laws::{last_is_retained, stays_in_bounds};
 pub use packet;
 pub use packet::topics;
 pub use retained_publication::RetainedPublication;
-pub use retained_store::RetainedStore;
+pub use retained_store::{MAX_TOPICS, RetainedStore};

@@ -19,7 +19,7 @@ use std::collections::btree_map::Iter;
 use std::marker::Model;
 
 /// The most topics of which a publication is retained.
-const MAX_TOPICS: usize = 16_384;
+pub const MAX_TOPICS: usize = 16_384;
 
 /// For each topic its last publication with RETAIN 1 (MQTT 3.3.1.3), at most 16,384 of them.
 #[derive(Debug, Drop)]
