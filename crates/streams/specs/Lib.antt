@@ -1,4 +1,5 @@
 pub mod Laws
+pub mod Listing
 pub mod WriteTokens
 pub mod Tapping
 pub use Rattle.connection.specs as connection

@@ -1,5 +1,5 @@
 -- A connection's stream, wherever its token is kept.
-use Rattle.std.specs.Prelude.{◌≡◌, None}
+use Rattle.std.specs.Prelude.{◌≡◌, ◌==◌, Option, None, Some, if◌then◌else◌}
 use Rattle.node.specs.declared.Port.{Port}
 use Rattle.connection.specs.Whole.{Flowing, IsWhole}
 use Rattle.streams.specs.Tapping.{HandsNone, HandsOut}
@@ -14,3 +14,8 @@ HasWholeStream token = IsWhole HandsNone HandsOut token.tap None token.left
 -- this token writes what is handed over for a port
 abbrev pub IsTokenOf : Port → Flowing PortTap Socket → Type 0
 IsTokenOf port token = token.tap.port.0 ≡ port.0
+
+-- the token that is kept, if it is a port's
+abbrev pub token_of : Port → Option (Flowing PortTap Socket) → Option (Flowing PortTap Socket)
+token_of port None = None
+token_of port (Some token) = if token.tap.port.0 == port.0 then Some token else None

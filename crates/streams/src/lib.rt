@@ -1,16 +1,20 @@
 //! The listener of a node, the streams of its connections, and the right to write on each.
 #![tactic(auto)]
 
+mod closing;
 mod connection_table;
 mod forgetting;
 mod idle_lanes;
 mod laws;
 mod link;
+mod links;
 mod listener;
 mod patient;
 mod port_tap;
 mod socket;
+mod write_slot;
 
+pub use closing::Closed;
 pub use connection;
 pub use forgetting::forget;
 pub use idle_lanes::IdleLanes;

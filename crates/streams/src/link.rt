@@ -6,10 +6,10 @@ ghost use Rattle.std.specs.Arc.{arc_value};
 use crate::patient::Patient;
 use crate::port_tap::PortTap;
 use crate::socket::Socket;
+use crate::write_slot::WriteSlot;
 use connection::Outflow;
 use node::Port;
 use std::alloc::{AllocError, Global};
-use std::mem;
 use std::net::{Shutdown, TcpStream};
 use std::sync::{Arc, Mutex, Wait};
 
@@ -17,15 +17,6 @@ use std::sync::{Arc, Mutex, Wait};
 /// what a full socket has not yet taken. A connection has one, made with it, so one thread at a
 /// time writes, and its stream is whole wherever the token is kept.
 pub type WriteToken = Outflow<PortTap, Socket>;
-
-/// Where a connection's token is kept while no thread writes.
-#[derive(Drop)]
-struct WriteSlot {
-    /// None while a thread writes, and for good once the stream takes no more.
-    token: Option<WriteToken>,
-    /// More may have been queued since the thread that writes looked.
-    again: bool,
-}
 
 /// A connection of the node.
 #[derive(Drop)]
@@ -72,10 +63,7 @@ impl Link {
             index,
             opened,
             stream,
-            slot: Mutex::new(WriteSlot {
-                token: Some(Outflow::new(alloc, PortTap::new(port), socket)),
-                again: false,
-            }),
+            slot: Mutex::new(WriteSlot::new(Outflow::new(alloc, PortTap::new(port), socket))),
         })
     }
 
@@ -89,15 +77,8 @@ impl Link {
     pub fn take_token<R: Wait>(&self, rt: &R) -> Option<WriteToken>
         ensures { IfSome result (λ token. IsTokenOf self.now.port token) }
     {
-        let mut slot = self.slot.lock(rt);
-        let token = mem::replace(&mut slot.token, None);
-        slot.again = token.is_none();
-        let token = token?;
         // It is this connection's, but no clause is about what is behind a lock.
-        if token.tap().port() != self.port {
-            return None;
-        }
-        Some(token)
+        self.slot.lock(rt).take(self.port)
     }
 
     /// Puts the token back. If more may have been queued meanwhile the caller keeps it, and looks
@@ -105,13 +86,7 @@ impl Link {
     pub fn put_back<R: Wait>(&self, rt: &R, token: WriteToken) -> Option<WriteToken>
         ensures { IfSome result (λ kept. kept ≡ token) }
     {
-        let mut slot = self.slot.lock(rt);
-        if slot.again {
-            slot.again = false;
-            return Some(token);
-        }
-        slot.token = Some(token);
-        None
+        self.slot.lock(rt).put_back(token)
     }
 
     /// Sets whether a write waits while the socket is full, for a short time. Only the thread that

@@ -1,7 +1,8 @@
 // Where a node accepts its clients, and the table of its connections.
 
-ghost use Rattle.std.specs.Prelude.{◌≡◌, IfOk};
+ghost use Rattle.std.specs.Prelude.{◌≡◌, IfErr, IfOk, IfSome};
 
+use crate::closing::Closed;
 use crate::connection_table::ConnectionTable;
 use crate::idle_lanes::IdleLanes;
 use crate::link::Link;
@@ -50,18 +51,16 @@ impl Listener {
         self.listener.local_addr()
     }
 
-    /// Returns the stream of the next client. There is none once the listener is closed.
-    pub fn accept<R: Wait + Clock>(&self, rt: &R) -> Option<TcpStream> {
+    /// Returns the stream of the next client. The error is the witness that the listener is closed.
+    pub fn accept<R: Wait + Clock>(&self, rt: &R) -> Result<TcpStream, Closed>
+        ensures { IfErr result (λ closed. closed ≡ self.now.number) }
+    {
         for _ in rt.forever() {
-            if !self.connections.begin_wait(rt) {
-                return None;
-            }
+            self.connections.begin_wait(rt, self.number)?;
             let came = self.listener.accept();
-            if !self.connections.end_wait(rt) {
-                return None;
-            }
+            self.connections.end_wait(rt, self.number)?;
             match came {
-                Ok((stream, _)) => return Some(stream),
+                Ok((stream, _)) => return Ok(stream),
                 Err(_) => thread::sleep(rt, Duration::from_millis(PAUSE_MILLIS)),
             }
         }
@@ -69,8 +68,17 @@ impl Listener {
     }
 
     /// Ends all connections, and admits no more: the threads that wait for clients continue.
-    pub fn close<R: Wait + Clock + Net<Stream = TcpStream>>(&self, rt: &R) {
-        self.connections.close(rt);
+    /// Returns the witness that the listener is closed.
+    pub fn close<R: Wait + Clock + Net<Stream = TcpStream>>(&self, rt: &R) -> Closed
+        ensures { result ≡ self.now.number }
+    {
+        let closed = self.connections.close(rt, self.number);
+        self.wake_all(rt);
+        closed
+    }
+
+    // Wakes the threads that wait for clients.
+    fn wake_all<R: Wait + Clock + Net<Stream = TcpStream>>(&self, rt: &R) {
         for _ in 0..WAKES {
             if !self.connections.is_waited_at(rt) {
                 return;
@@ -83,9 +91,16 @@ impl Listener {
         }
     }
 
-    /// Says whether the listener is closed: no more connections are admitted.
+    /// Returns the witness that the listener is closed, if it is: no more connections are admitted.
+    pub fn closed<R: Wait>(&self, rt: &R) -> Option<Closed>
+        ensures { IfSome result (λ closed. closed ≡ self.now.number) }
+    {
+        self.connections.closed(rt, self.number)
+    }
+
+    /// Says whether the listener is closed.
     pub fn is_closed<R: Wait>(&self, rt: &R) -> bool {
-        self.connections.is_closed(rt)
+        self.closed(rt).is_some()
     }
 
     /// Takes an index for a connection. There is none if [`CONNECTIONS`] are taken.

@@ -1,0 +1,31 @@
+-- The connections that are listed, in the order in which they are written to.
+use Rattle.std.specs.Prelude.{ℕ, zero, suc, ◌%◌, ◌^◌, ◌==◌, Bool, bit_and, nat_le, not}
+use Rattle.std.specs.Prelude.{List, [], ◌∷◌, ◌++◌, Option, None, Some, if◌then◌else◌}
+use Rattle.slab.specs.Slab.{Slab, get}
+use Rattle.node.specs.declared.Port.{Port}
+use Rattle.streams.specs.declared.link.Link.{Link}
+use Rattle.streams.specs.declared.idle_lanes.IdleLanes.{IdleLanes}
+
+-- the lane of a port is one of these
+abbrev pub is_idle : IdleLanes → Port → Bool
+is_idle lanes port = not (bit_and lanes.0 (2 ^ (port.0 % 64)) == 0)
+
+-- the connection that is listed at an index, by what is there: an index may be taken by one that is
+-- not yet listed
+abbrev pub listed_at : {A : Type 0} → Option (Option A) → Option A
+listed_at None = None
+listed_at (Some listed) = listed
+
+module _ {A : Type 0} (link_of : A → Link) where
+  -- a connection, unless its lane is idle
+  abbrev pub busy_at : IdleLanes → Option A → List Link
+  busy_at idle None = []
+  busy_at idle (Some link) = if is_idle idle (link_of link).port then [] else link_of link ∷ []
+
+  -- the connections that are listed from one index up to another, except those of idle lanes
+  abbrev pub busy_between : IdleLanes → Slab (Option A) → ℕ → ℕ → List Link
+  busy_between idle slots first zero = []
+  busy_between idle slots first (suc end) =
+      if nat_le first end
+      then busy_between idle slots first end ++ busy_at idle (listed_at (get slots end))
+      else []

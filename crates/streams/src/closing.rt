@@ -1,0 +1,104 @@
+// Whether a listener is closed, and the witness of that.
+
+ghost use Rattle.std.specs.Prelude.{◌≡◌, ◌+◌, ◌-◌, ◌^◌, false, min, true};
+ghost use Rattle.std.specs.Prelude.{IfErr, IfNone, IfSome, OnErr, OnOk};
+
+use std::marker::Model;
+
+/// The witness that a listener was seen closed. Only a listener's own state makes one.
+#[derive(Drop)]
+pub struct Closed {
+    number: u8,
+}
+
+impl Model for Closed {
+    ghost use Rattle.std.specs.Prelude.{ℕ};
+    ghost use Rattle.std.specs.Coded.{coded_ℕ};
+
+    ghost Value = { ℕ };
+
+    ghost coded = { coded_ℕ };
+
+    ghost view = { λ closed. closed.number };
+}
+
+/// The threads that wait at a listener for clients.
+#[derive(Drop)]
+pub(crate) struct Waiting {
+    /// No more connections are admitted.
+    closed: bool,
+    /// How many threads wait.
+    threads: u32,
+}
+
+impl Waiting {
+    /// Returns the state of a listener that is open, at which no thread waits.
+    pub(crate) fn new() -> Waiting
+        ensures { result ≡ record { closed = false; threads = 0 } }
+    {
+        Waiting {
+            closed: false,
+            threads: 0,
+        }
+    }
+
+    /// Admits no more connections. Returns the witness for the listener of this number.
+    pub(crate) fn close(&mut self, number: u8) -> Closed
+        ensures closes { self.new ≡ record self.old { closed = true } }
+        ensures witness { result ≡ number }
+    {
+        self.closed = true;
+        Closed { number }
+    }
+
+    /// Returns the witness for the listener of this number, if it is closed.
+    pub(crate) fn closed(&self, number: u8) -> Option<Closed>
+        ensures some { IfSome result (λ closed. closed ≡ number) }
+        ensures seen { IfSome result (λ _. self.now.closed ≡ true) }
+        ensures none { IfNone result (self.now.closed ≡ false) }
+    {
+        if self.closed {
+            Some(Closed { number })
+        } else {
+            None
+        }
+    }
+
+    /// Counts one more thread that waits. The error is the witness that the listener of this number
+    /// is closed.
+    pub(crate) fn begin(&mut self, number: u8) -> Result<(), Closed>
+        ensures admits { OnOk result (self.old.closed ≡ false) }
+        ensures counts { OnOk result
+            (self.new ≡ record self.old { threads = min (self.old.threads + 1) (2 ^ 32 - 1) }) }
+        ensures witness { IfErr result (λ closed. closed ≡ number) }
+        ensures seen { OnErr result (self.old.closed ≡ true) }
+    {
+        if let Some(closed) = self.closed(number) {
+            return Err(closed);
+        }
+        self.threads = self.threads.saturating_add(1);
+        Ok(())
+    }
+
+    /// Counts one thread fewer that waits. The error is the witness that the listener of this
+    /// number is closed.
+    pub(crate) fn end(&mut self, number: u8) -> Result<(), Closed>
+        ensures admits { OnOk result (self.old.closed ≡ false) }
+        ensures counts { self.new ≡ record self.old { threads = self.old.threads - 1 } }
+        ensures witness { IfErr result (λ closed. closed ≡ number) }
+        ensures seen { OnErr result (self.old.closed ≡ true) }
+    {
+        self.threads = self.threads.saturating_sub(1);
+        match self.closed(number) {
+            Some(closed) => Err(closed),
+            None => Ok(()),
+        }
+    }
+
+    /// Returns how many threads wait.
+    pub(crate) fn threads(&self) -> u32
+        ensures { result ≡ self.now.threads }
+    {
+        self.threads
+    }
+}

@@ -1,0 +1,165 @@
+// The connections that a node serves, each at an index of its own.
+
+ghost use Rattle.std.specs.Prelude.{◌≡◌, ℕ, ◌<◌, ◌≤◌, ◌++◌, None, Some, map, option_copied, true};
+ghost use Rattle.std.specs.Prelude.{IfNone, IfOk, IfSome};
+ghost use Rattle.std.specs.Arc.{arc_value};
+ghost use Rattle.slab.specs.Slab.{ContainsKey, Updates, get, slab_len};
+
+use crate::idle_lanes::IdleLanes;
+use crate::link::Link;
+use crate::listener::CONNECTIONS;
+use slab::Slab;
+use std::alloc::{AllocError, Global};
+use std::sync::Arc;
+
+/// The connections that a node serves, sixty at most, each at an index of its own. An index is
+/// taken before its connection is reported to the node; the connection is listed there after that.
+#[derive(Drop)]
+pub(crate) struct Links {
+    slots: Slab<Option<Arc<Link, Global>>>,
+    ghost few: { slab_len slots ≤ 60 },
+    ghost room: { slots.capacity ≡ 60 },
+}
+
+impl Links {
+    ghost use Rattle.streams.specs.Listing.{busy_at, busy_between, listed_at};
+
+    /// Returns a table without connections, with memory for all. The only error is that memory runs
+    /// out.
+    pub(crate) fn new(alloc: Global) -> Result<Links, AllocError>
+        ensures { IfOk result (λ links. slab_len links.slots ≡ 0) }
+    {
+        let slots = Slab::with_capacity(alloc, usize::from(CONNECTIONS))?;
+        if slots.capacity() != usize::from(CONNECTIONS) {
+            return Err(AllocError);
+        }
+        Ok(Links { slots })
+    }
+
+    /// Takes an index. There is none if sixty are taken.
+    pub(crate) fn take(&mut self) -> Option<usize>
+        ensures below { IfSome result (λ index. index < 60) }
+        ensures free { IfSome result (λ index. get self.old.slots index ≡ None) }
+        ensures taken { IfSome result (λ index.
+            Updates self.old.slots self.new.slots index (Some None)) }
+        ensures full { IfNone result (slab_len self.old.slots ≡ 60) }
+    {
+        if self.slots.len() >= usize::from(CONNECTIONS) {
+            return None;
+        }
+        Some(self.slots.insert_reserved(None))
+    }
+
+    /// Lists a connection at its index, if that is taken.
+    pub(crate) fn list(&mut self, link: Arc<Link, Global>)
+        ensures { ContainsKey self.old.slots (arc_value link).index →
+            Updates self.old.slots self.new.slots (arc_value link).index (Some (Some link)) }
+    {
+        let index = link.index;
+        if self.slots.contains(index) {
+            let _ = self.slots.remove(index);
+            let _ = self.slots.insert_reserved(Some(link));
+        }
+    }
+
+    /// Frees an index.
+    pub(crate) fn free(&mut self, index: usize)
+        ensures { Updates self.old.slots self.new.slots index None }
+    {
+        let _ = self.slots.try_remove(index);
+    }
+
+    /// Ends all connections that are listed.
+    pub(crate) fn shut_all(&self) {
+        for (_, link) in self.slots.iter() {
+            if let Some(link) = link {
+                link.shut();
+            }
+        }
+    }
+
+    /// Returns the first connection that is listed at this index or after it, with its index.
+    pub(crate) fn first_from(&self, first: usize) -> Option<(usize, &Arc<Link, Global>)>
+        ensures found { IfSome result (λ found.
+            listed_at (get self.now.slots found.0) ≡ Some found.1.now) }
+        ensures below { IfSome result (λ found. found.0 < 60) }
+        ensures none { IfNone result ((index : ℕ) → first ≤ index → index < 60
+            → listed_at (get self.now.slots index) ≡ None) }
+    {
+        for index in first..usize::from(CONNECTIONS) {
+            if let Some(link) = self.at(index) {
+                return Some((index, link));
+            }
+        }
+        None
+    }
+
+    // Returns the connection that is listed at an index.
+    fn at(&self, index: usize) -> Option<&Arc<Link, Global>>
+        ensures { option_copied result ≡ listed_at (get self.now.slots index) }
+    {
+        match self.slots.get(index) {
+            Some(Some(link)) => Some(link),
+            _ => None,
+        }
+    }
+
+    /// Adds the connections that are listed, from this index on and then those before it, except
+    /// those of idle lanes. Returns whether all were added: if memory runs out for one, it is left
+    /// out.
+    pub(crate) fn add_busy(
+        &self,
+        idle: IdleLanes,
+        first: usize,
+        busy: &mut Vec<Arc<Link, Global>>,
+    ) -> bool
+        requires { first ≤ 60 }
+        ensures { result ≡ true → map arc_value busy.new.items
+            ≡ map arc_value busy.old.items
+            ++ busy_between arc_value idle self.now.slots first 60
+            ++ busy_between arc_value idle self.now.slots 0 first }
+    {
+        let after = self.add_between(idle, first, usize::from(CONNECTIONS), busy);
+        let before = self.add_between(idle, 0, first, busy);
+        after && before
+    }
+
+    // Adds the connections that are listed from one index up to another, except those of idle
+    // lanes. Returns whether all were added.
+    fn add_between(
+        &self,
+        idle: IdleLanes,
+        first: usize,
+        end: usize,
+        busy: &mut Vec<Arc<Link, Global>>,
+    ) -> bool
+        requires { first ≤ end }
+        ensures { result ≡ true → map arc_value busy.new.items
+            ≡ map arc_value busy.old.items ++ busy_between arc_value idle self.now.slots first end }
+    {
+        let mut all = true;
+        for index in first..end {
+            all = self.add_at(idle, index, busy) && all;
+        }
+        all
+    }
+
+    // Adds the connection that is listed at an index, unless its lane is idle. Returns whether it
+    // was added, or did not have to be.
+    fn add_at(&self, idle: IdleLanes, index: usize, busy: &mut Vec<Arc<Link, Global>>) -> bool
+        ensures { result ≡ true → map arc_value busy.new.items
+            ≡ map arc_value busy.old.items
+            ++ busy_at arc_value idle (listed_at (get self.now.slots index)) }
+    {
+        let Some(link) = self.at(index) else {
+            return true;
+        };
+        if idle.has(link.port) {
+            return true;
+        }
+        match Arc::try_clone(link) {
+            Ok(link) => busy.push(link).is_ok(),
+            Err(_) => false,
+        }
+    }
+}

@@ -1,0 +1,63 @@
+// Where a connection's write token is kept while no thread writes.
+
+ghost use Rattle.std.specs.Prelude.{◌≡◌, IfSome, None, Some, false, is_none, true};
+
+use crate::link::WriteToken;
+use node::Port;
+use std::mem;
+
+/// Where a connection's token is kept while no thread writes.
+#[derive(Drop)]
+pub(crate) struct WriteSlot {
+    /// None while a thread writes, and for good once the stream takes no more.
+    token: Option<WriteToken>,
+    /// More may have been queued since the thread that writes looked.
+    again: bool,
+}
+
+impl WriteSlot {
+    ghost use Rattle.streams.specs.WriteTokens.{IsTokenOf, token_of};
+
+    /// Returns the slot that keeps this token.
+    pub(crate) fn new(token: WriteToken) -> WriteSlot
+        ensures { result ≡ record { token = Some token; again = false } }
+    {
+        WriteSlot {
+            token: Some(token),
+            again: false,
+        }
+    }
+
+    /// Takes the token, if it is this port's. If none is kept, another thread writes, and that one
+    /// looks again.
+    pub(crate) fn take(&mut self, port: Port) -> Option<WriteToken>
+        ensures its { IfSome result (λ token. IsTokenOf port token) }
+        ensures takes { result ≡ token_of port self.old.token }
+        ensures leaves { self.new ≡ record { token = None; again = is_none self.old.token } }
+    {
+        let token = mem::replace(&mut self.token, None);
+        self.again = token.is_none();
+        let token = token?;
+        if token.tap().port() != port {
+            return None;
+        }
+        Some(token)
+    }
+
+    /// Puts the token back. If more may have been queued meanwhile the caller keeps it, and looks
+    /// again.
+    pub(crate) fn put_back(&mut self, token: WriteToken) -> Option<WriteToken>
+        ensures same { IfSome result (λ kept. kept ≡ token) }
+        ensures puts { self.old.again ≡ false → self.new ≡ record self.old { token = Some token } }
+        ensures gives { self.old.again ≡ false → result ≡ None }
+        ensures looks { self.old.again ≡ true → self.new ≡ record self.old { again = false } }
+        ensures keeps { self.old.again ≡ true → result ≡ Some token }
+    {
+        if self.again {
+            self.again = false;
+            return Some(token);
+        }
+        self.token = Some(token);
+        None
+    }
+}
