@@ -1,5 +1,5 @@
 -- What a lane reports of a connection.
-use Rattle.std.specs.Prelude.{ℕ, ◌+◌, ◌*◌, List, [], ◌∷◌, ◌++◌, None}
+use Rattle.std.specs.Prelude.{◌≡◌, ℕ, ◌+◌, ◌*◌, ◌^◌, List, [], ◌∷◌, ◌++◌, Option, None, Some}
 use Rattle.post.specs.node.declared.Item.{Item}
 use Rattle.post.specs.node.declared.Item.TheVariants.{Tick, Cut}
 use Rattle.post.specs.node.declared.Port.{Port}
@@ -40,6 +40,12 @@ pub data TellsEach (lane : ℕ) (before : List Item) : ℕ → List Item → Typ
 pub record SendsRow (lane : ℕ) (before after : List Item) : Type 0 where
   pub count : ℕ
   pub tells : TellsEach lane before count after
+
+-- Why a lane of a node's connections serves no more: the witness is of this node's listener, or
+-- there is none, and the lane served one connection at each of its ports.
+abbrev pub EndsBy : (node lane : ℕ) → Option ℕ → (before after : List Item) → Type 0
+EndsBy node lane (Some closed) before after = closed ≡ node
+EndsBy node lane None before after = TellsEach lane before (2 ^ 56) after
 
 -- a node's own lane, by which everything is sent to it that does not come from its clients, and the
 -- node's number

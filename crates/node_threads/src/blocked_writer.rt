@@ -1,6 +1,6 @@
 // The thread that continues with connections whose sockets were full.
 
-ghost use Rattle.std.specs.Prelude.{IfSome};
+ghost use Rattle.std.specs.Prelude.{◌≡◌, IfSome};
 ghost use Rattle.std.specs.Arc.{arc_value};
 ghost use Rattle.streams.specs.WriteTokens.{IsTokenOf};
 
@@ -10,7 +10,7 @@ use std::alloc::Global;
 use std::mem;
 use std::sync::{Arc, Wait};
 use std::time::Duration;
-use streams::{Blocked, Link, WriteToken};
+use streams::{Blocked, Closed, Link, WriteToken};
 
 /// How long the thread sleeps at most before it looks whether the listener is closed, in
 /// milliseconds.
@@ -23,14 +23,16 @@ const FIRST_MILLIS: u64 = 1;
 const MAX_MILLIS: u64 = 16;
 
 impl<'a, J: NodeNaming, S: Stated<J>, G: Gate> Shared<'a, J, S, G> {
-    /// Continues with connections whose sockets were full, until the listener is closed. No thread
-    /// waits for this one, and it waits for no socket: between its tries it sleeps, longer each
-    /// time while all stay full.
-    pub(crate) fn write_blocked<R: Wait>(&self, rt: &R) {
+    /// Goes on with connections whose sockets were full until it sees the listener closed. Returns
+    /// the witness. No thread waits for this one, and it waits for no socket: between its tries it
+    /// sleeps, longer each time while all stay full.
+    pub(crate) fn write_blocked<R: Wait>(&self, rt: &R) -> Closed
+        ensures { result ≡ self.now.context.listener.now.number }
+    {
         let mut pause = FIRST_MILLIS;
         for _ in rt.forever() {
-            if self.context.listener.is_closed(rt) {
-                return;
+            if let Some(closed) = self.context.listener.closed(rt) {
+                return closed;
             }
             let (tried, left) = self.write_each_blocked(rt);
             pause = next_pause(pause, tried, left);
@@ -39,6 +41,7 @@ impl<'a, J: NodeNaming, S: Stated<J>, G: Gate> Shared<'a, J, S, G> {
                 Duration::from_millis(if left == 0 { LOOK_MILLIS } else { pause }),
             );
         }
+        unreachable!()
     }
 
     /// Hands a connection whose socket is full to that thread.

@@ -11,7 +11,6 @@ mod helping;
 mod lane_reporter;
 mod laws;
 mod node_context;
-mod node_report;
 mod opened;
 mod own_lane;
 mod own_thread;
@@ -25,9 +24,8 @@ mod writing;
 
 pub use laws::{cuts_come_apart, cuts_come_often, ports_differ};
 pub use node_context::NodeContexts;
-pub use node_report::NodeReport;
 pub use opened::Opened;
 pub use post;
-pub use served_node::{ServedNode, start_all};
+pub use served_node::{NodeReport, ServedNode, start_all};
 pub use streams;
 pub use working::THREADS;

@@ -15,7 +15,7 @@ use post::node::{Gate, Item, NodeNaming, Standing, Stated};
 use std::hint;
 use std::sync::Wait;
 use std::time::{Clock, Duration};
-use streams::{CONNECTIONS, Link};
+use streams::{CONNECTIONS, Closed, Link};
 
 /// How often the node gets the time, in milliseconds.
 const TICK: u64 = 200;
@@ -37,13 +37,15 @@ struct LastTick {
 }
 
 impl<'a, J: NodeNaming, S: Stated<J>, G: Gate> ServedNode<'a, J, S, G> {
-    /// Does the work of the node's own thread, until the listener is closed.
-    pub(crate) fn keep_going<R: Wait + Clock>(&self, rt: &R) {
+    /// Works as the node's own thread until it sees the listener closed. Returns the witness.
+    pub(crate) fn keep_going<R: Wait + Clock>(&self, rt: &R) -> Closed
+        ensures { result ≡ self.now.number }
+    {
         let shared = &self.shared;
         let mut last = LastTick { time: 0, ticks: 0 };
         for _ in rt.forever() {
-            if shared.context.listener.is_closed(rt) {
-                return;
+            if let Some(closed) = shared.context.listener.closed(rt) {
+                return closed;
             }
             let latest = self.take_own(rt, last);
             shared.context.cluster.wake_urgent(rt);

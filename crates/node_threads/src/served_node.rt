@@ -6,24 +6,25 @@ ghost use Rattle.post.specs.Queued.{EachOpensAs};
 ghost use Rattle.node_threads.specs.Named.{AreNamed};
 
 use crate::node_context::{NodeContext, NodeContexts};
-use crate::node_report::NodeReport;
 use crate::opened::Opened;
 use crate::own_lane::OwnLane;
 use crate::shared::Shared;
-use crate::working::{LANES, LaneSlots, THREADS, run};
+use crate::working::{LANES, LaneSlot, LaneSlots, THREADS, run};
 use post::mailbox::Lane;
-use post::node::{Config, Gate, Item, Memory, Node, NodeNaming, NodeState, Stated};
+use post::node::{Config, Gate, Item, Memory, Node, NodeNaming, NodeState, Report, Stated};
 use std::alloc::Global;
 use std::mem;
 use std::net::{Net, TcpStream};
 use std::sync::{Mutex, Wait};
 use std::thread::{Parker, Threads};
 use std::time::Clock;
-use streams::CONNECTIONS;
+use streams::{CONNECTIONS, Closed};
 
 /// A node that serves: what its threads share, and their lanes.
 #[derive(Drop)]
 pub struct ServedNode<'a, J: NodeNaming, S: Stated<J>, G: Gate> {
+    /// The node's number, which is that of its listener.
+    pub number: u8,
     pub(crate) shared: Shared<'a, J, S, G>,
     /// The lane of everything that does not come from a client. The thread that holds it does the
     /// node's turn with what was queued for the node: its own thread, or one that queued something.
@@ -32,6 +33,16 @@ pub struct ServedNode<'a, J: NodeNaming, S: Stated<J>, G: Gate> {
     lane_slots: Mutex<LaneSlots<J>>,
     /// A gate is asked before each taking.
     pub(crate) is_gated: bool,
+    pub(crate) ghost its: { number ≡ shared.context.listener.now.number },
+}
+
+/// What happened to the items that were sent to one of the nodes.
+#[derive(Drop)]
+pub struct NodeReport {
+    /// The node's number.
+    pub number: u8,
+    /// What it took and what it left.
+    pub report: Report,
 }
 
 impl<'a, J: NodeNaming, G: Gate> ServedNode<'a, J, NodeState<J>, G> {
@@ -48,6 +59,7 @@ impl<'a, J: NodeNaming, G: Gate> ServedNode<'a, J, NodeState<J>, G> {
         requires named { opened.inbox ≡ J.inbox_of opened.number }
         requires first { opened.core ≡ J.first_of opened.number }
         requires opens { EachOpensAs config.now J.first_of }
+        ensures { IfOk result (λ node. node.number ≡ opened.number) }
     {
         let Opened {
             number,
@@ -60,6 +72,7 @@ impl<'a, J: NodeNaming, G: Gate> ServedNode<'a, J, NodeState<J>, G> {
         let node = Node::start(alloc, NodeState::new(receiver, core), gate)?;
         let blocked = Mutex::new(Vec::with_capacity(alloc, usize::from(CONNECTIONS))?);
         Ok(ServedNode {
+            number,
             shared: Shared {
                 alloc,
                 node,
@@ -74,16 +87,19 @@ impl<'a, J: NodeNaming, G: Gate> ServedNode<'a, J, NodeState<J>, G> {
         })
     }
 
-    /// Ends the node, whose threads have returned, and reports what became of the items that were
-    /// sent to it. The error comes if not all its lanes came back from its threads.
-    pub fn close<R: Wait>(self, rt: &R) -> Result<NodeReport, Memory> {
+    /// Ends the node, whose listener is closed and whose threads have returned. Reports what became
+    /// of the items that were sent to it. The error comes if not all its lanes came back.
+    pub fn close<R: Wait>(self, rt: &R, _closed: Closed) -> Result<NodeReport, Memory>
+        requires { _closed ≡ self.number }
+        ensures { IfOk result (λ report. report.number ≡ self.entry.number) }
+    {
         let ServedNode {
+            number,
             shared,
             own,
             lane_slots,
             ..
         } = self;
-        let number = shared.context.listener.number;
         let mut lanes = lane_slots
             .into_inner()
             .into_lanes(own.into_inner().into_lane());
@@ -93,9 +109,12 @@ impl<'a, J: NodeNaming, G: Gate> ServedNode<'a, J, NodeState<J>, G> {
 }
 
 impl<'a, J: NodeNaming, S: Stated<J>, G: Gate> ServedNode<'a, J, S, G> {
-    /// Ends all connections of the node, and admits no more: its threads return.
-    pub fn close_listener<R: Wait + Clock + Net<Stream = TcpStream>>(&self, rt: &R) {
-        self.shared.context.listener.close(rt);
+    /// Ends all connections of the node, and admits no more: its threads return. Returns the
+    /// witness that its listener is closed.
+    pub fn close_listener<R: Wait + Clock + Net<Stream = TcpStream>>(&self, rt: &R) -> Closed
+        ensures { result ≡ self.now.number }
+    {
+        self.shared.context.listener.close(rt)
     }
 }
 
@@ -120,7 +139,7 @@ where
 }
 
 /// Returns the nodes that serve, made of those that opened, each with its listener's context. The
-/// only error is that memory ran out.
+/// error comes if memory ran out, or a node has no listener.
 pub fn start_all<'a, J: NodeNaming, R: Wait, G: Gate>(
     rt: &R,
     alloc: Global,
@@ -134,10 +153,8 @@ pub fn start_all<'a, J: NodeNaming, R: Wait, G: Gate>(
 {
     let mut nodes = Vec::with_capacity(alloc, opened.len())?;
     for one in opened {
-        // Each has its listener.
-        if let Some(context) = contexts.context_of(one.number) {
-            nodes.push(ServedNode::start(rt, alloc, context, config, one, gate)?)?;
-        }
+        let context = contexts.context_of(one.number).ok_or(Memory)?;
+        nodes.push(ServedNode::start(rt, alloc, context, config, one, gate)?)?;
     }
     Ok(nodes)
 }
@@ -160,10 +177,10 @@ fn lane_slots_of<J: NodeNaming>(
     };
     // The slots of the node's own thread, and of the thread that continues with full sockets, have
     // no lane.
-    slots.push(None)?;
+    slots.push(LaneSlot::new(None))?;
     for lane in lanes {
-        slots.push(Some(lane))?;
+        slots.push(LaneSlot::new(Some(lane)))?;
     }
-    slots.push(None)?;
+    slots.push(LaneSlot::new(None))?;
     Ok((OwnLane::new(number, own), LaneSlots { slots, back }))
 }

@@ -2,7 +2,7 @@
 
 ghost use Rattle.std.specs.Prelude.{◌≡◌, ◌<◌, ◌^◌, IfSome};
 ghost use Rattle.std.specs.Arc.{arc_value};
-ghost use Rattle.node_threads.specs.Serving.{SendsRow, SendsWhole, TellsOne, port_of};
+ghost use Rattle.node_threads.specs.Serving.{EndsBy, SendsRow, SendsWhole, TellsOne, port_of};
 
 use crate::lane_reporter::LaneReporter;
 use crate::served_node::ServedNode;
@@ -14,7 +14,7 @@ use std::net::TcpStream;
 use std::sync::{Arc, Wait};
 use std::time::{Clock, Duration};
 use streams::connection::{Counted, listen};
-use streams::{Link, forget};
+use streams::{Closed, Link, forget};
 
 /// How long a write may wait before the rest is left to the blocked writer, in milliseconds.
 const WRITE_MILLIS: u64 = 1;
@@ -26,26 +26,28 @@ const CONNECTIONS_OF_LANE: u64 = 1 << 56;
 const PORTS_APART: u64 = 256;
 
 impl<'a, J: NodeNaming, S: Stated<J>, G: Gate> ServedNode<'a, J, S, G> {
-    /// Serves one client after another by a lane, until the listener is closed. Returns the lane,
-    /// which sent for each one after another the whole report of its connection, at a port that no
-    /// other has, and nothing else.
+    /// Serves one client after another by a lane until it sees the listener closed. Returns the
+    /// lane, which sent for each one after another the whole report of its connection, at a port
+    /// that no other has, and nothing else; and the witness, or none if all ports are used.
     pub(crate) fn serve_lane<R: Wait + Clock>(
         &self,
         rt: &R,
         all: &[ServedNode<'a, J, S, G>],
         lane: Lane<Item, J>,
-    ) -> Lane<Item, J>
-        ensures { SendsRow lane.lane lane.sent result.sent }
+    ) -> (Lane<Item, J>, Option<Closed>)
+        ensures row { SendsRow lane.lane lane.sent result.0.sent }
+        ensures ends { EndsBy self.now.number lane.lane result.1 lane.sent result.0.sent }
     {
         let number = lane.lane();
         let mut lane = lane;
         for count in 0..CONNECTIONS_OF_LANE {
-            let Some(stream) = self.shared.context.listener.accept(rt) else {
-                return lane;
+            let stream = match self.shared.context.listener.accept(rt) {
+                Ok(stream) => stream,
+                Err(closed) => return (lane, Some(closed)),
             };
             lane = self.serve_stream(rt, all, lane, stream, port_of(number, count));
         }
-        lane
+        (lane, None)
     }
 
     // Serves a stream until its client or the node ends it. If as many are served as may be, or

@@ -1,16 +1,17 @@
-// The threads of a node, each with a lane for good.
+// The threads of a node, each with a slot, and most with a lane for good.
 
-ghost use Rattle.std.specs.Prelude.{ℕ, ◌<◌, length, slice_index_or};
-ghost use Rattle.node_threads.specs.Working.{ComesBack};
+ghost use Rattle.std.specs.Prelude.{◌≡◌, ℕ, ◌<◌, None, length, slice_index_or};
+ghost use Rattle.node_threads.specs.Working.{Returns};
 
 use crate::served_node::ServedNode;
 use post::mailbox::Lane;
 use post::node::{Gate, Item, NodeNaming, Stated};
+use std::marker::Model;
 use std::sync::Wait;
 use std::thread;
 use std::thread::Threads;
 use std::time::Clock;
-use streams::CONNECTIONS;
+use streams::{CONNECTIONS, Closed};
 
 /// A lane for the node's own thread, for each connection, and for the thread that closes surplus
 /// clients.
@@ -19,10 +20,31 @@ pub(crate) const LANES: u8 = CONNECTIONS + 2;
 /// How many threads a node has: one for each lane, and one that continues with full sockets.
 pub const THREADS: usize = LANES as usize + 1;
 
-/// The lane of a connection's thread, unless that is using it. The first slot is that of the node's
-/// own thread, whose lane is behind a lock; the last is that of the thread that continues with full
-/// sockets. They have none.
-pub(crate) type LaneSlot<J> = Option<Lane<Item, J>>;
+/// The slot of a thread: its lane, unless it is using that, and the witness with which it returned.
+/// The first is that of the node's own thread, whose lane is behind a lock; the last is that of the
+/// thread that continues with full sockets. They have no lane.
+#[derive(Drop)]
+pub(crate) struct LaneSlot<J: NodeNaming> {
+    pub(crate) lane: Option<Lane<Item, J>>,
+    pub(crate) closed: Option<Closed>,
+}
+
+impl<J: NodeNaming> Model for LaneSlot<J> {
+    ghost use Rattle.node_threads.specs.Working.{Slot};
+
+    ghost Value = { Slot };
+
+    ghost view = { λ slot. record { lane = slot.lane; closed = slot.closed } };
+}
+
+impl<J: NodeNaming> LaneSlot<J> {
+    /// Returns the slot of a thread that has not begun.
+    pub(crate) fn new(lane: Option<Lane<Item, J>>) -> LaneSlot<J>
+        ensures { result ≡ record { lane = lane; closed = None } }
+    {
+        LaneSlot { lane, closed: None }
+    }
+}
 
 /// The slots of a node's threads, with capacity in which all its lanes are gathered at the end.
 #[derive(Drop)]
@@ -38,7 +60,7 @@ impl<J: NodeNaming> LaneSlots<J> {
         // There is room for all.
         let _ = back.push(own);
         for slot in slots {
-            if let Some(lane) = slot {
+            if let Some(lane) = slot.lane {
                 let _ = back.push(lane);
             }
         }
@@ -59,41 +81,47 @@ where
     S: Stated<J> + Send,
     G: Gate + Sync,
     R: Threads + Wait + Clock + Sync,
-    ensures { (index : ℕ) (other : _) → index < length slots.old → ComesBack
+    ensures { (index : ℕ) (other : _) → index < length slots.old → Returns node.now.number
         (slice_index_or slots.old index other) (slice_index_or slots.new index other) }
 {
     thread::for_each_mut(
         rt,
         slots,
         THREADS,
-        &|index, slot| node.run_lane(rt, all, index, slot),
+        &|index, slot| node.run_slot(rt, all, index, slot),
     );
 }
 
 impl<'a, J: NodeNaming, S: Stated<J>, G: Gate> ServedNode<'a, J, S, G> {
-    // Works with the lane of a slot, and puts it back. The first slot is that of the node's own
-    // thread. At another slot that has no lane, its thread continues with full sockets.
-    fn run_lane<R: Wait + Clock>(
+    // Works with a slot. If it has a lane, its thread serves connections by that, and puts it back.
+    fn run_slot<R: Wait + Clock>(
         &self,
         rt: &R,
         all: &[ServedNode<'a, J, S, G>],
         index: usize,
         slot: &mut LaneSlot<J>,
     )
-        ensures { ComesBack slot.old slot.new }
+        ensures { Returns self.now.number slot.old slot.new }
     {
-        match slot.take() {
-            Some(lane) => *slot = Some(self.serve_lane(rt, all, lane)),
-            None => self.work_without(rt, index),
+        match slot.lane.take() {
+            Some(lane) => {
+                let (lane, closed) = self.serve_lane(rt, all, lane);
+                slot.lane = Some(lane);
+                slot.closed = closed;
+            }
+            None => slot.closed = Some(self.work_without(rt, index)),
         }
     }
 
-    // Works at a slot that has no lane.
-    fn work_without<R: Wait + Clock>(&self, rt: &R, index: usize) {
+    // Works at a slot that has no lane: the first is that of the node's own thread, the others
+    // continue with full sockets. Returns the witness that the listener was seen closed.
+    fn work_without<R: Wait + Clock>(&self, rt: &R, index: usize) -> Closed
+        ensures { result ≡ self.now.number }
+    {
         if index == 0 {
-            self.keep_going(rt);
+            self.keep_going(rt)
         } else {
-            self.shared.write_blocked(rt);
+            self.shared.write_blocked(rt)
         }
     }
 }
