@@ -143,7 +143,9 @@ where
         outcome.fail(ServeError::Threads);
     }
     for node in nodes {
-        outcome.keep(node.close(rt));
+        // Its listener is closed already: this only returns the witness.
+        let closed = node.close_listener(rt);
+        outcome.keep(node.close(rt, closed));
     }
     Ok((answer, outcome.into_reports()?))
 }
@@ -197,7 +199,7 @@ where
             }
             let answer = attend(cluster);
             for node in nodes {
-                node.close_listener(rt);
+                let _closed = node.close_listener(rt);
             }
             (answer, all_started)
         },
