@@ -20,6 +20,10 @@ struct TcpServers<'a, R> {
 }
 
 impl<'a, R: Net<Stream = TcpStream> + Clock> Servers for TcpServers<'a, R> {
+    ghost opens = { λ _ _. Unit {0} };
+
+    ghost rests = { λ _ _. Unit {0} };
+
     type Stream = TcpStream;
 
     fn open(&mut self) -> Option<TcpStream> {

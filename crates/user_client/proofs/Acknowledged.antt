@@ -1,5 +1,5 @@
 -- Acknowledged.antt: a publisher that disconnected keeps what it kept.
-use Rattle.std.proofs.Common.{◌≡◌, [], sym, subst, ◌∙◌, Option}
+use Rattle.std.proofs.Common.{◌≡◌, ℕ, List, [], sym, subst, ◌∙◌, Option}
 use Rattle.std.specs.Prelude.{Some, None}
 use Rattle.client.specs.packet.declared.publish.Publish.{Publish}
 use Rattle.client.specs.client_base.State.{kept_count}
@@ -11,15 +11,18 @@ use Rattle.user_client.proofs.TracesJoin.{traces_follow}
 abbrev pub made_of : Called → Option Publish → Publishing
 made_of caller once = record { caller = caller; once = once }
 
-pub keeps_none : (once : Option Publish) (caller new : Called) → kept_count new.core.state ≡ kept_count caller.core.state
-    → IsAcknowledgedAs once caller → IsAcknowledgedAs once new
-keeps_none None caller new same none = same ∙ none
-keeps_none (Some publish) caller new same none = tt
+pub keeps_none : {D : Type 0} (contents : D → Option (List ℕ)) (once : Option Publish) (caller new : Called)
+    → kept_count new.core.state ≡ kept_count caller.core.state
+    → IsAcknowledgedAs contents once caller → IsAcknowledgedAs contents once new
+keeps_none contents None caller new same none = same ∙ none
+keeps_none contents (Some publish) caller new same taken = taken
 
-pub stays_acknowledged : {seen : Publishing} (caller new : Called) (once : Option Publish) → made_of caller once ≡ seen
-    → kept_count new.core.state ≡ kept_count caller.core.state → IsAcknowledged seen → IsAcknowledged (made_of new once)
-stays_acknowledged caller new once is same none =
-    keeps_none once caller new same (subst IsAcknowledged (sym is) none)
+pub stays_acknowledged : {D : Type 0} {seen : Publishing} (contents : D → Option (List ℕ)) (caller new : Called)
+    (once : Option Publish) → made_of caller once ≡ seen
+    → kept_count new.core.state ≡ kept_count caller.core.state
+    → IsAcknowledged contents seen → IsAcknowledged contents (made_of new once)
+stays_acknowledged contents caller new once is same none =
+    keeps_none contents once caller new same (subst (IsAcknowledged contents) (sym is) none)
 
 pub left_trace : {start : Called} {seen : Publishing} (caller new : Called) (once : Option Publish) → made_of caller once ≡ seen
     → Trace start [] seen.caller → Trace caller [] new → Trace start [] new

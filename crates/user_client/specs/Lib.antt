@@ -1,4 +1,5 @@
 pub mod Listening
+pub mod Losing
 pub mod Printing
 pub mod Publishing
 pub mod Refusals

@@ -1,6 +1,9 @@
 -- A client that publishes once.
-use Rattle.std.specs.Prelude.{◌≡◌, ⊤, ℕ, List, [], ◌∷◌, Option, Some, None}
+use Rattle.std.specs.Prelude.{◌≡◌, ℕ, List, [], ◌∷◌, Option, Some, None}
+use Rattle.std.specs.Io.KnownBytes.{Appends}
+use Rattle.client.specs.packet.Spelling.{AppendsSpelling}
 use Rattle.client.specs.packet.declared.delivery.Delivery.TheVariants as deliveries
+use Rattle.client.specs.packet.declared.packet.Packet.TheVariants as packets
 use Rattle.client.specs.packet.declared.publish.Publish.{Publish}
 use Rattle.client.specs.packet.declared.qos.QoS.{QoS}
 use Rattle.client.specs.packet.declared.qos.QoS.TheVariants as levels
@@ -36,11 +39,24 @@ HasPublication levels.AtLeastOnce id p it =
 HasPublication levels.ExactlyOnce id p it =
     (it.caller.core.state ≡ keeping id p) × (it.once ≡ None)
 
--- what is answered is acknowledged as a whole: the client keeps no publication
-abbrev pub IsAcknowledgedAs : Option Publish → Called → Type 0
-IsAcknowledgedAs None caller = kept_count caller.core.state ≡ 0
-IsAcknowledgedAs (Some publish) caller = ⊤
+-- a stream took this PUBLISH at QoS 0 as a whole, after the bytes that its client wrote before it
+pub record WasTaken {D : Type 0} (contents : D → Option (List ℕ)) (publish : Publish)
+    : Type 0 where
+  pub old : D
+  pub new : D
+  pub before : List ℕ
+  pub bytes : List ℕ
+  pub spelled : AppendsSpelling before bytes
+      (packets.Publish (record publish { delivery = deliveries.AtMostOnce }))
+  pub taken : Appends (contents old) (contents new) bytes
+
+-- what is answered is acknowledged as a whole: the client keeps no publication; a publication at
+-- QoS 0 was taken by a stream
+abbrev pub IsAcknowledgedAs :
+    {D : Type 0} → (D → Option (List ℕ)) → Option Publish → Called → Type 0
+IsAcknowledgedAs contents None caller = kept_count caller.core.state ≡ 0
+IsAcknowledgedAs contents (Some publish) caller = WasTaken contents publish
 
 -- the same of a `Publishing`
-abbrev pub IsAcknowledged : Publishing → Type 0
-IsAcknowledged publishing = IsAcknowledgedAs publishing.once publishing.caller
+abbrev pub IsAcknowledged : {D : Type 0} → (D → Option (List ℕ)) → Publishing → Type 0
+IsAcknowledged contents publishing = IsAcknowledgedAs contents publishing.once publishing.caller

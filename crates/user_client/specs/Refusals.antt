@@ -1,6 +1,13 @@
 -- Why a client is not made: its texts are checked in order, and memory may run out at any time.
-use Rattle.std.specs.Prelude.{◌≡◌, ◌⊎◌, ℕ, List, Option, Some, None, option_map}
+use Rattle.std.specs.Prelude.{◌≡◌, ◌⊎◌, ℕ, true, false, List, Option, Some, None, option_map}
+use Rattle.client.specs.client_base.Numbers.{client_number}
+use Rattle.client.specs.client_base.Publishing.{is_over_limit, publish_packet}
+use Rattle.client.specs.client_base.State.{new_client}
+use Rattle.client.specs.client_base.declared.error.ClientError.{ClientError}
+use Rattle.client.specs.client_base.declared.error.ClientError.TheVariants as errors
 use Rattle.client.specs.packet.ClientId.{client_fault}
+use Rattle.client.specs.packet.declared.packet.Packet.{Packet}
+use Rattle.client.specs.session_base.declared.publication.Publication.{Publication}
 use Rattle.client.specs.topics.Malformed.{number_of}
 use Rattle.client.specs.topics.Text.{filter_fault, topic_fault}
 use Rattle.client.specs.topics.declared.malformed.MalformedKind.{MalformedKind}
@@ -13,6 +20,15 @@ abbrev pub fault_of : MalformedKind → ClientFault
 fault_of kinds.Memory = faults.Memory
 fault_of kind = faults.Refused (number_of kind)
 
+-- the fault of a call that is refused
+abbrev pub fault_of_call : ClientError → ClientFault
+fault_of_call errors.Memory = faults.Memory
+fault_of_call cause = faults.Refused (client_number cause)
+
+-- a call is refused for this cause, if there is one, or because memory ran out
+abbrev pub IsRefusedFor : Option ClientError → ClientFault → Type 0
+IsRefusedFor cause it = (option_map fault_of_call cause ≡ Some it) ⊎ (it ≡ faults.Memory)
+
 -- a text is refused by its first fault; without one, only because memory ran out
 abbrev pub IsRefusedBy : Option MalformedKind → ClientFault → Type 0
 IsRefusedBy fault it =
@@ -24,10 +40,26 @@ RefusesListener id filter it =
     IsRefusedBy (client_fault id) it
     ⊎ ((client_fault id ≡ None) × IsRefusedBy (filter_fault filter) it)
 
+-- the PUBLISH of a new client's first publication
+abbrev pub first_publish : List ℕ → Publication → Packet
+first_publish id p = publish_packet p (new_client id 0)
+
+-- a packet is refused if it is over the limit; if it is not, only because memory ran out
+abbrev pub RefusesPacket : Packet → ClientFault → Type 0
+RefusesPacket packet it =
+    ((is_over_limit packet ≡ true) × (it ≡ fault_of_call errors.TooLarge)) ⊎ (it ≡ faults.Memory)
+
 -- a client that publishes is refused for its identifier, only then for its topic, and only then for
--- anything else
-abbrev pub RefusesPublisher : List ℕ → List ℕ → ClientFault → Type 0
-RefusesPublisher id topic it =
+-- the size of its packet
+abbrev pub RefusesPublisher : List ℕ → Publication → ClientFault → Type 0
+RefusesPublisher id p it =
     IsRefusedBy (client_fault id) it
-    ⊎ (((client_fault id ≡ None) × IsRefusedBy (topic_fault topic) it)
-    ⊎ ((client_fault id ≡ None) × (topic_fault topic ≡ None)))
+    ⊎ (((client_fault id ≡ None) × IsRefusedBy (topic_fault p.topic) it)
+    ⊎ ((client_fault id ≡ None) × (topic_fault p.topic ≡ None)
+    × RefusesPacket (first_publish id p) it))
+
+-- nothing is wrong with its identifier, its topic and the size of its packet
+abbrev pub IsPublishable : List ℕ → Publication → Type 0
+IsPublishable id p =
+    (client_fault id ≡ None) × (topic_fault p.topic ≡ None)
+    × (is_over_limit (first_publish id p) ≡ false)

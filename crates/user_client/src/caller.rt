@@ -1,9 +1,12 @@
 // A client, and whether a server has accepted one of its connections.
 
-ghost use Rattle.std.specs.Prelude.{◌≡◌, ◌≢◌, ◌++◌, OnOk, Err, []};
+ghost use Rattle.std.specs.Prelude.{◌≡◌, ◌≢◌, ◌++◌, IfErr, OnOk, OnErr, Err, []};
 ghost use Rattle.client.specs.client_base.declared.error.ClientError.TheVariants as errors;
 ghost use Rattle.client.specs.client_base.State.{kept_count};
+ghost use Rattle.client.specs.client_base.Steps.{Call, keeper_step};
 ghost use Rattle.client.specs.Core.{publication_with};
+ghost use Rattle.user_client.specs.Losing.{IsLostBy};
+ghost use Rattle.user_client.specs.Refusals.{IsRefusedFor};
 ghost use Rattle.user_client.specs.Tracing.{IsAsked, IsFirst, Trace, new_called};
 
 use crate::fault::ClientFault;
@@ -56,6 +59,7 @@ impl Caller {
     /// is that memory ran out.
     pub(crate) fn open(&mut self) -> Result<(), ClientFault>
         ensures trace { OnOk result (Trace self.old [] self.new) }
+        ensures err { IfErr result (λ fault. fault ≡ ClientFault.Memory) }
     {
         Ok(self.core.open()?)
     }
@@ -72,6 +76,11 @@ impl Caller {
         ensures trace { OnOk result (Trace self.old [] self.new) }
         ensures asked { OnOk result
             (IsAsked (publication_with retain qos topic payload) self.old self.new) }
+
+        // The client refused the publication for this cause, or memory ran out.
+        ensures refused { let call = Call.Publishes (publication_with retain qos topic payload) in
+            IfErr result (IsRefusedFor (keeper_step call self.old.core.state).refusal) }
+        ensures same { OnErr result (self.new ≡ self.old) }
     {
         Ok(self.core.publish(topic, qos, retain, payload)?)
     }
@@ -80,6 +89,7 @@ impl Caller {
     /// not.
     pub(crate) fn subscribe(&mut self, filter: &Filter, qos: QoS) -> Result<(), ClientFault>
         ensures trace { OnOk result (Trace self.old [] self.new) }
+        ensures lost { IfErr result (λ fault. fault ≢ ClientFault.Lost) }
     {
         Ok(self.core.subscribe(filter.clone()?, qos)?)
     }
@@ -96,6 +106,7 @@ impl Caller {
         ensures trace { Trace self.old [] self.new }
         ensures kept { self.new.core.state ≡ self.old.core.state }
         ensures bytes { OnOk result (out.new.items ≡ out.old.items ++ self.old.core.out) }
+        ensures err { IfErr result (λ fault. fault ≡ ClientFault.Memory) }
     {
         Ok(self.core.outgoing(out)?)
     }
@@ -112,6 +123,7 @@ impl Caller {
     /// accepted connection, or lost it later.
     pub(crate) fn take_in(&mut self, piece: &[u8]) -> Result<News, ClientFault>
         ensures trace { OnOk result (Trace self.old [] self.new) }
+        ensures lost { IfErr result (IsLostBy self.old self.new) }
     {
         let was_connected = self.core.connected();
         let goes_on = goes_on(self.core.on_bytes(piece))?;
@@ -123,7 +135,8 @@ impl Caller {
 
     // Checks that before the first accepted connection the server has no session of the client.
     fn is_first(&self) -> Result<(), ClientFault>
-        ensures { OnOk result (IsFirst self.now self.now.core) }
+        ensures ok { OnOk result (IsFirst self.now self.now.core) }
+        ensures err { IfErr result (λ fault. fault ≡ ClientFault.SessionPresent) }
     {
         if !self.was_accepted && self.core.present() {
             return Err(ClientFault::SessionPresent);
@@ -135,7 +148,9 @@ impl Caller {
 // Says whether the connection stays open after this answer to a piece. A lost session is a fault,
 // and it is a fault too if memory ran out.
 fn goes_on(heard: Result<(), ClientError>) -> Result<bool, ClientFault>
-    ensures { OnOk result (heard ≢ Err errors.SessionLost) }
+    ensures ok { OnOk result (heard ≢ Err errors.SessionLost) }
+    ensures lost { IfErr result (λ fault.
+        fault ≡ ClientFault.Lost → heard ≡ Err errors.SessionLost) }
 {
     match heard {
         Ok(()) => Ok(true),

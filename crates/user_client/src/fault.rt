@@ -36,6 +36,10 @@ impl From<MalformedKind> for ClientFault {
 }
 
 impl From<ClientError> for ClientFault {
+    ghost use Rattle.user_client.specs.Refusals.{fault_of_call};
+
+    ghost from_gives = { λ error fault. fault ≡ fault_of_call error };
+
     fn from(error: ClientError) -> ClientFault {
         match error {
             ClientError::Memory => ClientFault::Memory,
@@ -45,12 +49,20 @@ impl From<ClientError> for ClientFault {
 }
 
 impl From<AllocError> for ClientFault {
+    ghost use Rattle.user_client.specs.declared.fault.ClientFault.TheVariants.{Memory};
+
+    ghost from_gives = { λ _ fault. fault ≡ Memory };
+
     fn from(_error: AllocError) -> ClientFault {
         ClientFault::Memory
     }
 }
 
 impl<T: Drop> From<AllocFailed<T>> for ClientFault {
+    ghost use Rattle.user_client.specs.declared.fault.ClientFault.TheVariants.{Memory};
+
+    ghost from_gives = { λ _ fault. fault ≡ Memory };
+
     fn from(_error: AllocFailed<T>) -> ClientFault {
         ClientFault::Memory
     }

@@ -1,16 +1,16 @@
 // Publishing once.
 
-ghost use Rattle.std.specs.Prelude.{◌≡◌, ◌≢◌, None, true, [], OnOk, IfErr, IfOk};
+ghost use Rattle.std.specs.Prelude.{◌≡◌, ◌≢◌, true, false, [], OnOk, IfErr, IfOk};
 ghost use Rattle.client.specs.Core.{publication_with};
 ghost use Rattle.client.specs.client_base.State.{kept_count};
-ghost use Rattle.client.specs.packet.ClientId.{client_fault};
-ghost use Rattle.client.specs.packet.declared.delivery.Delivery.TheVariants as deliveries;
+ghost use Rattle.client.specs.client_base.Publishing.{is_over_limit};
+ghost use Rattle.client.specs.packet.declared.packet.Packet.TheVariants as packets;
 ghost use Rattle.client.specs.packet.declared.qos.QoS.TheVariants as levels;
 ghost use Rattle.client.specs.session_base.Publication.{is_answered};
-ghost use Rattle.client.specs.topics.Text.{topic_fault};
+ghost use Rattle.user_client.specs.Losing.{IsGivenUp, IsLostBy};
 ghost use Rattle.user_client.specs.Tracing.{Trace};
-ghost use Rattle.user_client.specs.Publishing.{HasPublication, IsAcknowledged};
-ghost use Rattle.user_client.specs.Refusals.{RefusesPublisher};
+ghost use Rattle.user_client.specs.Publishing.{HasPublication, IsAcknowledged, WasTaken, unkept};
+ghost use Rattle.user_client.specs.Refusals.{IsPublishable, RefusesPacket, RefusesPublisher, first_publish};
 
 use crate::caller::{Caller, News};
 use crate::checking::{checked_id, checked_topic};
@@ -57,8 +57,8 @@ enum Progress {
 impl Publisher {
     /// Returns a client with this identifier and its publication. At QoS 1 and 2 the client keeps
     /// it, and no other, until its handshake has ended. `Refused` has the number of the first fault
-    /// of identifier, topic, and a packet that would be too large, in this order; `Memory` comes
-    /// only without a fault before it.
+    /// of identifier, topic, and a packet that would be too large, in this order. The only other
+    /// error is `Memory`, without a fault before it.
     pub fn new(
         alloc: Global,
         id: &str,
@@ -67,10 +67,12 @@ impl Publisher {
         retain: bool,
         message: &str,
     ) -> Result<Publisher, ClientFault>
-        ensures ok { OnOk result ((client_fault id.now ≡ None) × (topic_fault topic.now ≡ None)) }
+        ensures ok { OnOk result
+            (IsPublishable id.now (publication_with retain qos topic.now message.now)) }
         ensures made { IfOk result (HasPublication qos id.now
             (publication_with retain qos topic.now message.now)) }
-        ensures err { IfErr result (RefusesPublisher id.now topic.now) }
+        ensures err { IfErr result
+            (RefusesPublisher id.now (publication_with retain qos topic.now message.now)) }
     {
         let id = checked_id(alloc, id)?;
         let topic = checked_topic(alloc, topic)?;
@@ -83,9 +85,13 @@ impl Publisher {
     /// until the handshake has ended, at QoS 0 until a connection has taken the bytes. The fate of
     /// the DISCONNECT does not matter.
     pub fn run<S: Servers>(&mut self, servers: &mut S, tries: u32) -> Result<(), ClientFault>
-        ensures acknowledged { OnOk result (IsAcknowledged self.new) }
+        ensures acknowledged { OnOk result (IsAcknowledged S.Stream.contents self.new) }
         ensures trace { OnOk result (Trace self.old.caller [] self.new.caller) }
         ensures same { self.new.once ≡ self.old.once }
+
+        // `Lost` comes once all `tries` connections were asked for, or the session was lost.
+        ensures lost { IfErr result (IsGivenUp S.opens S.rests tries
+            servers.old servers.new self.old.caller self.new.caller) }
     {
         for opened in 0..tries {
             let Some(stream) = next_stream(servers, opened) else {
@@ -100,9 +106,11 @@ impl Publisher {
 
     // Uses one connection. Returns whether the publication was acknowledged, or written.
     fn visit<D: Read + Write + Drop>(&mut self, stream: D) -> Result<bool, ClientFault>
-        ensures acknowledged { IfOk result (λ done. done ≡ true → IsAcknowledged self.new) }
+        ensures acknowledged { IfOk result (λ done.
+            done ≡ true → IsAcknowledged D.contents self.new) }
         ensures trace { OnOk result (Trace self.old.caller [] self.new.caller) }
         ensures same { self.new.once ≡ self.old.once }
+        ensures lost { IfErr result (IsLostBy self.old.caller self.new.caller) }
     {
         let mut stream = Counted::new(stream);
         let mut room = Vec::from_elem(self.alloc, 0u8, PIECE_BYTES)?;
@@ -127,9 +135,10 @@ impl Publisher {
         room: &mut [u8],
     ) -> Result<Progress, ClientFault>
         ensures acknowledged { IfOk result (λ progress.
-            progress ≡ Progress.Done → IsAcknowledged self.new) }
+            progress ≡ Progress.Done → IsAcknowledged D.contents self.new) }
         ensures trace { OnOk result (Trace self.old.caller [] self.new.caller) }
         ensures same { self.new.once ≡ self.old.once }
+        ensures lost { IfErr result (IsLostBy self.old.caller self.new.caller) }
     {
         let news = exchange(self.alloc, stream, room, &mut self.caller)?;
         self.go_on(news, stream)
@@ -142,9 +151,10 @@ impl Publisher {
         stream: &mut Counted<D>,
     ) -> Result<Progress, ClientFault>
         ensures acknowledged { IfOk result (λ progress.
-            progress ≡ Progress.Done → IsAcknowledged self.new) }
+            progress ≡ Progress.Done → IsAcknowledged D.contents self.new) }
         ensures trace { OnOk result (Trace self.old.caller [] self.new.caller) }
         ensures same { self.new.once ≡ self.old.once }
+        ensures lost { IfErr result (λ fault. fault ≢ ClientFault.Lost) }
     {
         match &self.once {
             None => Ok(kept_on(news, &self.caller)),
@@ -165,8 +175,12 @@ fn publisher_of(
     retain: bool,
     payload: Payload,
 ) -> Result<Publisher, ClientFault>
-    ensures { IfOk result
+    ensures made { IfOk result
         (HasPublication qos id (publication_with retain qos topic payload)) }
+    ensures fits { OnOk result
+        (is_over_limit (first_publish id (publication_with retain qos topic payload)) ≡ false) }
+    ensures err { IfErr result
+        (RefusesPacket (first_publish id (publication_with retain qos topic payload))) }
 {
     match qos {
         QoS::AtMostOnce => unkept(alloc, id, topic, qos, retain, payload),
@@ -184,8 +198,12 @@ fn unkept(
     payload: Payload,
 ) -> Result<Publisher, ClientFault>
     requires { qos ≡ levels.AtMostOnce }
-    ensures { IfOk result
+    ensures made { IfOk result
         (HasPublication qos id (publication_with retain qos topic payload)) }
+    ensures fits { OnOk result
+        (is_over_limit (first_publish id (publication_with retain qos topic payload)) ≡ false) }
+    ensures err { IfErr result
+        (RefusesPacket (first_publish id (publication_with retain qos topic payload))) }
 {
     let publish = unanswered(topic, retain, payload)?;
     let caller = Caller::new(alloc, id);
@@ -206,8 +224,12 @@ fn kept(
     payload: Payload,
 ) -> Result<Publisher, ClientFault>
     requires { is_answered qos ≡ true }
-    ensures { IfOk result
+    ensures made { IfOk result
         (HasPublication qos id (publication_with retain qos topic payload)) }
+    ensures fits { OnOk result
+        (is_over_limit (first_publish id (publication_with retain qos topic payload)) ≡ false) }
+    ensures err { IfErr result
+        (RefusesPacket (first_publish id (publication_with retain qos topic payload))) }
 {
     let mut caller = Caller::new(alloc, id);
     caller.publish(topic, qos, retain, payload)?;
@@ -237,6 +259,9 @@ fn send_once<D: Read + Write>(
     caller: &mut Caller,
 ) -> Result<Progress, ClientFault>
     ensures trace { OnOk result (Trace caller.old [] caller.new) }
+    ensures taken { IfOk result (λ progress.
+        progress ≡ Progress.Done → WasTaken D.contents publish.now) }
+    ensures lost { IfErr result (λ fault. fault ≢ ClientFault.Lost) }
 {
     let topic = publish.topic.clone()?;
     let payload = publish.payload.clone()?;
@@ -246,7 +271,9 @@ fn send_once<D: Read + Write>(
 }
 
 // Returns the progress of a publication at QoS 0 after it was written, or not.
-fn written(is_whole: bool) -> Progress {
+fn written(is_whole: bool) -> Progress
+    ensures { result ≡ Progress.Done → is_whole ≡ true }
+{
     if is_whole {
         Progress::Done
     } else {
@@ -267,12 +294,12 @@ fn after(news: News) -> Progress
 
 // Returns a publication at QoS 0. It is refused if its packet would be too large.
 fn unanswered(topic: TopicName, retain: bool, payload: Payload) -> Result<Publish, ClientFault>
-    ensures { IfOk result (λ publish. publish ≡ record {
-      topic = topic;
-      delivery = deliveries.AtMostOnce;
-      retain = retain;
-      payload = payload;
-    }) }
+    ensures made { IfOk result (λ publish. publish ≡
+        unkept (publication_with retain levels.AtMostOnce topic payload)) }
+    ensures fits { OnOk result (is_over_limit (packets.Publish
+        (unkept (publication_with retain levels.AtMostOnce topic payload))) ≡ false) }
+    ensures err { IfErr result (RefusesPacket (packets.Publish
+        (unkept (publication_with retain levels.AtMostOnce topic payload)))) }
 {
     let publish = Publish {
         topic,

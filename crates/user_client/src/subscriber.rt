@@ -1,11 +1,12 @@
 // Printing what is published.
 
-ghost use Rattle.std.specs.Prelude.{◌≡◌, None, true, [], ◌∷◌, OnOk, IfErr, IfOk};
+ghost use Rattle.std.specs.Prelude.{◌≡◌, ◌≢◌, None, true, [], ◌∷◌, OnOk, IfErr, IfOk};
 ghost use Rattle.std.specs.Io.KnownBytes.{Appends};
 ghost use Rattle.client.specs.packet.ClientId.{client_fault};
 ghost use Rattle.client.specs.topics.Text.{filter_fault};
 ghost use Rattle.user_client.specs.Printing.{line_of};
 ghost use Rattle.user_client.specs.Listening.{Asks, Hears, Shows, begun, new_listening};
+ghost use Rattle.user_client.specs.Losing.{IsGivenUp, IsLostBy};
 ghost use Rattle.user_client.specs.Refusals.{RefusesListener};
 
 use crate::caller::{Caller, News};
@@ -83,6 +84,10 @@ impl Subscriber {
         ensures printed { OnOk result
             (Hears (begun self.old) (W.contents output.old) self.new (W.contents output.new)) }
         ensures all { OnOk result (self.new.left ≡ 0) }
+
+        // `Lost` comes once all `tries` connections were asked for, or the session was lost.
+        ensures lost { IfErr result (IsGivenUp S.opens S.rests tries
+            servers.old servers.new self.old.caller self.new.caller) }
     {
         self.left = self.count;
         for opened in 0..tries {
@@ -105,6 +110,7 @@ impl Subscriber {
         ensures printed { OnOk result
             (Hears self.old (W.contents output.old) self.new (W.contents output.new)) }
         ensures all { IfOk result (λ done. done ≡ true → self.new.left ≡ 0) }
+        ensures lost { IfErr result (IsLostBy self.old.caller self.new.caller) }
     {
         let mut stream = Counted::new(stream);
         let mut room = Vec::from_elem(self.alloc, 0u8, PIECE_BYTES)?;
@@ -131,6 +137,7 @@ impl Subscriber {
     ) -> Result<bool, ClientFault>
         ensures printed { OnOk result
             (Hears self.old (W.contents output.old) self.new (W.contents output.new)) }
+        ensures lost { IfErr result (IsLostBy self.old.caller self.new.caller) }
     {
         let news = exchange(self.alloc, stream, room, &mut self.caller)?;
         self.go_on(news, output)?;
@@ -141,6 +148,7 @@ impl Subscriber {
     fn go_on<W: Write>(&mut self, news: News, output: &mut W) -> Result<(), ClientFault>
         ensures printed { OnOk result
             (Hears self.old (W.contents output.old) self.new (W.contents output.new)) }
+        ensures lost { IfErr result (λ fault. fault ≢ ClientFault.Lost) }
     {
         self.ask(news)?;
         self.print_accepted(output)
@@ -150,6 +158,7 @@ impl Subscriber {
     // subscription may have been lost with the connection before.
     fn ask(&mut self, news: News) -> Result<(), ClientFault>
         ensures asked { OnOk result (Asks self.old self.new) }
+        ensures lost { IfErr result (λ fault. fault ≢ ClientFault.Lost) }
     {
         if !is_to_ask(news, self.left, self.count) {
             return Ok(());
@@ -161,6 +170,7 @@ impl Subscriber {
     fn print_accepted<W: Write>(&mut self, output: &mut W) -> Result<(), ClientFault>
         ensures printed { OnOk result
             (Hears self.old (W.contents output.old) self.new (W.contents output.new)) }
+        ensures lost { IfErr result (λ fault. fault ≢ ClientFault.Lost) }
     {
         let accepted = self.caller.take_accepted();
         self.left = print_all(self.alloc, accepted.as_slice(), self.left, output)?;
@@ -180,8 +190,9 @@ fn print_all<W: Write>(
     left: u32,
     output: &mut W,
 ) -> Result<u32, ClientFault>
-    ensures { IfOk result (λ rest.
+    ensures printed { IfOk result (λ rest.
         Shows accepted.now left rest (W.contents output.old) (W.contents output.new)) }
+    ensures lost { IfErr result (λ fault. fault ≢ ClientFault.Lost) }
 {
     let mut rest = left;
     for one in accepted {
@@ -197,8 +208,9 @@ fn print_next<W: Write>(
     left: u32,
     output: &mut W,
 ) -> Result<u32, ClientFault>
-    ensures { IfOk result (λ rest.
+    ensures printed { IfOk result (λ rest.
         Shows (accepted.now ∷ []) left rest (W.contents output.old) (W.contents output.new)) }
+    ensures lost { IfErr result (λ fault. fault ≢ ClientFault.Lost) }
 {
     if left == 0 {
         return Ok(0);
@@ -209,8 +221,9 @@ fn print_next<W: Write>(
 
 // Prints one line, and flushes it.
 fn print<W: Write>(alloc: Global, accepted: &Accepted, output: &mut W) -> Result<(), ClientFault>
-    ensures { OnOk result
+    ensures printed { OnOk result
         (Appends (W.contents output.old) (W.contents output.new) (line_of accepted.now)) }
+    ensures lost { IfErr result (λ fault. fault ≢ ClientFault.Lost) }
 {
     let mut line = Vec::new(alloc);
     print_line(accepted, &mut line)?;

@@ -1,8 +1,9 @@
 // One connection of a client, from CONNECT to its end.
 
-ghost use Rattle.std.specs.Prelude.{◌≡◌, true, [], OnOk, IfOk};
+ghost use Rattle.std.specs.Prelude.{◌≡◌, true, [], OnOk, IfErr, IfOk};
 ghost use Rattle.std.specs.Io.KnownBytes.{Appends};
 ghost use Rattle.client.specs.client_base.State.{kept_count};
+ghost use Rattle.user_client.specs.Losing.{AsksNext, IsLostBy};
 ghost use Rattle.user_client.specs.Tracing.{Trace};
 
 use crate::caller::{Caller, News};
@@ -13,7 +14,9 @@ use std::alloc::Global;
 use std::io::{Read, Write};
 
 /// Opens the next connection, after a while if one was opened before.
-pub(crate) fn next_stream<S: Servers>(servers: &mut S, opened: u32) -> Option<S::Stream> {
+pub(crate) fn next_stream<S: Servers>(servers: &mut S, opened: u32) -> Option<S::Stream>
+    ensures { AsksNext S.opens S.rests opened servers.old servers.new }
+{
     if opened > 0 {
         servers.rest();
     }
@@ -28,6 +31,7 @@ pub(crate) fn exchange<D: Read + Write>(
     caller: &mut Caller,
 ) -> Result<News, ClientFault>
     ensures trace { OnOk result (Trace caller.old [] caller.new) }
+    ensures lost { IfErr result (IsLostBy caller.old caller.new) }
 {
     if !send(alloc, stream, caller)? {
         return Ok(News::Lost);
@@ -74,6 +78,7 @@ pub(crate) fn send<D: Read + Write>(
     ensures kept { caller.new.core.state ≡ caller.old.core.state }
     ensures written { IfOk result (λ whole. whole ≡ true →
         Appends (D.contents stream.old.device) (D.contents stream.new.device) caller.old.core.out) }
+    ensures err { IfErr result (λ fault. fault ≡ ClientFault.Memory) }
 {
     let mut out = Vec::new(alloc);
     caller.outgoing(&mut out)?;

@@ -1,7 +1,28 @@
+use Rattle.std.proofs.Common.{◌≡◌, sym, subst}
+use Rattle.client.specs.Core.{publication_with}
+use Rattle.user_client.specs.declared.fault.ClientFault.{ClientFault}
+use Rattle.user_client.specs.Refusals.{RefusesPacket, first_publish}
+use Rattle.user_client.proofs.RefusedCalls.{told}
 use Rattle.user_client.proofs.FirstPublication.{has_kept}
+use Rattle.user_client.proofs.RefusedFirst.{fits_first, refuses_first}
 use Rattle.user_client.proofs.publisher.kept.Goals as goal
 
-pub returns : goal.returns
-returns c =
+pub returns-clause-made : goal.returns-clause-made
+returns-clause-made c =
     has_kept c.args.id c.args.retain c.args.qos c.args.topic c.args.payload c.new-caller.result c.publish.new.self c.requires
     c.new-caller.ensures c.in_ok-publish.ensures.asked
+
+pub returns-clause-fits : goal.returns-clause-fits
+returns-clause-fits c =
+    fits_first c.args.id c.args.retain c.args.qos c.args.topic c.args.payload c.new-caller.result c.publish.new.self c.requires
+    c.new-caller.ensures c.in_ok-publish.ensures.asked
+
+pub returns-in_err-publish-clause-err : goal.returns-in_err-publish-clause-err
+returns-in_err-publish-clause-err c =
+    let fault = c.in_err-publish.field-0.0 in
+    let refuses = RefusesPacket
+    (first_publish c.args.id (publication_with c.args.retain c.args.qos c.args.topic c.args.payload)) in
+    told c.from_residual.result (λ (it : ClientFault). it ≡ fault) refuses c.from_residual.ensures.1
+    (λ (it : ClientFault) is. subst refuses (sym is)
+    (refuses_first c.args.id c.args.retain c.args.qos c.args.topic c.args.payload c.new-caller.result fault c.requires
+    c.new-caller.ensures c.in_err-publish.ensures.refused))

@@ -1,6 +1,10 @@
 use Rattle.std.proofs.Common.{[]}
+use Rattle.user_client.proofs.LossFollows.{lost_later}
 use Rattle.user_client.proofs.TracesJoin.{traces_follow_ok}
 use Rattle.user_client.proofs.visiting.exchange.Goals as goal
 
 pub returns-in-Some : goal.returns-in-Some
-returns-in-Some g c = record { trace = traces_follow_ok c.take_in.new.self [] c.take_in.result c.send.ensures.trace c.take_in.ensures.trace }
+returns-in-Some g c = record {
+  trace = traces_follow_ok c.take_in.new.self [] c.take_in.result c.send.ensures.trace c.take_in.ensures.trace;
+  lost = lost_later c.take_in.new.self c.take_in.result c.send.ensures.trace c.take_in.ensures.lost;
+}

@@ -1,17 +1,29 @@
 use Rattle.std.proofs.Common.{◌≡◌, Bool, ◌||◌, sym, ap, ◌∙◌}
 use Rattle.client.specs.client_base.State.{is_online}
-use Rattle.user_client.proofs.CallsAreSteps.{heard}
+use Rattle.user_client.specs.Losing.{IsLostBy}
+use Rattle.user_client.specs.declared.fault.ClientFault.{ClientFault}
+use Rattle.user_client.specs.declared.fault.ClientFault.TheVariants as faults
+use Rattle.user_client.proofs.CallsAreSteps.{heard, parts}
+use Rattle.user_client.proofs.LossFollows.{lost_here}
+use Rattle.user_client.proofs.RefusedCalls.{told}
 use Rattle.user_client.proofs.caller.Caller.take_in.Goals as goal
 use Rattle.user_client.proofs.caller.Caller.take_in.Goals.{then-self, else-self}
 
-pub returns : goal.returns
-returns c =
+pub returns-clause-trace : goal.returns-clause-trace
+returns-clause-trace c =
     let online = is_online c.on_bytes.new.self.state.stage in
     let now : c.if-self.self ≡ (c.self.inside.was_accepted || online) = elim c.if-self.branch [
       | then-self w ↦ w.self-is ∙ w.if-self.true ∙ sym (ap (λ (was : Bool). was || online) w.if-self.true)
       | else-self w ↦ w.self-is ∙ c.connected-is_connected.ensures ∙ sym (ap (λ (was : Bool). was || online) w.if-self.false)
     ] in
-    record {
-      trace = heard c.self.inside.core c.self.inside.was_accepted c.if-self.self c.args.piece.now c.on_bytes.result
-          c.on_bytes.new.self c.self.view_is c.on_bytes.ensures c.in_ok-goes_on.ensures c.in_ok-is_first.ensures now;
-    }
+    heard c.self.inside.core c.self.inside.was_accepted c.if-self.self c.args.piece.now c.on_bytes.result c.on_bytes.new.self
+    c.self.view_is c.on_bytes.ensures c.in_ok-goes_on.ensures.ok c.in_ok-is_first.ensures.ok now
+
+pub returns-in_err-goes_on-clause-lost : goal.returns-in_err-goes_on-clause-lost
+returns-in_err-goes_on-clause-lost c =
+    let fault = c.in_err-goes_on.field-0.0 in
+    told c.from_residual.result (λ (it : ClientFault). it ≡ fault)
+    (IsLostBy c.args.self.now (parts c.on_bytes.new.self c.self.inside.was_accepted)) c.from_residual.ensures.1
+    (λ (it : ClientFault) is. λ (lost : it ≡ faults.Lost). lost_here c.self.inside.core c.self.inside.was_accepted
+    c.args.piece.now c.on_bytes.result c.on_bytes.new.self c.self.view_is c.on_bytes.ensures
+    (c.in_err-goes_on.ensures.lost (sym is ∙ lost)))

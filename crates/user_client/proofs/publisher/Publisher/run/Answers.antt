@@ -1,16 +1,38 @@
-use Rattle.std.proofs.Common.{refl, ◌∙◌}
+use Rattle.std.proofs.Common.{◌≡◌, ℕ, arith, inl, refl, subst, ◌∙◌}
+use Rattle.user_client.specs.Losing.{Asks}
 use Rattle.user_client.specs.Tracing.{Trace}
+use Rattle.user_client.proofs.LossFollows.{gives_up_later}
 use Rattle.user_client.proofs.TracesJoin.{traces_follow}
 use Rattle.user_client.proofs.publisher.Publisher.run.Goals as goal
 
 pub loop-opened-init : goal.loop-opened-init
-loop-opened-init g c = (Trace.starts, refl)
+loop-opened-init g c = (Trace.starts, refl, Asks.none)
 
 pub returns-then-branch-clause-trace : goal.returns-then-branch-clause-trace
 returns-then-branch-clause-trace g c = traces_follow c.loop-opened.invariant.0 c.in_ok-visit.ensures.trace
+
+pub returns-in_err-visit-clause-lost : goal.returns-in_err-visit-clause-lost
+returns-in_err-visit-clause-lost g c =
+    gives_up_later g.S.Servers.opens g.S.Servers.rests c.args.tries c.args.servers.now c.next_stream.new.servers
+    c.visit.new.self.caller c.from_residual.result c.in_err-visit.field-0.0 c.from_residual.ensures.1
+    c.loop-opened.invariant.0 c.in_err-visit.ensures.lost
+
+pub returns-clause-lost : goal.returns-clause-lost
+returns-clause-lost g c =
+    let all : c.loop-opened.opened ≡ c.args.tries = omega (arith, c.loop-opened.auto.opened-end, c.loop-opened-test.false) in
+    λ _. inl (subst (λ (n : ℕ). Asks g.S.Servers.opens g.S.Servers.rests c.args.servers.now n c.loop-opened.servers) all
+    c.loop-opened.invariant.2)
 
 pub loop-opened-preserved : goal.loop-opened-preserved
 loop-opened-preserved g c = (
   traces_follow c.loop-opened.invariant.0 c.in_ok-visit.ensures.trace,
   c.in_ok-visit.ensures.same ∙ c.loop-opened.invariant.1,
+  Asks.more c.next_stream.new.servers c.loop-opened.invariant.2 c.next_stream.ensures,
+)
+
+pub loop-opened-preserved-in_default : goal.loop-opened-preserved-in_default
+loop-opened-preserved-in_default g c = (
+  c.loop-opened.invariant.0,
+  c.loop-opened.invariant.1,
+  Asks.more c.next_stream.new.servers c.loop-opened.invariant.2 c.next_stream.ensures,
 )

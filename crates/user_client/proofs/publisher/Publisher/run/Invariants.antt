@@ -1,6 +1,10 @@
 use Rattle.std.proofs.Common.{◌≡◌, []}
+use Rattle.user_client.specs.Losing.{Asks}
 use Rattle.user_client.specs.Tracing.{Trace}
 use Rattle.user_client.proofs.publisher.Publisher.run.Given as goal
 
 abbrev pub invariant-loop-opened : goal.invariant-loop-opened
-invariant-loop-opened g l = Trace l.fn.self.caller [] l.self.caller × (l.self.once ≡ l.fn.self.once)
+invariant-loop-opened g l =
+    Trace l.fn.self.caller [] l.self.caller
+    × (l.self.once ≡ l.fn.self.once)
+    × Asks g.S.Servers.opens g.S.Servers.rests l.fn.servers l.opened l.servers

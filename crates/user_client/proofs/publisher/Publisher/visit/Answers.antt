@@ -1,5 +1,6 @@
 use Rattle.std.proofs.Common.{◌∙◌}
 use Rattle.user_client.proofs.TracesJoin.{traces_follow}
+use Rattle.user_client.proofs.LossFollows.{passed_later}
 use Rattle.user_client.proofs.Acknowledged.{stays_acknowledged, left_trace}
 use Rattle.user_client.proofs.publisher.Publisher.visit.Goals as goal
 
@@ -8,7 +9,7 @@ returns-in-Lost-clause-trace g c = traces_follow c.loop.invariant.0 c.in_ok-turn
 
 pub returns-in-Done-clause-acknowledged : goal.returns-in-Done-clause-acknowledged
 returns-in-Done-clause-acknowledged g c =
-    λ _. stays_acknowledged c.self-in-loop.inside.caller c.disconnect.new.caller c.self-in-loop.inside.once c.self-in-loop.view_is
+    λ _. stays_acknowledged g.D.Write.contents c.self-in-loop.inside.caller c.disconnect.new.caller c.self-in-loop.inside.once c.self-in-loop.view_is
     c.disconnect.ensures.kept (c.in_ok-turn.ensures.acknowledged c.in-Done.is)
 
 pub returns-in-Done-clause-trace : goal.returns-in-Done-clause-trace
@@ -19,3 +20,8 @@ returns-in-Done-clause-trace g c =
 pub loop-preserved : goal.loop-preserved
 loop-preserved g c =
     (traces_follow c.loop.invariant.0 c.in_ok-turn.ensures.trace, c.in_ok-turn.ensures.same ∙ c.loop.invariant.1)
+
+pub returns-in_err-turn-clause-lost : goal.returns-in_err-turn-clause-lost
+returns-in_err-turn-clause-lost g c =
+    passed_later c.turn.new.self.caller c.from_residual-in_err-turn.result c.in_err-turn.field-0.0
+    c.from_residual-in_err-turn.ensures.1 c.loop.invariant.0 c.in_err-turn.ensures.lost

@@ -2,5 +2,5 @@ use Rattle.std.proofs.Common.{refl}
 use Rattle.user_client.specs.Tracing.{Trace}
 use Rattle.user_client.proofs.subscriber.Subscriber.ask.Goals as goal
 
-pub returns-then-not-is_to_ask : goal.returns-then-not-is_to_ask
-returns-then-not-is_to_ask c = record { asked = (Trace.starts, refl, refl) }
+pub returns-then-not-is_to_ask-clause-asked : goal.returns-then-not-is_to_ask-clause-asked
+returns-then-not-is_to_ask-clause-asked c = (Trace.starts, refl, refl)

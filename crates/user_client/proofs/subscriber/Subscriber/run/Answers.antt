@@ -1,5 +1,7 @@
-use Rattle.std.proofs.Common.{subst}
+use Rattle.std.proofs.Common.{◌≡◌, ℕ, arith, inl, subst}
 use Rattle.user_client.specs.Listening.{Listening, Hears, begun}
+use Rattle.user_client.specs.Losing.{Asks}
+use Rattle.user_client.proofs.LossFollows.{gives_up_later}
 use Rattle.user_client.proofs.PrintsJoin.{made_of, hears_join, hears_none}
 use Rattle.user_client.proofs.subscriber.Subscriber.run.Goals as goal
 
@@ -7,16 +9,39 @@ pub loop-opened-init : goal.loop-opened-init
 loop-opened-init g c =
     let first = made_of c.self.inside.caller c.self.inside.count c.self.inside.count in
     let out = g.W.Write.contents c.args.output.now in
-    subst (λ (s : Listening). Hears (begun s) out first out) c.self.view_is (hears_none first out)
+    record {
+      hears = subst (λ (s : Listening). Hears (begun s) out first out) c.self.view_is (hears_none first out);
+      asks = Asks.none;
+    }
 
 pub returns-then-branch-clause-printed : goal.returns-then-branch-clause-printed
 returns-then-branch-clause-printed g c =
     hears_join (g.W.Write.contents c.args.output.now) (g.W.Write.contents c.loop-opened.output)
     (g.W.Write.contents c.visit.new.output) (begun c.args.self.now) c.loop-opened.self c.visit.new.self
-    c.loop-opened.invariant c.in_ok-visit.ensures.printed
+    c.loop-opened.invariant.hears c.in_ok-visit.ensures.printed
+
+pub returns-in_err-visit-clause-lost : goal.returns-in_err-visit-clause-lost
+returns-in_err-visit-clause-lost g c =
+    gives_up_later g.S.Servers.opens g.S.Servers.rests c.args.tries c.args.servers.now c.next_stream.new.servers
+    c.visit.new.self.caller c.from_residual.result c.in_err-visit.field-0.0 c.from_residual.ensures.1
+    c.loop-opened.invariant.hears.1 c.in_err-visit.ensures.lost
+
+pub returns-clause-lost : goal.returns-clause-lost
+returns-clause-lost g c =
+    let all : c.loop-opened.opened ≡ c.args.tries = omega (arith, c.loop-opened.auto.opened-end, c.loop-opened-test.false) in
+    λ _. inl (subst (λ (n : ℕ). Asks g.S.Servers.opens g.S.Servers.rests c.args.servers.now n c.loop-opened.servers) all
+    c.loop-opened.invariant.asks)
 
 pub loop-opened-preserved : goal.loop-opened-preserved
-loop-opened-preserved g c =
-    hears_join (g.W.Write.contents c.args.output.now) (g.W.Write.contents c.loop-opened.output)
-    (g.W.Write.contents c.visit.new.output) (begun c.args.self.now) c.loop-opened.self c.visit.new.self
-    c.loop-opened.invariant c.in_ok-visit.ensures.printed
+loop-opened-preserved g c = record {
+  hears = hears_join (g.W.Write.contents c.args.output.now) (g.W.Write.contents c.loop-opened.output)
+      (g.W.Write.contents c.visit.new.output) (begun c.args.self.now) c.loop-opened.self c.visit.new.self
+      c.loop-opened.invariant.hears c.in_ok-visit.ensures.printed;
+  asks = Asks.more c.next_stream.new.servers c.loop-opened.invariant.asks c.next_stream.ensures;
+}
+
+pub loop-opened-preserved-in_default : goal.loop-opened-preserved-in_default
+loop-opened-preserved-in_default g c = record {
+  hears = c.loop-opened.invariant.hears;
+  asks = Asks.more c.next_stream.new.servers c.loop-opened.invariant.asks c.next_stream.ensures;
+}

@@ -1,10 +1,9 @@
 use Rattle.user_client.proofs.PrintsJoin.{made_of, asks_made, asks_hears}
 use Rattle.user_client.proofs.subscriber.Subscriber.turn.Goals as goal
 
-pub returns : goal.returns
-returns g c = record {
-  printed = asks_hears (g.W.Write.contents c.args.output.now) (g.W.Write.contents c.go_on.new.output) c.args.self.now
-      (made_of c.exchange.new.caller c.self.inside.count c.self.inside.left) c.go_on.new.self
-      (asks_made c.self.inside.caller c.exchange.new.caller c.self.inside.count c.self.inside.left c.self.view_is
-      c.in_ok-news.ensures.trace) c.in_ok-go_on.ensures.printed;
-}
+pub returns-clause-printed : goal.returns-clause-printed
+returns-clause-printed g c =
+    asks_hears (g.W.Write.contents c.args.output.now) (g.W.Write.contents c.go_on.new.output) c.args.self.now
+    (made_of c.exchange.new.caller c.self.inside.count c.self.inside.left) c.go_on.new.self
+    (asks_made c.self.inside.caller c.exchange.new.caller c.self.inside.count c.self.inside.left c.self.view_is
+    c.in_ok-news.ensures.trace) c.in_ok-go_on.ensures.printed

@@ -1,3 +1,4 @@
+use Rattle.user_client.proofs.LossFollows.{passed_later}
 use Rattle.user_client.proofs.PrintsJoin.{made_of, asks_made, asks_hears, hears_asks, hears_join, hears_none}
 use Rattle.user_client.proofs.subscriber.Subscriber.visit.Goals as goal
 
@@ -31,3 +32,8 @@ loop-preserved g c =
     hears_join (g.W.Write.contents c.args.output.now) (g.W.Write.contents c.loop.output)
     (g.W.Write.contents c.turn.new.output) c.args.self.now c.loop.self c.turn.new.self c.loop.invariant
     c.in_ok-is_lost.ensures.printed
+
+pub returns-in_err-is_lost-clause-lost : goal.returns-in_err-is_lost-clause-lost
+returns-in_err-is_lost-clause-lost g c =
+    passed_later c.turn.new.self.caller c.from_residual-in_err-is_lost.result c.in_err-is_lost.field-0.0
+    c.from_residual-in_err-is_lost.ensures.1 c.loop.invariant.1 c.in_err-is_lost.ensures.lost

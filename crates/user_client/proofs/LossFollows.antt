@@ -1,0 +1,87 @@
+-- LossFollows.antt: a session that was lost after some steps was lost after those before them too.
+use Rattle.std.proofs.Common.{◌≡◌, ◌≢◌, ℕ, ◌+◌, Bool, List, [], ◌++◌, Option, Some, None, is_some, refl, sym, ap, subst, ◌∙◌, inl, inr, true}
+use Rattle.std.specs.Prelude.{Result, Ok, Err, IfErr, IsErrAnd}
+use Rattle.std.proofs.lemmas.Bool.{both_ways}
+use Rattle.client.specs.client_base.declared.accepted.Accepted.{Accepted}
+use Rattle.client.specs.client_base.declared.error.ClientError.{ClientError}
+use Rattle.client.specs.client_base.declared.error.ClientError.TheVariants as errors
+use Rattle.client.specs.Core.{Core}
+use Rattle.client.specs.Reading.{OnBytes}
+use Rattle.user_client.specs.declared.fault.ClientFault.{ClientFault}
+use Rattle.user_client.specs.declared.fault.ClientFault.TheVariants as faults
+use Rattle.user_client.specs.Losing.{IsGivenUp, IsLostBy, LosesSession}
+use Rattle.user_client.specs.Refusals.{IsRefusedFor, fault_of_call}
+use Rattle.user_client.specs.Tracing.{Called, Trace}
+use Rattle.user_client.proofs.CallsAreSteps.{parts}
+use Rattle.user_client.proofs.TracesJoin.{traces_join}
+
+-- the server lost it just now
+pub lost_here : (core : Core) (was : Bool) {seen : Called} (piece : List ℕ) (result : Result (Unit {0}) ClientError) (new : Core)
+    → parts core was ≡ seen → OnBytes piece core.state.stage core result new → result ≡ Err errors.SessionLost
+    → LosesSession seen (parts new was)
+lost_here core was piece result new is reads lost =
+    subst (λ (s : Called). LosesSession s (parts new was)) is
+    (record {
+      taken = [];
+      before = parts core was;
+      trace = Trace.starts;
+      piece = piece;
+      lost = subst (λ (r : Result (Unit {0}) ClientError). OnBytes piece core.state.stage core r new) lost reads;
+    })
+
+-- steps before it
+pub loses_later : {start middle end : Called} {taken : List Accepted}
+    → Trace start taken middle → LosesSession middle end → LosesSession start end
+loses_later {taken = taken} trace loses =
+    record {
+      taken = taken ++ loses.taken;
+      before = loses.before;
+      trace = traces_join trace loses.trace;
+      piece = loses.piece;
+      lost = loses.lost;
+    }
+
+-- the same of a result
+pub lost_later : {T : Type 0} {start middle : Called} {taken : List Accepted} (end : Called) (r : Result T ClientFault)
+    → Trace start taken middle → IfErr r (IsLostBy middle end) → IfErr r (IsLostBy start end)
+lost_later end (Ok x) trace loses = tt
+lost_later end (Err e) trace loses = λ lost. loses_later trace (loses lost)
+
+-- the same of an error that is passed on
+pub passed_later : {T : Type 0} {start middle : Called} {taken : List Accepted} (end : Called) (r : Result T ClientFault)
+    (fault : ClientFault) → IsErrAnd r (λ (it : ClientFault). it ≡ fault)
+    → Trace start taken middle → IsLostBy middle end fault → IfErr r (IsLostBy start end)
+passed_later end (Ok x) fault is trace loses = tt
+passed_later end (Err e) fault is trace loses = λ lost. loses_later trace (loses (sym is ∙ lost))
+
+-- the same of the end of all connections
+pub gives_up_later : {S T : Type 0} (opens rests : S → S → Type 0) (tries : ℕ) (first last : S) {start middle : Called}
+    {taken : List Accepted} (end : Called) (r : Result T ClientFault) (fault : ClientFault)
+    → IsErrAnd r (λ (it : ClientFault). it ≡ fault) → Trace start taken middle → IsLostBy middle end fault
+    → IfErr r (IsGivenUp opens rests tries first last start end)
+gives_up_later opens rests tries first last end (Ok x) fault is trace loses = tt
+gives_up_later opens rests tries first last end (Err e) fault is trace loses = λ lost. inr (loses_later trace (loses (sym is ∙ lost)))
+
+-- an error that is another one
+pub never_lost : {T : Type 0} (start end : Called) (r : Result T ClientFault)
+    → IfErr r (λ (it : ClientFault). it ≢ faults.Lost) → IfErr r (IsLostBy start end)
+never_lost start end (Ok x) other = tt
+never_lost start end (Err e) other = λ lost. absurd (other lost)
+
+-- a call that is refused is not lost
+call_not_lost : (cause : ClientError) → fault_of_call cause ≢ faults.Lost
+call_not_lost errors.Memory = λ is. absurd cc
+call_not_lost (errors.Malformed kind) = λ is. absurd cc
+call_not_lost errors.Protocol = λ is. absurd cc
+call_not_lost errors.NotActive = λ is. absurd cc
+call_not_lost errors.TooLarge = λ is. absurd cc
+call_not_lost errors.WindowFull = λ is. absurd cc
+call_not_lost errors.SessionLost = λ is. absurd cc
+
+pub cause_not_lost : (cause : ClientError) (it : ClientFault) → it ≡ fault_of_call cause → it ≢ faults.Lost
+cause_not_lost cause it is lost = call_not_lost cause (sym is ∙ lost)
+
+pub refused_not_lost : (cause : Option ClientError) (it : ClientFault) → IsRefusedFor cause it → it ≢ faults.Lost
+refused_not_lost cause it (inr memory) = λ lost. absurd cc
+refused_not_lost None it (inl is) = λ lost. absurd (both_ways true (ap is_some (sym is)) refl)
+refused_not_lost (Some cause) it (inl is) = λ lost. call_not_lost cause cc

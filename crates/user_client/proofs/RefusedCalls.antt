@@ -1,0 +1,61 @@
+-- RefusedCalls.antt: a call that is refused has changed nothing, and its fault says why.
+use Rattle.std.proofs.Common.{◌≡◌, Bool, Some, sym, ap, subst, ◌∙◌, inl, inr}
+use Rattle.std.specs.Prelude.{Result, Ok, Err, IfErr, IsErrAnd, OnErr, option_map}
+use Rattle.client.specs.client_base.declared.error.ClientError.{ClientError}
+use Rattle.client.specs.client_base.declared.error.ClientError.TheVariants as errors
+use Rattle.client.specs.client_base.Answered.{Turn}
+use Rattle.client.specs.client_base.Steps.{Call, keeper_step}
+use Rattle.client.specs.Core.{Core, Does}
+use Rattle.user_client.specs.declared.fault.ClientFault.{ClientFault}
+use Rattle.user_client.specs.Refusals.{IsRefusedFor, fault_of_call}
+use Rattle.user_client.specs.Tracing.{Called}
+use Rattle.user_client.proofs.CallsAreSteps.{parts}
+
+-- the fault of the step's own cause
+caused : (turn : Turn) (cause : ClientError) (it : ClientFault) → it ≡ fault_of_call cause
+    → turn.refusal ≡ Some cause → IsRefusedFor turn.refusal it
+caused turn cause it is refused = inl (ap (option_map fault_of_call) refused ∙ ap Some (sym is))
+
+-- the fault says why
+refused_for : (turn : Turn) (old new : Core) (cause : ClientError) (it : ClientFault) → it ≡ fault_of_call cause
+    → Does turn old (Err cause) new → IsRefusedFor turn.refusal it
+refused_for turn old new errors.Memory it is same = inr is
+refused_for turn old new (errors.Malformed kind) it is refused = caused turn (errors.Malformed kind) it is refused.0
+refused_for turn old new errors.Protocol it is refused = caused turn errors.Protocol it is refused.0
+refused_for turn old new errors.NotActive it is refused = caused turn errors.NotActive it is refused.0
+refused_for turn old new errors.TooLarge it is refused = caused turn errors.TooLarge it is refused.0
+refused_for turn old new errors.WindowFull it is refused = caused turn errors.WindowFull it is refused.0
+refused_for turn old new errors.SessionLost it is refused = caused turn errors.SessionLost it is refused.0
+
+-- nothing changed
+unchanged : (turn : Turn) (old new : Core) (cause : ClientError) → Does turn old (Err cause) new → new ≡ old
+unchanged turn old new errors.Memory same = same
+unchanged turn old new (errors.Malformed kind) refused = refused.1
+unchanged turn old new errors.Protocol refused = refused.1
+unchanged turn old new errors.NotActive refused = refused.1
+unchanged turn old new errors.TooLarge refused = refused.1
+unchanged turn old new errors.WindowFull refused = refused.1
+unchanged turn old new errors.SessionLost refused = refused.1
+
+-- the same of a client that is seen as this one
+pub refused_seen : (call : Call) (core : Core) (was : Bool) {seen : Called} (new : Core) (cause : ClientError) (it : ClientFault)
+    → parts core was ≡ seen → it ≡ fault_of_call cause → Does (keeper_step call core.state) core (Err cause) new
+    → IsRefusedFor (keeper_step call seen.core.state).refusal it
+refused_seen call core was new cause it seen_so is does =
+    subst (λ (s : Called). IsRefusedFor (keeper_step call s.core.state).refusal it) seen_so
+    (refused_for (keeper_step call core.state) core new cause it is does)
+
+pub unchanged_seen : (call : Call) (core : Core) (was : Bool) {seen : Called} (new : Core) (cause : ClientError)
+    → parts core was ≡ seen → Does (keeper_step call core.state) core (Err cause) new → parts new was ≡ seen
+unchanged_seen call core was new cause seen_so does =
+    ap (λ (c : Core). parts c was) (unchanged (keeper_step call core.state) core new cause does) ∙ seen_so
+
+-- what follows for an error that is known to be so
+pub told : {T E : Type 0} (r : Result T E) (Q P : E → Type 0) → IsErrAnd r Q → ((e : E) → Q e → P e) → IfErr r P
+told (Ok x) Q P fails so = tt
+told (Err e) Q P fails so = so e fails
+
+-- what holds whatever the result is
+pub in_any_case : {T E : Type 0} (r : Result T E) {P : Type 0} → P → OnErr r P
+in_any_case (Ok x) it = tt
+in_any_case (Err e) it = it

@@ -1,0 +1,38 @@
+-- When a client ends as lost: it asked for all its connections, or the server lost its session.
+use Rattle.std.specs.Prelude.{◌≡◌, ℕ, ◌+◌, ◌⊎◌, List, Err, suc, zero}
+use Rattle.client.specs.client_base.declared.accepted.Accepted.{Accepted}
+use Rattle.client.specs.client_base.declared.error.ClientError.TheVariants as errors
+use Rattle.client.specs.Reading.{OnBytes}
+use Rattle.user_client.specs.declared.fault.ClientFault.{ClientFault}
+use Rattle.user_client.specs.declared.fault.ClientFault.TheVariants as faults
+use Rattle.user_client.specs.Tracing.{Called, Trace}
+
+-- one more connection is asked for, after a rest if this is not the first
+abbrev pub AsksNext : {S : Type 0} → (S → S → Type 0) → (S → S → Type 0) → ℕ → S → S → Type 0
+AsksNext opens rests zero old new = opens old new
+AsksNext {S} opens rests (suc asked) old new = (rested : S) × rests old rested × opens rested new
+
+-- so many connections were asked for, one after another
+pub data Asks {S : Type 0} (opens rests : S → S → Type 0) (start : S) : ℕ → S → Type 0 where
+  none : Asks opens rests start 0 start
+  more : {asked : ℕ} {old : S} (new : S) → Asks opens rests start asked old
+      → AsksNext opens rests asked old new → Asks opens rests start (asked + 1) new
+
+-- after some steps the server answered a CONNECT with a CONNACK that shows that it lost the session
+pub record LosesSession (start end : Called) : Type 0 where
+  pub taken : List Accepted
+  pub before : Called
+  pub trace : Trace start taken before
+  pub piece : List ℕ
+  pub lost : OnBytes piece before.core.state.stage before.core (Err errors.SessionLost) end.core
+
+-- on one connection a client ends as lost only if the server lost the session
+abbrev pub IsLostBy : Called → Called → ClientFault → Type 0
+IsLostBy start end fault = fault ≡ faults.Lost → LosesSession start end
+
+-- over all connections it ends as lost also once it has asked for each of them
+abbrev pub IsGivenUp :
+    {S : Type 0} → (S → S → Type 0) → (S → S → Type 0)
+    → ℕ → S → S → Called → Called → ClientFault → Type 0
+IsGivenUp opens rests tries first last start end fault =
+    fault ≡ faults.Lost → Asks opens rests first tries last ⊎ LosesSession start end
