@@ -56,7 +56,7 @@ fn activates_all(master: &mut Master, rows: &[(u64, (bool, u64))]) -> bool {
 }
 
 // Finds the first step that goes otherwise: ballots 2 and 3 are given, and ballot 2 is superseded.
-fn puts_out(master: &mut Master, alloc: Global) -> Option<usize> {
+fn supersedes(master: &mut Master, alloc: Global) -> Option<usize> {
     first_false(&[
         is_given(master, alloc, &[1, 2], 1, 2),
         is_given(master, alloc, &[2], 2, 3),
@@ -68,7 +68,7 @@ fn puts_out(master: &mut Master, alloc: Global) -> Option<usize> {
 // What a master is to do.
 #[derive(Clone, Copy)]
 enum Task {
-    PutsOut,
+    Supersedes,
     RefusesAll,
 }
 
@@ -83,15 +83,15 @@ fn first_fault(alloc: Global, task: Task) -> Option<usize> {
 // Finds it for one that is open.
 fn fault_of(master: &mut Master, alloc: Global, task: Task) -> Option<usize> {
     match task {
-        Task::PutsOut => puts_out(master, alloc),
+        Task::Supersedes => supersedes(master, alloc),
         Task::RefusesAll => refuses_bad_members(master, alloc),
     }
 }
 
 // Ballots are given, superseded and activated.
 #[test]
-fn a_ballot_put_out_never_comes_back(rt: HostRuntime) {
-    assert_eq!(rt; first_fault(rt.alloc(), Task::PutsOut), None);
+fn a_superseded_ballot_never_comes_back(rt: HostRuntime) {
+    assert_eq!(rt; first_fault(rt.alloc(), Task::Supersedes), None);
 }
 
 const BAD: &[(&[u8], u8)] = &[(&[2, 1], 1), (&[], 1), (&[1], 2), (&[1, 16], 1)];

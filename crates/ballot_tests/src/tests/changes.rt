@@ -56,7 +56,7 @@ fn configuration_changes(rt: HostRuntime) {
 }
 
 /// Finds the first step that goes otherwise: node 2 is a backup after Superseded, and stays one.
-pub fn is_put_out(pair: &mut Pair, alloc: Global) -> Option<usize> {
+pub fn is_superseded(pair: &mut Pair, alloc: Global) -> Option<usize> {
     first_false(&[
         went_over(pair, alloc),
         master_says(pair, Body::Superseded(2)),
@@ -68,9 +68,9 @@ pub fn is_put_out(pair: &mut Pair, alloc: Global) -> Option<usize> {
 
 // A ballot that was superseded leaves its primary a backup, and does not begin any more.
 #[test]
-fn ballot_is_put_out(rt: HostRuntime) {
+fn ballot_is_superseded(rt: HostRuntime) {
     assert_eq!(rt;
-        first_fault_of_two(rt.alloc(), &[1], Change::IsPutOut),
+        first_fault_of_two(rt.alloc(), &[1], Change::IsSuperseded),
         None
     );
 }

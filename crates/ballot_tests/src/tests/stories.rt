@@ -72,7 +72,7 @@ pub fn first_fault(
 pub enum Change {
     GoesOver,
     Begins,
-    IsPutOut,
+    IsSuperseded,
     IsReplaced,
     AsksAgain,
     SnapshotGoesOver,
@@ -83,7 +83,7 @@ fn fault_of_two(alloc: Global, pair: &mut Pair, change: Change) -> Option<usize>
     match change {
         Change::GoesOver => changes::goes_over(pair, alloc),
         Change::Begins => changes::begins(pair, alloc),
-        Change::IsPutOut => changes::is_put_out(pair, alloc),
+        Change::IsSuperseded => changes::is_superseded(pair, alloc),
         Change::IsReplaced => changes::is_replaced(pair, alloc),
         Change::AsksAgain => changes::asks_twice(pair, alloc),
         Change::SnapshotGoesOver => cutting::snapshot_goes_over(pair, alloc),

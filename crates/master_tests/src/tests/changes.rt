@@ -46,7 +46,7 @@ const WAITING: &[Row] = &[
     (4, 6, 0, 0),
 ];
 
-const PUT_OUT: &[Row] = &[
+const SUPERSEDED: &[Row] = &[
     (5, 8, 0, 0),
     (7, 8, 0, 0),
     (6, 9, 0, 0),
@@ -72,12 +72,12 @@ fn is_refused(group: &Group<Tally>) -> bool {
 
 /// Finds the first step that goes otherwise: the ballot of members 1 and 2 is superseded by that of
 /// member 3, and messages come as these rows say.
-pub fn is_put_out(group: &mut Group<Tally>, alloc: Global) -> Option<usize> {
+pub fn is_superseded(group: &mut Group<Tally>, alloc: Global) -> Option<usize> {
     first_false(&[
         gives_to(group, alloc, &[1, 2], 2),
         come(group, WAITING),
         gives_to(group, alloc, &[3], 3),
-        come(group, PUT_OUT),
+        come(group, SUPERSEDED),
         is_refused(group),
         is_active(group, 3),
         agrees(group, &[TallyCommand::Start(3)]),
@@ -87,8 +87,8 @@ pub fn is_put_out(group: &mut Group<Tally>, alloc: Global) -> Option<usize> {
 // The counts of a ballot that is superseded while it waits: message 5 is Activate(2), and message 7
 // Superseded(2).
 #[test]
-fn a_ballot_is_put_out(rt: HostRuntime) {
-    assert_eq!(rt; first_fault(rt.alloc(), 3, &[1], Story::IsPutOut), None);
+fn a_ballot_is_superseded(rt: HostRuntime) {
+    assert_eq!(rt; first_fault(rt.alloc(), 3, &[1], Story::IsSuperseded), None);
 }
 
 // Says whether a node takes a number to add. All messages come.

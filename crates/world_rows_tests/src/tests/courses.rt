@@ -2,9 +2,9 @@
 
 use crate::tests::crashes::CRASHED;
 use crate::tests::expelled::EXPELLED;
-use crate::tests::put_out::PUT_OUT;
 use crate::tests::row::{Action, Row, is_right, opened};
 use crate::tests::stale::STALE;
+use crate::tests::superseded::SUPERSEDED;
 use crate::tests::travelling::TRAVELLED;
 use std::alloc::Global;
 use world::World;
@@ -147,10 +147,10 @@ pub const COURSES: &[Course] = &[
         ],
     },
     Course {
-        name: "put out",
+        name: "superseded",
         nodes: 3,
         members: &[1],
-        rows: PUT_OUT,
+        rows: SUPERSEDED,
         kept: &[Kept {
             client: "a",
             from: 24,

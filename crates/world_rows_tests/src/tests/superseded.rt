@@ -10,10 +10,10 @@ const ACCEPTED: &[u8] = b"\x20\x02\x00\x00";
 
 const AFTER: &[Said] = &[Said::Start(3), Said::Connect("a")];
 
-/// The events of the script `ballot_is_put_out` of the folder `examples`. The primary of ballot 2
-/// asks for its activation by message 5, and is refused by message 7, since ballot 3 was given
+/// The events of the script `ballot_is_superseded` of the folder `examples`. The primary of ballot
+/// 2 asks for its activation by message 5, and is refused by message 7, since ballot 3 was given
 /// meanwhile. A client finds only that of ballot 3. In `Does`: messages sent, commands agreed.
-pub const PUT_OUT: &[Row] = &[
+pub const SUPERSEDED: &[Row] = &[
     Row::Does(Action::Assign(&[1, 2], 2), 1, 0),
     Row::Does(Action::Deliver(0), 2, 0),
     Row::Does(Action::Deliver(1), 3, 0),
@@ -48,13 +48,13 @@ pub const PUT_OUT: &[Row] = &[
 ];
 
 const TABLES: &[Table] = &[Table {
-    name: "put out",
+    name: "superseded",
     nodes: 3,
     members: &[1],
-    rows: PUT_OUT,
+    rows: SUPERSEDED,
 }];
 
 #[test]
-fn a_ballot_is_put_out(rt: HostRuntime) {
+fn a_ballot_is_superseded(rt: HostRuntime) {
     assert_eq!(rt; fault_in(rt.alloc(), TABLES), None);
 }
