@@ -72,6 +72,7 @@ impl Waiting {
             (self.new ≡ record self.old { threads = min (self.old.threads + 1) (2 ^ 32 - 1) }) }
         ensures witness { IfErr result (λ closed. closed ≡ number) }
         ensures seen { OnErr result (self.old.closed ≡ true) }
+        ensures same { OnErr result (self.new ≡ self.old) }
     {
         if let Some(closed) = self.closed(number) {
             return Err(closed);

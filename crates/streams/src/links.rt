@@ -43,6 +43,7 @@ impl Links {
         ensures taken { IfSome result (λ index.
             Updates self.old.slots self.new.slots index (Some None)) }
         ensures full { IfNone result (slab_len self.old.slots ≡ 60) }
+        ensures same { IfNone result (self.new ≡ self.old) }
     {
         if self.slots.len() >= usize::from(CONNECTIONS) {
             return None;
@@ -50,10 +51,12 @@ impl Links {
         Some(self.slots.insert_reserved(None))
     }
 
-    /// Lists a connection at its index, if that is taken.
+    /// Lists a connection at its index, if that is taken. Otherwise nothing changes.
     pub(crate) fn list(&mut self, link: Arc<Link, Global>)
-        ensures { ContainsKey self.old.slots (arc_value link).index →
+        ensures taken { ContainsKey self.old.slots (arc_value link).index →
             Updates self.old.slots self.new.slots (arc_value link).index (Some (Some link)) }
+        ensures free { (ContainsKey self.old.slots (arc_value link).index → ⊥)
+            → self.new ≡ self.old }
     {
         let index = link.index;
         if self.slots.contains(index) {
@@ -69,7 +72,7 @@ impl Links {
         let _ = self.slots.try_remove(index);
     }
 
-    /// Ends all connections that are listed.
+    /// Ends all connections that are listed. They stay listed.
     pub(crate) fn shut_all(&self) {
         for (_, link) in self.slots.iter() {
             if let Some(link) = link {
@@ -82,7 +85,10 @@ impl Links {
     pub(crate) fn first_from(&self, first: usize) -> Option<(usize, &Arc<Link, Global>)>
         ensures found { IfSome result (λ found.
             listed_at (get self.now.slots found.0) ≡ Some found.1.now) }
+        ensures from { IfSome result (λ found. first ≤ found.0) }
         ensures below { IfSome result (λ found. found.0 < 60) }
+        ensures before { IfSome result (λ found. (index : ℕ) → first ≤ index → index < found.0
+            → listed_at (get self.now.slots index) ≡ None) }
         ensures none { IfNone result ((index : ℕ) → first ≤ index → index < 60
             → listed_at (get self.now.slots index) ≡ None) }
     {
