@@ -4,7 +4,7 @@ use crate::fault::Fault;
 use crate::obeying::obey;
 use crate::reading::bytes_of;
 use command_line::{ListeningNode, NodeTable, Serve, table};
-use server::{CONNECTIONS, Listener, serve_while};
+use server::{Listener, MAX_CONNECTIONS, serve_while};
 use std::fs::File;
 use std::io::{BufRead, Write};
 use std::net::{Net, TcpListener, TcpStream};
@@ -16,7 +16,7 @@ use std::time::Clock;
 
 /// How many files a node may have open at once besides its listener: its connections, one that is
 /// refused, and one by which its listener is closed.
-const FILES: usize = CONNECTIONS as usize + 2;
+const FILES: usize = MAX_CONNECTIONS as usize + 2;
 
 /// Serves clients as a file's table of nodes says, if as many files can be open at once as its
 /// nodes need.

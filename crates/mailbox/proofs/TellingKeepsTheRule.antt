@@ -11,7 +11,7 @@ use Rattle.crossbeam_queue.proofs.Lists.{at_set}
 use Rattle.mailbox.specs.declared.view.Bounds.{Bounds}
 use Rattle.mailbox.specs.declared.view.View.{View}
 use Rattle.mailbox.specs.Delivery.{items_of, FitsLane, FitsReceiver, FitsBounds, Delivers, Moment}
-use Rattle.mailbox.specs.declared.inbox.TheConstants.{INBOX_ITEMS}
+use Rattle.mailbox.specs.declared.inbox.TheConstants.{MAX_ITEMS}
 use Rattle.mailbox.specs.Ends.{HasArrived, IsFullByReceipt, Receipted, Sender, Taker}
 use Rattle.mailbox.specs.Inside.{ended, heard, lane_tells, nobody, receiver_tells}
 use Rattle.mailbox.proofs.EachView.{each_set, each_snoc}
@@ -159,7 +159,7 @@ module _ {T : Type 0} where
   pub is_full :
       (v w heard' : View T) (size : ℕ) (lane : Sender T) (receipt : Receipted)
       → heard' ≡ heard v w
-      → size ≡ INBOX_ITEMS
+      → size ≡ MAX_ITEMS
       → v.may ≡ 2 ^ 55 - length v.sent
       → v.sent ≡ lane.sent
       → w.bounds ≡ receipt.bounds

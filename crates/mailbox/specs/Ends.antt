@@ -1,7 +1,7 @@
 -- What the two ends of an inbox show: its lanes, which send, and its receiver, which takes.
 use Rattle.std.specs.Prelude.{◌≡◌, ℕ, zero, suc, ◌+◌, ◌-◌, ◌≤◌, List, [], ◌∷◌, ◌++◌, length, map, take, slice_index}
 use Rattle.crossbeam_queue.specs.Fifo.{Held}
-use Rattle.mailbox.specs.declared.inbox.TheConstants.{INBOX_ITEMS}
+use Rattle.mailbox.specs.declared.inbox.TheConstants.{MAX_ITEMS}
 use Rattle.mailbox.specs.declared.lane.TheConstants.{MAX_SENT}
 use Rattle.mailbox.specs.declared.view.Bounds.{Bounds}
 use Rattle.mailbox.specs.Delivery.{items_of, lane_view, taker_view, Moment}
@@ -38,14 +38,14 @@ module _ {T : Type 0} where
   -- as it can
   abbrev pub WasFull : Sender T → Receipted → Type 0
   WasFull s receipt =
-      Held INBOX_ITEMS
+      Held MAX_ITEMS
       (Moment (lane_view s.lane s.sent s.met (MAX_SENT - length s.sent) receipt.bounds))
 
   -- as far as the receipt says, there may be no room: what was taken, what the inbox can hold and
   -- what this lane may still send do not exceed what all lanes will ever send
   abbrev pub IsFullByReceipt : Sender T → Receipted → Type 0
   IsFullByReceipt s receipt =
-      receipt.bounds.taken + INBOX_ITEMS + (MAX_SENT - length s.sent) ≤ receipt.bounds.most
+      receipt.bounds.taken + MAX_ITEMS + (MAX_SENT - length s.sent) ≤ receipt.bounds.most
 
   -- the lane has sent as much as it ever may
   abbrev pub IsSpent : Sender T → Type 0

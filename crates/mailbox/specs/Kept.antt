@@ -2,7 +2,7 @@
 use Rattle.std.specs.Prelude.{◌≡◌, ℕ, ◌-◌, ◌*◌, ◌^◌, ◌<◌, ◌≤◌, List, [], ◌++◌, length, slice_index}
 use Rattle.atomic_table.specs.Seated.{TableId}
 use Rattle.crossbeam_queue.specs.Passes.{Pass, view}
-use Rattle.mailbox.specs.declared.inbox.TheConstants.{INBOX_ITEMS}
+use Rattle.mailbox.specs.declared.inbox.TheConstants.{MAX_ITEMS}
 use Rattle.mailbox.specs.declared.view.View.{View}
 use Rattle.mailbox.specs.Delivery.{items_of, lane_view, nothing, receiver_view, taker_view}
 use Rattle.mailbox.specs.Ends.{Sender, Taker}
@@ -15,7 +15,7 @@ pub record LaneKept {T : Type 0}
   pub of_queue : pass.table_id ≡ queue
   pub at_rest : pass.me.1 ≡ []
   pub named : queue ≡ name
-  pub has_room : room ≡ INBOX_ITEMS
+  pub has_room : room ≡ MAX_ITEMS
   pub role :
       view pass
       ≡ lane_view lane (view pass).sent (view pass).met
@@ -30,7 +30,7 @@ pub record ReceiverKept {T : Type 0}
   pub of_queue : pass.table_id ≡ queue
   pub at_rest : pass.me.1 ≡ []
   pub named : queue ≡ name
-  pub has_room : room ≡ INBOX_ITEMS
+  pub has_room : room ≡ MAX_ITEMS
   pub role : view pass ≡ taker_view (length counts) (view pass).taken (view pass).bounds
   pub counted :
       (lane : ℕ)
@@ -50,7 +50,7 @@ pub record DealerKept {T : Type 0}
   pub of_queue : pass.table_id ≡ queue
   pub at_rest : pass.me.1 ≡ []
   pub named : queue ≡ name
-  pub has_room : room ≡ INBOX_ITEMS
+  pub has_room : room ≡ MAX_ITEMS
   pub role :
       view pass
       ≡ receiver_view (length counts) [] (2 ^ 64 - length counts * 2 ^ 55) (2 ^ 64) nothing
@@ -63,8 +63,8 @@ pub record InboxKept {T : Type 0}
     : Type 0 where
   pub of_queue : pass.table_id ≡ queue
   pub at_rest : pass.me.1 ≡ []
-  pub has_room : room ≡ INBOX_ITEMS
-  pub has_slots : queue.slots ≡ INBOX_ITEMS
+  pub has_room : room ≡ MAX_ITEMS
+  pub has_slots : queue.slots ≡ MAX_ITEMS
   pub role : view pass ≡ receiver_view 0 [] (2 ^ 64) (2 ^ 64) nothing
 
 -- what the receiver took more is what was appended to the list

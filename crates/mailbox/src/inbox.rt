@@ -13,7 +13,7 @@ use std::marker::{Model, PhantomData};
 use std::sync::Arc;
 
 /// How many items an inbox holds.
-pub const INBOX_ITEMS: usize = 1_024;
+pub const MAX_ITEMS: usize = 1_024;
 
 /// The most lanes of an inbox.
 pub const MAX_LANES: u8 = 64;
@@ -51,7 +51,7 @@ impl<T: Drop> Inbox<T> {
     pub fn new(alloc: Global) -> Result<Self, AllocError>
         ensures { IfOk result (λ n. n.slots ≡ 1024) }
     {
-        let (queue, pass) = Queue::ruled(alloc, INBOX_ITEMS)?;
+        let (queue, pass) = Queue::ruled(alloc, MAX_ITEMS)?;
         let queue = Arc::new(alloc, queue)?;
         Ok(Inbox { queue, pass, alloc })
     }

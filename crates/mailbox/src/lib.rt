@@ -12,7 +12,7 @@ mod receipt;
 mod receiver;
 mod view;
 
-pub use inbox::{INBOX_ITEMS, Inbox, MAX_LANES};
+pub use inbox::{Inbox, MAX_ITEMS, MAX_LANES};
 pub use lane::{Lane, MAX_SENT};
 pub use naming::Naming;
 pub use receipt::Receipt;

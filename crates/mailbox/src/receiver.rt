@@ -5,7 +5,7 @@ ghost use Rattle.mailbox.specs.Delivery.{items_of, nothing};
 ghost use Rattle.mailbox.specs.Ends.{Taker, Sender, WasEmpty, HasArrived, AreAllLanes, ArrivesWhole, unmet};
 ghost use Rattle.mailbox.specs.Kept.{TakesMore, IsTaken};
 
-use crate::inbox::INBOX_ITEMS;
+use crate::inbox::MAX_ITEMS;
 use crate::lane::Lane;
 use crate::moves::{Hears, Knowledge, Lends, Meets, Queue, ReceiverTells, Takes};
 use crate::naming::Naming;
@@ -179,7 +179,7 @@ impl<T: Drop, J: Naming> Receiver<T, J> {
     fn drain<R: Wait>(&mut self, rt: &R, left: &mut Vec<(u8, T)>)
         ensures { TakesMore self.old self.new left.old.items left.new.items }
     {
-        for _ in 0..INBOX_ITEMS {
+        for _ in 0..MAX_ITEMS {
             if left.len() >= left.capacity() {
                 return;
             }

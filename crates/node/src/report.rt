@@ -3,7 +3,7 @@
 ghost use Rattle.std.specs.Prelude.{IfOk};
 ghost use Rattle.node.specs.Report.{HasRoom};
 
-use mailbox::INBOX_ITEMS;
+use mailbox::MAX_ITEMS;
 use std::alloc::Global;
 use world_base::{Item, Memory};
 
@@ -28,7 +28,7 @@ impl Report {
     {
         Ok(Report {
             taken: Vec::from_elem(alloc, 0u64, lanes)?,
-            left: Vec::with_capacity(alloc, INBOX_ITEMS)?,
+            left: Vec::with_capacity(alloc, MAX_ITEMS)?,
             base: 0,
             gate_missed: 0,
         })

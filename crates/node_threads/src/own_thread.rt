@@ -15,13 +15,13 @@ use post::node::{Gate, Item, NodeNaming, Standing, Stated};
 use std::hint;
 use std::sync::Wait;
 use std::time::{Clock, Duration};
-use streams::{CONNECTIONS, Closed, Link};
+use streams::{Closed, Link, MAX_CONNECTIONS};
 
 /// How often the node gets the time, in milliseconds.
-const TICK: u64 = 200;
+const TICK_MILLIS: u64 = 200;
 
 /// How long the first packet of a connection may take, in milliseconds.
-const FIRST_PACKET: u64 = 10_000;
+const FIRST_PACKET_MILLIS: u64 = 10_000;
 
 /// How often the thread looks for what comes before it sleeps, and how many steps it waits between
 /// two looks: all in all for about as long as it takes to wake a thread.
@@ -96,7 +96,7 @@ impl<'a, J: NodeNaming, S: Stated<J>, G: Gate> Shared<'a, J, S, G> {
         ensures { SendsOwn self.now.context.node.now.number lane.old.sent lane.new.sent }
     {
         let now = self.context.now(rt);
-        if now.saturating_sub(last.time) < TICK {
+        if now.saturating_sub(last.time) < TICK_MILLIS {
             return last;
         }
         self.send(rt, lane, Item::Tick(now));
@@ -108,7 +108,7 @@ impl<'a, J: NodeNaming, S: Stated<J>, G: Gate> Shared<'a, J, S, G> {
     // Ends the connections whose first packet did not come in time.
     fn end_overdue<R: Wait>(&self, rt: &R, now: u64) {
         let mut index = 0;
-        for _ in 0..CONNECTIONS {
+        for _ in 0..MAX_CONNECTIONS {
             let Some((next, link)) = self.context.listener.link_from(rt, index) else {
                 return;
             };
@@ -154,7 +154,8 @@ impl<'a, J: NodeNaming, S: Stated<J>, G: Gate> Shared<'a, J, S, G> {
         }
         let is_wanted = self.context.node.doze(rt) || self.context.listener.is_closed(rt);
         if !is_wanted {
-            self.context.node.sleep(rt, Duration::from_millis(TICK));
+            let tick = Duration::from_millis(TICK_MILLIS);
+            self.context.node.sleep(rt, tick);
         }
     }
 
@@ -174,7 +175,7 @@ impl<'a, J: NodeNaming, S: Stated<J>, G: Gate> Shared<'a, J, S, G> {
 fn is_overdue(standing: Standing, opened: u64, now: u64) -> bool
     ensures { result ≡ is_overdue standing opened now }
 {
-    standing == Standing::Awaits && now.saturating_sub(opened) > FIRST_PACKET
+    standing == Standing::Awaits && now.saturating_sub(opened) > FIRST_PACKET_MILLIS
 }
 
 // Waits for less than a microsecond.

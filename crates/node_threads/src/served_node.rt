@@ -18,7 +18,7 @@ use std::net::{Net, TcpStream};
 use std::sync::{Mutex, Wait};
 use std::thread::{Parker, Threads};
 use std::time::Clock;
-use streams::{CONNECTIONS, Closed};
+use streams::{Closed, MAX_CONNECTIONS};
 
 /// A node that serves: what its threads share, and their lanes.
 #[derive(Drop)]
@@ -70,7 +70,7 @@ impl<'a, J: NodeNaming, G: Gate> ServedNode<'a, J, NodeState<J>, G> {
         let (receiver, lanes) = inbox.named::<J>(number, LANES)?;
         let (own, lane_slots) = lane_slots_of(alloc, number, lanes)?;
         let node = Node::start(alloc, NodeState::new(receiver, core), gate)?;
-        let blocked = Mutex::new(Vec::with_capacity(alloc, usize::from(CONNECTIONS))?);
+        let blocked = Mutex::new(Vec::with_capacity(alloc, usize::from(MAX_CONNECTIONS))?);
         Ok(ServedNode {
             number,
             shared: Shared {

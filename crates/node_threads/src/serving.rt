@@ -20,7 +20,7 @@ use streams::{Closed, Link, forget};
 const WRITE_MILLIS: u64 = 1;
 
 /// How many connections a lane serves, each at a port of its own.
-const CONNECTIONS_OF_LANE: u64 = 1 << 56;
+const MAX_CONNECTIONS_OF_LANE: u64 = 1 << 56;
 
 /// The ports of a lane's connections are this far apart. A lane's number is below it.
 const PORTS_APART: u64 = 256;
@@ -40,7 +40,7 @@ impl<'a, J: NodeNaming, S: Stated<J>, G: Gate> ServedNode<'a, J, S, G> {
     {
         let number = lane.lane();
         let mut lane = lane;
-        for count in 0..CONNECTIONS_OF_LANE {
+        for count in 0..MAX_CONNECTIONS_OF_LANE {
             let stream = match self.shared.context.listener.accept(rt) {
                 Ok(stream) => stream,
                 Err(closed) => return (lane, Some(closed)),

@@ -13,7 +13,7 @@ use post::node::{Gate, Item, NodeNaming, NodeState, Permit, Stated};
 use std::alloc::Global;
 use std::sync::{Arc, Wait};
 use std::time::Clock;
-use streams::{CONNECTIONS, IdleLanes, Link};
+use streams::{IdleLanes, Link, MAX_CONNECTIONS};
 
 /// How many connections are written to in most turns.
 const BUSY_CAPACITY: usize = 8;
@@ -58,7 +58,7 @@ impl<'a, J: NodeNaming, S: Stated<J>, G: Gate> Shared<'a, J, S, G> {
     // first. Capacity is allocated before a lock is taken. If memory runs out, idle ones are among
     // them, or some are missing.
     fn busy_links<R: Wait>(&self, rt: &R, first: usize) -> Vec<Arc<Link, Global>> {
-        let mut idle = room_for(self.alloc, usize::from(CONNECTIONS));
+        let mut idle = room_for(self.alloc, usize::from(MAX_CONNECTIONS));
         let mut busy = room_for(self.alloc, BUSY_CAPACITY);
         let _ = self.node.lock(rt).state().idle_ports(&mut idle);
         self.context

@@ -11,11 +11,11 @@ use std::sync::Wait;
 use std::thread;
 use std::thread::Threads;
 use std::time::Clock;
-use streams::{CONNECTIONS, Closed};
+use streams::{Closed, MAX_CONNECTIONS};
 
 /// A lane for the node's own thread, for each connection, and for the thread that closes surplus
 /// clients.
-pub(crate) const LANES: u8 = CONNECTIONS + 2;
+pub(crate) const LANES: u8 = MAX_CONNECTIONS + 2;
 
 /// How many threads a node has: one for each lane, and one that continues with full sockets.
 pub const THREADS: usize = LANES as usize + 1;

@@ -6,7 +6,7 @@ use crate::closing::{Closed, Waiting};
 use crate::idle_lanes::IdleLanes;
 use crate::link::Link;
 use crate::links::Links;
-use crate::listener::CONNECTIONS;
+use crate::listener::MAX_CONNECTIONS;
 use std::alloc::{AllocError, Global};
 use std::sync::{Arc, Mutex, Wait};
 
@@ -65,7 +65,7 @@ impl ConnectionTable {
         self.waiting.lock(rt).threads() > 0
     }
 
-    /// Takes an index for a connection. There is none if [`CONNECTIONS`] are taken.
+    /// Takes an index for a connection. There is none if [`MAX_CONNECTIONS`] are taken.
     pub(crate) fn take_index<R: Wait>(&self, rt: &R) -> Option<usize> {
         self.links.lock(rt).take()
     }
@@ -89,7 +89,7 @@ impl ConnectionTable {
         first: usize,
         busy: &mut Vec<Arc<Link, Global>>,
     ) {
-        let first = first.min(usize::from(CONNECTIONS));
+        let first = first.min(usize::from(MAX_CONNECTIONS));
         let _ = self.links.lock(rt).add_busy(idle, first, busy);
     }
 

@@ -20,7 +20,7 @@ pub use forgetting::forget;
 pub use idle_lanes::IdleLanes;
 pub use laws::taps_count_all;
 pub use link::{Blocked, Link, WriteToken};
-pub use listener::{CONNECTIONS, Listener};
+pub use listener::{Listener, MAX_CONNECTIONS};
 pub use patient::Patient;
 pub use port_tap::PortTap;
 pub use socket::Socket;

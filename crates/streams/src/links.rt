@@ -7,7 +7,7 @@ ghost use Rattle.slab.specs.Slab.{ContainsKey, Updates, get, slab_len};
 
 use crate::idle_lanes::IdleLanes;
 use crate::link::Link;
-use crate::listener::CONNECTIONS;
+use crate::listener::MAX_CONNECTIONS;
 use slab::Slab;
 use std::alloc::{AllocError, Global};
 use std::sync::Arc;
@@ -29,8 +29,8 @@ impl Links {
     pub(crate) fn new(alloc: Global) -> Result<Links, AllocError>
         ensures { IfOk result (λ links. slab_len links.slots ≡ 0) }
     {
-        let slots = Slab::with_capacity(alloc, usize::from(CONNECTIONS))?;
-        if slots.capacity() != usize::from(CONNECTIONS) {
+        let slots = Slab::with_capacity(alloc, usize::from(MAX_CONNECTIONS))?;
+        if slots.capacity() != usize::from(MAX_CONNECTIONS) {
             return Err(AllocError);
         }
         Ok(Links { slots })
@@ -45,7 +45,7 @@ impl Links {
         ensures full { IfNone result (slab_len self.old.slots ≡ 60) }
         ensures same { IfNone result (self.new ≡ self.old) }
     {
-        if self.slots.len() >= usize::from(CONNECTIONS) {
+        if self.slots.len() >= usize::from(MAX_CONNECTIONS) {
             return None;
         }
         Some(self.slots.insert_reserved(None))
@@ -92,7 +92,7 @@ impl Links {
         ensures none { IfNone result ((index : ℕ) → first ≤ index → index < 60
             → listed_at (get self.now.slots index) ≡ None) }
     {
-        for index in first..usize::from(CONNECTIONS) {
+        for index in first..usize::from(MAX_CONNECTIONS) {
             if let Some(link) = self.at(index) {
                 return Some((index, link));
             }
@@ -125,7 +125,7 @@ impl Links {
             ++ busy_between arc_value idle self.now.slots first 60
             ++ busy_between arc_value idle self.now.slots 0 first }
     {
-        let after = self.add_between(idle, first, usize::from(CONNECTIONS), busy);
+        let after = self.add_between(idle, first, usize::from(MAX_CONNECTIONS), busy);
         let before = self.add_between(idle, 0, first, busy);
         after && before
     }

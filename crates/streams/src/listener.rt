@@ -14,7 +14,7 @@ use std::time::{Clock, Duration};
 use std::{io, thread};
 
 /// How many connections a node serves at once.
-pub const CONNECTIONS: u8 = 60;
+pub const MAX_CONNECTIONS: u8 = 60;
 
 /// How long a thread sleeps before it tries again to accept, or to wake those that do, in
 /// milliseconds.
@@ -103,7 +103,7 @@ impl Listener {
         self.closed(rt).is_some()
     }
 
-    /// Takes an index for a connection. There is none if [`CONNECTIONS`] are taken.
+    /// Takes an index for a connection. There is none if [`MAX_CONNECTIONS`] are taken.
     pub fn take_index<R: Wait>(&self, rt: &R) -> Option<usize> {
         self.connections.take_index(rt)
     }

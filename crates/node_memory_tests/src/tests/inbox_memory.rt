@@ -3,7 +3,7 @@
 
 ghost use Rattle.std.specs.Prelude.{◌≡◌};
 
-use node::mailbox::{INBOX_ITEMS, Inbox, Lane, Naming, Receiver};
+use node::mailbox::{Inbox, Lane, MAX_ITEMS, Naming, Receiver};
 use std::alloc::Global;
 use std::marker::Brand;
 use std::sync::Wait;
@@ -54,7 +54,7 @@ fn settles<J: Naming, R: Wait>(
     let Ok(mut counted) = Vec::from_elem(alloc, 0u64, receiver.lanes()) else {
         return None;
     };
-    let Ok(mut over) = Vec::with_capacity(alloc, INBOX_ITEMS) else {
+    let Ok(mut over) = Vec::with_capacity(alloc, MAX_ITEMS) else {
         return None;
     };
     if !receiver.has_all(lanes) {

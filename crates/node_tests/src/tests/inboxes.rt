@@ -2,7 +2,7 @@
 
 ghost use Rattle.std.specs.Prelude.{◌≡◌, ◌≤◌};
 
-use node::mailbox::{INBOX_ITEMS, Inbox, Lane, Naming, Receiver};
+use node::mailbox::{Inbox, Lane, MAX_ITEMS, Naming, Receiver};
 use std::alloc::Global;
 use std::marker::Brand;
 use std::process::Abort;
@@ -82,7 +82,7 @@ fn settles<J: Naming, R: Wait>(
     let Ok(mut counted) = Vec::from_elem(alloc, 0u64, receiver.lanes()) else {
         return false;
     };
-    let Ok(mut over) = Vec::with_capacity(alloc, INBOX_ITEMS) else {
+    let Ok(mut over) = Vec::with_capacity(alloc, MAX_ITEMS) else {
         return false;
     };
     if !receiver.has_all(lanes) {

@@ -5,8 +5,8 @@ use Rattle.node_threads.specs.Serving.SendsOwn.{starts}
 use Rattle.node_threads.proofs.OwnSendsJoin.{own_join, own_tick}
 use Rattle.node_threads.proofs.shared.Shared.tick.Goals as goal
 
-pub returns-then-saturating_sub-lt-TICK : goal.returns-then-saturating_sub-lt-TICK
-returns-then-saturating_sub-lt-TICK g c = starts
+pub returns-then-saturating_sub-lt-TICK_MILLIS : goal.returns-then-saturating_sub-lt-TICK_MILLIS
+returns-then-saturating_sub-lt-TICK_MILLIS g c = starts
 
 pub returns : goal.returns
 returns g c =
