@@ -16,10 +16,10 @@ use streams::{Blocked, Closed, Link, WriteToken};
 /// milliseconds.
 const LOOK_MILLIS: u64 = 200;
 
-/// How long it sleeps at first, and at most, before it tries sockets again that were full, in
-/// milliseconds.
+/// How long it sleeps at first before it tries sockets again that were full, in milliseconds.
 const FIRST_MILLIS: u64 = 1;
 
+/// How long it sleeps at most before it tries them again, in milliseconds.
 const MAX_MILLIS: u64 = 16;
 
 impl<'a, J: NodeNaming, S: Stated<J>, G: Gate> Shared<'a, J, S, G> {

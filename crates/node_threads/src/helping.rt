@@ -14,11 +14,11 @@ impl<'a, J: NodeNaming, S: Stated<J>, G: Gate> ServedNode<'a, J, S, G> {
     /// this one, unless another thread does them. Threads call this after their own turns, and hold
     /// no lock. The caller writes what this node queued. If there is a gate, each node's own thread
     /// does its turns, so that no client waits at the gate of another node.
-    // No message waits unnoticed: its giver queued it before it looks here. If the node's own
-    // thread is awake then, or woken, it looks again before it sleeps. Otherwise the thread that
-    // gets the lock of the node's lane takes what waits. If another thread holds that lock, it
-    // looks again after it has released it, in its next round or by `wake_urgent`.
     pub(crate) fn help<R: Wait + Clock>(&self, rt: &R, all: &[ServedNode<'a, J, S, G>]) {
+        // No message waits unnoticed: its giver queued it before it looks here. If the node's own
+        // thread is awake then, or woken, it looks again before it sleeps. Otherwise the thread
+        // that gets the lock of the node's lane takes what waits. If another thread holds that
+        // lock, it looks again after it has released it, in its next round or by `wake_urgent`.
         if !self.is_gated {
             for _ in 0..ROUNDS {
                 if !self.help_each(rt, all) {

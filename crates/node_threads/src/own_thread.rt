@@ -23,10 +23,11 @@ const TICK_MILLIS: u64 = 200;
 /// How long the first packet of a connection may take, in milliseconds.
 const FIRST_PACKET_MILLIS: u64 = 10_000;
 
-/// How often the thread looks for what comes before it sleeps, and how many steps it waits between
-/// two looks: all in all for about as long as it takes to wake a thread.
+/// How often the thread looks for what comes before it sleeps. With the steps between two looks
+/// this takes about as long as it takes to wake a thread.
 const LOOKS: u32 = 64;
 
+/// How many steps it waits between two looks.
 const STEPS: u32 = 8;
 
 /// When the node got the time last, and how many times, at most 2^64 - 1.

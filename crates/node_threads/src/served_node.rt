@@ -159,8 +159,8 @@ pub fn start_all<'a, J: NodeNaming, R: Wait, G: Gate>(
     Ok(nodes)
 }
 
-// Returns the node's own lane, the first of these lanes, and the slots of its threads. The only
-// error is that memory ran out.
+// Returns the node's own lane, the first of these lanes, and the slots of its threads. The error
+// comes if memory ran out, or if there is no lane.
 fn lane_slots_of<J: NodeNaming>(
     alloc: Global,
     number: u8,

@@ -32,7 +32,7 @@ pub(crate) struct Shared<'a, J: NodeNaming, S: Stated<J>, G: Gate> {
 
 impl<'a, J: NodeNaming, G: Gate> Shared<'a, J, NodeState<J>, G> {
     /// Ends the node, whose threads have returned, and reports what happened to the items that were
-    /// sent to it by these lanes. The error comes if they are not all its lanes, in order.
+    /// sent to it by these lanes. If they are not all its lanes, in order, the answer is `Memory`.
     pub(crate) fn close<R: Wait>(
         self,
         rt: &R,

@@ -132,7 +132,8 @@ impl Peer {
     {
         let mut master = master.lock(rt);
         let mut outbox = self.outbox.lock(rt);
-        // It is this node's, but no clause is about what is behind a lock.
+        // It is this node's, but no clause is about what is behind a lock. If it were another's,
+        // the answer would be `Memory` too.
         if outbox.number() != self.number {
             return Err(OrderError::Memory);
         }
