@@ -16,10 +16,10 @@ use Rattle.world.specs.Happening.{Happens, new_world_client}
 use Rattle.world.specs.Standing.{KeepsReached, WorldGoesBy, asked_on}
 use Rattle.world.specs.master.declared.event.Idle.{Idle}
 use Rattle.world.specs.World.{WorldState}
-use Rattle.play.specs.declared.stage.Listener.{Listener}
+use Rattle.play.specs.declared.played_world.Recipient.{Recipient}
 use Rattle.play.specs.Events.{asked_in}
-use Rattle.play.specs.Transcripts.{ComesTo, IsAskedIn, accepted_by, accepted_in, accepted_lines, lines_after, told_lines}
-use Rattle.play.specs.Inside.{Appends, AreTold, Comes, Written, lines_untold, names_of, new_listener, told_at}
+use Rattle.play.specs.Transcripts.{ComesTo, IsAskedIn, accepted_by, accepted_in, accepted_lines, lines_after, new_lines}
+use Rattle.play.specs.Inside.{Appends, AreWritten, Comes, Written, lines_unwritten, names_of, new_recipient, written_at}
 
 -- ---- the lines of one client
 
@@ -37,45 +37,45 @@ one_more_line name xs i x old mid new below is before one =
 
 -- ---- the lines of all clients
 
-untold_join : (w : WorldState) (ls : List Listener) (one : Listener) → lines_untold (ls ++ one ∷ []) w ≡ lines_untold ls w ++ lines_after one.told one.client w
-untold_join w [] one = append-nil (lines_after one.told one.client w)
-untold_join w (l ∷ ls) one =
-    ap (λ (z : List ℕ). lines_after l.told l.client w ++ z) (untold_join w ls one)
-    ∙ sym (append_assoc (lines_after l.told l.client w) (lines_untold ls w) (lines_after one.told one.client w))
+unwritten_join : (w : WorldState) (ls : List Recipient) (one : Recipient) → lines_unwritten (ls ++ one ∷ []) w ≡ lines_unwritten ls w ++ lines_after one.written one.client w
+unwritten_join w [] one = append-nil (lines_after one.written one.client w)
+unwritten_join w (l ∷ ls) one =
+    ap (λ (z : List ℕ). lines_after l.written l.client w ++ z) (unwritten_join w ls one)
+    ∙ sym (append_assoc (lines_after l.written l.client w) (lines_unwritten ls w) (lines_after one.written one.client w))
 
-pub one_more_client : (w : WorldState) (ls : List Listener) (i : ℕ) (one : Listener) (old mid new : List ℕ) → i < length ls → one ≡ get_or ls i one
-    → mid ≡ old ++ lines_untold (take i ls) w → new ≡ mid ++ lines_after one.told one.client w → new ≡ old ++ lines_untold (take (i + 1) ls) w
+pub one_more_client : (w : WorldState) (ls : List Recipient) (i : ℕ) (one : Recipient) (old mid new : List ℕ) → i < length ls → one ≡ get_or ls i one
+    → mid ≡ old ++ lines_unwritten (take i ls) w → new ≡ mid ++ lines_after one.written one.client w → new ≡ old ++ lines_unwritten (take (i + 1) ls) w
 one_more_client w ls i one old mid new below is before more =
-    more ∙ ap (λ (l : List ℕ). l ++ lines_after one.told one.client w) before ∙ append_assoc old (lines_untold (take i ls) w) (lines_after one.told one.client w)
+    more ∙ ap (λ (l : List ℕ). l ++ lines_after one.written one.client w) before ∙ append_assoc old (lines_unwritten (take i ls) w) (lines_after one.written one.client w)
     ∙ ap (λ (l : List ℕ). old ++ l)
-    (sym (untold_join w (take i ls) one)
-    ∙ ap (λ (l : List Listener). lines_untold l w) (sym (take_more ls i one below ∙ ap (λ (z : Listener). take i ls ++ z ∷ []) (sym is))))
+    (sym (unwritten_join w (take i ls) one)
+    ∙ ap (λ (l : List Recipient). lines_unwritten l w) (sym (take_more ls i one below ∙ ap (λ (z : Recipient). take i ls ++ z ∷ []) (sym is))))
 
 -- an element that was not reached yet is as it was
-pub not_reached : (w : WorldState) (ls : List Listener) (i : ℕ) (d : Listener) → get_or (map (told_at w) (take i ls) ++ drop i ls) i d ≡ get_or ls i d
+pub not_reached : (w : WorldState) (ls : List Recipient) (i : ℕ) (d : Recipient) → get_or (map (written_at w) (take i ls) ++ drop i ls) i d ≡ get_or ls i d
 not_reached w [] zero d = refl
 not_reached w [] (suc i) d = refl
 not_reached w (l ∷ ls) zero d = refl
 not_reached w (l ∷ ls) (suc i) d = not_reached w ls i d
 
 -- what is not written yet is what is new
-pub untold_is_new : (ls : List Listener) (old new : WorldState) → AreTold ls old → lines_untold ls new ≡ told_lines (names_of ls) old new
-untold_is_new [] old new told = refl
-untold_is_new (l ∷ ls) old new (told, more) =
-    ap (λ (k : ℕ). lines_after k l.client new ++ lines_untold ls new) told
-    ∙ ap (λ (z : List ℕ). lines_after (length (accepted_in l.client old)) l.client new ++ z) (untold_is_new ls old new more)
+pub unwritten_is_new : (ls : List Recipient) (old new : WorldState) → AreWritten ls old → lines_unwritten ls new ≡ new_lines (names_of ls) old new
+unwritten_is_new [] old new written = refl
+unwritten_is_new (l ∷ ls) old new (written, more) =
+    ap (λ (k : ℕ). lines_after k l.client new ++ lines_unwritten ls new) written
+    ∙ ap (λ (z : List ℕ). lines_after (length (accepted_in l.client old)) l.client new ++ z) (unwritten_is_new ls old new more)
 
-pub all_told : (w : WorldState) (ls : List Listener) → AreTold (map (told_at w) ls) w
-all_told w [] = tt
-all_told w (l ∷ ls) = (refl, all_told w ls)
+pub all_written : (w : WorldState) (ls : List Recipient) → AreWritten (map (written_at w) ls) w
+all_written w [] = tt
+all_written w (l ∷ ls) = (refl, all_written w ls)
 
-pub names_stay : (w : WorldState) (ls : List Listener) → names_of (map (told_at w) ls) ≡ names_of ls
+pub names_stay : (w : WorldState) (ls : List Recipient) → names_of (map (written_at w) ls) ≡ names_of ls
 names_stay w [] = refl
 names_stay w (l ∷ ls) = ap (λ (z : List (List ℕ)). l.client ∷ z) (names_stay w ls)
 
 -- ---- as a world opens
 
-pub new_names : (clients : List (List ℕ)) → names_of (map new_listener clients) ≡ clients
+pub new_names : (clients : List (List ℕ)) → names_of (map new_recipient clients) ≡ clients
 new_names [] = refl
 new_names (c ∷ cs) = ap (λ (z : List (List ℕ)). c ∷ z) (new_names cs)
 
@@ -89,9 +89,9 @@ none_of clients None = refl
 none_of clients (Some at) = none_at clients at
 
 -- no client has accepted anything
-pub none_told : (all clients : List (List ℕ)) (w : WorldState) → w.clients ≡ map new_world_client all → AreTold (map new_listener clients) w
-none_told all [] w is = tt
-none_told all (c ∷ cs) w is = (sym (ap length none), none_told all cs w is)
+pub none_written : (all clients : List (List ℕ)) (w : WorldState) → w.clients ≡ map new_world_client all → AreWritten (map new_recipient clients) w
+none_written all [] w is = tt
+none_written all (c ∷ cs) w is = (sym (ap length none), none_written all cs w is)
   where
     none : accepted_in c w ≡ []
     none =
@@ -124,18 +124,18 @@ happened order old event result new is happens goes reached asks =
     }
 
 -- an order, its line, and if the last call succeeds, what clients accepted
-pub appends : {E : Type 0} (end : Result (Unit {0}) E) (clients : List (List ℕ)) (index : ℕ) (order : Order) (result : Result (Unit {0}) Idle) (before after : WorldState) (ls : List Listener)
-    (a b c : List ℕ) → Comes order before result after → Written index result after a b → names_of ls ≡ clients → AreTold ls before → OnOk end (c ≡ b ++ lines_untold ls after)
+pub appends : {E : Type 0} (end : Result (Unit {0}) E) (clients : List (List ℕ)) (index : ℕ) (order : Order) (result : Result (Unit {0}) Idle) (before after : WorldState) (ls : List Recipient)
+    (a b c : List ℕ) → Comes order before result after → Written index result after a b → names_of ls ≡ clients → AreWritten ls before → OnOk end (c ≡ b ++ lines_unwritten ls after)
     → OnOk end (Appends clients index order before after a c)
-appends (Err error) clients index order result before after ls a b c comes written named told tells = tells
-appends (Ok done) clients index order result before after ls a b c comes written named told tells =
+appends (Err error) clients index order result before after ls a b c comes line named written tells = tells
+appends (Ok done) clients index order result before after ls a b c comes line named written tells =
     record {
-      lines = written.line ++ told_lines clients before after;
+      lines = line.line ++ new_lines clients before after;
       step = record {
         result = result;
         comes = comes.comes;
-        line = written.line;
-        is_line = written.is_line;
+        line = line.line;
+        is_line = line.is_line;
         whole = refl;
         goes = comes.goes;
         reached = comes.reached;
@@ -143,16 +143,16 @@ appends (Ok done) clients index order result before after ls a b c comes written
         asks = comes.asks;
         exact = comes.exact;
       };
-      is = tells ∙ ap (λ (l : List ℕ). b ++ l) (untold_is_new ls before after told ∙ ap (λ (n : List (List ℕ)). told_lines n before after) named)
-          ∙ ap (λ (l : List ℕ). l ++ told_lines clients before after) written.is ∙ append_assoc a written.line (told_lines clients before after);
+      is = tells ∙ ap (λ (l : List ℕ). b ++ l) (unwritten_is_new ls before after written ∙ ap (λ (n : List (List ℕ)). new_lines n before after) named)
+          ∙ ap (λ (l : List ℕ). l ++ new_lines clients before after) line.is ∙ append_assoc a line.line (new_lines clients before after);
     }
 
 -- and then all is written
-pub told_after : {E : Type 0} (end : Result (Unit {0}) E) (w : WorldState) (old new : List Listener) → OnOk end (new ≡ map (told_at w) old) → OnOk end (AreTold new w)
-told_after (Ok done) w old new is = subst (λ (l : List Listener). AreTold l w) (sym is) (all_told w old)
-told_after (Err error) w old new is = is
+pub written_after : {E : Type 0} (end : Result (Unit {0}) E) (w : WorldState) (old new : List Recipient) → OnOk end (new ≡ map (written_at w) old) → OnOk end (AreWritten new w)
+written_after (Ok done) w old new is = subst (λ (l : List Recipient). AreWritten l w) (sym is) (all_written w old)
+written_after (Err error) w old new is = is
 
-pub named_after : {E : Type 0} (end : Result (Unit {0}) E) (w : WorldState) (old mid new : List Listener) → mid ≡ old → OnOk end (new ≡ map (told_at w) mid)
+pub named_after : {E : Type 0} (end : Result (Unit {0}) E) (w : WorldState) (old mid new : List Recipient) → mid ≡ old → OnOk end (new ≡ map (written_at w) mid)
     → OnOk end (names_of new ≡ names_of old)
 named_after (Ok done) w old mid new same is = ap names_of is ∙ names_stay w mid ∙ ap names_of same
 named_after (Err error) w old mid new same is = is

@@ -9,7 +9,7 @@ use Rattle.world.specs.Goes.{StaysReached, WorldGoesOn}
 use Rattle.world.specs.Standing.{KeepsReached}
 use Rattle.world.specs.World.{WorldState}
 use Rattle.world.specs.world_nodes.Agreed.{AgreeOnSoMany}
-use Rattle.play.specs.declared.stage.Listener.{Listener}
+use Rattle.play.specs.declared.played_world.Recipient.{Recipient}
 use Rattle.play.specs.Events.{asked_in, event_of}
 use Rattle.play.specs.Transcripts.{ComesTo, IsAskedIn, IsLine, Played, Step, accepted_in, lines_after}
 
@@ -42,27 +42,27 @@ pub record Ends (world : WorldState) (old new : List ℕ) : Type 0 where
 
 -- ---- clients
 
--- the identifiers of the clients of these listeners
-abbrev pub names_of : List Listener → List (List ℕ)
-names_of listeners = map (λ (l : Listener). l.client) listeners
+-- the identifiers of the clients of these recipients
+abbrev pub names_of : List Recipient → List (List ℕ)
+names_of recipients = map (λ (l : Recipient). l.client) recipients
 
 -- everything that they show is written
-abbrev pub AreTold : List Listener → WorldState → Type 0
-AreTold [] w = Unit {0}
-AreTold (one ∷ more) w = (one.told ≡ length (accepted_in one.client w)) × AreTold more w
+abbrev pub AreWritten : List Recipient → WorldState → Type 0
+AreWritten [] w = Unit {0}
+AreWritten (one ∷ more) w = (one.written ≡ length (accepted_in one.client w)) × AreWritten more w
 
 -- the lines of what is not yet written
-abbrev pub lines_untold : List Listener → WorldState → List ℕ
-lines_untold [] w = []
-lines_untold (one ∷ more) w = lines_after one.told one.client w ++ lines_untold more w
+abbrev pub lines_unwritten : List Recipient → WorldState → List ℕ
+lines_unwritten [] w = []
+lines_unwritten (one ∷ more) w = lines_after one.written one.client w ++ lines_unwritten more w
 
 -- everything that it shows is now written
-abbrev pub told_at : WorldState → Listener → Listener
-told_at w listener = record listener { told = length (accepted_in listener.client w) }
+abbrev pub written_at : WorldState → Recipient → Recipient
+written_at w recipient = record recipient { written = length (accepted_in recipient.client w) }
 
 -- a client of which nothing is written
-abbrev pub new_listener : List ℕ → Listener
-new_listener name = record { client = name; told = 0 }
+abbrev pub new_recipient : List ℕ → Recipient
+new_recipient name = record { client = name; written = 0 }
 
 -- ---- orders
 

@@ -38,10 +38,10 @@ abbrev pub lines_after : ℕ → List ℕ → WorldState → List ℕ
 lines_after count name w = accepted_lines name (drop count (accepted_in name w))
 
 -- a line for each that one of these clients shows and did not show before
-abbrev pub told_lines : List (List ℕ) → WorldState → WorldState → List ℕ
-told_lines [] old new = []
-told_lines (name ∷ names) old new =
-    lines_after (length (accepted_in name old)) name new ++ told_lines names old new
+abbrev pub new_lines : List (List ℕ) → WorldState → WorldState → List ℕ
+new_lines [] old new = []
+new_lines (name ∷ names) old new =
+    lines_after (length (accepted_in name old)) name new ++ new_lines names old new
 
 -- ---- one order
 
@@ -73,7 +73,7 @@ pub record Step (clients : List (List ℕ)) (index : ℕ) (order : Order) (old n
   pub comes : ComesTo (asked_in old order) old result new
   pub line : List ℕ
   pub is_line : IsLine index result new line
-  pub whole : lines ≡ line ++ told_lines clients old new
+  pub whole : lines ≡ line ++ new_lines clients old new
   pub goes : WorldGoesOn old new
   pub reached : StaysReached old.nodes new.nodes
   pub asked : List (ℕ × Publication)

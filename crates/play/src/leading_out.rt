@@ -7,8 +7,8 @@ ghost use Rattle.play.specs.Ways.{HasNoWay, TellsWay, event_lines};
 
 use crate::error::PlayError;
 use crate::event_lines::write_event;
+use crate::played_world::PlayedWorld;
 use crate::playing::play_all;
-use crate::stage::Stage;
 use script::packet::ClientId;
 use script::{Script, read};
 use std::alloc::Global;
@@ -32,16 +32,16 @@ pub fn escape(
         → Refuses (lines_of text.now) (Line number) }
 {
     let Script { opening, orders } = read(alloc, text)?;
-    let mut stage = match Stage::new(alloc, opening) {
-        Ok(stage) => stage,
+    let mut played = match PlayedWorld::new(alloc, opening) {
+        Ok(played) => played,
         Err(error) => return Err(error),
     };
     let mut transcript = Vec::new(alloc);
-    play_all(&mut stage, orders.as_slice(), &mut transcript)?;
-    if stage.world.losses() > 0 {
+    play_all(&mut played, orders.as_slice(), &mut transcript)?;
+    if played.world.losses() > 0 {
         return Err(PlayError::Losses);
     }
-    let events = stage.world.escape(members, client)?;
+    let events = played.world.escape(members, client)?;
     write_events(alloc, events.as_slice(), way)
 }
 

@@ -5,8 +5,8 @@ mod error;
 mod event_lines;
 mod events;
 mod leading_out;
+mod played_world;
 mod playing;
-mod stage;
 mod writing;
 
 pub use error::PlayError;

@@ -4,10 +4,10 @@ ghost use Rattle.std.specs.Prelude.{◌≡◌, ◌<◌, ◌++◌, ℕ, List, OnO
 ghost use Rattle.script.specs.declared.error.ScriptError.TheVariants.{Line};
 ghost use Rattle.script.specs.Scripts.{Refuses, lines_of};
 ghost use Rattle.play.specs.Transcripts.{Plays};
-ghost use Rattle.play.specs.Inside.{AppendsAll, AreTold, PlaysOn, names_of};
+ghost use Rattle.play.specs.Inside.{AppendsAll, AreWritten, PlaysOn, names_of};
 
 use crate::error::PlayError;
-use crate::stage::Stage;
+use crate::played_world::PlayedWorld;
 use script::{Order, Script, read};
 use std::alloc::Global;
 
@@ -27,44 +27,44 @@ pub fn play(alloc: Global, text: &[u8], transcript: &mut Vec<u8>) -> Result<(), 
         × Plays text.now transcript.old.items transcript.new.items losses) }
 {
     let Script { opening, orders } = read(alloc, text)?;
-    let mut stage = match Stage::new(alloc, opening) {
-        Ok(stage) => stage,
+    let mut played = match PlayedWorld::new(alloc, opening) {
+        Ok(played) => played,
         Err(error) => return Err(error),
     };
-    play_whole(&mut stage, orders.as_slice(), transcript)
+    play_whole(&mut played, orders.as_slice(), transcript)
 }
 
 // Does what the orders ask for, and appends the results, up to the last line.
 fn play_whole(
-    stage: &mut Stage,
+    played: &mut PlayedWorld,
     orders: &[Order],
     transcript: &mut Vec<u8>,
 ) -> Result<(), PlayError>
-    requires told { AreTold stage.old.listeners.items stage.old.world }
-    ensures played { OnOk result (PlaysOn (names_of stage.old.listeners.items) orders.now
-        stage.old.world transcript.old.items transcript.new.items 0) }
+    requires written { AreWritten played.old.recipients.items played.old.world }
+    ensures played { OnOk result (PlaysOn (names_of played.old.recipients.items) orders.now
+        played.old.world transcript.old.items transcript.new.items 0) }
     ensures form { (number : ℕ) → IsErrOf result (PlayError.Line number) → ⊥ }
     ensures out_of_memory { IsErrOf result PlayError.Losses → (losses : ℕ) × ((0 < losses)
-        × PlaysOn (names_of stage.old.listeners.items) orders.now stage.old.world
+        × PlaysOn (names_of played.old.recipients.items) orders.now played.old.world
         transcript.old.items transcript.new.items losses) }
 {
-    play_all(stage, orders, transcript)?;
-    stage.end(transcript)
+    play_all(played, orders, transcript)?;
+    played.end(transcript)
 }
 
 /// Does what the orders ask for, one after another, and appends the results.
 pub(crate) fn play_all(
-    stage: &mut Stage,
+    played: &mut PlayedWorld,
     orders: &[Order],
     transcript: &mut Vec<u8>,
 ) -> Result<(), PlayError>
-    requires told { AreTold stage.old.listeners.items stage.old.world }
-    ensures lines { OnOk result (AppendsAll (names_of stage.old.listeners.items) orders.now
-        stage.old.world stage.new.world transcript.old.items transcript.new.items) }
+    requires written { AreWritten played.old.recipients.items played.old.world }
+    ensures lines { OnOk result (AppendsAll (names_of played.old.recipients.items) orders.now
+        played.old.world played.new.world transcript.old.items transcript.new.items) }
     ensures memory { OnErr result (IsErrOf result PlayError.Memory) }
 {
     for (index, order) in orders.iter().enumerate() {
-        stage.play(index as u64, order, transcript)?;
+        played.play(index as u64, order, transcript)?;
     }
     Ok(())
 }

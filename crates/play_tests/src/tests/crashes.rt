@@ -18,9 +18,9 @@ fn agreed_in(line: &str) -> Option<u64> {
 }
 
 // Says whether the transcript gives the length of the agreed list, and it never becomes shorter.
-fn only_grows(told: &str) -> bool {
+fn only_grows(written: &str) -> bool {
     let mut agreed = None;
-    for line in told.lines() {
+    for line in written.lines() {
         let next = agreed_in(line);
         if next.is_some() {
             if next < agreed {
@@ -39,9 +39,9 @@ fn count_in(text: &str, line: &str) -> usize {
 
 // Says whether each publication of a transcript is in the script's own transcript, at least as
 // often.
-fn tells_no_more(told: &str, own: &str) -> bool {
-    for line in told.lines() {
-        if line.starts_with("accepted") && count_in(told, line) > count_in(own, line) {
+fn tells_no_more(written: &str, own: &str) -> bool {
+    for line in written.lines() {
+        if line.starts_with("accepted") && count_in(written, line) > count_in(own, line) {
             return false;
         }
     }
@@ -66,7 +66,7 @@ fn goes_no_further(alloc: Global, script: &[u8], own: &str) -> bool {
         return false;
     }
     match str::from_utf8(transcript.as_slice()) {
-        Ok(told) => only_grows(told) && tells_no_more(told, own),
+        Ok(written) => only_grows(written) && tells_no_more(written, own),
         Err(_) => false,
     }
 }

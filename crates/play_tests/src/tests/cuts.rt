@@ -11,21 +11,21 @@ use std::str;
 const CUTS: [&[u8]; 2] = [b"cut 1\n", b"cut 2\n"];
 
 // Returns a line of a transcript without the number of its event.
-fn told_in(line: &str) -> &str {
+fn without_number(line: &str) -> &str {
     match line.split_once(" ") {
-        Some((_, told)) => told,
+        Some((_, written)) => written,
         None => line,
     }
 }
 
 // Says whether a transcript is another one with one more line after this many events, and that line
 // has no new message and no new agreed command.
-fn is_own_with(told: &str, own: &str, events: usize) -> bool {
+fn is_own_with(written: &str, own: &str, events: usize) -> bool {
     let mut rest = own.lines();
     let mut seen = 0;
-    for line in told.lines() {
+    for line in written.lines() {
         if line.starts_with("accepted") || line.starts_with("end") || seen != events {
-            if rest.next().map(told_in) != Some(told_in(line)) {
+            if rest.next().map(without_number) != Some(without_number(line)) {
                 return false;
             }
         }
@@ -47,7 +47,7 @@ fn goes_as_ever(alloc: Global, row: &[&str; 2], at: usize, events: usize, line: 
         return false;
     }
     match str::from_utf8(transcript.as_slice()) {
-        Ok(told) => is_own_with(told, row[1], events),
+        Ok(written) => is_own_with(written, row[1], events),
         Err(_) => false,
     }
 }

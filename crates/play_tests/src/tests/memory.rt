@@ -23,14 +23,14 @@ fn lines_in(transcript: &[u8]) -> usize {
 fn is_played_or_told(alloc: Global, row: &[&str; 2]) -> bool {
     let mut transcript = Vec::new(alloc);
     let played = play(alloc, row[0].as_bytes(), &mut transcript);
-    let told = transcript.as_slice();
+    let written = transcript.as_slice();
     let is_so = match played {
-        Ok(()) => told == row[1].as_bytes(),
-        Err(PlayError::Losses) => lines_in(told) == lines_in(row[1].as_bytes()),
+        Ok(()) => written == row[1].as_bytes(),
+        Err(PlayError::Losses) => lines_in(written) == lines_in(row[1].as_bytes()),
         Err(PlayError::Memory) => true,
         Err(PlayError::Line(_) | PlayError::Idle) => false,
     };
-    is_so && accepted_in(told) == 0
+    is_so && accepted_in(written) == 0
 }
 
 #[test]

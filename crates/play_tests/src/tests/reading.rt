@@ -34,7 +34,7 @@ pub fn comes(alloc: Global, text: &[u8], outcome: Outcome<'_>) -> bool {
 fn is_script(alloc: Global, script: &Script, outcome: Outcome<'_>) -> bool {
     match outcome {
         Outcome::Orders(count, lines) => {
-            script.orders.len() == count && are_told(alloc, script.orders.as_slice(), lines)
+            script.orders.len() == count && are_spelt(alloc, script.orders.as_slice(), lines)
         }
         Outcome::Counts(count) => script.orders.len() == count,
         Outcome::Opens(world) => is_opened(&script.opening, world),
@@ -64,22 +64,22 @@ fn is_opened(opening: &Opening, world: &World) -> bool {
 }
 
 // Says whether the lines of a text spell these orders.
-fn are_told(alloc: Global, orders: &[Order], lines: &str) -> bool {
+fn are_spelt(alloc: Global, orders: &[Order], lines: &str) -> bool {
     orders
         .iter()
         .zip(lines.split('\n'))
-        .all(|(order, line)| is_told(alloc, order, line))
+        .all(|(order, line)| is_spelt(alloc, order, line))
 }
 
 // Says whether this line spells an order, without zeros in front.
-fn is_told(alloc: Global, order: &Order, line: &str) -> bool {
-    match told(alloc, order) {
+fn is_spelt(alloc: Global, order: &Order, line: &str) -> bool {
+    match spelt(alloc, order) {
         Ok(text) => text.as_str() == line,
         Err(_) => false,
     }
 }
 
-fn told(alloc: Global, order: &Order) -> Result<String, AllocError> {
+fn spelt(alloc: Global, order: &Order) -> Result<String, AllocError> {
     match order {
         Order::Assign(members, primary) => assignment(alloc, members, *primary),
         Order::Deliver(message) => format!(in alloc; "deliver {message}"),

@@ -102,11 +102,11 @@ fn ways_are_told(rt: HostRuntime) {
 fn ways_are_played(rt: HostRuntime) {
     for (row, members, client, agreed, active) in WAYS {
         let played = played_out(rt.alloc(), row[0], members, client);
-        let told = text_of(&played);
+        let written = text_of(&played);
         let end = format!(in rt.alloc(); "end agreed={agreed} active={active}\n");
         let end = end.expect(&rt, "memory is left");
-        assert_eq!(rt; end_of(told, end.len()), end.as_bytes());
-        assert_eq!(rt; idle_lines(told), idle_lines(row[1]));
+        assert_eq!(rt; end_of(written, end.len()), end.as_bytes());
+        assert_eq!(rt; idle_lines(written), idle_lines(row[1]));
     }
 }
 

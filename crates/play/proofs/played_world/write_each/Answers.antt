@@ -1,7 +1,7 @@
 use Rattle.std.proofs.Common.{sym, arith}
 use Rattle.std.proofs.lemmas.List.{append-nil}
 use Rattle.play.proofs.LinesAppended.{one_more_line}
-use Rattle.play.proofs.stage.write_each.Goals as goal
+use Rattle.play.proofs.played_world.write_each.Goals as goal
 
 pub loop-one-init : goal.loop-one-init
 loop-one-init c = sym (append-nil _)

@@ -5,7 +5,7 @@ ghost use Rattle.world.specs.agreement.World.{can_open};
 ghost use Rattle.world.specs.packet_world.World.{AreApart};
 ghost use Rattle.world.specs.Goes.{AreReached};
 ghost use Rattle.world.specs.Standing.{IsReached, asked_on};
-ghost use Rattle.play.specs.Inside.{Appends, AreTold, Comes, Ends, Written, lines_untold, names_of, new_listener, told_at};
+ghost use Rattle.play.specs.Inside.{Appends, AreWritten, Comes, Ends, Written, lines_unwritten, names_of, new_recipient, written_at};
 ghost use Rattle.play.specs.Transcripts.{accepted_in, accepted_lines, lines_after};
 
 use crate::error::PlayError;
@@ -18,31 +18,32 @@ use world::{Accepted, Idle, World};
 
 /// A client, and how many of the publications that it accepted are written.
 #[derive(Drop)]
-pub(crate) struct Listener {
+pub(crate) struct Recipient {
     pub(crate) client: ClientId,
-    pub(crate) told: usize,
+    pub(crate) written: usize,
 }
 
 /// A world in which a script is played.
 #[derive(Drop)]
-pub(crate) struct Stage {
+pub(crate) struct PlayedWorld {
     alloc: Global,
     pub(crate) world: World,
-    pub(crate) listeners: Vec<Listener>,
+    pub(crate) recipients: Vec<Recipient>,
 }
 
-impl Stage {
+impl PlayedWorld {
     /// Returns the world that a script opens.
-    pub(crate) fn new(alloc: Global, opening: Opening) -> Result<Stage, PlayError>
-        ensures opened { IfOk result (λ stage.
-            AreReached opening.nodes opening.config stage.world.nodes) }
-        ensures exact { AreApart opening.clients.items → IfOk result (λ stage. (reached
-            : IsReached opening.nodes opening.config opening.clients.items stage.world)
+    pub(crate) fn new(alloc: Global, opening: Opening) -> Result<PlayedWorld, PlayError>
+        ensures opened { IfOk result (λ played.
+            AreReached opening.nodes opening.config played.world.nodes) }
+        ensures exact { AreApart opening.clients.items → IfOk result (λ played. (reached
+            : IsReached opening.nodes opening.config opening.clients.items played.world)
             × (asked_on reached ≡ [])) }
-        ensures losses { IfOk result (λ stage. stage.world.losses ≡ 0) }
-        ensures named { IfOk result (λ stage.
-            names_of stage.listeners.items ≡ opening.clients.items) }
-        ensures told { IfOk result (λ stage. AreTold stage.listeners.items stage.world) }
+        ensures losses { IfOk result (λ played. played.world.losses ≡ 0) }
+        ensures named { IfOk result (λ played.
+            names_of played.recipients.items ≡ opening.clients.items) }
+        ensures written { IfOk result (λ played.
+            AreWritten played.recipients.items played.world) }
         ensures bad { (number : ℕ) → IsErrOf result (PlayError.Line number)
             → can_open opening.nodes opening.config ≡ false }
         ensures whole { IsErrOf result PlayError.Losses → ⊥ }
@@ -53,12 +54,12 @@ impl Stage {
             config,
             clients,
         } = opening;
-        let listeners = listeners_of(alloc, clients.as_slice())?;
+        let recipients = recipients_of(alloc, clients.as_slice())?;
         let world = World::opening(alloc, nodes, config, clients.as_slice())?;
-        Ok(Stage {
+        Ok(PlayedWorld {
             alloc,
             world,
-            listeners,
+            recipients,
         })
     }
 
@@ -69,12 +70,12 @@ impl Stage {
         order: &Order,
         transcript: &mut Vec<u8>,
     ) -> Result<(), PlayError>
-        requires told { AreTold self.old.listeners.items self.old.world }
-        ensures lines { OnOk result (Appends (names_of self.old.listeners.items) index order.now
+        requires written { AreWritten self.old.recipients.items self.old.world }
+        ensures lines { OnOk result (Appends (names_of self.old.recipients.items) index order.now
             self.old.world self.new.world transcript.old.items transcript.new.items) }
-        ensures told { OnOk result (AreTold self.new.listeners.items self.new.world) }
+        ensures written { OnOk result (AreWritten self.new.recipients.items self.new.world) }
         ensures named { OnOk result
-            (names_of self.new.listeners.items ≡ names_of self.old.listeners.items) }
+            (names_of self.new.recipients.items ≡ names_of self.old.recipients.items) }
         ensures memory { OnErr result (IsErrOf result PlayError.Memory) }
     {
         let came = self.happens(order)?;
@@ -82,7 +83,7 @@ impl Stage {
         write_all_new(
             self.alloc,
             &self.world,
-            self.listeners.as_mut_slice(),
+            self.recipients.as_mut_slice(),
             transcript,
         )
     }
@@ -91,7 +92,7 @@ impl Stage {
     fn happens(&mut self, order: &Order) -> Result<Result<(), Idle>, PlayError>
         ensures comes { IfOk result (λ result.
             Comes order.now self.old.world result self.new.world) }
-        ensures listeners { self.new.listeners.items ≡ self.old.listeners.items }
+        ensures recipients { self.new.recipients.items ≡ self.old.recipients.items }
         ensures memory { OnErr result (IsErrOf result PlayError.Memory) }
     {
         match event_of(self.alloc, &self.world, order)? {
@@ -142,34 +143,34 @@ impl Stage {
 }
 
 // Returns the clients; nothing of what they accepted is written yet.
-fn listeners_of(alloc: Global, clients: &[ClientId]) -> Result<Vec<Listener>, PlayError>
-    ensures made { IfOk result (λ made. made.items ≡ map new_listener clients.now) }
+fn recipients_of(alloc: Global, clients: &[ClientId]) -> Result<Vec<Recipient>, PlayError>
+    ensures made { IfOk result (λ made. made.items ≡ map new_recipient clients.now) }
     ensures memory { OnErr result (IsErrOf result PlayError.Memory) }
 {
-    let mut listeners = Vec::new(alloc);
+    let mut recipients = Vec::new(alloc);
     for client in clients {
-        listeners.push(Listener {
+        recipients.push(Recipient {
             client: client.clone()?,
-            told: 0,
+            written: 0,
         })?;
     }
-    Ok(listeners)
+    Ok(recipients)
 }
 
 // Appends what the clients accepted and was not yet written.
 fn write_all_new(
     alloc: Global,
     world: &World,
-    listeners: &mut [Listener],
+    recipients: &mut [Recipient],
     transcript: &mut Vec<u8>,
 ) -> Result<(), PlayError>
-    ensures listeners { OnOk result (listeners.new ≡ map (told_at world.now) listeners.old) }
+    ensures recipients { OnOk result (recipients.new ≡ map (written_at world.now) recipients.old) }
     ensures lines { OnOk result (transcript.new.items
-        ≡ transcript.old.items ++ lines_untold listeners.old world.now) }
+        ≡ transcript.old.items ++ lines_unwritten recipients.old world.now) }
     ensures memory { OnErr result (IsErrOf result PlayError.Memory) }
 {
-    for listener in listeners.iter_mut() {
-        write_new(alloc, world, listener, transcript)?;
+    for recipient in recipients.iter_mut() {
+        write_new(alloc, world, recipient, transcript)?;
     }
     Ok(())
 }
@@ -178,18 +179,18 @@ fn write_all_new(
 fn write_new(
     alloc: Global,
     world: &World,
-    listener: &mut Listener,
+    recipient: &mut Recipient,
     transcript: &mut Vec<u8>,
 ) -> Result<(), PlayError>
-    ensures listener { OnOk result (listener.new ≡ told_at world.now listener.old) }
-    ensures lines { OnOk result (transcript.new.items
-        ≡ transcript.old.items ++ lines_after listener.old.told listener.old.client world.now) }
+    ensures recipient { OnOk result (recipient.new ≡ written_at world.now recipient.old) }
+    ensures lines { OnOk result (transcript.new.items ≡ transcript.old.items
+        ++ lines_after recipient.old.written recipient.old.client world.now) }
     ensures memory { OnErr result (IsErrOf result PlayError.Memory) }
 {
-    let accepted = accepted_in(world, &listener.client);
-    let told = listener.told.min(accepted.len());
-    write_each(alloc, &listener.client, &accepted[told..], transcript)?;
-    listener.told = accepted.len();
+    let accepted = accepted_in(world, &recipient.client);
+    let written = recipient.written.min(accepted.len());
+    write_each(alloc, &recipient.client, &accepted[written..], transcript)?;
+    recipient.written = accepted.len();
     Ok(())
 }
 
