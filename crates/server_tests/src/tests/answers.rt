@@ -1,7 +1,7 @@
 // What one client is answered, and when it is closed.
 
 use super::nodes::fault_in;
-use super::row::{Row, Table};
+use super::row::{Missed, Row, Table, unless};
 use server::Listener;
 use server_clients::{connect, fills, join, open};
 use std::alloc::{AllocError, Global};
@@ -27,12 +27,12 @@ const TABLES: &[Table] = &[
         row: Row::Flood,
     },
     Table {
-        name: "by two",
+        name: "a flood is answered by two members",
         members: &[1, 2],
         row: Row::Flood,
     },
     Table {
-        name: "by three",
+        name: "a flood is answered by three members",
         members: &[1, 2, 3],
         row: Row::Flood,
     },
@@ -43,27 +43,32 @@ fn one_client_is_answered(rt: HostRuntime) {
     assert_eq!(rt; fault_in(&rt, TABLES), None);
 }
 
-/// Says whether a client with keep alive 1 that falls silent is closed after one and a half seconds
-/// (MQTT 3.1.2.10), and nothing more was sent to it.
-pub(super) fn is_silence_ended<R>(rt: &R, listener: Option<&Listener>) -> bool
+/// A client with keep alive 1 that falls silent is closed after one and a half seconds (MQTT
+/// 3.1.2.10), and nothing more is sent to it. Returns what of that is not so.
+pub(super) fn silence<R>(rt: &R, listener: Option<&Listener>) -> Missed
 where
     R: Clock + Net<Stream = TcpStream>,
 {
     let Ok(start) = Instant::now(rt) else {
-        return false;
+        return Some("the clock can be read");
     };
     match open(rt, listener) {
-        Some(mut stream) => is_ended(&mut stream) && has_taken(rt, start),
-        None => false,
+        Some(mut stream) => silence_on(rt, start, &mut stream),
+        None => Some("a connection is opened"),
     }
 }
 
-// Says whether the CONNECT is answered, and then the stream ends.
-fn is_ended(stream: &mut TcpStream) -> bool {
+fn silence_on<R: Clock>(rt: &R, start: Instant, stream: &mut TcpStream) -> Missed {
     let mut sent = connect(b'a', false);
     sent[11] = 1;
     let mut room = [0; 4];
-    fills(stream, &sent, &mut room) && matches!(stream.read(&mut room), Ok(0))
+    if !fills(stream, &sent, &mut room) {
+        Some("the CONNECT is answered")
+    } else if !matches!(stream.read(&mut room), Ok(0)) {
+        Some("the stream ends, and nothing more is sent")
+    } else {
+        unless(has_taken(rt, start), "it ends after 1.5 to 5 seconds")
+    }
 }
 
 // Says whether 1.5 to 5 seconds have passed.
@@ -112,23 +117,32 @@ fn packets(alloc: Global, first: u8) -> Result<Vec<u8>, AllocError> {
     Ok(bytes)
 }
 
-/// Says whether 32,768 PINGREQ in one write are answered by as many PINGRESP and nothing else.
-pub(super) fn is_flood_answered<R>(rt: &R, listener: Option<&Listener>) -> bool
+/// 32,768 PINGREQ in one write are answered by as many PINGRESP and nothing else. Returns what of
+/// that is not so.
+pub(super) fn flooding<R>(rt: &R, listener: Option<&Listener>) -> Missed
 where
     R: AllocGlobal + Net<Stream = TcpStream>,
 {
     match Flood::new(rt.alloc()) {
-        Ok(mut flood) => floods(rt, listener, &mut flood),
-        Err(_) => false,
+        Ok(mut flood) => flooding_with(rt, listener, &mut flood),
+        Err(_) => Some("there is memory for a flood"),
     }
 }
 
-fn floods<R>(rt: &R, listener: Option<&Listener>, flood: &mut Flood) -> bool
+fn flooding_with<R>(rt: &R, listener: Option<&Listener>, flood: &mut Flood) -> Missed
 where
     R: Net<Stream = TcpStream>,
 {
     match join(rt, listener, b'a', false) {
-        Some(mut stream) => flood.is_sent(&mut stream) && flood.is_heard(&mut stream),
-        None => false,
+        Some(mut stream) => flooding_on(&mut stream, flood),
+        None => Some("a client is accepted"),
+    }
+}
+
+fn flooding_on(stream: &mut TcpStream, flood: &mut Flood) -> Missed {
+    if flood.is_sent(stream) {
+        unless(flood.is_heard(stream), "as many PINGRESP come")
+    } else {
+        Some("32,768 PINGREQ are sent")
     }
 }

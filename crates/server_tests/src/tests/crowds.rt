@@ -1,7 +1,7 @@
 // Many clients, at the same time and one after another.
 
 use super::nodes::fault_in;
-use super::row::{Row, Table};
+use super::row::{Missed, Row, Table, unless};
 use server::Listener;
 use server_clients::{
     Pair, SUBSCRIBE, SUBSCRIBED, connect, is_answered, is_closed, is_open_for, join, open,
@@ -20,22 +20,22 @@ const TABLES: &[Table] = &[
         row: Row::Sixty,
     },
     Table {
-        name: "clients come and go",
+        name: "200 clients, one after another, are accepted",
         members: &[1],
         row: Row::ComeAndGo,
     },
     Table {
-        name: "silent clients are ended",
+        name: "sixty clients that say nothing are ended",
         members: &[1],
         row: Row::SilentOnes,
     },
     Table {
-        name: "a deaf client loses its listener",
+        name: "a client that never reads makes room for another",
         members: &[1],
         row: Row::Deaf,
     },
     Table {
-        name: "and beside three members",
+        name: "a client that never reads makes room for another, with three members",
         members: &[1, 2, 3],
         row: Row::Deaf,
     },
@@ -47,7 +47,7 @@ fn crowds_are_served(rt: HostRuntime) {
 }
 
 const NEVER_READS: &[Table] = &[Table {
-    name: "50 MB",
+    name: "a subscriber gets 50 MB beside one that never reads",
     members: &[1],
     row: Row::NeverReads,
 }];
@@ -57,18 +57,30 @@ fn a_client_that_never_reads_keeps_nobody_waiting(rt: HostRuntime) {
     assert_eq!(rt; fault_in(&rt, NEVER_READS), None);
 }
 
-/// Says whether sixty clients are answered by PINGRESP while they are connected and one more has
-/// come.
-pub(super) fn are_sixty_answered<R>(rt: &R, listener: Option<&Listener>) -> bool
+/// Sixty clients are answered by PINGRESP while they are connected and one more has come. Returns
+/// what of that is not so.
+pub(super) fn sixty<R>(rt: &R, listener: Option<&Listener>) -> Missed
 where
     R: AllocGlobal + Net<Stream = TcpStream>,
 {
     let mut streams = Vec::new(rt.alloc());
-    (b'A'..b'}').all(|letter| joins(rt, listener, letter, &mut streams))
-        && is_turned_away(rt, listener)
-        && streams
-            .iter_mut()
-            .all(|stream| is_answered(stream, &[0xC0, 0], &[0xD0, 0]))
+    if !(b'A'..b'}').all(|letter| joins(rt, listener, letter, &mut streams)) {
+        Some("sixty clients are accepted")
+    } else if !is_turned_away(rt, listener) {
+        Some("the sixty-first is closed")
+    } else {
+        unless(
+            are_answered(streams.as_mut_slice()),
+            "the sixty are answered",
+        )
+    }
+}
+
+// Says whether the clients of all these streams are answered by PINGRESP.
+fn are_answered(streams: &mut [TcpStream]) -> bool {
+    streams
+        .iter_mut()
+        .all(|stream| is_answered(stream, &[0xC0, 0], &[0xD0, 0]))
 }
 
 // Says whether the client of this letter joins those of the streams.
@@ -93,18 +105,34 @@ where
     }
 }
 
-/// Says whether sixty clients that say nothing keep their connections for six seconds, and not for
-/// fourteen. Then another is accepted.
-pub(super) fn are_silent_ones_ended<R>(rt: &R, listener: Option<&Listener>) -> bool
+/// Sixty clients that say nothing keep their connections for six seconds, and not for fourteen.
+/// Then another is accepted. Returns what of that is not so.
+pub(super) fn silent_ones<R>(rt: &R, listener: Option<&Listener>) -> Missed
 where
     R: AllocGlobal + Net<Stream = TcpStream>,
 {
     let mut streams = Vec::new(rt.alloc());
-    (0..60u8).all(|_| opens(rt, listener, &mut streams))
-        && is_turned_away(rt, listener)
-        && streams.first_mut().map(|stream| is_open_for(stream, 6_000)) == Some(true)
-        && streams.iter_mut().all(|stream| !is_open_for(stream, 8_000))
-        && is_accepted(rt, listener, b'a')
+    if !(0..60u8).all(|_| opens(rt, listener, &mut streams)) {
+        Some("sixty connections are opened")
+    } else if !is_turned_away(rt, listener) {
+        Some("the sixty-first is closed")
+    } else if let Some(step) = silence_of(streams.as_mut_slice()) {
+        Some(step)
+    } else {
+        unless(
+            is_accepted(rt, listener, b'a'),
+            "another client is accepted",
+        )
+    }
+}
+
+fn silence_of(streams: &mut [TcpStream]) -> Missed {
+    if streams.first_mut().map(|stream| is_open_for(stream, 6_000)) != Some(true) {
+        Some("the first is open for six seconds")
+    } else {
+        let are_ended = streams.iter_mut().all(|stream| !is_open_for(stream, 8_000));
+        unless(are_ended, "all are ended eight seconds later")
+    }
 }
 
 // Says whether a stream is opened, and joins these.
@@ -118,13 +146,14 @@ where
     }
 }
 
-/// Says whether 200 clients that come one after another, each once the one before has left, are all
-/// accepted.
-pub(super) fn are_all_accepted<R>(rt: &R, listener: Option<&Listener>) -> bool
+/// 200 clients that come one after another, each once the one before has left, are all accepted.
+/// Returns what of that is not so.
+pub(super) fn coming_and_going<R>(rt: &R, listener: Option<&Listener>) -> Missed
 where
     R: Net<Stream = TcpStream>,
 {
-    (0..200u8).all(|count| is_accepted(rt, listener, b'a' + count % 26))
+    let are_accepted = (0..200u8).all(|count| is_accepted(rt, listener, b'a' + count % 26));
+    unless(are_accepted, "each of them is accepted")
 }
 
 // Says whether the client of this letter, which wants no session, is accepted. Then it leaves.
@@ -174,28 +203,43 @@ pub(super) fn large_publish(alloc: Global) -> Result<Vec<u8>, AllocError> {
     Ok(bytes)
 }
 
-/// Says whether a subscriber gets 50 MB while another one has the same subscription and never
-/// reads.
-pub(super) fn is_heard_beside<R>(rt: &R, listener: Option<&Listener>) -> bool
+/// A subscriber gets 50 MB while another one has the same subscription and never reads. Returns
+/// what of that is not so.
+pub(super) fn never_reading<R>(rt: &R, listener: Option<&Listener>) -> Missed
 where
     R: AllocGlobal + Net<Stream = TcpStream>,
 {
     match join(rt, listener, b'd', false) {
         Some(mut deaf) => {
-            is_answered(&mut deaf, &SUBSCRIBE, &SUBSCRIBED) && is_heard(rt, listener)
+            if is_answered(&mut deaf, &SUBSCRIBE, &SUBSCRIBED) {
+                hearing(rt, listener)
+            } else {
+                Some("the client that never reads subscribes")
+            }
         }
-        None => false,
+        None => Some("the client that never reads is accepted"),
     }
 }
 
-// Says whether a subscriber gets 50 MB.
-fn is_heard<R>(rt: &R, listener: Option<&Listener>) -> bool
+// A subscriber gets 50 MB.
+fn hearing<R>(rt: &R, listener: Option<&Listener>) -> Missed
 where
     R: AllocGlobal + Net<Stream = TcpStream>,
 {
     match Pair::join(rt, listener, false) {
-        Some(mut pair) => pair.subscribes() && are_fifty_heard(rt.alloc(), &mut pair),
-        None => false,
+        Some(mut pair) => hearing_by(rt.alloc(), &mut pair),
+        None => Some("a subscriber and a publisher are accepted"),
+    }
+}
+
+fn hearing_by(alloc: Global, pair: &mut Pair) -> Missed {
+    if pair.subscribes() {
+        unless(
+            are_fifty_heard(alloc, pair),
+            "each publication of 1 MB comes as it was sent",
+        )
+    } else {
+        Some("the subscriber subscribes")
     }
 }
 
@@ -206,22 +250,40 @@ fn are_fifty_heard(alloc: Global, pair: &mut Pair) -> bool {
     }
 }
 
-/// Says whether a subscriber with keep alive 4 that never reads, and says nothing more, keeps its
-/// connection for a while, and then loses it to another client.
-pub(super) fn is_deaf_one_ended<R>(rt: &R, listener: Option<&Listener>) -> bool
+/// A subscriber with keep alive 4 that never reads, and says nothing more, keeps its connection for
+/// a while, and then loses it to another client. Returns what of that is not so.
+pub(super) fn deaf_one<R>(rt: &R, listener: Option<&Listener>) -> Missed
 where
     R: AllocGlobal + Wait + Clock + Net<Stream = TcpStream>,
 {
     let mut streams = Vec::new(rt.alloc());
     match deaf(rt, listener) {
         Some(_deaf) => {
-            (b'$'..b'^').all(|letter| joins(rt, listener, letter, &mut streams))
-                && joins(rt, listener, b's', &mut streams)
-                && are_twenty_sent(rt.alloc(), streams.last_mut())
-                && is_turned_away(rt, listener)
-                && is_accepted_in_time(rt, listener)
+            if !(b'$'..b'^').all(|letter| joins(rt, listener, letter, &mut streams))
+                || !joins(rt, listener, b's', &mut streams)
+            {
+                Some("59 more clients are accepted")
+            } else {
+                room_beside(rt, listener, streams.last_mut())
+            }
         }
-        None => false,
+        None => Some("the client that never reads subscribes"),
+    }
+}
+
+fn room_beside<R>(rt: &R, listener: Option<&Listener>, speaker: Option<&mut TcpStream>) -> Missed
+where
+    R: AllocGlobal + Wait + Clock + Net<Stream = TcpStream>,
+{
+    if !are_twenty_sent(rt.alloc(), speaker) {
+        Some("20 MB are published")
+    } else if !is_turned_away(rt, listener) {
+        Some("the sixty-first is closed")
+    } else {
+        unless(
+            is_accepted_in_time(rt, listener),
+            "another client is accepted in ten seconds",
+        )
     }
 }
 

@@ -26,28 +26,28 @@ struct Row {
 // seventeenth passes 16 MiB.
 const ROWS: &[Row] = &[
     Row {
-        name: "after the seventh tick one of two",
+        name: "after its seventh tick the log of one of two nodes is cut",
         members: &[1, 7],
         publications: 1,
         milliseconds: 4_000,
         are_cut: &[true, false],
     },
     Row {
-        name: "after more than 16 MiB",
+        name: "after more than 16 MiB the log of the primary is cut",
         members: &[7],
         publications: 20,
         milliseconds: 1_000,
         are_cut: &[true],
     },
     Row {
-        name: "and so does a backup",
+        name: "after more than 16 MiB the log of a backup is cut too",
         members: &[1, 7],
         publications: 20,
         milliseconds: 2_000,
         are_cut: &[true, true],
     },
     Row {
-        name: "not after less",
+        name: "after less than 16 MiB no log is cut",
         members: &[7],
         publications: 10,
         milliseconds: 1_000,

@@ -1,7 +1,7 @@
 // A client whose session an administrator ends.
 
 use super::nodes::fault_in;
-use super::row::{Row, Table};
+use super::row::{Missed, Row, Table, unless};
 use server::packet::ClientId;
 use server::{Cluster, Listener};
 use server_clients::{
@@ -31,22 +31,42 @@ fn sessions_are_expelled(rt: HostRuntime) {
     assert_eq!(rt; fault_in(&rt, TABLES), None);
 }
 
-/// Says whether client `h` finds no session and nothing of before each time that its session is
-/// ended, while it is connected and while it is away; and whether another client that is away gets
-/// all that was published.
-pub(super) fn expels<R>(rt: &R, cluster: &Cluster, listener: Option<&Listener>) -> bool
+/// Client `h` finds no session and nothing of before each time that its session is ended, while it
+/// is connected and while it is away; and another client that is away gets all that was published.
+/// Returns what of that is not so.
+pub(super) fn expelling<R>(rt: &R, cluster: &Cluster, listener: Option<&Listener>) -> Missed
 where
     R: AllocGlobal + Wait + Clock + Net<Stream = TcpStream>,
 {
-    leaves_a_queue(rt, listener)
-        && match Pair::join(rt, listener, false) {
-            Some(mut pair) => {
-                is_ended_while_connected(rt, cluster, &mut pair)
-                    && is_ended_while_away(rt, cluster, listener, &mut pair.speaker)
-                    && is_heard_whole(rt, listener)
-            }
-            None => false,
+    if leaves_a_queue(rt, listener) {
+        match Pair::join(rt, listener, false) {
+            Some(mut pair) => expelling_of(rt, cluster, listener, &mut pair),
+            None => Some("the subscriber and the publisher are accepted"),
         }
+    } else {
+        Some("another client subscribes, and goes away")
+    }
+}
+
+fn expelling_of<R>(
+    rt: &R,
+    cluster: &Cluster,
+    listener: Option<&Listener>,
+    pair: &mut Pair,
+) -> Missed
+where
+    R: AllocGlobal + Wait + Clock + Net<Stream = TcpStream>,
+{
+    if !is_ended_while_connected(rt, cluster, pair) {
+        Some("the subscriber is closed while it is connected")
+    } else if !is_ended_while_away(rt, cluster, listener, &mut pair.speaker) {
+        Some("it finds no session after an Expel while it was away")
+    } else {
+        unless(
+            is_heard_whole(rt, listener),
+            "the other client gets all that was published",
+        )
+    }
 }
 
 // Says whether client `q` subscribes, and then is away.

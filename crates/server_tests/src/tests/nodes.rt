@@ -1,6 +1,6 @@
 // Nodes on free ports of the loopback interface, and the rows that run with them.
 
-use super::row::{Row, Table, holds};
+use super::row::{Missed, Row, Table, missed_step};
 use server::{Cluster, Config, Listener, Members, Memory, serve_while};
 use std::alloc::Global;
 use std::net::{Net, TcpListener, TcpStream};
@@ -43,8 +43,9 @@ where
     }
 }
 
-/// Returns the first of these tables whose row does not hold, each with nodes of its own.
-pub(super) fn fault_in<R>(rt: &R, tables: &[Table]) -> Option<&'static str>
+/// Returns the name of the first of these tables whose row does not hold, each with nodes of its
+/// own, and the step of it that is not so.
+pub(super) fn fault_in<R>(rt: &R, tables: &[Table]) -> Option<(&'static str, &'static str)>
 where
     R: AllocGlobal
         + Threads
@@ -54,16 +55,16 @@ where
         + Net<Listener = TcpListener, Stream = TcpStream>,
 {
     for table in tables {
-        if !holds_beside(rt, table.members, table.row) {
-            return Some(table.name);
+        if let Some(step) = missed_with(rt, table.members, table.row) {
+            return Some((table.name, step));
         }
     }
     None
 }
 
-// Says whether a row holds with these nodes, the members of ballot 1, of which node 1 is the
-// primary.
-fn holds_beside<R>(rt: &R, members: &[u8], row: Row) -> bool
+// Returns the first step of a row that is not so with these nodes, the members of ballot 1. Node 1
+// is the primary.
+fn missed_with<R>(rt: &R, members: &[u8], row: Row) -> Missed
 where
     R: AllocGlobal
         + Threads
@@ -73,10 +74,14 @@ where
         + Net<Listener = TcpListener, Stream = TcpStream>,
 {
     let mut listeners = Vec::new(rt.alloc());
-    listen_all(rt, members, &mut listeners) && serve(rt, members, listeners.as_slice(), row)
+    if listen_all(rt, members, &mut listeners) {
+        serve(rt, members, listeners.as_slice(), row)
+    } else {
+        Some("a port is free")
+    }
 }
 
-fn serve<R>(rt: &R, members: &[u8], listeners: &[Listener], row: Row) -> bool
+fn serve<R>(rt: &R, members: &[u8], listeners: &[Listener], row: Row) -> Missed
 where
     R: AllocGlobal
         + Threads
@@ -86,16 +91,16 @@ where
         + Net<Listener = TcpListener, Stream = TcpStream>,
 {
     let Ok(config) = opening(rt.alloc(), members) else {
-        return false;
+        return Some("there is memory for a ballot");
     };
-    let held = serve_while(
+    let missed = serve_while(
         rt,
         rt.alloc(),
         listeners,
         &config,
-        |cluster| holds(rt, cluster, listeners, row),
+        |cluster| missed_step(rt, cluster, listeners, row),
     );
-    held.unwrap_or(false)
+    missed.unwrap_or(Some("the nodes serve"))
 }
 
 /// Says whether the next ballot is given to these members, and their primary becomes the active

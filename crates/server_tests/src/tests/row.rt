@@ -1,11 +1,9 @@
 // Rows: what clients do with nodes that serve them.
 
-use super::answers::{is_flood_answered, is_silence_ended};
-use super::crowds::{
-    are_all_accepted, are_silent_ones_ended, are_sixty_answered, is_deaf_one_ended, is_heard_beside,
-};
-use super::expulsions::expels;
-use super::takeovers::{moves, takes_over};
+use super::answers::{flooding, silence};
+use super::crowds::{coming_and_going, deaf_one, never_reading, silent_ones, sixty};
+use super::expulsions::expelling;
+use super::takeovers::{moving, taking_over};
 use server::{Cluster, Listener};
 use server_clients::visits;
 use std::net::{Net, TcpStream};
@@ -46,23 +44,31 @@ pub(super) struct Table {
     pub(super) row: Row,
 }
 
-/// Says whether a row holds with the nodes of these listeners.
-pub(super) fn holds<R>(rt: &R, cluster: &Cluster, listeners: &[Listener], row: Row) -> bool
+/// The first step of a row that was not as these words say; none if all were.
+pub(super) type Missed = Option<&'static str>;
+
+/// Returns the words for what is not so.
+pub(super) fn unless(is_so: bool, words: &'static str) -> Missed {
+    if is_so { None } else { Some(words) }
+}
+
+/// Returns the first step of a row that is not so with the nodes of these listeners, in words.
+pub(super) fn missed_step<R>(rt: &R, cluster: &Cluster, listeners: &[Listener], row: Row) -> Missed
 where
     R: AllocGlobal + Wait + Clock + Net<Stream = TcpStream>,
 {
     let first = listeners.first();
     match row {
-        Row::Visits => visits(rt, first),
-        Row::Silence => is_silence_ended(rt, first),
-        Row::Flood => is_flood_answered(rt, first),
-        Row::Sixty => are_sixty_answered(rt, first),
-        Row::ComeAndGo => are_all_accepted(rt, first),
-        Row::SilentOnes => are_silent_ones_ended(rt, first),
-        Row::Deaf => is_deaf_one_ended(rt, first),
-        Row::NeverReads => is_heard_beside(rt, first),
-        Row::Moves => moves(rt, cluster, listeners),
-        Row::Expels => expels(rt, cluster, first),
-        Row::TakesOver => takes_over(rt, cluster, listeners),
+        Row::Visits => unless(visits(rt, first), "all that it sends is answered"),
+        Row::Silence => silence(rt, first),
+        Row::Flood => flooding(rt, first),
+        Row::Sixty => sixty(rt, first),
+        Row::ComeAndGo => coming_and_going(rt, first),
+        Row::SilentOnes => silent_ones(rt, first),
+        Row::Deaf => deaf_one(rt, first),
+        Row::NeverReads => never_reading(rt, first),
+        Row::Moves => moving(rt, cluster, listeners),
+        Row::Expels => expelling(rt, cluster, first),
+        Row::TakesOver => taking_over(rt, cluster, listeners),
     }
 }

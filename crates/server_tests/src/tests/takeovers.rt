@@ -1,7 +1,7 @@
 // Sessions that continue at another node.
 
 use super::nodes::{fault_in, moves_to};
-use super::row::{Row, Table};
+use super::row::{Missed, Row, Table, unless};
 use server::{Cluster, Listener};
 use server_clients::{
     Heard, Pair, connect, fills, is_answered, is_delivered, is_silent, open, publish, visits,
@@ -32,16 +32,25 @@ fn sessions_go_on(rt: HostRuntime) {
 // CONNACK with a session present, and the PUBLISH again.
 const FOUND: [u8; 14] = [0x20, 2, 1, 0, 0x3C, 8, 0, 3, 0x74, 0x2F, 0x31, 0, 1, 0x78];
 
-/// Says whether client `a`, which has not finished a handshake with node 1 when ballot 2 with node
-/// 2 as sole member is given, finds its session at node 2, and is sent the publication again.
-pub(super) fn moves<R>(rt: &R, cluster: &Cluster, listeners: &[Listener]) -> bool
+/// Client `a`, which has not finished a handshake with node 1 when ballot 2 with node 2 as sole
+/// member is given, finds its session at node 2, and is sent the publication again. Returns what of
+/// that is not so.
+pub(super) fn moving<R>(rt: &R, cluster: &Cluster, listeners: &[Listener]) -> Missed
 where
     R: AllocGlobal + Wait + Clock + Net<Stream = TcpStream>,
 {
-    visits(rt, listeners.first())
-        && moves_to(rt, cluster, &[2], 2)
-        && cluster.crash(rt, 1) == Ok(true)
-        && finds(rt, listeners.get(1))
+    if !visits(rt, listeners.first()) {
+        Some("all that the client sends node 1 is answered")
+    } else if !moves_to(rt, cluster, &[2], 2) {
+        Some("node 2 becomes the active primary")
+    } else if cluster.crash(rt, 1) != Ok(true) {
+        Some("node 1 crashes")
+    } else {
+        unless(
+            finds(rt, listeners.get(1)),
+            "the client finds its session at node 2",
+        )
+    }
 }
 
 fn finds<R>(rt: &R, listener: Option<&Listener>) -> bool
@@ -55,17 +64,23 @@ where
     }
 }
 
-/// Says whether the subscriber gets each of four publications once, in order, if node 1 crashes
-/// between them and node 2 takes over.
-pub(super) fn takes_over<R>(rt: &R, cluster: &Cluster, listeners: &[Listener]) -> bool
+/// The subscriber gets each of four publications once, in order, if node 1 crashes between them and
+/// node 2 takes over. Returns what of that is not so.
+pub(super) fn taking_over<R>(rt: &R, cluster: &Cluster, listeners: &[Listener]) -> Missed
 where
     R: AllocGlobal + Wait + Clock + Net<Stream = TcpStream>,
 {
     let mut heard = Heard::new(rt);
-    begins(rt, cluster, listeners.first(), &mut heard)
-        && moves_to(rt, cluster, &[2, 3], 2)
-        && goes_on(rt, listeners.get(1), &mut heard)
-        && heard.payloads.as_slice() == b"xyz!".as_slice()
+    if !begins(rt, cluster, listeners.first(), &mut heard) {
+        Some("three handshakes begin at node 1, and it crashes")
+    } else if !moves_to(rt, cluster, &[2, 3], 2) {
+        Some("node 2 becomes the active primary")
+    } else if !goes_on(rt, listeners.get(1), &mut heard) {
+        Some("the handshakes end at node 2")
+    } else {
+        let is_whole = heard.payloads.as_slice() == b"xyz!".as_slice();
+        unless(is_whole, "each publication comes once, in order")
+    }
 }
 
 // Says whether two clients begin at node 1, which then crashes.
