@@ -8,7 +8,7 @@ ghost use Rattle.jobs.specs.declared.obeying.Order.TheVariants as orders;
 use crate::fault::Fault;
 use command_line::ListeningNode;
 use command_line::packet::ClientId;
-use server::{Cluster, Config, Members, Status};
+use server::{Cluster, Config, Members, Memory, Status};
 use std::alloc::Global;
 use std::io::{BufRead, ErrorKind, Write};
 use std::sync::Wait;
@@ -34,9 +34,6 @@ const NO_ORDER: u8 = 24;
 
 /// The refusal of an order that only an active primary can obey, if no node is one.
 const NO_PRIMARY: u8 = 18;
-
-/// The refusal because memory ran out.
-const NO_MEMORY: u8 = 12;
 
 /// Obeys the lines of the input to its end or to `quit`, and answers each. The only fault is an
 /// input that cannot be read.
@@ -75,7 +72,7 @@ fn next_order<I: BufRead>(alloc: Global, input: &mut I) -> Result<Result<Order, 
             ErrorKind::OutOfMemory => {
                 // The rest of the line is no order.
                 input.skip_until(b'\n').ok().ok_or(Fault::Input)?;
-                Ok(Err(NO_MEMORY))
+                Ok(Err(Memory.number()))
             }
             _ => Err(Fault::Input),
         },
@@ -131,12 +128,12 @@ pub(crate) fn members_of(alloc: Global, word: &str) -> Result<Members, u8> {
     for part in word.split(',') {
         let number = number_of(part)?;
         if numbers.push(number).is_err() {
-            return Err(NO_MEMORY);
+            return Err(Memory.number());
         }
     }
     match Members::from_slice(alloc, numbers.as_slice()) {
         Ok(members) => Ok(members),
-        Err(_) => Err(NO_MEMORY),
+        Err(error) => Err(error.number()),
     }
 }
 
@@ -160,7 +157,7 @@ where
                 let _ = writeln!(output, "crashed {number}");
             }
             Ok(false) => refuse(output, NO_ORDER),
-            Err(_) => refuse(output, NO_MEMORY),
+            Err(error) => refuse(output, error.number()),
         },
         Order::Expel(client) => expel(rt, cluster, &client, output),
     }
@@ -177,7 +174,7 @@ where
             let _ = writeln!(output, "expel {client}");
         }
         Ok(false) => refuse(output, NO_PRIMARY),
-        Err(_) => refuse(output, NO_MEMORY),
+        Err(error) => refuse(output, error.number()),
     }
 }
 

@@ -15,15 +15,13 @@ use crate::reading::{bytes_of, rest_of};
 use command_line::packet::ClientId;
 use command_line::{Escape, Play};
 use play::{PlayError, escape, play};
+use server::Memory;
 use std::alloc::Global;
 use std::io::{BufRead, Write};
 use std::rt::Files;
 
 // The number by which a word is refused that is no list of members.
 const BAD_MEMBERS: u8 = 20;
-
-// The number of every refusal because memory ran out.
-const NO_MEMORY: u8 = 12;
 
 /// Plays the script of a file, or of the input if no file is named, and writes its transcript, or a
 /// way out of the world in which it ends.
@@ -58,12 +56,12 @@ fn print_way<O: Write>(
 ) -> Result<(), Fault> {
     let members = match members_of(alloc, job.members) {
         Ok(members) => members,
-        Err(NO_MEMORY) => return Err(Fault::Memory),
+        Err(number) if number == Memory.number() => return Err(Fault::Memory),
         Err(_) => return Err(Fault::Refused(BAD_MEMBERS)),
     };
     let client = match client_of(alloc, job.client) {
         Ok(client) => client,
-        Err(NO_MEMORY) => return Err(Fault::Memory),
+        Err(number) if number == Memory.number() => return Err(Fault::Memory),
         Err(number) => return Err(Fault::Refused(number)),
     };
     escape_text(alloc, text, members.as_slice(), &client, output)

@@ -8,8 +8,8 @@ use std::net::{Net, TcpStream};
 use std::thread;
 use std::time::{Clock, Duration};
 
-/// How long a client waits after a connection that was lost, in milliseconds.
-const REST: u64 = 200;
+/// How long a client waits after a connection that was lost.
+const REST_MILLIS: u64 = 200;
 
 // Servers at these addresses, one after another.
 #[derive(Drop)]
@@ -38,7 +38,7 @@ impl<'a, R: Net<Stream = TcpStream> + Clock> Servers for TcpServers<'a, R> {
     }
 
     fn rest(&mut self) {
-        thread::sleep(self.rt, Duration::from_millis(REST));
+        thread::sleep(self.rt, Duration::from_millis(REST_MILLIS));
     }
 }
 
