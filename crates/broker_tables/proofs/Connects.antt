@@ -24,7 +24,7 @@ use Rattle.broker_rows.proofs.maps.OwnersConnect.{connecting_sets_the_owner, res
 use Rattle.broker_rows.proofs.maps.ContentOfSteps.{beginning_drops, writing_keeps_content}
 use Rattle.broker_rows.specs.Touched.{written}
 use Rattle.broker_tables.specs.declared.tables.Tables.{Tables}
-use Rattle.broker_tables.specs.Tables.{owners_at, state_in, stepped, IsTied, IsInStep}
+use Rattle.broker_tables.specs.Tables.{owners_at, state_in, stepped, IsTied, IsConsistent}
 use Rattle.broker_tables.specs.Connecting.{goes_on, goes_on_in, sent_to_resumed, TakesOver}
 use Rattle.broker_tables.proofs.FoundByMaps.{is_nobodys}
 use Rattle.broker_tables.proofs.Losses.{loss_step}
@@ -49,7 +49,7 @@ further_of tables x c kept named clean served =
 
 -- ---- on a connection without a client
 
-module _ (tables : Tables) (x : ConnectionName) (c : Client) (clean : Bool) (step : IsInStep tables) (none : owners_in tables.sessions.entries x ≡ None) where
+module _ (tables : Tables) (x : ConnectionName) (c : Client) (clean : Bool) (step : IsConsistent tables) (none : owners_in tables.sessions.entries x ≡ None) where
   -- a session begins
   pub beginning_of : is_admitted usual_limits (state_in tables) c ≡ true → begins_in (state_in tables) c clean ≡ true →
       stepped tables (commands.Connect x c clean)
@@ -153,7 +153,7 @@ module _ (tables : Tables) (x : ConnectionName) (c : Client) (clean : Bool) (ste
 
 -- ---- by what the map of connections has
 
-pub further_by : (tables : Tables) (x : ConnectionName) (named : Client) (clean : Bool) → IsInStep tables →
+pub further_by : (tables : Tables) (x : ConnectionName) (named : Client) (clean : Bool) → IsConsistent tables →
     is_some (owners_at tables.owners.entries x) ≡ true →
     stepped tables (commands.Connect x named clean) ≡ ((stepped tables (commands.Lost x)).0, outputs.Close x ∷ [])
 further_by tables x named clean step there = by (owner_in x tables.sessions.entries) refl
@@ -167,7 +167,7 @@ further_by tables x named clean step there = by (owner_in x tables.sessions.entr
         let not : is_some (owners_at tables.owners.entries x) ≡ false = ap is_some none in
         absurd (true≢false (sym there ∙ not))
 
-pub not_there : (tables : Tables) (x : ConnectionName) → IsInStep tables → is_some (owners_at tables.owners.entries x) ≡ false →
+pub not_there : (tables : Tables) (x : ConnectionName) → IsConsistent tables → is_some (owners_at tables.owners.entries x) ≡ false →
     owners_in tables.sessions.entries x ≡ None
 not_there tables x step out = sym (step.tied.owners x) ∙ by (owners_at tables.owners.entries x) out
   where

@@ -15,11 +15,11 @@ use Rattle.broker_rows.specs.Owners.{Owners, owners_in, without_owner}
 use Rattle.broker_rows.proofs.ExpelSteps.{expel_step, nobodys_expel_step}
 use Rattle.broker_rows.proofs.maps.ExpelledMaps.{expel_removes_the_owner, expel_drops_the_client}
 use Rattle.broker_tables.specs.declared.tables.Tables.{Tables}
-use Rattle.broker_tables.specs.Tables.{owners_at, state_in, stepped, IsTied, IsInStep}
+use Rattle.broker_tables.specs.Tables.{owners_at, state_in, stepped, IsTied, IsConsistent}
 use Rattle.broker_tables.proofs.TiesOfRows.{tied_to}
 
 -- of a client with a session
-pub expelled : (tables : Tables) (c : Client) (kept : ClientSession) → IsInStep tables → session_in c tables.sessions.entries ≡ Some kept →
+pub expelled : (tables : Tables) (c : Client) (kept : ClientSession) → IsConsistent tables → session_in c tables.sessions.entries ≡ Some kept →
     stepped tables (commands.Expel c) ≡ (with_session c None (state_in tables), closed kept.connection)
 unfolding stepped
 expelled tables c kept step held = expel_step usual_limits 64 (state_in tables) c kept step.sound held
@@ -38,7 +38,7 @@ without_same None a b q e = e
 without_same (Some x) a b q e = ap (λ (o : Option Client). if same_connection x q then None else o) e
 
 -- the ties after it
-pub ties_expelled : (tables after : Tables) (c : Client) (kept : ClientSession) (left : Option ConnectionName) → IsInStep tables → session_in c tables.sessions.entries ≡ Some kept →
+pub ties_expelled : (tables after : Tables) (c : Client) (kept : ClientSession) (left : Option ConnectionName) → IsConsistent tables → session_in c tables.sessions.entries ≡ Some kept →
     left ≡ kept.connection → IsWithoutAny tables left after → after.sessions.entries ≡ written c None tables.sessions.entries →
     content_of after.index ≡ without_client (content_of tables.index) c → IsTied after
 ties_expelled tables after c kept left step held same without is index =

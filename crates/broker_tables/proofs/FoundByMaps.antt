@@ -9,10 +9,10 @@ use Rattle.broker_rows.specs.Served.{IsServed}
 use Rattle.broker_rows.specs.Owners.{owners_in, row_in}
 use Rattle.broker_rows.proofs.OwnerByMap.{owner_by_map}
 use Rattle.broker_tables.specs.declared.tables.Tables.{Tables}
-use Rattle.broker_tables.specs.Tables.{state_in, IsInStep}
+use Rattle.broker_tables.specs.Tables.{state_in, IsConsistent}
 
 -- the session of the client that owns a connection
-pub found : (tables : Tables) (x : ConnectionName) (c : Client) → IsInStep tables →
+pub found : (tables : Tables) (x : ConnectionName) (c : Client) → IsConsistent tables →
     owners_in tables.sessions.entries x ≡ Some c →
     owner_in x tables.sessions.entries ≡ option_map (λ (kept : ClientSession). (c, kept)) (session_in c tables.sessions.entries)
 found tables x c step owned =
@@ -20,7 +20,7 @@ found tables x c step owned =
     ∙ ap (row_in tables.sessions.entries) owned
 
 -- it is served on it
-pub is_served : (tables : Tables) (x : ConnectionName) (c : Client) (kept : ClientSession) → IsInStep tables →
+pub is_served : (tables : Tables) (x : ConnectionName) (c : Client) (kept : ClientSession) → IsConsistent tables →
     owners_in tables.sessions.entries x ≡ Some c → session_in c tables.sessions.entries ≡ Some kept → IsServed (state_in tables) x c kept
 is_served tables x c kept step owned held = record {
   sound = step.sound;
@@ -28,7 +28,7 @@ is_served tables x c kept step owned held = record {
 }
 
 -- and is there
-pub has_session : (tables : Tables) (x : ConnectionName) (c : Client) → IsInStep tables →
+pub has_session : (tables : Tables) (x : ConnectionName) (c : Client) → IsConsistent tables →
     owners_in tables.sessions.entries x ≡ Some c → IsSome (session_in c tables.sessions.entries)
 has_session tables x c step owned =
     by (session_in c tables.sessions.entries)

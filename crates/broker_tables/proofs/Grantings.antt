@@ -24,7 +24,7 @@ use Rattle.broker_rows.proofs.publications.SubscribesInTurn.{subscribes}
 use Rattle.broker_rows.proofs.maps.OwnersStay.{owners_written}
 use Rattle.broker_rows.proofs.maps.ContentOfSteps.{subscribing_sets}
 use Rattle.broker_tables.specs.declared.tables.Tables.{Tables}
-use Rattle.broker_tables.specs.Tables.{by_connection, state_in, stepped, IsTied, IsInStep}
+use Rattle.broker_tables.specs.Tables.{by_connection, state_in, stepped, IsTied, IsConsistent}
 use Rattle.broker_tables.proofs.TiesOfRows.{tied_to}
 
 -- which filters are granted
@@ -49,7 +49,7 @@ subscribe_of tables x c kept s served =
     ))
 
 -- the ties after it
-pub ties_of_subscribe : (tables after : Tables) (c : Client) (kept new : ClientSession) (s : Subscribe) → IsInStep tables →
+pub ties_of_subscribe : (tables after : Tables) (c : Client) (kept new : ClientSession) (s : Subscribe) → IsConsistent tables →
     session_in c tables.sessions.entries ≡ Some kept → new.connection ≡ kept.connection →
     new.state ≡ subscribed_in_turn usual_limits tables.window tables.retained kept.state s.filters →
     after.sessions.entries ≡ set_value (is_at (by_bytes c)) tables.sessions.entries new →

@@ -22,7 +22,7 @@ use Rattle.broker_rows.proofs.PacketSteps.{pingreq_step}
 use Rattle.broker_rows.proofs.LeavingSteps.{leaving_step}
 use Rattle.broker_rows.proofs.NobodysSteps.{nobodys_packet_step}
 use Rattle.broker_tables.specs.declared.tables.Tables.{Tables}
-use Rattle.broker_tables.specs.Tables.{state_in, stepped, IsInStep}
+use Rattle.broker_tables.specs.Tables.{state_in, stepped, IsConsistent}
 use Rattle.broker_tables.specs.Inside.{is_handshake, is_violation}
 use Rattle.broker_tables.proofs.FoundByMaps.{is_nobodys}
 use Rattle.broker_tables.proofs.Losses.{loss_step}
@@ -43,7 +43,7 @@ owned {A} tables x c is go = by (owner_in x tables.sessions.entries) refl
         let none : owners_in tables.sessions.entries x ≡ None = ap (option_map (λ (row : Client × ClientSession). row.0)) e in
         absurd (cc)
 
-pub pingreq_of : (tables : Tables) (x : ConnectionName) (c : Client) → IsInStep tables → owners_in tables.sessions.entries x ≡ Some c →
+pub pingreq_of : (tables : Tables) (x : ConnectionName) (c : Client) → IsConsistent tables → owners_in tables.sessions.entries x ≡ Some c →
     stepped tables (commands.Packet x packets.Pingreq) ≡ (state_in tables, outputs.Send x packets.Pingresp ∷ [])
 unfolding stepped
 pingreq_of tables x c step is =
@@ -60,7 +60,7 @@ leaves tables row packets.Pingresp e = refl
 leaves tables row packets.Disconnect e = refl
 leaves tables row _ e = absurd (cc)
 
-pub violation_of : (tables : Tables) (x : ConnectionName) (c : Client) (packet : Packet) → IsInStep tables →
+pub violation_of : (tables : Tables) (x : ConnectionName) (c : Client) (packet : Packet) → IsConsistent tables →
     owners_in tables.sessions.entries x ≡ Some c → is_violation packet ≡ true →
     stepped tables (commands.Packet x packet) ≡ ((stepped tables (commands.Lost x)).0, outputs.Close x ∷ [])
 unfolding stepped

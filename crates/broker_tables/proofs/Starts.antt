@@ -16,16 +16,16 @@ use Rattle.broker_rows.proofs.StartSteps.{start_step}
 use Rattle.broker_rows.proofs.maps.OwnersLeave.{start_removes_the_owners}
 use Rattle.broker_rows.proofs.maps.ContentOfStart.{start_drops_the_clean}
 use Rattle.broker_tables.specs.declared.tables.Tables.{Tables}
-use Rattle.broker_tables.specs.Tables.{by_connection, state_in, stepped, IsTied, IsInStep}
+use Rattle.broker_tables.specs.Tables.{by_connection, state_in, stepped, IsTied, IsConsistent}
 use Rattle.broker_tables.proofs.TiesOfRows.{tied_to}
 
-pub start_of : (tables : Tables) (ballot : _) → IsInStep tables →
+pub start_of : (tables : Tables) (ballot : _) → IsConsistent tables →
     stepped tables (commands.Start ballot)
     ≡ (record { window = 64; sessions = all_left_off tables.sessions.entries; retained = tables.retained }, [])
 unfolding stepped
 start_of tables ballot step = start_step usual_limits 64 (state_in tables) ballot step.sound
 
-pub ties_of_start : (tables after : Tables) → IsInStep tables → after.sessions.entries ≡ all_left_off tables.sessions.entries →
+pub ties_of_start : (tables after : Tables) → IsConsistent tables → after.sessions.entries ≡ all_left_off tables.sessions.entries →
     after.owners.entries ≡ [] → content_of after.index ≡ all_dropped (clean_clients tables.sessions.entries) (content_of tables.index) → IsTied after
 ties_of_start tables after step is owners index =
     tied_to after (all_left_off tables.sessions.entries) is

@@ -12,7 +12,7 @@ use Rattle.broker_rows.specs.Indexed.{content_in}
 use Rattle.broker_rows.proofs.maps.OwnersStay.{owners_written}
 use Rattle.broker_rows.proofs.maps.ContentOfSteps.{writing_keeps_content}
 use Rattle.broker_tables.specs.declared.tables.Tables.{Tables}
-use Rattle.broker_tables.specs.Tables.{by_connection, IsTied, IsInStep}
+use Rattle.broker_tables.specs.Tables.{by_connection, IsTied, IsConsistent}
 
 -- tables with these sessions
 pub tied_to : (after : Tables) (rows : Sessions) → after.sessions.entries ≡ rows →
@@ -24,7 +24,7 @@ tied_to after rows is owners index = record {
 }
 
 -- a session that is set with the connection and the subscriptions that it had
-pub ties_of_set : (tables after : Tables) (c : Client) (kept new : ClientSession) → IsInStep tables →
+pub ties_of_set : (tables after : Tables) (c : Client) (kept new : ClientSession) → IsConsistent tables →
     after.owners.entries ≡ tables.owners.entries → content_of after.index ≡ content_of tables.index →
     after.sessions.entries ≡ set_value (is_at (by_bytes c)) tables.sessions.entries new →
     session_in c tables.sessions.entries ≡ Some kept → new.connection ≡ kept.connection →

@@ -20,7 +20,7 @@ use Rattle.broker_rows.proofs.PacketSteps.{handled_step}
 use Rattle.broker_rows.proofs.maps.OwnersStay.{owners_written}
 use Rattle.broker_rows.proofs.maps.ContentOfSteps.{unsubscribing_clears}
 use Rattle.broker_tables.specs.declared.tables.Tables.{Tables}
-use Rattle.broker_tables.specs.Tables.{by_connection, state_in, stepped, IsTied, IsInStep}
+use Rattle.broker_tables.specs.Tables.{by_connection, state_in, stepped, IsTied, IsConsistent}
 use Rattle.broker_tables.proofs.TiesOfRows.{tied_to}
 
 pub unsubscribe_of : (tables : Tables) (x : ConnectionName) (c : Client) (kept : ClientSession) (u : Unsubscribe) → IsServed (state_in tables) x c kept →
@@ -34,7 +34,7 @@ unsubscribe_of tables x c kept u served =
     handled_step usual_limits 64 (state_in tables) x c kept served (packets.Unsubscribe u) refl
 
 -- the ties after it
-pub ties_of_unsubscribe : (tables after : Tables) (c : Client) (kept new : ClientSession) (u : Unsubscribe) → IsInStep tables →
+pub ties_of_unsubscribe : (tables after : Tables) (c : Client) (kept new : ClientSession) (u : Unsubscribe) → IsConsistent tables →
     session_in c tables.sessions.entries ≡ Some kept → new.connection ≡ kept.connection →
     new.state.subscriptions ≡ without_filters u.filters kept.state.subscriptions →
     after.sessions.entries ≡ set_value (is_at (by_bytes c)) tables.sessions.entries new →

@@ -6,7 +6,7 @@ ghost use Rattle.broker_rows.specs.broker_spec.declared.command.Command.TheVaria
 ghost use Rattle.broker_rows.specs.PacketLaws.{handled_state};
 ghost use Rattle.broker_rows.specs.Owners.{owners_in};
 ghost use Rattle.broker_tables.specs.Inside.{is_handshake, handshake_sends};
-ghost use Rattle.broker_tables.specs.Tables.{IsInStep, IsTied, state_in, stepped};
+ghost use Rattle.broker_tables.specs.Tables.{IsConsistent, IsTied, state_in, stepped};
 
 use crate::sending::send_all;
 use crate::tables::Tables;
@@ -24,7 +24,7 @@ impl Tables {
         packet: &Packet,
         out: &mut Vec<Output>,
     ) -> Result<(), Halted>
-        requires in_step { IsInStep self.old }
+        requires consistent { IsConsistent self.old }
         requires served { owners_in self.old.sessions.entries connection ≡ Some client.now }
         requires kind { is_handshake packet.now ≡ true }
         ensures state { OnOk result

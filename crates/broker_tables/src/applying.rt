@@ -1,7 +1,7 @@
 // One command of the log.
 
 ghost use Rattle.std.specs.Prelude.{◌≡◌, ◌++◌, OnOk};
-ghost use Rattle.broker_tables.specs.Tables.{IsInStep, IsTied, state_in, stepped};
+ghost use Rattle.broker_tables.specs.Tables.{IsConsistent, IsTied, state_in, stepped};
 
 use crate::tables::Tables;
 use broker_rows::broker_spec::{Command, Output};
@@ -11,7 +11,7 @@ impl Tables {
     /// Does one command, and appends its outputs. `Halted` says that memory ran out: the tables may
     /// then be half changed, and are not used again.
     pub fn apply(&mut self, command: &Command, out: &mut Vec<Output>) -> Result<(), Halted>
-        requires { IsInStep self.old }
+        requires { IsConsistent self.old }
         ensures state { OnOk result (state_in self.new ≡ (stepped self.old command.now).0) }
         ensures outputs { OnOk result
             (out.new.items ≡ out.old.items ++ (stepped self.old command.now).1) }

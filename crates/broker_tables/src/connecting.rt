@@ -11,7 +11,7 @@ ghost use Rattle.broker_rows.specs.broker_base.State.{session_in};
 ghost use Rattle.broker_rows.specs.broker_base.StepAnswers.{connection_of};
 ghost use Rattle.broker_rows.specs.Owners.{owners_in, with_owner, without_owner};
 ghost use Rattle.broker_rows.specs.ConnectLaws.{is_admitted, begins_in};
-ghost use Rattle.broker_tables.specs.Tables.{IsInStep, IsTied, owners_at, state_in, stepped};
+ghost use Rattle.broker_tables.specs.Tables.{IsConsistent, IsTied, owners_at, state_in, stepped};
 ghost use Rattle.broker_tables.specs.declared.connecting.Admission.TheVariants.{Begins, GoesOn};
 ghost use Rattle.broker_tables.specs.declared.connecting.Admission.TheVariants.{TurnedAway};
 ghost use Rattle.broker_rows.specs.Published.{changed};
@@ -49,7 +49,7 @@ impl Tables {
         clean: bool,
         out: &mut Vec<Output>,
     ) -> Result<(), Halted>
-        requires { IsInStep self.old }
+        requires { IsConsistent self.old }
         ensures state { OnOk result
             (state_in self.new
             ≡ (stepped self.old (commands.Connect connection client.now clean)).0) }
@@ -107,7 +107,7 @@ impl Tables {
         clean: bool,
         out: &mut Vec<Output>,
     ) -> Result<(), Halted>
-        requires in_step { IsInStep self.old }
+        requires consistent { IsConsistent self.old }
         requires nobodys { owners_in self.old.sessions.entries connection ≡ None }
         requires admitted { is_admitted usual_limits (state_in self.old) client.now ≡ true }
         requires begins { begins_in (state_in self.old) client.now clean ≡ true }
@@ -166,7 +166,7 @@ impl Tables {
         clean: bool,
         out: &mut Vec<Output>,
     ) -> Result<(), Halted>
-        requires in_step { IsInStep self.old }
+        requires consistent { IsConsistent self.old }
         requires nobodys { owners_in self.old.sessions.entries connection ≡ None }
         requires goes_on { goes_on_in (state_in self.old) client.now clean ≡ true }
         ensures state { OnOk result

@@ -3,7 +3,7 @@
 ghost use Rattle.std.specs.Prelude.{◌≡◌, ◌++◌, OnOk, OnErr};
 ghost use Rattle.broker_rows.specs.broker_spec.Answers.{closed};
 ghost use Rattle.broker_rows.specs.broker_spec.declared.command.Command.TheVariants as commands;
-ghost use Rattle.broker_tables.specs.Tables.{IsInStep, IsTied, state_in, stepped};
+ghost use Rattle.broker_tables.specs.Tables.{IsConsistent, IsTied, state_in, stepped};
 
 use crate::connecting::release;
 use crate::tables::Tables;
@@ -17,7 +17,7 @@ impl Tables {
     /// and closes its connection. Without a session nothing changes. Only the Close takes memory:
     /// if there is none for it, all stays as it was.
     pub(crate) fn expel(&mut self, client: &ClientId, out: &mut Vec<Output>) -> Result<(), Halted>
-        requires { IsInStep self.old }
+        requires { IsConsistent self.old }
         ensures state { OnOk result
             (state_in self.new ≡ (stepped self.old (commands.Expel client.now)).0) }
         ensures outputs { OnOk result

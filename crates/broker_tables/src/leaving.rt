@@ -4,7 +4,7 @@
 ghost use Rattle.std.specs.Prelude.{◌≡◌, ◌++◌, [], ◌∷◌, OnOk};
 ghost use Rattle.broker_rows.specs.broker_spec.declared.command.Command.TheVariants as commands;
 ghost use Rattle.broker_rows.specs.broker_spec.declared.command.Output.TheVariants as outputs;
-ghost use Rattle.broker_tables.specs.Tables.{IsInStep, IsTied, state_in, stepped};
+ghost use Rattle.broker_tables.specs.Tables.{IsConsistent, IsTied, state_in, stepped};
 
 use crate::tables::Tables;
 use broker_rows::broker_spec::{ConnectionId, Output};
@@ -15,7 +15,7 @@ impl Tables {
     /// Ends a connection: its client is no longer served, and a clean session ends with it,
     /// including its subscriptions. A connection that is no client's current one changes nothing.
     pub(crate) fn lose(&mut self, connection: ConnectionId)
-        requires { IsInStep self.old }
+        requires { IsConsistent self.old }
         ensures state { state_in self.new ≡ (stepped self.old (commands.Lost connection)).0 }
         ensures tied { IsTied self.new }
     {
@@ -37,7 +37,7 @@ impl Tables {
         connection: ConnectionId,
         out: &mut Vec<Output>,
     ) -> Result<(), Halted>
-        requires { IsInStep self.old }
+        requires { IsConsistent self.old }
         ensures state { OnOk result
             (state_in self.new ≡ (stepped self.old (commands.Lost connection)).0) }
         ensures outputs { OnOk result

@@ -6,7 +6,7 @@ ghost use Rattle.session.specs.packet.declared.packet.Packet.TheVariants as pack
 ghost use Rattle.broker_rows.specs.broker_spec.declared.command.Command.TheVariants as commands;
 ghost use Rattle.broker_rows.specs.Owners.{owners_in};
 ghost use Rattle.broker_rows.specs.PublishLaws.{is_refused_in, HaveRoomInTurn};
-ghost use Rattle.broker_tables.specs.Tables.{IsInStep, IsTied, state_in, stepped};
+ghost use Rattle.broker_tables.specs.Tables.{IsConsistent, IsTied, state_in, stepped};
 ghost use Rattle.broker_tables.specs.Inside.{HasOthersOf};
 ghost use Rattle.broker_rows.specs.broker_spec.Answers.{acknowledged};
 ghost use Rattle.broker_rows.specs.broker_spec.Commands.{usual_limits};
@@ -40,7 +40,7 @@ impl Tables {
         publish: &Publish,
         out: &mut Vec<Output>,
     ) -> Result<(), Halted>
-        requires in_step { IsInStep self.old }
+        requires consistent { IsConsistent self.old }
         requires served { owners_in self.old.sessions.entries connection ≡ Some client.now }
         ensures state { OnOk result
             (state_in self.new
@@ -69,7 +69,7 @@ impl Tables {
 
     // Returns the clients with a subscription that matches, each with the greatest QoS.
     fn granted(&self, topic: &TopicName) -> Result<Vec<(ClientId, QoS)>, AllocError>
-        requires { IsInStep self.now }
+        requires { IsConsistent self.now }
         ensures { IfOk result
             (λ rows. rows.items ≡ granted_rows topic.now self.now.sessions.entries) }
     {

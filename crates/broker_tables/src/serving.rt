@@ -4,7 +4,7 @@ ghost use Rattle.std.specs.Prelude.{◌≡◌, ◌++◌, Some, IfOk, OnOk};
 ghost use Rattle.broker_rows.specs.broker_spec.declared.command.Command.TheVariants as commands;
 ghost use Rattle.broker_rows.specs.Owners.{owners_in};
 ghost use Rattle.broker_tables.specs.Inside.{is_handshake, is_violation};
-ghost use Rattle.broker_tables.specs.Tables.{IsInStep, IsTied, state_in, stepped};
+ghost use Rattle.broker_tables.specs.Tables.{IsConsistent, IsTied, state_in, stepped};
 
 use crate::tables::Tables;
 use broker_rows::broker_spec::{ConnectionId, Output};
@@ -21,7 +21,7 @@ impl Tables {
         packet: &Packet,
         out: &mut Vec<Output>,
     ) -> Result<(), Halted>
-        requires { IsInStep self.old }
+        requires { IsConsistent self.old }
         ensures state { OnOk result
             (state_in self.new ≡ (stepped self.old (commands.Packet connection packet.now)).0) }
         ensures outputs { OnOk result
@@ -44,7 +44,7 @@ impl Tables {
         packet: &Packet,
         out: &mut Vec<Output>,
     ) -> Result<(), Halted>
-        requires in_step { IsInStep self.old }
+        requires consistent { IsConsistent self.old }
         requires served { owners_in self.old.sessions.entries connection ≡ Some client.now }
         ensures state { OnOk result
             (state_in self.new ≡ (stepped self.old (commands.Packet connection packet.now)).0) }

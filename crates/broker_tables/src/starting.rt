@@ -6,7 +6,7 @@ ghost use Rattle.broker_rows.specs.broker_spec.declared.command.Command.TheVaria
 ghost use Rattle.broker_rows.specs.Indexed.{all_dropped, clean_clients};
 ghost use Rattle.broker_rows.specs.ConnectLaws.{all_left_off};
 ghost use Rattle.broker_rows.specs.Served.{left_off};
-ghost use Rattle.broker_tables.specs.Tables.{IsInStep, IsTied, state_in, stepped};
+ghost use Rattle.broker_tables.specs.Tables.{IsConsistent, IsTied, state_in, stepped};
 
 use crate::client_row::ClientRow;
 use crate::tables::Tables;
@@ -19,7 +19,7 @@ impl Tables {
     /// Does a Start: no client is served any more, the clean sessions end, and the window is the
     /// wide one.
     pub(crate) fn start(&mut self, ballot: u64)
-        requires { IsInStep self.old }
+        requires { IsConsistent self.old }
         ensures state { state_in self.new ≡ (stepped self.old (commands.Start ballot)).0 }
         ensures tied { IsTied self.new }
     {

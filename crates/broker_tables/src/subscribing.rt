@@ -12,7 +12,7 @@ ghost use Rattle.broker_rows.specs.CopyLaws.{is_granted_in, subscribed_by, sent_
 ghost use Rattle.broker_rows.specs.CopyLaws.{granted_in_turn, subscribed_in_turn, sent_in_turn};
 ghost use Rattle.broker_rows.specs.Indexed.{all_set};
 ghost use Rattle.broker_rows.specs.Owners.{owners_in};
-ghost use Rattle.broker_tables.specs.Tables.{IsInStep, IsTied, state_in, stepped};
+ghost use Rattle.broker_tables.specs.Tables.{IsConsistent, IsTied, state_in, stepped};
 
 use crate::limits::MAX_SUBSCRIPTIONS;
 use crate::retained_copies::{copies_for, queued, take_copies};
@@ -36,7 +36,7 @@ impl Tables {
         subscribe: &Subscribe,
         out: &mut Vec<Output>,
     ) -> Result<(), Halted>
-        requires in_step { IsInStep self.old }
+        requires consistent { IsConsistent self.old }
         requires served { owners_in self.old.sessions.entries connection ≡ Some client.now }
         ensures state { OnOk result
             (state_in self.new

@@ -8,7 +8,7 @@ ghost use Rattle.broker_rows.specs.subs_base.ListIndex.{content_of};
 ghost use Rattle.broker_rows.specs.broker_spec.declared.command.Command.TheVariants as commands;
 ghost use Rattle.broker_rows.specs.Indexed.{all_cleared};
 ghost use Rattle.broker_rows.specs.Owners.{owners_in};
-ghost use Rattle.broker_tables.specs.Tables.{IsInStep, IsTied, state_in, stepped};
+ghost use Rattle.broker_tables.specs.Tables.{IsConsistent, IsTied, state_in, stepped};
 
 use crate::tables::Tables;
 use broker_rows::broker_spec::{ConnectionId, Output};
@@ -27,7 +27,7 @@ impl Tables {
         unsubscribe: &Unsubscribe,
         out: &mut Vec<Output>,
     ) -> Result<(), Halted>
-        requires in_step { IsInStep self.old }
+        requires consistent { IsConsistent self.old }
         requires served { owners_in self.old.sessions.entries connection ≡ Some client.now }
         ensures state { OnOk result
             (state_in self.new ≡ (stepped self.old

@@ -16,7 +16,7 @@ returns-clause-state c =
       retained = c.in_ok-welcome.ensures.others.retained i;
     })
     ∙ sym (ap (λ p. p.0)
-    (beginning_of t c.args.connection c.args.client.now c.args.clean c.requires.in_step c.requires.nobodys c.requires.admitted c.requires.begins))
+    (beginning_of t c.args.connection c.args.client.now c.args.clean c.requires.consistent c.requires.nobodys c.requires.admitted c.requires.begins))
 
 pub returns-clause-outputs : goal.returns-clause-outputs
 returns-clause-outputs c =
@@ -24,12 +24,12 @@ returns-clause-outputs c =
     c.in_ok-welcome.ensures.outputs
     ∙ ap (λ given. c.args.out.now.items ++ given)
     (sym (ap (λ p. p.1)
-    (beginning_of t c.args.connection c.args.client.now c.args.clean c.requires.in_step c.requires.nobodys c.requires.admitted c.requires.begins)))
+    (beginning_of t c.args.connection c.args.client.now c.args.clean c.requires.consistent c.requires.nobodys c.requires.admitted c.requires.begins)))
 
 pub returns-clause-tied : goal.returns-clause-tied
 returns-clause-tied c =
     let t = c.args.self.now in
-    ties_of_beginning t c.args.connection c.args.client.now c.args.clean c.requires.in_step c.requires.nobodys _
+    ties_of_beginning t c.args.connection c.args.client.now c.args.clean c.requires.consistent c.requires.nobodys _
     (c.in_ok-insert.ensures.entries
     ∙ (λ j. insert_entry by_bytes (c.in_ok-welcome.ensures.others.sessions j) (c.in_ok-clone.ensures.cases j) (c.new-row.ensures j)))
     c.in_ok-welcome.ensures.owners

@@ -18,7 +18,7 @@ use Rattle.broker_tables.proofs.tables.Tables.handshake.Goals as goal
 
 pub unwrap-row-requires : goal.unwrap-row-requires
 unwrap-row-requires c =
-    let there = has_session c.args.self.now c.args.connection c.args.client.now c.requires.in_step c.requires.served in
+    let there = has_session c.args.self.now c.args.connection c.args.client.now c.requires.consistent c.requires.served in
     search (rules, there, c.get_mut.ensures.value)
 
 pub returns-clause-state : goal.returns-clause-state
@@ -34,7 +34,7 @@ returns-clause-state c =
     ∙ ap (λ (k : ClientSession). holding (handled_state t.window c.args.packet.now k.state) k) c.row.view_is))
     ∙ sym (ap (λ p. p.0)
     (handshake_step t c.args.connection c.args.client.now kept c.args.packet.now
-    (is_served t c.args.connection c.args.client.now kept c.requires.in_step c.requires.served held) c.requires.kind))
+    (is_served t c.args.connection c.args.client.now kept c.requires.consistent c.requires.served held) c.requires.kind))
 
 pub returns-clause-outputs : goal.returns-clause-outputs
 returns-clause-outputs c =
@@ -49,7 +49,7 @@ returns-clause-outputs c =
     ∙ ap (λ sent. c.args.out.now.items ++ sent)
     (sym (ap (λ p. p.1)
     (handshake_step t c.args.connection c.args.client.now kept c.args.packet.now
-    (is_served t c.args.connection c.args.client.now kept c.requires.in_step c.requires.served held) c.requires.kind)))
+    (is_served t c.args.connection c.args.client.now kept c.requires.consistent c.requires.served held) c.requires.kind)))
 
 pub returns-clause-tied : goal.returns-clause-tied
 returns-clause-tied c =
@@ -57,7 +57,7 @@ returns-clause-tied c =
     let kept = c.unwrap-row.result.now in
     let held : session_in c.args.client.now t.sessions.entries ≡ Some kept
     = sym c.get_mut.ensures.value ∙ ap option_copied_mut c.unwrap-row.ensures in
-    ties_of_set t _ c.args.client.now kept _ c.requires.in_step refl refl (c.get_mut.follows.holds _).0 held
+    ties_of_set t _ c.args.client.now kept _ c.requires.consistent refl refl (c.get_mut.follows.holds _).0 held
     (ap (λ (k : ClientSession). k.connection) c.row.view_is)
     (ap (λ s. s.subscriptions) c.in_ok-take_step.ensures.state ∙ handshake_keeps_filters t.window c.args.packet.now c.row.inside.state c.requires.kind
     ∙ ap (λ (k : ClientSession). k.state.subscriptions) c.row.view_is)

@@ -15,13 +15,13 @@ use Rattle.broker_tables.proofs.Publications.{repeat_of, refused_of, taken_of, r
 use Rattle.broker_tables.proofs.tables.Tables.publish.Goals as goal
 
 pub index-requires : goal.index-requires
-index-requires c = has_session c.args.self.now c.args.connection c.args.client.now c.requires.in_step c.requires.served
+index-requires c = has_session c.args.self.now c.args.connection c.args.client.now c.requires.consistent c.requires.served
 
 pub returns-then-is_again-clause-state : goal.returns-then-is_again-clause-state
 returns-then-is_again-clause-state c =
     let t = c.args.self.now in
     let kept = c.index.result.now in
-    let served = is_served t c.args.connection c.args.client.now kept c.requires.in_step c.requires.served c.index.ensures in
+    let served = is_served t c.args.connection c.args.client.now kept c.requires.consistent c.requires.served c.index.ensures in
     sym (ap (λ p. p.0)
     (repeat_of t c.args.connection c.args.client.now kept served c.args.publish.now (sym c.is_again.ensures ∙ c.if-is_again.true)))
 
@@ -29,7 +29,7 @@ pub returns-then-is_again-clause-outputs : goal.returns-then-is_again-clause-out
 returns-then-is_again-clause-outputs c =
     let t = c.args.self.now in
     let kept = c.index.result.now in
-    let served = is_served t c.args.connection c.args.client.now kept c.requires.in_step c.requires.served c.index.ensures in
+    let served = is_served t c.args.connection c.args.client.now kept c.requires.consistent c.requires.served c.index.ensures in
     c.in_ok-acknowledge.ensures
     ∙ ap (λ given. c.args.out.now.items ++ given)
     (sym (ap (λ p. p.1)
@@ -39,7 +39,7 @@ pub returns-then-refuses-clause-state : goal.returns-then-refuses-clause-state
 returns-then-refuses-clause-state c =
     let t = c.args.self.now in
     let kept = c.index.result.now in
-    let served = is_served t c.args.connection c.args.client.now kept c.requires.in_step c.requires.served c.index.ensures in
+    let served = is_served t c.args.connection c.args.client.now kept c.requires.consistent c.requires.served c.index.ensures in
     let refused : is_refused_in usual_limits (state_in t) (publication_of c.args.publish.now) ≡ true
     = ap (is_refused_in usual_limits (state_in t)) (sym c.in_ok-publication.ensures) ∙ sym c.refuses.ensures ∙ c.if-refuses.true in
     c.in_ok-close.ensures.state
@@ -50,7 +50,7 @@ pub returns-then-refuses-clause-outputs : goal.returns-then-refuses-clause-outpu
 returns-then-refuses-clause-outputs c =
     let t = c.args.self.now in
     let kept = c.index.result.now in
-    let served = is_served t c.args.connection c.args.client.now kept c.requires.in_step c.requires.served c.index.ensures in
+    let served = is_served t c.args.connection c.args.client.now kept c.requires.consistent c.requires.served c.index.ensures in
     let refused : is_refused_in usual_limits (state_in t) (publication_of c.args.publish.now) ≡ true
     = ap (is_refused_in usual_limits (state_in t)) (sym c.in_ok-publication.ensures) ∙ sym c.refuses.ensures ∙ c.if-refuses.true in
     c.in_ok-close.ensures.outputs
@@ -62,7 +62,7 @@ pub returns-clause-state : goal.returns-clause-state
 returns-clause-state c =
     let t = c.args.self.now in
     let kept = c.index.result.now in
-    let served = is_served t c.args.connection c.args.client.now kept c.requires.in_step c.requires.served c.index.ensures in
+    let served = is_served t c.args.connection c.args.client.now kept c.requires.consistent c.requires.served c.index.ensures in
     let taken : is_refused_in usual_limits (state_in t) (publication_of c.args.publish.now) ≡ false
     = ap (is_refused_in usual_limits (state_in t)) (sym c.in_ok-publication.ensures) ∙ sym c.refuses.ensures ∙ c.if-refuses.false in
     (λ i. record {
@@ -79,7 +79,7 @@ pub returns-clause-outputs : goal.returns-clause-outputs
 returns-clause-outputs c =
     let t = c.args.self.now in
     let kept = c.index.result.now in
-    let served = is_served t c.args.connection c.args.client.now kept c.requires.in_step c.requires.served c.index.ensures in
+    let served = is_served t c.args.connection c.args.client.now kept c.requires.consistent c.requires.served c.index.ensures in
     let taken : is_refused_in usual_limits (state_in t) (publication_of c.args.publish.now) ≡ false
     = ap (is_refused_in usual_limits (state_in t)) (sym c.in_ok-publication.ensures) ∙ sym c.refuses.ensures ∙ c.if-refuses.false in
     c.in_ok-deliver_all.ensures.outputs
@@ -95,7 +95,7 @@ returns-clause-outputs c =
 
 pub returns-clause-tied : goal.returns-clause-tied
 returns-clause-tied c =
-    ties_of_taken c.args.self.now _ c.args.client.now c.args.publish.now c.in_ok-granted.granted.items c.requires.in_step.tied
+    ties_of_taken c.args.self.now _ c.args.client.now c.args.publish.now c.in_ok-granted.granted.items c.requires.consistent.tied
     (c.in_ok-deliver_all.ensures.state
     ∙ (λ j. all_delivered (c.in_ok-note.ensures.others.window j) (c.in_ok-publication.ensures j) (c.deref-2.ensures.value j) (c.in_ok-note.ensures.sessions j)))
     c.in_ok-note.ensures.others.owners c.in_ok-note.ensures.others.index
@@ -104,7 +104,7 @@ pub deliver_all-requires : goal.deliver_all-requires
 deliver_all-requires c =
     let t = c.args.self.now in
     let kept = c.index.result.now in
-    let served = is_served t c.args.connection c.args.client.now kept c.requires.in_step c.requires.served c.index.ensures in
+    let served = is_served t c.args.connection c.args.client.now kept c.requires.consistent c.requires.served c.index.ensures in
     let taken : is_refused_in usual_limits (state_in t) (publication_of c.args.publish.now) ≡ false
     = ap (is_refused_in usual_limits (state_in t)) (sym c.in_ok-publication.ensures) ∙ sym c.refuses.ensures ∙ c.if-refuses.false in
     record {

@@ -22,7 +22,7 @@ returns-clause-state c =
       retained = (c.in_ok-go_on.ensures.others.retained ∙ c.in_ok-welcome.ensures.others.retained) i;
     })
     ∙ sym (ap (λ p. p.0)
-    (resuming_of c.args.self.now c.args.connection c.args.client.now c.args.clean c.requires.in_step c.requires.nobodys c.requires.goes_on))
+    (resuming_of c.args.self.now c.args.connection c.args.client.now c.args.clean c.requires.consistent c.requires.nobodys c.requires.goes_on))
 
 pub returns-clause-outputs : goal.returns-clause-outputs
 returns-clause-outputs c =
@@ -36,11 +36,11 @@ returns-clause-outputs c =
     ∙ ap (λ given. c.args.out.now.items ++ given)
     (append_assoc greeting (welcome c.args.connection true ∷ []) sent
     ∙ sym (ap (λ p. p.1)
-    (resuming_of t c.args.connection c.args.client.now c.args.clean c.requires.in_step c.requires.nobodys c.requires.goes_on)))
+    (resuming_of t c.args.connection c.args.client.now c.args.clean c.requires.consistent c.requires.nobodys c.requires.goes_on)))
 
 pub returns-clause-tied : goal.returns-clause-tied
 returns-clause-tied c =
-    ties_of_resuming c.args.self.now c.args.connection c.args.client.now c.args.clean c.requires.in_step c.requires.nobodys _ c.requires.goes_on
+    ties_of_resuming c.args.self.now c.args.connection c.args.client.now c.args.clean c.requires.consistent c.requires.nobodys _ c.requires.goes_on
     (c.in_ok-go_on.ensures.sessions
     ∙ (λ j. changed c.args.client.now (kept_resumed (c.in_ok-welcome.ensures.others.window j) (c.args.connection, false)) (c.in_ok-welcome.ensures.others.sessions j)))
     (λ q. ap (λ entries. owners_at entries q) c.in_ok-go_on.ensures.others.owners ∙ c.in_ok-welcome.ensures.owners q)

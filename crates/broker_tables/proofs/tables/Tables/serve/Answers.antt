@@ -10,7 +10,7 @@ pub returns-then-is_violation-clause-state : goal.returns-then-is_violation-clau
 returns-then-is_violation-clause-state c =
     c.in_ok-close.ensures.state
     ∙ sym (ap (λ p. p.0)
-    (violation_of c.args.self.now c.args.connection c.args.client.now c.args.packet.now c.requires.in_step c.requires.served
+    (violation_of c.args.self.now c.args.connection c.args.client.now c.args.packet.now c.requires.consistent c.requires.served
     (sym c.is_violation.ensures ∙ c.if-is_violation.true)))
 
 pub returns-then-is_violation-clause-outputs : goal.returns-then-is_violation-clause-outputs
@@ -18,7 +18,7 @@ returns-then-is_violation-clause-outputs c =
     c.in_ok-close.ensures.outputs
     ∙ ap (λ given. c.args.out.now.items ++ given)
     (sym (ap (λ p. p.1)
-    (violation_of c.args.self.now c.args.connection c.args.client.now c.args.packet.now c.requires.in_step c.requires.served
+    (violation_of c.args.self.now c.args.connection c.args.client.now c.args.packet.now c.requires.consistent c.requires.served
     (sym c.is_violation.ensures ∙ c.if-is_violation.true))))
 
 pub returns-in_ok-push-in_default : goal.returns-in_ok-push-in_default
@@ -27,9 +27,9 @@ returns-in_ok-push-in_default c =
     = only_pingreq c.args.packet.now (sym c.is_handshake.ensures ∙ c.if-is_handshake.false) (sym c.is_violation.ensures ∙ c.if-is_violation.false)
     c.in_default.not-Publish c.in_default.not-Subscribe c.in_default.not-Unsubscribe in
     let is = ap (λ packet. stepped c.args.self.now (commands.Packet c.args.connection packet)) ping
-    ∙ pingreq_of c.args.self.now c.args.connection c.args.client.now c.requires.in_step c.requires.served in
+    ∙ pingreq_of c.args.self.now c.args.connection c.args.client.now c.requires.consistent c.requires.served in
     record {
       state = sym (ap (λ p. p.0) is);
       outputs = c.in_ok-push-in_default.ensures.items ∙ ap (λ given. c.args.out.now.items ++ given) (sym (ap (λ p. p.1) is));
-      tied = c.requires.in_step.tied;
+      tied = c.requires.consistent.tied;
     }

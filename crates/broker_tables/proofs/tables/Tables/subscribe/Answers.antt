@@ -23,7 +23,7 @@ use Rattle.broker_tables.proofs.tables.Tables.subscribe.Goals as goal
 
 pub unwrap-row-requires : goal.unwrap-row-requires
 unwrap-row-requires c =
-    let there = has_session c.args.self.now c.args.connection c.args.client.now c.requires.in_step c.requires.served in
+    let there = has_session c.args.self.now c.args.connection c.args.client.now c.requires.consistent c.requires.served in
     search (rules, there, c.get_mut.ensures.value)
 
 pub returns-clause-state : goal.returns-clause-state
@@ -41,7 +41,7 @@ returns-clause-state c =
     ∙ ap (λ (k : ClientSession). holding (subscribed_in_turn usual_limits t.window t.retained k.state c.args.subscribe.now.filters) k) c.row.view_is))
     ∙ sym (ap (λ p. p.0)
     (subscribe_of t c.args.connection c.args.client.now kept c.args.subscribe.now
-    (is_served t c.args.connection c.args.client.now kept c.requires.in_step c.requires.served held)))
+    (is_served t c.args.connection c.args.client.now kept c.requires.consistent c.requires.served held)))
 
 pub returns-clause-outputs : goal.returns-clause-outputs
 returns-clause-outputs c =
@@ -70,7 +70,7 @@ returns-clause-outputs c =
     ∙ ap (λ given. c.args.out.now.items ++ given)
     (sym (ap (λ p. p.1)
     (subscribe_of t c.args.connection c.args.client.now kept s
-    (is_served t c.args.connection c.args.client.now kept c.requires.in_step c.requires.served held))))
+    (is_served t c.args.connection c.args.client.now kept c.requires.consistent c.requires.served held))))
 
 pub returns-clause-tied : goal.returns-clause-tied
 returns-clause-tied c =
@@ -82,7 +82,7 @@ returns-clause-tied c =
     let state : c.row.inside.state ≡ kept.state = ap (λ (k : ClientSession). k.state) c.row.view_is in
     let which : c.in_ok-which.which.items ≡ granted_in_turn usual_limits t.window t.retained kept.state s.filters
     = c.in_ok-which.ensures.which ∙ (λ i. granted_in_turn usual_limits t.window t.retained (state i) (c.as_slice-filters.ensures i)) in
-    ties_of_subscribe t _ c.args.client.now kept _ s c.requires.in_step held
+    ties_of_subscribe t _ c.args.client.now kept _ s c.requires.consistent held
     (ap (λ (k : ClientSession). k.connection) c.row.view_is)
     (c.in_ok-which.ensures.state
     ∙ (λ i. subscribed_in_turn usual_limits t.window t.retained (state i) (c.as_slice-filters.ensures i)))

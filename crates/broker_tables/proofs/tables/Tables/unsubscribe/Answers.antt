@@ -19,7 +19,7 @@ use Rattle.broker_tables.proofs.tables.Tables.unsubscribe.Goals as goal
 
 pub unwrap-row-requires : goal.unwrap-row-requires
 unwrap-row-requires c =
-    let there = has_session c.args.self.now c.args.connection c.args.client.now c.requires.in_step c.requires.served in
+    let there = has_session c.args.self.now c.args.connection c.args.client.now c.requires.consistent c.requires.served in
     search (rules, there, c.get_mut.ensures.value)
 
 pub returns-clause-state : goal.returns-clause-state
@@ -36,7 +36,7 @@ returns-clause-state c =
     ∙ ap (λ (k : ClientSession). holding (handled_state t.window (packets.Unsubscribe c.args.unsubscribe.now) k.state) k) c.row.view_is))
     ∙ sym (ap (λ p. p.0)
     (unsubscribe_of t c.args.connection c.args.client.now kept c.args.unsubscribe.now
-    (is_served t c.args.connection c.args.client.now kept c.requires.in_step c.requires.served held)))
+    (is_served t c.args.connection c.args.client.now kept c.requires.consistent c.requires.served held)))
 
 pub returns-clause-outputs : goal.returns-clause-outputs
 returns-clause-outputs c =
@@ -48,7 +48,7 @@ returns-clause-outputs c =
     ∙ ap (λ given. c.args.out.now.items ++ given)
     (sym (ap (λ p. p.1)
     (unsubscribe_of t c.args.connection c.args.client.now kept c.args.unsubscribe.now
-    (is_served t c.args.connection c.args.client.now kept c.requires.in_step c.requires.served held))))
+    (is_served t c.args.connection c.args.client.now kept c.requires.consistent c.requires.served held))))
 
 pub returns-clause-tied : goal.returns-clause-tied
 returns-clause-tied c =
@@ -56,7 +56,7 @@ returns-clause-tied c =
     let kept = c.unwrap-row.result.now in
     let held : session_in c.args.client.now t.sessions.entries ≡ Some kept
     = sym c.get_mut.ensures.value ∙ ap option_copied_mut c.unwrap-row.ensures in
-    ties_of_unsubscribe t _ c.args.client.now kept _ c.args.unsubscribe.now c.requires.in_step held
+    ties_of_unsubscribe t _ c.args.client.now kept _ c.args.unsubscribe.now c.requires.consistent held
     (ap (λ (k : ClientSession). k.connection) c.row.view_is)
     (ap (λ s. s.subscriptions) c.give_up.ensures
     ∙ ap (λ filters. without_filters filters c.row.inside.state.subscriptions) c.as_slice.ensures
