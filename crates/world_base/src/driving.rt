@@ -11,11 +11,11 @@ ghost use Rattle.world_base.specs.LossyStep.{Cuts};
 ghost use Rattle.world_base.specs.Step.{cuts};
 ghost use Rattle.world_base.specs.Turns.{delivered, drives, has_room, heard, proposes, served_by};
 
-use crate::node_in_step::NodeInStep;
+use crate::stepping_node::SteppingNode;
 use ballot::{Effect, Message};
 use node_connections::broker_spec::{Command, Output};
 
-impl NodeInStep {
+impl SteppingNode {
     /// Proposes a command and does its effects at once. Returns whether it was taken.
     pub fn propose(&mut self, command: Command, effects: &mut Vec<Effect<Command, Output>>) -> bool
         ensures turns { Turns self.old self.new effects.old.items effects.new.items

@@ -7,11 +7,11 @@ ghost use Rattle.node_connections.specs.Stands.{standing_of};
 ghost use Rattle.ballot.specs.lists.Lists.{IsPrefixOf};
 ghost use Rattle.world_base.specs.Handing.{answer_of, bytes_of, hands_over, idle_ports, listed_at};
 
-use crate::node_in_step::NodeInStep;
+use crate::stepping_node::SteppingNode;
 use ballot::Memory;
 use node_connections::{Handed, Port, Standing, keep_listed, push_idle};
 
-impl NodeInStep {
+impl SteppingNode {
     /// Appends what was queued for a port and not yet handed over. If memory runs out, nothing
     /// changes; it does not run out if nothing was queued.
     pub fn outgoing(&mut self, port: Port, out: &mut Vec<u8>) -> Result<Handed, Memory>

@@ -5,11 +5,11 @@ ghost use Rattle.ballot.specs.Protocol.Input.{Receives, Ticks};
 ghost use Rattle.world_base.specs.Losses.{DoesNothing, IsIgnored, ReadsNone};
 
 use crate::item::Item;
-use crate::node_in_step::NodeInStep;
+use crate::stepping_node::SteppingNode;
 use ballot::Message;
 use node_connections::broker_spec::Command;
 
-impl NodeInStep {
+impl SteppingNode {
     /// Says whether an item does nothing.
     pub fn ignores(&self, item: &Item) -> bool
         ensures { (result ≡ true) ↔ DoesNothing item.now self.now.core }

@@ -8,7 +8,7 @@ mod ignoring;
 mod item;
 mod laws;
 mod node_core;
-mod node_in_step;
+mod stepping_node;
 mod taking;
 
 pub use ballot;

@@ -17,7 +17,7 @@ ghost use Rattle.world_base.specs.Turns.{has_room};
 ghost use Rattle.world_base.specs.Losses.{DoesNothing, Stepped};
 
 use crate::item::Item;
-use crate::node_in_step::NodeInStep;
+use crate::stepping_node::SteppingNode;
 use ballot::{Config, Effect, Memory, Message, OpeningError, Status};
 use node_connections::broker_spec::{Command, Output};
 use node_connections::{Handed, Port, Standing};
@@ -28,7 +28,7 @@ use std::marker::Model;
 /// bytes that it queues for each connection.
 #[derive(Drop)]
 pub struct NodeCore {
-    serving: NodeInStep,
+    serving: SteppingNode,
     losses: u64,
 }
 
@@ -51,7 +51,7 @@ impl NodeCore {
             ↔ (is_lawful config.now.members config.now.primary ≡ false) }
     {
         Ok(NodeCore {
-            serving: NodeInStep::new(alloc, id, config)?,
+            serving: SteppingNode::new(alloc, id, config)?,
             losses: 0,
         })
     }

@@ -19,13 +19,13 @@ ghost use Rattle.world_base.specs.Step.{acts_on, takes_in};
 ghost use Rattle.world_base.specs.Turns.{proposes, quiet};
 
 use crate::item::Item;
-use crate::node_in_step::NodeInStep;
+use crate::stepping_node::SteppingNode;
 use ballot::{Effect, Message};
 use node_connections::broker_spec::{Command, ConnectionId, Output, SizedPacket};
 use node_connections::packet::{ClientId, Connect, Packet};
 use node_connections::{Front, Piece, Port, Stage};
 
-impl NodeInStep {
+impl SteppingNode {
     /// Takes an item, and reports each connection that fails in it to the broker. Whether memory
     /// ran out is then told by `is_out_of_memory`.
     pub fn act_on(&mut self, item: Item, effects: &mut Vec<Effect<Command, Output>>)

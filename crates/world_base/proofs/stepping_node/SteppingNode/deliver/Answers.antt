@@ -1,0 +1,19 @@
+use Rattle.std.proofs.Common.{refl}
+use Rattle.world_base.proofs.Delivering.{delivered_none, delivered_push}
+use Rattle.world_base.proofs.Hearing.{ends_some}
+use Rattle.world_base.proofs.TurnsJoin.{turns_idle, turns_push}
+use Rattle.world_base.proofs.stepping_node.SteppingNode.deliver.Goals as goal
+
+pub loop-effect-init : goal.loop-effect-init
+loop-effect-init c = record {
+  turns = turns_idle c.args.self.now c.args.effects.now.items;
+  run = delivered_none c.args.self.now.core c.args.effects.now.items;
+  nothing = λ _. refl;
+}
+
+pub loop-effect-preserved : goal.loop-effect-preserved
+loop-effect-preserved c = record {
+  turns = turns_push _ _ _ _ _ _ c.loop-effect.yielded c.in-Some.effect c.loop-effect.invariant.turns c.handle.ensures.turns;
+  run = delivered_push _ _ _ _ _ _ c.loop-effect.yielded c.in-Some.effect c.loop-effect.invariant.run c.handle.ensures.run;
+  nothing = λ e. ends_some c.loop-effect.yielded c.in-Some.effect e;
+}

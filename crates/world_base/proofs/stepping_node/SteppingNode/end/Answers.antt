@@ -1,0 +1,57 @@
+use Rattle.std.proofs.Common.{sym, ◌∙◌}
+use Rattle.node_connections.specs.Connections.{is_open_at}
+use Rattle.world_base.proofs.Indices.{none_found, found_there}
+use Rattle.world_base.proofs.Closes.{ends_none, ends_proposed, ends_other}
+use Rattle.world_base.proofs.EndsRun.{core_of, ran_none_open, ran_told, ran_untold}
+use Rattle.world_base.proofs.Idle.{closes_nothing, told_then}
+use Rattle.world_base.proofs.stepping_node.SteppingNode.end.Goals as goal
+
+pub returns-in_default-clause-turns : goal.returns-in_default-clause-turns
+returns-in_default-clause-turns c =
+    ends_none c.args.port _ _ (none_found (is_open_at c.args.port) _ (sym c.in_default.is ∙ c.index_at.ensures))
+
+pub returns-in_default-clause-run : goal.returns-in_default-clause-run
+returns-in_default-clause-run c =
+    ran_none_open c.args.port _ _ (none_found (is_open_at c.args.port) _ (sym c.in_default.is ∙ c.index_at.ensures))
+
+pub returns-then-proposed-clause-turns : goal.returns-then-proposed-clause-turns
+returns-then-proposed-clause-turns c =
+    ends_proposed c.args.port c.index-connection.result.now _ c.close.new.self _ _ _
+    (rw (← c.self.view_is) (found_there (is_open_at c.args.port) _ c.index_at.result c.in-Some.index _
+    (rw (← c.self.view_is) at c.index_at.ensures) c.in-Some.is c.index-connection.ensures))
+    (sym c.is_proposed-proposed.ensures ∙ c.if-proposed.true) c.close.ensures c.propose.ensures.turns
+
+pub returns-then-proposed-clause-run : goal.returns-then-proposed-clause-run
+returns-then-proposed-clause-run c =
+    ran_told c.args.port c.index-connection.result.now _ c.close.new.self.core _ c.propose.result _ _
+    (rw (← c.self.view_is) (found_there (is_open_at c.args.port) _ c.index_at.result c.in-Some.index _
+    (rw (← c.self.view_is) at c.index_at.ensures) c.in-Some.is c.index-connection.ensures))
+    (sym c.is_proposed-proposed.ensures ∙ c.if-proposed.true) (core_of _ _ c.close.ensures) c.propose.ensures.run
+
+pub returns-else-proposed-clause-turns : goal.returns-else-proposed-clause-turns
+returns-else-proposed-clause-turns c =
+    ends_other c.args.port c.index-connection.result.now _ c.close.new.self _
+    (rw (← c.self.view_is) (found_there (is_open_at c.args.port) _ c.index_at.result c.in-Some.index _
+    (rw (← c.self.view_is) at c.index_at.ensures) c.in-Some.is c.index-connection.ensures))
+    (sym c.is_proposed-proposed.ensures ∙ c.if-proposed.false) c.close.ensures
+
+pub returns-else-proposed-clause-run : goal.returns-else-proposed-clause-run
+returns-else-proposed-clause-run c =
+    ran_untold c.args.port c.index-connection.result.now _ c.close.new.self.core _
+    (rw (← c.self.view_is) (found_there (is_open_at c.args.port) _ c.index_at.result c.in-Some.index _
+    (rw (← c.self.view_is) at c.index_at.ensures) c.in-Some.is c.index-connection.ensures))
+    (sym c.is_proposed-proposed.ensures ∙ c.if-proposed.false) (core_of _ _ c.close.ensures)
+
+pub returns-in_default-clause-untold : goal.returns-in_default-clause-untold
+returns-in_default-clause-untold c = λ _.
+    closes_nothing c.args.port _ (none_found (is_open_at c.args.port) _ (sym c.in_default.is ∙ c.index_at.ensures))
+
+pub returns-then-proposed-clause-untold : goal.returns-then-proposed-clause-untold
+returns-then-proposed-clause-untold c =
+    told_then _ c.index-connection.result.now
+    (rw (← c.self.view_is) (found_there (is_open_at c.args.port) _ c.index_at.result c.in-Some.index _
+    (rw (← c.self.view_is) at c.index_at.ensures) c.in-Some.is c.index-connection.ensures))
+    (sym c.is_proposed-proposed.ensures ∙ c.if-proposed.true)
+
+pub returns-else-proposed-clause-untold : goal.returns-else-proposed-clause-untold
+returns-else-proposed-clause-untold c = λ _. c.close.ensures

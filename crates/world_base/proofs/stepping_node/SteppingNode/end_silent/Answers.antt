@@ -1,0 +1,57 @@
+use Rattle.std.proofs.Common.{◌≡◌, ◌≤◌, ℕ, suc, ◌+◌, length, sym, subst, ◌∙◌, arith}
+use Rattle.world_base.specs.Inside.{Ran, Turns}
+use Rattle.world_base.specs.KeepAlive.{ends_silent}
+use Rattle.world_base.specs.Lossy.{Repeated}
+use Rattle.world_base.specs.LossyStep.{EndsAllSilent}
+use Rattle.world_base.specs.LossyReading.{EndsSilent}
+use Rattle.world_base.specs.Turns.{repeated}
+use Rattle.world_base.proofs.Accounts.{ran_as, ran_enough, ran_more, ran_none}
+use Rattle.world_base.proofs.EndsRun.{idle_silent, ran_silent}
+use Rattle.world_base.proofs.Repeats.{repeats_none, repeats_more, repeats_enough}
+use Rattle.world_base.proofs.Silences.{silent_none, turns_silent}
+use Rattle.world_base.proofs.stepping_node.SteppingNode.end_silent.Goals as goal
+
+pub loop-connection-init : goal.loop-connection-init
+loop-connection-init c = record {
+  turns = repeats_none (ends_silent c.args.now) c.args.self.now c.args.effects.now.items;
+  run = ran_none (EndsSilent c.args.now) c.args.self.now.core c.args.effects.now.items;
+}
+
+-- none is silent any more
+pub returns-in_default-clause-turns : goal.returns-in_default-clause-turns
+returns-in_default-clause-turns c =
+    let few : c.loop-connection._connection ≤ length c.args.self.now.core.connections =
+    omega (arith, c.loop-connection-test.true, c.listed-connection-end.ensures) in
+    repeats_enough (ends_silent c.args.now) c.loop-connection._connection (length c.args.self.now.core.connections)
+    c.args.self.now c.loop-connection.self c.args.effects.now.items c.loop-connection.effects.items few
+    c.loop-connection.invariant.turns
+    (λ _. silent_none c.args.now c.loop-connection.self.core (sym c.lowest_silent.ensures ∙ c.in_default.is))
+
+pub returns-in_default-clause-run : goal.returns-in_default-clause-run
+returns-in_default-clause-run c =
+    let few : c.loop-connection._connection ≤ length c.args.self.now.core.connections =
+    omega (arith, c.loop-connection-test.true, c.listed-connection-end.ensures) in
+    ran_as (Repeated (length c.args.self.now.core.connections) (EndsSilent c.args.now)) (EndsAllSilent c.args.now)
+    c.args.self.now.core c.args.self.now.core _ _ _ (λ did runs. runs)
+    (ran_enough (EndsSilent c.args.now) c.loop-connection._connection (length c.args.self.now.core.connections)
+    c.args.self.now.core c.loop-connection.self.core c.args.effects.now.items c.loop-connection.effects.items few
+    c.loop-connection.invariant.run
+    (idle_silent c.args.now c.loop-connection.self.core (sym c.lowest_silent.ensures ∙ c.in_default.is)))
+
+pub loop-connection-preserved : goal.loop-connection-preserved
+loop-connection-preserved c =
+    let one_more : suc c.loop-connection._connection ≡ c.loop-connection._connection + 1 = omega arith in
+    record {
+      turns = subst (λ (k : ℕ). Turns c.args.self.now c.end.new.self c.args.effects.now.items c.end.new.effects.items
+          (repeated k (ends_silent c.args.now) c.args.self.now.core)) one_more
+          (repeats_more (ends_silent c.args.now) c.loop-connection._connection c.args.self.now c.loop-connection.self c.end.new.self
+          c.args.effects.now.items c.loop-connection.effects.items c.end.new.effects.items c.loop-connection.invariant.turns
+          (turns_silent c.args.now c.in-Some.port c.loop-connection.self c.end.new.self c.loop-connection.effects.items c.end.new.effects.items
+          (sym c.lowest_silent.ensures ∙ c.in-Some.is) c.end.ensures.turns));
+      run = subst (λ (k : ℕ). Ran (Repeated k (EndsSilent c.args.now)) c.args.self.now.core c.end.new.self.core
+          c.args.effects.now.items c.end.new.effects.items) one_more
+          (ran_more (EndsSilent c.args.now) c.loop-connection._connection c.args.self.now.core c.loop-connection.self.core c.end.new.self.core
+          c.args.effects.now.items c.loop-connection.effects.items c.end.new.effects.items c.loop-connection.invariant.run
+          (ran_silent c.args.now c.in-Some.port c.loop-connection.self.core c.end.new.self.core c.loop-connection.effects.items c.end.new.effects.items
+          (sym c.lowest_silent.ensures ∙ c.in-Some.is) c.end.ensures.run));
+    }

@@ -1,0 +1,21 @@
+use Rattle.std.proofs.Common.{sym, ◌∙◌}
+use Rattle.world_base.proofs.Answering.{proposed_all, proposed_not}
+use Rattle.world_base.proofs.Proposes.{turns_refused, turns_proposed}
+use Rattle.world_base.proofs.stepping_node.SteppingNode.propose.Goals as goal
+
+pub returns-then-not-serves-clause-turns : goal.returns-then-not-serves-clause-turns
+returns-then-not-serves-clause-turns c =
+    turns_refused _ c.args.command _ (sym c.serves.ensures ∙ c.if-not-serves.true)
+
+pub returns-then-not-serves-clause-run : goal.returns-then-not-serves-clause-run
+returns-then-not-serves-clause-run c =
+    proposed_not c.args.command _ _ (sym c.serves.ensures ∙ c.if-not-serves.true)
+
+pub returns-clause-turns : goal.returns-clause-turns
+returns-clause-turns c =
+    turns_proposed _ _ _ c.args.command _ _ _ (sym c.serves.ensures ∙ c.if-not-serves.false)
+    c.ask-taken.ensures.hears c.deliver.ensures.turns
+
+pub returns-clause-run : goal.returns-clause-run
+returns-clause-run c =
+    proposed_all c.ask-taken.result c.args.command _ _ _ _ _ _ c.ask-taken.ensures.answered c.deliver.ensures.run

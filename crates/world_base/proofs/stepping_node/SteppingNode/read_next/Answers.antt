@@ -1,0 +1,127 @@
+use Rattle.std.proofs.Common.{slice_set, refl, sym, ◌∙◌}
+use Rattle.node_connections.specs.Connections.{is_open_at}
+use Rattle.world_base.specs.Inside.{Running}
+use Rattle.world_base.proofs.Changes.{changed_there, core_changed}
+use Rattle.world_base.proofs.Indices.{none_found, found_there}
+use Rattle.world_base.proofs.Fronts.{nothing_open, nothing_next, more_there, more_next, packet_there, gone_there}
+use Rattle.world_base.proofs.FrontsRun.{idle_open, idle_waits, ran_gone, ran_nothing_open, ran_packet, ran_waits, ran_out_of_memory}
+use Rattle.world_base.proofs.stepping_node.SteppingNode.read_next.Goals as goal
+
+pub returns-in_default-clause-turns : goal.returns-in_default-clause-turns
+returns-in_default-clause-turns c =
+    nothing_open c.args.now c.args.port _ _ (none_found (is_open_at c.args.port) _ (sym c.in_default.is ∙ c.index_at.ensures))
+
+pub returns-in_default-clause-done : goal.returns-in_default-clause-done
+returns-in_default-clause-done c = λ _ _.
+    nothing_next c.args.now c.args.port _ (none_found (is_open_at c.args.port) _ (sym c.in_default.is ∙ c.index_at.ensures))
+
+pub returns-in-More-clause-turns : goal.returns-in-More-clause-turns
+returns-in-More-clause-turns c =
+    more_there c.args.now c.args.port c.index_mut-connection.result.now c.next.new.self _ _ _
+    (rw (← c.self.view_is) (found_there (is_open_at c.args.port) _ c.index_at.result c.in-Some.index _
+    (rw (← c.self.view_is) at c.index_at.ensures) c.in-Some.is c.index_mut-connection.ensures.value))
+    c.in-More.ensures
+    (rw (← c.self.view_is) (changed_there c.args.port (λ _. c.next.new.self) _ c.index_at.result c.in-Some.index
+    c.index_mut-connection.result.now c.next.new.self (rw (← c.self.view_is) at c.index_at.ensures) c.in-Some.is
+    c.index_mut-connection.ensures.value refl))
+
+pub returns-in-More-clause-done : goal.returns-in-More-clause-done
+returns-in-More-clause-done c = λ _ _.
+    let after : Running = record {
+      core = record {
+        replica = c.self.inside.replica;
+        last_name = record { ballot = c.self.inside.last_ballot; count = c.self.inside.last_count };
+        connections = slice_set c.self.inside.connections.items c.in-Some.index c.next.new.self;
+      };
+      out_of_memory = c.self.inside.out_of_memory;
+    } in
+    more_next c.args.now c.args.port c.index_mut-connection.result.now c.next.new.self c.args.self.now after
+    (rw (← c.self.view_is) (found_there (is_open_at c.args.port) _ c.index_at.result c.in-Some.index _
+    (rw (← c.self.view_is) at c.index_at.ensures) c.in-Some.is c.index_mut-connection.ensures.value))
+    c.in-More.ensures
+    (rw (← c.self.view_is) (changed_there c.args.port (λ _. c.next.new.self) _ c.index_at.result c.in-Some.index
+    c.index_mut-connection.result.now c.next.new.self (rw (← c.self.view_is) at c.index_at.ensures) c.in-Some.is
+    c.index_mut-connection.ensures.value refl))
+
+pub returns-in-Packet-clause-turns : goal.returns-in-Packet-clause-turns
+returns-in-Packet-clause-turns c =
+    packet_there c.args.now c.args.port c.index_mut-connection.result.now c.next.new.self c.in-Packet.packet _ _ _ _ _
+    (rw (← c.self.view_is) (found_there (is_open_at c.args.port) _ c.index_at.result c.in-Some.index _
+    (rw (← c.self.view_is) at c.index_at.ensures) c.in-Some.is c.index_mut-connection.ensures.value))
+    c.in-Packet.ensures
+    (rw (← c.self.view_is) (changed_there c.args.port (λ _. c.next.new.self) _ c.index_at.result c.in-Some.index
+    c.index_mut-connection.result.now c.next.new.self (rw (← c.self.view_is) at c.index_at.ensures) c.in-Some.is
+    c.index_mut-connection.ensures.value refl))
+    c.take.ensures.turns
+
+pub returns-in-Refused-clause-turns : goal.returns-in-Refused-clause-turns
+returns-in-Refused-clause-turns c =
+    gone_there c.args.now c.args.port c.index_mut-connection.result.now c.next.new.self c.next.result _ _ _ _ _
+    (rw (← c.self.view_is) (found_there (is_open_at c.args.port) _ c.index_at.result c.in-Some.index _
+    (rw (← c.self.view_is) at c.index_at.ensures) c.in-Some.is c.index_mut-connection.ensures.value))
+    c.next.ensures c.in-Refused.is
+    (rw (← c.self.view_is) (changed_there c.args.port (λ _. c.next.new.self) _ c.index_at.result c.in-Some.index
+    c.index_mut-connection.result.now c.next.new.self (rw (← c.self.view_is) at c.index_at.ensures) c.in-Some.is
+    c.index_mut-connection.ensures.value refl))
+    c.lose.ensures.turns
+
+pub returns-in_default-clause-run : goal.returns-in_default-clause-run
+returns-in_default-clause-run c =
+    ran_nothing_open c.args.now c.args.port _ _ (none_found (is_open_at c.args.port) _ (sym c.in_default.is ∙ c.index_at.ensures))
+
+pub returns-in_default-clause-idle : goal.returns-in_default-clause-idle
+returns-in_default-clause-idle c = λ _.
+    idle_open c.args.now c.args.port _ (none_found (is_open_at c.args.port) _ (sym c.in_default.is ∙ c.index_at.ensures))
+
+pub returns-in-More-clause-run : goal.returns-in-More-clause-run
+returns-in-More-clause-run c =
+    ran_waits c.args.now c.args.port c.index_mut-connection.result.now c.next.new.self _ _ _
+    (rw (← c.self.view_is) (found_there (is_open_at c.args.port) _ c.index_at.result c.in-Some.index _
+    (rw (← c.self.view_is) at c.index_at.ensures) c.in-Some.is c.index_mut-connection.ensures.value))
+    c.in-More.ensures
+    (rw (← c.self.view_is) (core_changed c.args.port (λ _. c.next.new.self) _ c.index_at.result c.in-Some.index
+    c.index_mut-connection.result.now c.next.new.self (rw (← c.self.view_is) at c.index_at.ensures) c.in-Some.is
+    c.index_mut-connection.ensures.value refl))
+
+pub returns-in-More-clause-idle : goal.returns-in-More-clause-idle
+returns-in-More-clause-idle c = λ _.
+    idle_waits c.args.now c.args.port c.index_mut-connection.result.now c.next.new.self c.args.self.now.core _
+    (rw (← c.self.view_is) (found_there (is_open_at c.args.port) _ c.index_at.result c.in-Some.index _
+    (rw (← c.self.view_is) at c.index_at.ensures) c.in-Some.is c.index_mut-connection.ensures.value))
+    c.in-More.ensures
+    (rw (← c.self.view_is) (core_changed c.args.port (λ _. c.next.new.self) _ c.index_at.result c.in-Some.index
+    c.index_mut-connection.result.now c.next.new.self (rw (← c.self.view_is) at c.index_at.ensures) c.in-Some.is
+    c.index_mut-connection.ensures.value refl))
+
+pub returns-in-Packet-clause-run : goal.returns-in-Packet-clause-run
+returns-in-Packet-clause-run c =
+    ran_packet c.args.now c.args.port c.index_mut-connection.result.now c.next.new.self c.in-Packet.packet _ _ _ _ _
+    (rw (← c.self.view_is) (found_there (is_open_at c.args.port) _ c.index_at.result c.in-Some.index _
+    (rw (← c.self.view_is) at c.index_at.ensures) c.in-Some.is c.index_mut-connection.ensures.value))
+    c.in-Packet.ensures
+    (rw (← c.self.view_is) (core_changed c.args.port (λ _. c.next.new.self) _ c.index_at.result c.in-Some.index
+    c.index_mut-connection.result.now c.next.new.self (rw (← c.self.view_is) at c.index_at.ensures) c.in-Some.is
+    c.index_mut-connection.ensures.value refl))
+    c.take.ensures.run
+
+pub returns-in-Refused-clause-run : goal.returns-in-Refused-clause-run
+returns-in-Refused-clause-run c =
+    ran_gone c.args.now c.args.port c.index_mut-connection.result.now c.next.new.self c.next.result _ _ _ _ _
+    (rw (← c.self.view_is) (found_there (is_open_at c.args.port) _ c.index_at.result c.in-Some.index _
+    (rw (← c.self.view_is) at c.index_at.ensures) c.in-Some.is c.index_mut-connection.ensures.value))
+    c.next.ensures c.in-Refused.is
+    (rw (← c.self.view_is) (core_changed c.args.port (λ _. c.next.new.self) _ c.index_at.result c.in-Some.index
+    c.index_mut-connection.result.now c.next.new.self (rw (← c.self.view_is) at c.index_at.ensures) c.in-Some.is
+    c.index_mut-connection.ensures.value refl))
+    c.lose.ensures.run
+
+pub returns-in-OutOfMemory-clause-run : goal.returns-in-OutOfMemory-clause-run
+returns-in-OutOfMemory-clause-run c =
+    ran_out_of_memory c.args.now c.args.port c.index_mut-connection.result.now c.next.new.self _ _ _ _ _
+    (rw (← c.self.view_is) (found_there (is_open_at c.args.port) _ c.index_at.result c.in-Some.index _
+    (rw (← c.self.view_is) at c.index_at.ensures) c.in-Some.is c.index_mut-connection.ensures.value))
+    c.in-OutOfMemory.ensures
+    (rw (← c.self.view_is) (core_changed c.args.port (λ _. c.next.new.self) _ c.index_at.result c.in-Some.index
+    c.index_mut-connection.result.now c.next.new.self (rw (← c.self.view_is) at c.index_at.ensures) c.in-Some.is
+    c.index_mut-connection.ensures.value refl))
+    c.lose-in-OutOfMemory.ensures.run
