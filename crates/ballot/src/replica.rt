@@ -259,8 +259,8 @@ impl<M: Machine> Replica<M> {
         };
         let held = least_held(self.log.places(), &self.progress);
         match self.commit_at(held, out) {
-            Ok(told) => {
-                self.count(sent && told);
+            Ok(commits_sent) => {
+                self.count(sent && commits_sent);
                 Ok(())
             }
             Err(_) => {

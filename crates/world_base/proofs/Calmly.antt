@@ -15,7 +15,7 @@ use Rattle.world_base.specs.declared.item.Item.TheVariants.{Peer, Tick, Opened, 
 use Rattle.world_base.specs.Core.{CoreState, Turn, serves}
 use Rattle.world_base.specs.Failing.{loses_all_failed, loses_failed}
 use Rattle.world_base.specs.Handing.{bytes_of, hands_over, left_by, listed_at}
-use Rattle.world_base.specs.Losses.{IsHeardQuietly, IsIgnored, ReadsNone, TakesNoMemory, WaitsNothing, is_told}
+use Rattle.world_base.specs.Losses.{IsHeardQuietly, IsIgnored, ReadsNone, TakesNoMemory, WaitsNothing, was_proposed}
 use Rattle.world_base.specs.Reading.{changes, ends, loses_open, open_at}
 use Rattle.world_base.specs.Step.{acts_on, crashed, node_step, settled, takes_in}
 use Rattle.world_base.specs.Turns.{delivered, drives, heard, quiet, then_also}
@@ -94,11 +94,11 @@ record GoesCalmly (item : Item) (core : CoreState) : Type 0 where
 nothing_goes : (item : Item) (core : CoreState) → takes_in item core ≡ quiet core → GoesCalmly item core
 nothing_goes item core is = record { next = core; is = is; fails_none = λ none. none; waits = λ each. each }
 
-ends_calmly : (port : Port) (core : CoreState) → is_told (open_at port core) ≡ false → GoesCalmly (Ended port) core
+ends_calmly : (port : Port) (core : CoreState) → was_proposed (open_at port core) ≡ false → GoesCalmly (Ended port) core
 unfolding ends changes
-ends_calmly port core untold = by (open_at port core) refl untold
+ends_calmly port core unproposed = by (open_at port core) refl unproposed
   where
-    by : (o : Option Connection) → open_at port core ≡ o → is_told o ≡ false → GoesCalmly (Ended port) core
+    by : (o : Option Connection) → open_at port core ≡ o → was_proposed o ≡ false → GoesCalmly (Ended port) core
     by None is none = nothing_goes (Ended port) core (ap (loses_open port core) is)
     by (Some c) is none =
         record {

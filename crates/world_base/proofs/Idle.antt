@@ -19,7 +19,7 @@ use Rattle.world_base.specs.Core.{CoreState, Turn}
 use Rattle.world_base.specs.Failing.{loses_all_failed}
 use Rattle.world_base.specs.Inside.{IsCalm, Ran, Running, Turns}
 use Rattle.world_base.specs.KeepAlive.{ends_all_silent, ends_silent}
-use Rattle.world_base.specs.Losses.{DoesNothing, IsHeardQuietly, IsIgnored, ReadsNone, TakesNoMemory, is_told}
+use Rattle.world_base.specs.Losses.{DoesNothing, IsHeardQuietly, IsIgnored, ReadsNone, TakesNoMemory, was_proposed}
 use Rattle.world_base.specs.Lossy.{Account, Drives, Repeated, quietly}
 use Rattle.world_base.specs.Lossy.Delivers.{nothing}
 use Rattle.world_base.specs.LossyStep.{ActsOn, LosesAllFailed, ReadsAll, TakesIn}
@@ -90,8 +90,8 @@ pub closes_nothing : (port : Port) (r : Running) → open_at port r.core ≡ Non
 closes_nothing port r none = ap (λ (k : CoreState). let r2 : Running = record r { core = k } in r2) (sym (nothing_changes port closed r.core none))
 
 -- one whose CONNECT was proposed counts as told
-pub told_then : {X : Type 0} (o : Option Connection) (c : Connection) → o ≡ Some c → is_proposed c.stage ≡ true → is_told o ≡ false → X
-told_then o c is proposed untold = (let e : is_told o ≡ true = rw is proposed in absurd cc)
+pub proposed_then : {X : Type 0} (o : Option Connection) (c : Connection) → o ≡ Some c → is_proposed c.stage ≡ true → was_proposed o ≡ false → X
+proposed_then o c is proposed unproposed = (let e : was_proposed o ≡ true = rw is proposed in absurd cc)
 
 nothing_is_read : (now : ℕ) (port : Port) (core : CoreState) → open_at port core ≡ None → reads_all now port core ≡ quiet core
 unfolding repeated
@@ -199,7 +199,7 @@ heard_then message a b c ignored is decides heard none (inr quiet) reads failed 
 -- of a connection whose CONNECT was not proposed
 pub quiet_otherwise : (item : Item) (a b c : Running) (ignored : Bool) → ignored ≡ false → (ignored ≡ true) ↔ DoesNothing item a.core →
     ((message : Message Command) → item ≡ Peer message → IsHeardQuietly message a.core → ReadsNone message a.core → IsCalm a b) →
-    (item ≡ Crash → IsCalm a b) → ((port : Port) → item ≡ Ended port → is_told (open_at port a.core) ≡ false → IsCalm a b) →
+    (item ≡ Crash → IsCalm a b) → ((port : Port) → item ≡ Ended port → was_proposed (open_at port a.core) ≡ false → IsCalm a b) →
     (find has_failed b.core.connections ≡ None → c ≡ b) → TakesNoMemory item a.core → find has_failed a.core.connections ≡ None → c.out_of_memory ≡ a.out_of_memory
 quiet_otherwise (Peer message) a b c ignored is decides heard crash ended none takes failed =
     heard_then message a b c ignored is decides (heard message refl) none takes.0 takes.1 failed
@@ -223,11 +223,11 @@ closing_fails_none test (c ∷ cs) none = by (test c) (has_failed c) refl (closi
     by false false is rest e = rw is (rest e)
 
 pub ended_calmly : (port q : Port) (item : Item) (a b : Running) → item ≡ Ended q → item ≡ Ended port →
-    (is_told (open_at q a.core) ≡ false → b ≡ record a { core = changes q closed a.core }) → is_told (open_at port a.core) ≡ false → IsCalm a b
+    (was_proposed (open_at q a.core) ≡ false → b ≡ record a { core = changes q closed a.core }) → was_proposed (open_at port a.core) ≡ false → IsCalm a b
 unfolding changes
-ended_calmly port q item a b is same closes untold =
+ended_calmly port q item a b is same closes unproposed =
     let e : q ≡ port = cc in
-    let done = closes (subst (λ (p : Port). is_told (open_at p a.core) ≡ false) (sym e) untold) in
+    let done = closes (subst (λ (p : Port). was_proposed (open_at p a.core) ≡ false) (sym e) unproposed) in
     record {
       out_of_memory = ap (λ (r : Running). r.out_of_memory) done;
       failed = λ none. ap (λ (r : Running). find has_failed r.core.connections) done ∙ closing_fails_none (is_open_at q) a.core.connections none;

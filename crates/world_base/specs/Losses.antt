@@ -47,9 +47,9 @@ DoesNothing Cut core = can_cut core.replica.state ≡ false
 DoesNothing Crash core = ⊥
 
 -- whether the CONNECT of a connection was proposed, and it is open
-abbrev pub is_told : Option Connection → Bool
-is_told None = false
-is_told (Some c) = is_proposed c.stage
+abbrev pub was_proposed : Option Connection → Bool
+was_proposed None = false
+was_proposed (Some c) = is_proposed c.stage
 
 -- By the protocol a message makes the replica send nothing, keep its log and apply nothing. It may
 -- learn something: what a member holds, that one no longer lacks the log, or that its ballot was
@@ -66,7 +66,7 @@ IsHeardQuietly message core =
 abbrev pub TakesNoMemory : Item → CoreState → Type 0
 TakesNoMemory (Peer message) core =
     (IsIgnored (Receives message) core ⊎ IsHeardQuietly message core) × ReadsNone message core
-TakesNoMemory (Ended port) core = is_told (open_at port core) ≡ false
+TakesNoMemory (Ended port) core = was_proposed (open_at port core) ≡ false
 TakesNoMemory Crash core = Unit {0}
 TakesNoMemory item core = DoesNothing item core
 

@@ -7,7 +7,7 @@ ghost use Rattle.node_connections.specs.broker_spec.Sized.{IsSized};
 ghost use Rattle.node_connections.specs.Connections.{closed, has_failed, holding, is_first, is_proposed};
 ghost use Rattle.world_base.specs.Inside.{BeginsOrSays, IsCalm, Ran, TellsLost, Turns};
 ghost use Rattle.world_base.specs.declared.item.Item.TheVariants as items;
-ghost use Rattle.world_base.specs.Losses.{DoesNothing, IsHeardQuietly, ReadsNone, TakesNoMemory, is_told};
+ghost use Rattle.world_base.specs.Losses.{DoesNothing, IsHeardQuietly, ReadsNone, TakesNoMemory, was_proposed};
 ghost use Rattle.world_base.specs.Lossy.{quietly};
 ghost use Rattle.world_base.specs.LossyProposals.{Proposes};
 ghost use Rattle.world_base.specs.LossyStep.{ActsOn, EndsAllSilent, Holds, LosesAllFailed, ReadsAll, TakesIn};
@@ -72,7 +72,7 @@ impl SteppingNode {
             IsCalm self.old self.new }
         ensures crash { item ≡ items.Crash → IsCalm self.old self.new }
         ensures ended { (port : Port) → item ≡ items.Ended port →
-            is_told (open_at port self.old.core) ≡ false → IsCalm self.old self.new }
+            was_proposed (open_at port self.old.core) ≡ false → IsCalm self.old self.new }
     {
         match item {
             Item::Peer(message) => self.receive(message, effects),
@@ -267,7 +267,7 @@ impl SteppingNode {
             (ends port self.old.core) }
         ensures run { Ran
             (Ends port) self.old.core self.new.core effects.old.items effects.new.items }
-        ensures untold { is_told (open_at port self.old.core) ≡ false →
+        ensures unproposed { was_proposed (open_at port self.old.core) ≡ false →
             self.new ≡ record self.old { core = changes port closed self.old.core } }
     {
         let Some(index) = self.index_at(port) else {

@@ -159,9 +159,9 @@ impl<M: Machine> Replica<M> {
         let before = out.len();
         let least = least_raised(self.log.places(), from, held, &self.progress);
         match self.commit_at(least, out) {
-            Ok(told) => {
+            Ok(commits_sent) => {
                 raise(from, held, &mut self.progress);
-                self.losses = counted(self.losses, told);
+                self.losses = counted(self.losses, commits_sent);
                 Ok(())
             }
             Err(halted) => {

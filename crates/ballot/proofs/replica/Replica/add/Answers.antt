@@ -14,12 +14,12 @@ commit_at-requires-clause-within g c =
 pub returns-after-sent-clause-outcome : goal.returns-after-sent-clause-outcome
 returns-after-sent-clause-outcome g c =
     let steps = g.M.Machine.rules in
-    let whole : c.if-sent.count ≡ (c.send_appends-sent.result && c.in-Ok-commit_at.told) =
+    let whole : c.if-sent.count ≡ (c.send_appends-sent.result && c.in-Ok-commit_at.commits_sent) =
     elim c.if-sent.branch [ then-sent w ↦ search rules | else-sent w ↦ search rules ] in
     rw (← c.self.view_is)
     (add_done steps _ _ c.commit_at.new.self c.count.new.self c.args.command c.push.new.self
     c.deref.result.now c.deref-2.result.now c.places.result c.least_held-held.result
-    c.send_appends-sent.result c.in-Ok-commit_at.told c.if-sent.count _ _ _
+    c.send_appends-sent.result c.in-Ok-commit_at.commits_sent c.if-sent.count _ _ _
     (rw c.places-place.ensures at c.send_appends-sent.ensures)
     c.deref.ensures.value
     c.in-Ok.ensures.ok

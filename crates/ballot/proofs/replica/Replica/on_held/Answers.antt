@@ -27,7 +27,7 @@ returns-in-Ok-clause-went g c =
     let written : length c.raise.new.progress ≡ c.self-2.inside.progress.len =
     omega (arith, c.raise.auto.progress, ap length c.deref_mut.ensures.value, c.self-2.inside.progress.ok.0) in
     held_taken steps c.args.self.now c.commit_at.new.self _ c.args.from c.args.ballot c.args.held c.least_raised-least.result
-    c.deref.result.now _ c.places.result _ _ c.in-Ok.told
+    c.deref.result.now _ c.places.result _ _ c.in-Ok.commits_sent
     (sym c.leads.ensures ∙ c.if-not-leads.false)
     (rw (← c.self.view_is) c.deref.ensures.value)
     long

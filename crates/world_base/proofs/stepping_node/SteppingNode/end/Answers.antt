@@ -3,7 +3,7 @@ use Rattle.node_connections.specs.Connections.{is_open_at}
 use Rattle.world_base.proofs.Indices.{none_found, found_there}
 use Rattle.world_base.proofs.Closes.{ends_none, ends_proposed, ends_other}
 use Rattle.world_base.proofs.EndsRun.{core_of, ran_none_open, ran_told, ran_untold}
-use Rattle.world_base.proofs.Idle.{closes_nothing, told_then}
+use Rattle.world_base.proofs.Idle.{closes_nothing, proposed_then}
 use Rattle.world_base.proofs.stepping_node.SteppingNode.end.Goals as goal
 
 pub returns-in_default-clause-turns : goal.returns-in_default-clause-turns
@@ -42,16 +42,16 @@ returns-else-proposed-clause-run c =
     (rw (← c.self.view_is) at c.index_at.ensures) c.in-Some.is c.index-connection.ensures))
     (sym c.is_proposed-proposed.ensures ∙ c.if-proposed.false) (core_of _ _ c.close.ensures)
 
-pub returns-in_default-clause-untold : goal.returns-in_default-clause-untold
-returns-in_default-clause-untold c = λ _.
+pub returns-in_default-clause-unproposed : goal.returns-in_default-clause-unproposed
+returns-in_default-clause-unproposed c = λ _.
     closes_nothing c.args.port _ (none_found (is_open_at c.args.port) _ (sym c.in_default.is ∙ c.index_at.ensures))
 
-pub returns-then-proposed-clause-untold : goal.returns-then-proposed-clause-untold
-returns-then-proposed-clause-untold c =
-    told_then _ c.index-connection.result.now
+pub returns-then-proposed-clause-unproposed : goal.returns-then-proposed-clause-unproposed
+returns-then-proposed-clause-unproposed c =
+    proposed_then _ c.index-connection.result.now
     (rw (← c.self.view_is) (found_there (is_open_at c.args.port) _ c.index_at.result c.in-Some.index _
     (rw (← c.self.view_is) at c.index_at.ensures) c.in-Some.is c.index-connection.ensures))
     (sym c.is_proposed-proposed.ensures ∙ c.if-proposed.true)
 
-pub returns-else-proposed-clause-untold : goal.returns-else-proposed-clause-untold
-returns-else-proposed-clause-untold c = λ _. c.close.ensures
+pub returns-else-proposed-clause-unproposed : goal.returns-else-proposed-clause-unproposed
+returns-else-proposed-clause-unproposed c = λ _. c.close.ensures

@@ -45,4 +45,4 @@ pub returns-in-Crash-clause-crash : goal.returns-in-Crash-clause-crash
 returns-in-Crash-clause-crash c = rw (← c.self.view_is) (λ _. record { out_of_memory = refl; failed = λ none. none })
 
 pub returns-in-Ended-clause-ended : goal.returns-in-Ended-clause-ended
-returns-in-Ended-clause-ended c = λ port is untold. ended_calmly port c.in-Ended.port c.args.item _ _ c.in-Ended.is is c.end.ensures.untold untold
+returns-in-Ended-clause-ended c = λ port is unproposed. ended_calmly port c.in-Ended.port c.args.item _ _ c.in-Ended.is is c.end.ensures.unproposed unproposed
