@@ -62,7 +62,7 @@ fn take_step(
         }
         Packet::Pubrec(id) => session.on_pubrec(*id, sent)?,
         Packet::Pubrel(id) => {
-            session.release(*id);
+            session.on_pubrel(*id);
             sent.push(Packet::Pubcomp(*id))?;
         }
         Packet::Pubcomp(id) => {

@@ -90,7 +90,7 @@ impl Session {
     }
 
     /// Handles PUBREL: the identifier may be used again.
-    pub fn release(&mut self, id: PacketId)
+    pub fn on_pubrel(&mut self, id: PacketId)
         ensures { self.new ≡ with_received (without_id id self.old.received) self.old }
     {
         self.received.remove(id);

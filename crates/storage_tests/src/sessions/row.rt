@@ -66,7 +66,7 @@ fn is_right(alloc: Global, session: &mut Session, row: Row<'_>) -> bool {
         Row::Pubrec(number, wanted) => pubrec(alloc, session, number, wanted),
         Row::Pubcomp(number) => id_of(number).map(|id| session.on_pubcomp(id)).is_some(),
         Row::Inbound(number, arrival) => inbound(session, number, arrival),
-        Row::Release(number) => id_of(number).map(|id| session.release(id)).is_some(),
+        Row::Release(number) => id_of(number).map(|id| session.on_pubrel(id)).is_some(),
         Row::Received(number, is) => is_received(session, number) == is,
         Row::Subscribe(text, qos, count) => subscribe(alloc, session, text, qos, count),
         Row::Unsubscribe(text, count) => unsubscribe(alloc, session, text, count),
