@@ -95,7 +95,7 @@ where
         rt.alloc(),
         listeners.as_slice(),
         &read.config,
-        |peers| { obey(rt, peers, nodes, input, output) },
+        |cluster| { obey(rt, cluster, nodes, input, output) },
     )??;
     writeln!(output, "bye").ok().ok_or(Fault::Output)
 }

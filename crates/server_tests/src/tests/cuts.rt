@@ -96,7 +96,7 @@ where
         listeners,
         &config,
         &NoGate,
-        |_peers| sends(rt, row, listeners.first()),
+        |_cluster| sends(rt, row, listeners.first()),
     );
     match served {
         Ok((sent, reports)) => sent && are_as_told(reports.as_slice(), row.are_cut),

@@ -143,7 +143,7 @@ impl Gate for Meeting {
 impl Watched for Meeting {
     // Says whether the nodes meet within ten seconds, client `a` is answered then, and each taking
     // was asked for by its number.
-    fn attend<R>(&self, rt: &R, _peers: &Cluster, listener: Option<&Listener>) -> bool
+    fn attend<R>(&self, rt: &R, _cluster: &Cluster, listener: Option<&Listener>) -> bool
     where
         R: AllocGlobal + Wait + Clock + Net<Stream = TcpStream>,
     {
