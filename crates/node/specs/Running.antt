@@ -5,7 +5,7 @@ use Rattle.mailbox.specs.Ends.{Sender}
 use Rattle.world_base.specs.Core.{CountedCore}
 use Rattle.world_base.specs.declared.item.Item.{Item}
 use Rattle.node.specs.Report.{TellsAll}
-use Rattle.node.specs.State.{Replays, Seen, next_turn}
+use Rattle.node.specs.State.{Replays, Seen, next_taking}
 use Rattle.node.specs.declared.report.Report.{Report}
 
 -- what a node shows outside its lock: its number, how many lanes its inbox has, and whether a gate
@@ -24,7 +24,7 @@ pub record Permit : Type 0 where
 
 -- the taking that a gate was asked for is the next of a node
 abbrev pub IsNext : Permit → Seen → Type 0
-IsNext permit seen = IfSome permit.taking (λ taking. taking ≡ next_turn seen.turns)
+IsNext permit seen = IfSome permit.taking (λ taking. taking ≡ next_taking seen.takings)
 
 -- a gate was asked for the taking of this number of the node of this number, and answered this
 pub record WasAsked {G : Type 0}

@@ -30,11 +30,11 @@ pub data Replays (first : CountedCore) : List (ℕ × Item) → CountedCore → 
 pub record Seen : Type 0 where
   pub taker : Taker Item
   pub node : CountedCore
-  pub turns : ℕ
+  pub takings : ℕ
 
 -- the number of the next taking, from 1; it saturates at 2^64 - 1
-abbrev pub next_turn : ℕ → ℕ
-next_turn turns = min (turns + 1) (2 ^ 64 - 1)
+abbrev pub next_taking : ℕ → ℕ
+next_taking takings = min (takings + 1) (2 ^ 64 - 1)
 
 -- one item was taken, and the node's step with it was done
 pub record TakesOne (old new : Seen) (before after : List (Effect Command Output)) : Type 0 where

@@ -9,7 +9,7 @@ ghost use Rattle.world_base.specs.Stands.{standing_of};
 ghost use Rattle.world_base.specs.Handing.{answer_of, bytes_of, hands_over, idle_ports, listed_at};
 ghost use Rattle.node.specs.Growth.{wants_cut};
 ghost use Rattle.node.specs.Report.{HasRoom, TellsAll};
-ghost use Rattle.node.specs.State.{Replays, TakesOne, next_turn};
+ghost use Rattle.node.specs.State.{Replays, TakesOne, next_taking};
 
 use crate::growth::{grown, is_large};
 use crate::naming::NodeNaming;
@@ -28,7 +28,7 @@ pub struct NodeState<J: NodeNaming> {
     /// How many bytes the items brought that were taken since the last cut, at most 2^64 - 1.
     grown: u64,
     /// How many times [`NodeState::take_one`] was called, at most 2^64 - 1.
-    turns: u64,
+    takings: u64,
 }
 
 impl<J: NodeNaming> Model for NodeState<J> {
@@ -41,7 +41,7 @@ impl<J: NodeNaming> Model for NodeState<J> {
     ghost view = { λ state. record {
       taker = state.receiver;
       node = state.core;
-      turns = state.turns;
+      takings = state.takings;
     } };
 
     ghost invariant = { λ state.
@@ -54,13 +54,13 @@ impl<J: NodeNaming> NodeState<J> {
     pub fn new(receiver: Receiver<Item, J>, core: NodeCore) -> NodeState<J>
         requires fresh { receiver.taken ≡ [] }
         requires first { core ≡ J.first_of receiver.inbox }
-        ensures { result ≡ record { taker = receiver; node = core; turns = 0 } }
+        ensures { result ≡ record { taker = receiver; node = core; takings = 0 } }
     {
         NodeState {
             receiver,
             core,
             grown: 0,
-            turns: 0,
+            takings: 0,
         }
     }
 
@@ -100,12 +100,12 @@ impl<J: NodeNaming> NodeState<J> {
         self.receiver.receipt()
     }
 
-    /// Returns the number of the next call of [`NodeState::take_one`], from 1. It saturates at 2^64
-    /// - 1.
-    pub fn next_turn(&self) -> u64
-        ensures { result ≡ next_turn self.now.turns }
+    /// Returns the number of the next call of [`NodeState::take_one`], from 1. It saturates at
+    /// 2^64 - 1.
+    pub fn next_taking(&self) -> u64
+        ensures { result ≡ next_taking self.now.takings }
     {
-        self.turns.saturating_add(1)
+        self.takings.saturating_add(1)
     }
 
     /// Takes the item that came first and does the node's step with it. Returns whether there was
@@ -126,17 +126,17 @@ impl<J: NodeNaming> NodeState<J> {
         ensures replays { Replays
             (J.first_of self.old.taker.inbox) self.old.taker.taken self.old.node }
 
-        ensures turns { self.new.turns ≡ next_turn self.old.turns }
+        ensures takings { self.new.takings ≡ next_taking self.old.takings }
 
         // No item waited, and nothing else changed: everything was taken that the receipt knows
         // about.
         ensures empty { result ≡ false → WasEmpty self.old.taker receipt }
         ensures arrived { result ≡ false → HasArrived receipt self.old.taker.taken }
         ensures same { result ≡ false →
-            self.new ≡ record self.old { turns = next_turn self.old.turns } }
+            self.new ≡ record self.old { takings = next_taking self.old.takings } }
         ensures silent { result ≡ false → effects.new.items ≡ effects.old.items }
     {
-        self.turns = self.turns.saturating_add(1);
+        self.takings = self.takings.saturating_add(1);
         match self.receiver.take(rt, receipt) {
             Some((_, item)) => {
                 self.grown = grown(self.grown, &item);
@@ -263,7 +263,7 @@ impl<J: NodeNaming> NodeState<J> {
             mut receiver,
             core,
             grown: _grown,
-            turns: _turns,
+            takings: _takings,
         } = self;
         let mut report = room;
         report.base = core.snapshot().0;

@@ -85,7 +85,7 @@ impl<'n> Permit<'n> {
         ensures { IsTrue result ↔ IsNext self.now state.now }
     {
         match self.taking {
-            Some(taking) => taking == state.next_turn(),
+            Some(taking) => taking == state.next_taking(),
             None => true,
         }
     }

@@ -166,7 +166,7 @@ impl<'g, J: NodeNaming, S: Stated<J>, G: Gate> Node<'g, J, S, G> {
             return Permit::free();
         };
         let turn = self.turn.lock(rt);
-        let taking = self.lock(rt).state().next_turn();
+        let taking = self.lock(rt).state().next_taking();
         let is_open = self.ask(rt, gate, taking);
         Permit::after(taking, is_open, turn)
     }

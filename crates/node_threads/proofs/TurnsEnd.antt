@@ -4,7 +4,7 @@ use Rattle.post.specs.node.Command.{Command}
 use Rattle.post.specs.node.Output.{Output}
 use Rattle.post.specs.node.Effect.{Effect}
 use Rattle.post.specs.node.Lists.{Each}
-use Rattle.post.specs.node.State.{Seen, next_turn}
+use Rattle.post.specs.node.State.{Seen, next_taking}
 use Rattle.post.specs.Queued.{WasGiven}
 use Rattle.node_threads.specs.Turns.{Turns}
 use Rattle.node_threads.specs.Turns.Turns.{begins, finds_none}
@@ -15,8 +15,8 @@ given_none node given none = subst (λ (l : List (Effect Command Output)). Each 
 
 -- no item waited
 pub found_none : (old seen new : Seen) (given after : List (Effect Command Output))
-    → Turns old seen given → new ≡ record seen { turns = next_turn seen.turns } → after ≡ given → Turns old new after
+    → Turns old seen given → new ≡ record seen { takings = next_taking seen.takings } → after ≡ given → Turns old new after
 found_none old seen new given after turns is same =
     subst (λ (s : Seen). Turns old s after) (sym is)
-    (subst (λ (l : List (Effect Command Output)). Turns old (record seen { turns = next_turn seen.turns }) l) (sym same)
+    (subst (λ (l : List (Effect Command Output)). Turns old (record seen { takings = next_taking seen.takings }) l) (sym same)
     (finds_none turns))

@@ -3,7 +3,7 @@ use Rattle.std.specs.Prelude.{List, []}
 use Rattle.post.specs.node.Command.{Command}
 use Rattle.post.specs.node.Output.{Output}
 use Rattle.post.specs.node.Effect.{Effect}
-use Rattle.post.specs.node.State.{Seen, TakesOne, next_turn}
+use Rattle.post.specs.node.State.{Seen, TakesOne, next_taking}
 
 -- From a state of a node on, one item after another was taken, and these are all effects of the
 -- steps, in order; or no item waited.
@@ -16,4 +16,4 @@ pub data Turns (old : Seen) : Seen → List (Effect Command Output) → Type 0 w
       → Turns old seen given → TakesOne seen next given after → Turns old next after
   -- no item waits
   finds_none : {seen : Seen} {given : List (Effect Command Output)}
-      → Turns old seen given → Turns old (record seen { turns = next_turn seen.turns }) given
+      → Turns old seen given → Turns old (record seen { takings = next_taking seen.takings }) given
