@@ -5,7 +5,7 @@ use Rattle.client_base.specs.declared.error.ClientError.{ClientError}
 use Rattle.client_base.specs.declared.error.ClientError.TheVariants as errors
 use Rattle.client.specs.Core.{Core}
 use Rattle.client.specs.Reading.{Reads, turn_of}
-use Rattle.client.specs.Inside.Turns.{Tries, ReadsOne}
+use Rattle.client.specs.Inside.Handling.{Tries, ReadsOne}
 
 pub handling_fails : (old mid new : Core) (packet : Packet) (error : ClientError) → Reads old packet mid
     → Tries (turn_of packet mid) mid (Err error) new → ReadsOne old (Err error) new

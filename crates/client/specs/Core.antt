@@ -8,7 +8,7 @@ use Rattle.client_base.specs.session_base.declared.publication.Publication.{Publ
 use Rattle.client_base.specs.declared.error.ClientError.{ClientError}
 use Rattle.client_base.specs.declared.error.ClientError.TheVariants as errors
 use Rattle.client_base.specs.State.{ClientState, new_client, lost}
-use Rattle.client_base.specs.Answered.{Turn}
+use Rattle.client_base.specs.Answered.{ClientOutcome}
 
 -- a client between two calls
 pub record Core : Type 0 where
@@ -32,12 +32,12 @@ AppendsAll old new (packet ∷ packets) =
     (between : List ℕ) × AppendsSpelling old between packet × AppendsAll between new packets
 
 -- the step is done: its state, and its packets appended to what was written
-abbrev pub IsDone : Turn → Core → Core → Type 0
+abbrev pub IsDone : ClientOutcome → Core → Core → Type 0
 IsDone turn old new =
     (new.state ≡ turn.state) × AppendsAll old.out new.out turn.writes × (new.unread ≡ old.unread)
 
 -- A call is its whole step; it is refused if the step is, and if memory runs out nothing changes.
-abbrev pub Does : Turn → Core → Result (Unit {0}) ClientError → Core → Type 0
+abbrev pub Does : ClientOutcome → Core → Result (Unit {0}) ClientError → Core → Type 0
 Does turn old (Ok done) new = (turn.refusal ≡ None) × IsDone turn old new
 Does turn old (Err errors.Memory) new = new ≡ old
 Does turn old (Err cause) new = (turn.refusal ≡ Some cause) × (new ≡ old)
@@ -47,13 +47,13 @@ abbrev pub gone : Core → Core
 gone core = record core { state = lost core.state; unread = nothing_read }
 
 -- it opens a connection: CONNECT is the first that is written on it
-abbrev pub Opens : Turn → Core → Result (Unit {0}) ClientError → Core → Type 0
+abbrev pub Opens : ClientOutcome → Core → Result (Unit {0}) ClientError → Core → Type 0
 Opens turn old (Ok done) new =
     (new.state ≡ turn.state) × AppendsAll [] new.out turn.writes × (new.unread ≡ nothing_read)
 Opens turn old (Err cause) new = (cause ≡ errors.Memory) × (new ≡ old)
 
 -- it disconnects: like a call, and what it has not read is dropped
-abbrev pub Leaves : Turn → Core → Result (Unit {0}) ClientError → Core → Type 0
+abbrev pub Leaves : ClientOutcome → Core → Result (Unit {0}) ClientError → Core → Type 0
 Leaves turn old (Ok done) new =
     (turn.refusal ≡ None) × (new.state ≡ turn.state) × AppendsAll old.out new.out turn.writes
     × (new.unread ≡ nothing_read)

@@ -9,12 +9,12 @@ use Rattle.client_base.specs.declared.error.ClientError.{ClientError}
 use Rattle.client_base.specs.declared.error.ClientError.TheVariants as errors
 use Rattle.client_base.specs.declared.stage.Stage.{Stage}
 use Rattle.client_base.specs.declared.stage.Stage.TheVariants as stages
-use Rattle.client_base.specs.Answered.{Turn}
+use Rattle.client_base.specs.Answered.{ClientOutcome}
 use Rattle.client_base.specs.Calls.{received}
 use Rattle.client.specs.Core.{Core, IsDone, gone}
 
 -- what the server's packet does to a client
-abbrev pub turn_of : Packet → Core → Turn
+abbrev pub turn_of : Packet → Core → ClientOutcome
 turn_of packet core = received packet core.state.stage core.state
 
 -- the first whole packet that is not yet read, and the client without it

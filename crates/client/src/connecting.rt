@@ -6,7 +6,7 @@ ghost use Rattle.client_base.specs.State.{resent, is_online};
 ghost use Rattle.client_base.specs.Calls.{opened, confirmed, discarded, numbered};
 ghost use Rattle.client_base.specs.Steps.{Call, keeper_step};
 ghost use Rattle.client.specs.Core.{Opens, Leaves, AppendsAll};
-ghost use Rattle.client.specs.Inside.Turns.{Tries, with_state, all_sent};
+ghost use Rattle.client.specs.Inside.Handling.{Tries, with_state, all_sent};
 
 use crate::client_core::ClientCore;
 use crate::writing::{write, write_connect, write_publishes, write_pubrels};

@@ -6,7 +6,7 @@ ghost use Rattle.cutter.specs.packet.declared.delivery.Delivery.TheVariants as d
 ghost use Rattle.client_base.specs.Answered.{on_publish, on_puback, on_pubrec, on_pubcomp};
 ghost use Rattle.client_base.specs.Answered.{on_pubrel, answered, accepted_of};
 ghost use Rattle.client_base.specs.Answered.{is_subscribe, is_unsubscribe};
-ghost use Rattle.client.specs.Inside.Turns.{Tries, changed};
+ghost use Rattle.client.specs.Inside.Handling.{Tries, changed};
 
 use crate::client_core::ClientCore;
 use crate::identifiers::{

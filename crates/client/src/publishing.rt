@@ -10,7 +10,7 @@ ghost use Rattle.client_base.specs.Publishing.{is_over_limit};
 ghost use Rattle.client_base.specs.Steps.{Call, keeper_step};
 ghost use Rattle.client.specs.Core.{Does, publication_with};
 ghost use Rattle.client.specs.Inside.Ids.{PublicationId};
-ghost use Rattle.client.specs.Inside.Turns.{keeping, sending};
+ghost use Rattle.client.specs.Inside.Handling.{keeping, sending};
 
 use crate::client_core::ClientCore;
 use crate::writing::{publish_again, write, write_publish};

@@ -3,8 +3,8 @@
 ghost use Rattle.std.specs.Prelude.{◌≡◌, ◌<◌, length, true, Ok};
 ghost use Rattle.client_base.specs.Calls.{on_first, on_later};
 ghost use Rattle.client.specs.Reading.{turn_of, cause_of, OnBytes};
-ghost use Rattle.client.specs.Inside.Turns.{Tries, ReadsOne, TakesIn, TakesNext, Feeds, ReadsAll};
-ghost use Rattle.client.specs.Inside.Turns.{cut_cause, is_fatal};
+ghost use Rattle.client.specs.Inside.Handling.{Tries, ReadsOne, TakesIn, TakesNext, Feeds, ReadsAll};
+ghost use Rattle.client.specs.Inside.Handling.{cut_cause, is_fatal};
 
 use crate::client_core::ClientCore;
 use client_base::{ClientError, Stage};

@@ -7,7 +7,7 @@ use Rattle.session_base.specs.declared.publication.Publication.{Publication}
 use Rattle.session_base.specs.Publication.{publish_of}
 use Rattle.client_base.specs.declared.kept_publication.KeptPublication.{KeptPublication}
 use Rattle.client_base.specs.State.{ClientState}
-use Rattle.client_base.specs.Answered.{Turn}
+use Rattle.client_base.specs.Answered.{ClientOutcome}
 use Rattle.client_base.specs.Keeper.{Own, Keeper, Side, next_number}
 use Rattle.client_base.specs.Written.{publishes}
 use Rattle.client_base.specs.History.{StandsFor, sent_of, unsent_of, released_of, IsSentFirst}
@@ -52,7 +52,7 @@ side_of p id side answered online =
       connection = record side.connection { written = side.connection.written ++ (if online then publishes false (next_number side.keeper) id p ∷ [] else []) };
     }
 
-abbrev pub turn_of : Publication → ℕ → ClientState → Bool → Bool → Turn
+abbrev pub turn_of : Publication → ℕ → ClientState → Bool → Bool → ClientOutcome
 turn_of p id state answered online =
     if online
     then record {

@@ -7,7 +7,7 @@ use Rattle.client_base.specs.declared.error.ClientError.{ClientError}
 use Rattle.client_base.specs.declared.error.ClientError.TheVariants as errors
 use Rattle.client_base.specs.declared.stage.Stage.TheVariants as stages
 use Rattle.client_base.specs.State.{ClientState, publish_kept, resent}
-use Rattle.client_base.specs.Answered.{Turn}
+use Rattle.client_base.specs.Answered.{ClientOutcome}
 use Rattle.client_base.specs.Calls.{confirmed, discarded, numbered}
 use Rattle.client_base.specs.Keeper.{Written, Keeper, Side}
 use Rattle.client_base.specs.Written.{plain, sent_all, sent_again, sent_first}
@@ -107,7 +107,7 @@ settled_side side kept =
       connection = record side.connection { written = side.connection.written ++ history.resent kept; confirmed = true };
     }
 
-abbrev settled_turn : Bool → ClientState → Option ClientError → Turn
+abbrev settled_turn : Bool → ClientState → Option ClientError → ClientOutcome
 settled_turn present kept refusal =
     record {
       state = record kept { sent = kept.sent ++ kept.unsent; unsent = []; stage = stages.Online; present = present };

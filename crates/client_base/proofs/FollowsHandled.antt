@@ -9,7 +9,7 @@ use Rattle.client_base.specs.declared.request.Request.{Request}
 use Rattle.client_base.specs.declared.stage.Stage.{Stage}
 use Rattle.client_base.specs.declared.stage.Stage.TheVariants as stages
 use Rattle.client_base.specs.State.{ClientState, is_open, is_online, lost}
-use Rattle.client_base.specs.Answered.{Turn}
+use Rattle.client_base.specs.Answered.{ClientOutcome}
 use Rattle.client_base.specs.Calls.{received, on_later, on_first, opened}
 use Rattle.client_base.specs.Keeper.{Keeper, Side}
 use Rattle.client_base.specs.Handled as handling
@@ -89,7 +89,7 @@ first_follows _ side state s up = record { stands = lost_stands side.keeper stat
 abbrev counted : Side ℕ → Side ℕ
 counted side = record side { connection = record side.connection { handled = suc side.connection.handled } }
 
-uncounted : (side after : Side ℕ) (turn : Turn) → Same (counted side) after turn → Same side after turn
+uncounted : (side after : Side ℕ) (turn : ClientOutcome) → Same (counted side) after turn → Same side after turn
 uncounted side after turn same = record { stands = same.stands; writes = same.writes }
 
 pub handled_follows : (packet : Packet) (stage : Stage) (online : Bool) (side : Side ℕ) (state : ClientState) → StandsFor side.keeper state → is_open stage ≡ true

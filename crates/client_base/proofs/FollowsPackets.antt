@@ -12,7 +12,7 @@ use Rattle.session_base.specs.packet.declared.publish.Publish.{Publish}
 use Rattle.session_base.specs.Publication.{publication_of, is_acknowledged}
 use Rattle.client_base.specs.declared.accepted.Accepted.{Accepted}
 use Rattle.client_base.specs.State.{ClientState}
-use Rattle.client_base.specs.Answered.{Turn, awaits_puback, on_publish, on_puback, on_pubrel}
+use Rattle.client_base.specs.Answered.{ClientOutcome, awaits_puback, on_publish, on_puback, on_pubrel}
 use Rattle.session_base.specs.Identifiers.{without_id}
 use Rattle.client_base.specs.Keeper.{Own, Connection, Keeper, Side}
 use Rattle.client_base.specs.Written.{plain, writing}
@@ -22,7 +22,7 @@ use Rattle.client_base.proofs.Readings.{puback_sent, puback_unsent, puback_relea
 use Rattle.client_base.proofs.Released.{has_without}
 
 -- what follows: the state corresponds to the client, and the same is written
-pub record Same (before after : Side ℕ) (turn : Turn) : Type 0 where
+pub record Same (before after : Side ℕ) (turn : ClientOutcome) : Type 0 where
   pub stands : StandsFor after.keeper turn.state
   pub writes : WritesMore before.connection after.connection turn.writes
 

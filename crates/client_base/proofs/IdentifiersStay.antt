@@ -18,7 +18,7 @@ use Rattle.client_base.specs.declared.request.Request.{Request}
 use Rattle.client_base.specs.declared.stage.Stage.{Stage}
 use Rattle.client_base.specs.declared.stage.Stage.TheVariants as stages
 use Rattle.client_base.specs.State.{ClientState, is_online, ids_of_kept, id_of_request, used_ids}
-use Rattle.client_base.specs.Answered.{Turn, on_publish, awaits_puback, awaits_pubrec, is_subscribe, is_unsubscribe}
+use Rattle.client_base.specs.Answered.{ClientOutcome, on_publish, awaits_puback, awaits_pubrec, is_subscribe, is_unsubscribe}
 use Rattle.client_base.specs.Calls.{on_later}
 use Rattle.client_base.specs.Publishing.{next_id, published}
 use Rattle.client_base.specs.Steps.{unless_refused, disconnected}
@@ -53,7 +53,7 @@ asked_more : (i : ℕ) (requests : List Request) (one : Request) → often i (ma
 asked_more i [] one = omega arith
 asked_more i (r ∷ requests) one = let ih = asked_more i requests one in omega (arith, ih)
 
-either_turn : (b : Bool) (x y : Turn) → AreOnce x.state → AreOnce y.state → AreOnce (if b then x else y).state
+either_turn : (b : Bool) (x y : ClientOutcome) → AreOnce x.state → AreOnce y.state → AreOnce (if b then x else y).state
 either_turn true x y e f = e
 either_turn false x y e f = f
 
@@ -61,7 +61,7 @@ either_state : (b : Bool) (x y : ClientState) → AreOnce x → AreOnce y → Ar
 either_state true x y e f = e
 either_state false x y e f = f
 
-pub unless : (refusal : Option ClientError) (turn : Turn) (state : ClientState) → AreOnce state → AreOnce turn.state → AreOnce (unless_refused refusal turn state).state
+pub unless : (refusal : Option ClientError) (turn : ClientOutcome) (state : ClientState) → AreOnce state → AreOnce turn.state → AreOnce (unless_refused refusal turn state).state
 unless (Some cause) turn state e f = e
 unless None turn state e f = f
 
@@ -110,7 +110,7 @@ pubrec_once id state few = by (list_any (awaits_pubrec id) state.sent) refl
     left = record state { released = state.released ++ id ∷ []; sent = filter (λ one. not (awaits_pubrec id one)) state.sent }
 
     by : (b : Bool) → list_any (awaits_pubrec id) state.sent ≡ b
-        → AreOnce (if◌then◌else◌ {A = Turn} b (record { state = left; writes = packets.Pubrel id ∷ []; refusal = None })
+        → AreOnce (if◌then◌else◌ {A = ClientOutcome} b (record { state = left; writes = packets.Pubrel id ∷ []; refusal = None })
         (record { state = state; writes = if has_id id state.released then packets.Pubrel id ∷ [] else []; refusal = None })).state
     by true e =
         fewer state left

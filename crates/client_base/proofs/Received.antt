@@ -16,7 +16,7 @@ use Rattle.client_base.specs.declared.error.ClientError.{ClientError}
 use Rattle.client_base.specs.declared.stage.Stage.{Stage}
 use Rattle.client_base.specs.declared.stage.Stage.TheVariants as stages
 use Rattle.client_base.specs.State.{ClientState, is_online}
-use Rattle.client_base.specs.Answered.{Turn, on_publish, accepting, awaits_pubrec}
+use Rattle.client_base.specs.Answered.{ClientOutcome, on_publish, accepting, awaits_pubrec}
 use Rattle.session_base.specs.Identifiers.{without_id}
 use Rattle.client_base.specs.Calls.{received, on_first, on_later}
 use Rattle.client_base.specs.Publishing.{published, publish_refusal}
@@ -70,13 +70,13 @@ accepts_unless_kept p dup id state = by (has_id id state.received) refl
 -- ---- what a call leaves of it
 
 -- it stays, or the call is one of the two that may forget it
-abbrev Stays : ℕ → Call → Turn → Type 0
+abbrev Stays : ℕ → Call → ClientOutcome → Type 0
 Stays id call turn =
     (has_id id turn.state.received ≡ true)
     ⊎ ((call ≡ Call.Receives (packets.Pubrel id)) ⊎ (call ≡ Call.Receives (packets.Connack (connacks.Accepted false))))
 
 -- in either of two turns, or of two states
-either_turn : (id : ℕ) (b : Bool) (x y : Turn) → has_id id x.state.received ≡ true → has_id id y.state.received ≡ true
+either_turn : (id : ℕ) (b : Bool) (x y : ClientOutcome) → has_id id x.state.received ≡ true → has_id id y.state.received ≡ true
     → has_id id (if b then x else y).state.received ≡ true
 either_turn id true x y e f = e
 either_turn id false x y e f = f
@@ -86,7 +86,7 @@ either_state : (id : ℕ) (b : Bool) (x y : ClientState) → has_id id x.receive
 either_state id true x y e f = e
 either_state id false x y e f = f
 
-unless : (id : ℕ) (refusal : Option ClientError) (turn : Turn) (state : ClientState)
+unless : (id : ℕ) (refusal : Option ClientError) (turn : ClientOutcome) (state : ClientState)
     → has_id id state.received ≡ true → has_id id turn.state.received ≡ true → has_id id (unless_refused refusal turn state).state.received ≡ true
 unless id (Some cause) turn state e f = e
 unless id None turn state e f = f

@@ -19,17 +19,17 @@ use Rattle.client_base.specs.State.{ClientState, lost}
 use Rattle.session_base.specs.Identifiers.{without_id}
 
 -- the state after a step, the packets that it writes, and why it is refused, if it is
-pub record Turn : Type 0 where
+pub record ClientOutcome : Type 0 where
   pub state : ClientState
   pub writes : List Packet
   pub refusal : Option ClientError
 
 -- nothing is refused
-abbrev pub going_on : ClientState → List Packet → Turn
+abbrev pub going_on : ClientState → List Packet → ClientOutcome
 going_on state packets = record { state = state; writes = packets; refusal = None }
 
 -- the connection ends for this cause
-abbrev pub ending : ClientError → ClientState → Turn
+abbrev pub ending : ClientError → ClientState → ClientOutcome
 ending cause state = record { state = lost state; writes = []; refusal = Some cause }
 
 -- ---- publications of others
@@ -51,7 +51,7 @@ accepting p state = record state { accepted = state.accepted ++ accepted_of stat
 
 -- a publication at QoS 0 or 1 is accepted each time, one at QoS 2 once while its identifier is kept
 -- (MQTT 4.3)
-abbrev pub on_publish : Publish → Delivery → ClientState → Turn
+abbrev pub on_publish : Publish → Delivery → ClientState → ClientOutcome
 on_publish p deliveries.AtMostOnce state = going_on (accepting p state) []
 on_publish p (deliveries.AtLeastOnce dup id) state =
     going_on (accepting p state) (packets.Puback id ∷ [])
@@ -62,7 +62,7 @@ on_publish p (deliveries.ExactlyOnce dup id) state =
     (packets.Pubrec id ∷ [])
 
 -- PUBREL: the identifier is no longer kept, and PUBCOMP answers in any case (MQTT 4.3.3)
-abbrev pub on_pubrel : ℕ → ClientState → Turn
+abbrev pub on_pubrel : ℕ → ClientState → ClientOutcome
 on_pubrel id state =
     going_on (record state { received = without_id id state.received }) (packets.Pubcomp id ∷ [])
 
@@ -77,13 +77,13 @@ abbrev pub awaits_pubrec : ℕ → KeptPublication → Bool
 awaits_pubrec id kept = (id == kept.id) && not (is_acknowledged kept.publication.qos)
 
 -- PUBACK ends a QoS 1 publication that was sent (MQTT 4.3.2)
-abbrev pub on_puback : ℕ → ClientState → Turn
+abbrev pub on_puback : ℕ → ClientState → ClientOutcome
 on_puback id state =
     going_on (record state { sent = filter (λ kept. not (awaits_puback id kept)) state.sent }) []
 
 -- PUBREC releases a QoS 2 publication that was sent; for a released one PUBREL is sent again (MQTT
 -- 4.3.3)
-abbrev pub on_pubrec : ℕ → ClientState → Turn
+abbrev pub on_pubrec : ℕ → ClientState → ClientOutcome
 on_pubrec id state =
     if list_any (awaits_pubrec id) state.sent
     then going_on
@@ -95,7 +95,7 @@ on_pubrec id state =
     else going_on state (if has_id id state.released then packets.Pubrel id ∷ [] else [])
 
 -- PUBCOMP ends a released publication (MQTT 4.3.3)
-abbrev pub on_pubcomp : ℕ → ClientState → Turn
+abbrev pub on_pubcomp : ℕ → ClientState → ClientOutcome
 on_pubcomp id state = going_on (record state { released = without_id id state.released }) []
 
 -- ---- requests: only an answer of its own kind ends one
@@ -111,6 +111,6 @@ is_unsubscribe id (requests.Subscribes other) = false
 is_unsubscribe id (requests.Unsubscribes other) = id == other
 
 -- the requests that are answered end, and nothing is written
-abbrev pub answered : (Request → Bool) → ClientState → Turn
+abbrev pub answered : (Request → Bool) → ClientState → ClientOutcome
 answered test state =
     going_on (record state { requests = filter (λ request. not (test request)) state.requests }) []

@@ -9,18 +9,18 @@ use Rattle.client_base.specs.declared.error.ClientError.TheVariants as errors
 use Rattle.client_base.specs.declared.stage.Stage.{Stage}
 use Rattle.client_base.specs.declared.stage.Stage.TheVariants as stages
 use Rattle.client_base.specs.State.{ClientState, resent, lost}
-use Rattle.client_base.specs.Answered.{Turn, going_on, ending, on_publish, on_pubrel, on_puback}
+use Rattle.client_base.specs.Answered.{ClientOutcome, going_on, ending, on_publish, on_pubrel, on_puback}
 use Rattle.client_base.specs.Answered.{on_pubrec, on_pubcomp, is_subscribe}
 use Rattle.client_base.specs.Answered.{is_unsubscribe, answered}
 
 -- nothing changes, for this cause
-abbrev pub refused : ClientError → ClientState → Turn
+abbrev pub refused : ClientError → ClientState → ClientOutcome
 refused cause state = record { state = state; writes = []; refusal = Some cause }
 
 -- ---- a connection begins
 
 -- CONNECT with CleanSession 0, on a new connection
-abbrev pub opened : ClientState → Turn
+abbrev pub opened : ClientState → ClientOutcome
 opened state =
     going_on (record (lost state) { stage = stages.Opened })
     (packets.Connect
@@ -46,7 +46,7 @@ abbrev pub numbered : ClientState → ClientState
 numbered state = record state { session = if state.session == 0 then 1 else state.session }
 
 -- CONNACK 0: what is in flight is sent again, then what was not sent yet (MQTT 3.2.2, 4.4)
-abbrev pub confirmed : Bool → ClientState → Turn
+abbrev pub confirmed : Bool → ClientState → ClientOutcome
 confirmed present state =
     let lacking = loses_session present state in
     let kept = if lacking then discarded state else numbered state in
@@ -64,13 +64,13 @@ confirmed present state =
 -- ---- packets of the server
 
 -- the first one on a connection has to be CONNACK (MQTT 3.2)
-abbrev pub on_first : Packet → ClientState → Turn
+abbrev pub on_first : Packet → ClientState → ClientOutcome
 on_first (packets.Connack (connacks.Accepted present)) state = confirmed present state
 on_first (packets.Connack (connacks.Refused code)) state = ending errors.NotActive state
 on_first _ state = ending errors.Protocol state
 
 -- a later one; a second CONNACK, or a packet that only a client sends, ends the connection
-abbrev pub on_later : Packet → ClientState → Turn
+abbrev pub on_later : Packet → ClientState → ClientOutcome
 on_later (packets.Publish p) state = on_publish p p.delivery state
 on_later (packets.Puback id) state = on_puback id state
 on_later (packets.Pubrec id) state = on_pubrec id state
@@ -82,7 +82,7 @@ on_later packets.Pingresp state = going_on state []
 on_later _ state = ending errors.Protocol state
 
 -- a packet of the server, by how far the connection has come
-abbrev pub received : Packet → Stage → ClientState → Turn
+abbrev pub received : Packet → Stage → ClientState → ClientOutcome
 received packet stages.Closed state = refused errors.NotActive state
 received packet stages.Opened state = on_first packet state
 received packet stages.Online state = on_later packet state

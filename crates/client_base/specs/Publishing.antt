@@ -11,7 +11,7 @@ use Rattle.client_base.specs.declared.error.ClientError.{ClientError}
 use Rattle.client_base.specs.declared.error.ClientError.TheVariants as errors
 use Rattle.client_base.specs.declared.kept_publication.KeptPublication.{KeptPublication}
 use Rattle.client_base.specs.State.{ClientState, is_online, kept_count, used_ids}
-use Rattle.client_base.specs.Answered.{Turn, going_on}
+use Rattle.client_base.specs.Answered.{ClientOutcome, going_on}
 
 -- the identifier that the next publication or request gets
 abbrev pub next_id : ClientState → ℕ
@@ -43,7 +43,7 @@ publish_refusal p state =
     if is_over_limit (publish_packet p state) then Some errors.TooLarge else None
 
 -- a publication at QoS 1 or 2 is kept; each is sent at once if the client is online (MQTT 4.3)
-abbrev pub published : Publication → ClientState → Turn
+abbrev pub published : Publication → ClientState → ClientOutcome
 published p state =
     let kept : KeptPublication = record { id = next_id state; publication = p } in
     if is_online state.stage

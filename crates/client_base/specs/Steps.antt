@@ -11,7 +11,7 @@ use Rattle.client_base.specs.declared.request.Request.TheVariants as requests
 use Rattle.client_base.specs.declared.stage.Stage.{Stage}
 use Rattle.client_base.specs.declared.stage.Stage.TheVariants as stages
 use Rattle.client_base.specs.State.{ClientState, is_online, lost}
-use Rattle.client_base.specs.Answered.{Turn, going_on}
+use Rattle.client_base.specs.Answered.{ClientOutcome, going_on}
 use Rattle.client_base.specs.Calls.{refused, opened, received}
 use Rattle.client_base.specs.Publishing.{next_id, has_free_id, publish_refusal, published}
 
@@ -24,19 +24,19 @@ request_refusal state =
     if not (has_free_id state) then Some errors.WindowFull else None
 
 -- it is in flight until its answer comes
-abbrev pub asked : Request → Packet → ClientState → Turn
+abbrev pub asked : Request → Packet → ClientState → ClientOutcome
 asked request packet state =
     going_on (record state { requests = state.requests ++ request ∷ [] }) (packet ∷ [])
 
 -- a SUBSCRIBE to one filter
-abbrev pub subscribed : List ℕ → QoS → ClientState → Turn
+abbrev pub subscribed : List ℕ → QoS → ClientState → ClientOutcome
 subscribed filter qos state =
     asked (requests.Subscribes (next_id state))
     (packets.Subscribe
     (record { id = next_id state; filters = record { filter = filter; qos = qos } ∷ [] })) state
 
 -- an UNSUBSCRIBE from one filter
-abbrev pub unsubscribed : List ℕ → ClientState → Turn
+abbrev pub unsubscribed : List ℕ → ClientState → ClientOutcome
 unsubscribed filter state =
     asked (requests.Unsubscribes (next_id state))
     (packets.Unsubscribe (record { id = next_id state; filters = filter ∷ [] })) state
@@ -44,7 +44,7 @@ unsubscribed filter state =
 -- ---- the end of a connection
 
 -- DISCONNECT is written if the client is online (MQTT 3.14)
-abbrev pub disconnected : Stage → ClientState → Turn
+abbrev pub disconnected : Stage → ClientState → ClientOutcome
 disconnected stages.Closed state = refused errors.NotActive state
 disconnected stages.Opened state = going_on (lost state) []
 disconnected stages.Online state = going_on (lost state) (packets.Disconnect ∷ [])
@@ -62,12 +62,12 @@ pub data Call : Type 0 where
   Disconnects : Call  -- it is to end its connection
 
 -- what a call does, unless it is refused for a cause
-abbrev pub unless_refused : Option ClientError → Turn → ClientState → Turn
+abbrev pub unless_refused : Option ClientError → ClientOutcome → ClientState → ClientOutcome
 unless_refused (Some cause) turn state = refused cause state
 unless_refused None turn state = turn
 
 -- what each call does to a client
-abbrev pub keeper_step : Call → ClientState → Turn
+abbrev pub keeper_step : Call → ClientState → ClientOutcome
 keeper_step Call.Opens state = opened state
 keeper_step (Call.Publishes p) state =
     unless_refused (publish_refusal p state) (published p state) state

@@ -3,7 +3,7 @@ use Rattle.std.proofs.Common.{◌≡◌, ◌⊎◌, inl, inr, ℕ, true, List, [
 use Rattle.client.specs.Core.{Core, nothing_read}
 use Rattle.client.specs.Reading.{EndsWith, Handles, OnBytes, Reads, StopsFor, fed, turn_of}
 use Rattle.client.specs.Reading.Handles.{none, more}
-use Rattle.client.specs.Answered.{Turn}
+use Rattle.client.specs.Answered.{ClientOutcome}
 use Rattle.client.specs.Calls.{received}
 use Rattle.client.specs.State.{ClientState, is_online}
 use Rattle.client.specs.ClientError.{ClientError}
@@ -80,7 +80,7 @@ module _ (piece : List ℕ) (old : Core) (whole : verdict piece ≡ Ok (connack,
       by (inl same) =
           let r : Reads (fed piece old) packet t = subst (λ (x : Core). Reads x packet t) same reads in
           let turn = turn_is packet t r in
-          let state = done.0 ∙ ap (λ (u : Turn). u.state) turn in
+          let state = done.0 ∙ ap (λ (u : ClientOutcome). u.state) turn in
           inr (record {
             served = record { online = ap (λ (k : ClientState). is_online k.stage) state; present = ap (λ (k : ClientState). k.present) state };
             read = ap (λ (x : Stream). x.held) done.2 ∙ (reads_it packet t r).1;
@@ -95,7 +95,7 @@ module _ (piece : List ℕ) (old : Core) (whole : verdict piece ≡ Ok (connack,
       by (faults.Malformed kind) f = ok_not_err (verdict (fed piece old).unread.held) (connack, []) (stops.Malformed kind) stands f.1
       by (faults.Refused code) f = ok_not_err (verdict (fed piece old).unread.held) (connack, []) (stops.Refused code) stands f
   none_stops cause (inr (packet, next, reads, refused)) =
-      refuses (turn_of packet next).refusal cause refused (ap (λ (u : Turn). u.refusal) (turn_is packet next reads))
+      refuses (turn_of packet next).refusal cause refused (ap (λ (u : ClientOutcome). u.refusal) (turn_is packet next reads))
     where
       refuses : (o : Option ClientError) (e : ClientError) → o ≡ Some e → o ≡ None → ⊥
       refuses o e f g = cc

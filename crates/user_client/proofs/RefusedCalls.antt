@@ -3,7 +3,7 @@ use Rattle.std.proofs.Common.{◌≡◌, Bool, Some, sym, ap, subst, ◌∙◌, 
 use Rattle.std.specs.Prelude.{Result, Ok, Err, IfErr, IsErrAnd, OnErr, option_map}
 use Rattle.client.specs.client_base.declared.error.ClientError.{ClientError}
 use Rattle.client.specs.client_base.declared.error.ClientError.TheVariants as errors
-use Rattle.client.specs.client_base.Answered.{Turn}
+use Rattle.client.specs.client_base.Answered.{ClientOutcome}
 use Rattle.client.specs.client_base.Steps.{Call, keeper_step}
 use Rattle.client.specs.Core.{Core, Does}
 use Rattle.user_client.specs.declared.fault.ClientFault.{ClientFault}
@@ -12,12 +12,12 @@ use Rattle.user_client.specs.Tracing.{Called}
 use Rattle.user_client.proofs.CallsAreSteps.{parts}
 
 -- the fault of the step's own cause
-caused : (turn : Turn) (cause : ClientError) (it : ClientFault) → it ≡ fault_of_call cause
+caused : (turn : ClientOutcome) (cause : ClientError) (it : ClientFault) → it ≡ fault_of_call cause
     → turn.refusal ≡ Some cause → IsRefusedFor turn.refusal it
 caused turn cause it is refused = inl (ap (option_map fault_of_call) refused ∙ ap Some (sym is))
 
 -- the fault says why
-refused_for : (turn : Turn) (old new : Core) (cause : ClientError) (it : ClientFault) → it ≡ fault_of_call cause
+refused_for : (turn : ClientOutcome) (old new : Core) (cause : ClientError) (it : ClientFault) → it ≡ fault_of_call cause
     → Does turn old (Err cause) new → IsRefusedFor turn.refusal it
 refused_for turn old new errors.Memory it is same = inr is
 refused_for turn old new (errors.Malformed kind) it is refused = caused turn (errors.Malformed kind) it is refused.0
@@ -28,7 +28,7 @@ refused_for turn old new errors.WindowFull it is refused = caused turn errors.Wi
 refused_for turn old new errors.SessionLost it is refused = caused turn errors.SessionLost it is refused.0
 
 -- nothing changed
-unchanged : (turn : Turn) (old new : Core) (cause : ClientError) → Does turn old (Err cause) new → new ≡ old
+unchanged : (turn : ClientOutcome) (old new : Core) (cause : ClientError) → Does turn old (Err cause) new → new ≡ old
 unchanged turn old new errors.Memory same = same
 unchanged turn old new (errors.Malformed kind) refused = refused.1
 unchanged turn old new errors.Protocol refused = refused.1

@@ -14,7 +14,7 @@ use Rattle.client.specs.session_base.Publication.{is_answered}
 use Rattle.client.specs.client_base.declared.error.ClientError.{ClientError}
 use Rattle.client.specs.client_base.declared.error.ClientError.TheVariants as errors
 use Rattle.client.specs.client_base.State.{ClientState, is_online, new_client}
-use Rattle.client.specs.client_base.Answered.{Turn, going_on}
+use Rattle.client.specs.client_base.Answered.{ClientOutcome, going_on}
 use Rattle.client.specs.client_base.Publishing.{is_over_limit, next_id, published, publish_packet}
 use Rattle.client.specs.client_base.Steps.{Call, keeper_step, unless_refused}
 use Rattle.client.specs.Core.{AppendsAll, publication_with}
@@ -29,7 +29,7 @@ abbrev size_refusal : Bool → Option ClientError
 size_refusal large = if large then Some errors.TooLarge else None
 
 -- it is too large, or memory ran out
-large_only : (large : Bool) (turn : Turn) (state : ClientState) (it : ClientFault) → turn.refusal ≡ None
+large_only : (large : Bool) (turn : ClientOutcome) (state : ClientState) (it : ClientFault) → turn.refusal ≡ None
     → IsRefusedFor (unless_refused (size_refusal large) turn state).refusal it
     → ((large ≡ true) × (it ≡ fault_of_call errors.TooLarge)) ⊎ (it ≡ faults.Memory)
 large_only large turn state it kept (inr memory) = inr memory
@@ -37,7 +37,7 @@ large_only true turn state it kept (inl is) = inl (refl, sym (ap (λ (o : Option
 large_only false turn state it kept (inl is) =
     absurd (both_ways true (ap is_some (sym is ∙ ap (option_map fault_of_call) kept)) refl)
 
-not_large : (large : Bool) (turn : Turn) (state : ClientState)
+not_large : (large : Bool) (turn : ClientOutcome) (state : ClientState)
     → (unless_refused (size_refusal large) turn state).refusal ≡ None → large ≡ false
 not_large true turn state taken = absurd (both_ways true (ap is_some taken) refl)
 not_large false turn state taken = refl
@@ -85,7 +85,7 @@ once_refusal online large =
     if not online then Some errors.NotActive else if large then Some errors.TooLarge else None
 
 -- it is written at once
-abbrev once_turn : Bool → ClientState → ClientState → Packet → Turn
+abbrev once_turn : Bool → ClientState → ClientState → Packet → ClientOutcome
 once_turn online state other packet = if online then going_on state (packet ∷ []) else going_on other []
 
 once_written : (online large : Bool) (state other : ClientState) (packet : Packet) (out new : List ℕ)

@@ -6,7 +6,7 @@ use Rattle.std.proofs.lemmas.Bool.{both_ways}
 use Rattle.std.proofs.lemmas.Option.{none-some}
 use Rattle.headline.specs.ballot.Losses.{one_more}
 use Rattle.escaping_client.specs.client.Core.{Core, publication_with}
-use Rattle.escaping_client.specs.client_base.Answered.{Turn}
+use Rattle.escaping_client.specs.client_base.Answered.{ClientOutcome}
 use Rattle.escaping_client.specs.client_base.Publishing.{publish_refusal, published}
 use Rattle.escaping_client.specs.client_base.State.{ClientState, is_online, is_open}
 use Rattle.escaping_client.specs.client_base.Steps.{Call, disconnected, keeper_step, request_refusal, subscribed, unless_refused, unsubscribed}
@@ -141,11 +141,11 @@ same_publication a b retain qos topic payload =
     ∙ ap (λ (x : List ℕ). publication_with b.retain b.qos x a.payload) topic ∙ ap (λ (x : List ℕ). publication_with b.retain b.qos b.topic x) payload
 
 -- a client that is asked says what it refuses
-refused_by : (refusal : Option ClientError) (turn : Turn) (state : ClientState) → is_some refusal ≡ true → (unless_refused refusal turn state).refusal ≡ None → ⊥
+refused_by : (refusal : Option ClientError) (turn : ClientOutcome) (state : ClientState) → is_some refusal ≡ true → (unless_refused refusal turn state).refusal ≡ None → ⊥
 refused_by None turn state some none = both_ways false refl some
 refused_by (Some cause) turn state some none = none-some cause (sym none)
 
-allowed_by : (refusal : Option ClientError) (turn : Turn) (state : ClientState) → turn.refusal ≡ None → is_some refusal ≡ false
+allowed_by : (refusal : Option ClientError) (turn : ClientOutcome) (state : ClientState) → turn.refusal ≡ None → is_some refusal ≡ false
     → ((unless_refused refusal turn state).refusal ≡ None → ⊥) → ⊥
 allowed_by None turn state free none refuses = refuses free
 allowed_by (Some cause) turn state free none refuses = both_ways true none refl

@@ -19,7 +19,7 @@ use Rattle.client.specs.client_base.declared.error.ClientError.{ClientError}
 use Rattle.client.specs.client_base.declared.stage.Stage.{Stage}
 use Rattle.client.specs.client_base.declared.stage.Stage.TheVariants as stages
 use Rattle.client.specs.client_base.State.{ClientState, is_online, is_open}
-use Rattle.client.specs.client_base.Answered.{Turn, accepted_of, accepting, awaits_pubrec, on_publish, on_pubrec}
+use Rattle.client.specs.client_base.Answered.{ClientOutcome, accepted_of, accepting, awaits_pubrec, on_publish, on_pubrec}
 use Rattle.client.specs.client_base.Calls.{confirmed, discarded, loses_session, numbered, on_first, on_later, received}
 use Rattle.client.specs.client_base.Publishing.{publish_refusal, published}
 use Rattle.client.specs.client_base.Handled.{handled, handled_first, handled_online}
@@ -79,7 +79,7 @@ module _ (before : List Publication) (side : Side) (state : ClientState) (alike 
   side_still true one other x y = x
   side_still false one other x y = y
 
-  turn_still : (b : Bool) (one other : Turn) → one.state.accepted ≡ state.accepted → other.state.accepted ≡ state.accepted
+  turn_still : (b : Bool) (one other : ClientOutcome) → one.state.accepted ≡ state.accepted → other.state.accepted ≡ state.accepted
       → (if b then one else other).state.accepted ≡ state.accepted
   turn_still true one other x y = x
   turn_still false one other x y = y
@@ -154,12 +154,12 @@ accepts_alike before packet stages.Online side state up online kept alike =
 
 -- ---- of a call
 
-unless_still : (refusal : Option ClientError) (turn : Turn) (state : ClientState) → turn.state.accepted ≡ state.accepted →
+unless_still : (refusal : Option ClientError) (turn : ClientOutcome) (state : ClientState) → turn.state.accepted ≡ state.accepted →
     (unless_refused refusal turn state).state.accepted ≡ state.accepted
 unless_still None turn state same = same
 unless_still (Some cause) turn state same = refl
 
-either : (test : Bool) (one other : Turn) (accepted : List Accepted) → one.state.accepted ≡ accepted → other.state.accepted ≡ accepted →
+either : (test : Bool) (one other : ClientOutcome) (accepted : List Accepted) → one.state.accepted ≡ accepted → other.state.accepted ≡ accepted →
     (if test then one else other).state.accepted ≡ accepted
 either true one other accepted a b = a
 either false one other accepted a b = b

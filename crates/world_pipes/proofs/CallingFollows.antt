@@ -8,7 +8,7 @@ use Rattle.client.specs.session_base.declared.publication.Publication.{Publicati
 use Rattle.client.specs.client_base.declared.error.ClientError.{ClientError}
 use Rattle.client.specs.client_base.declared.error.ClientError.TheVariants as errors
 use Rattle.client.specs.client_base.State.{ClientState, is_open}
-use Rattle.client.specs.client_base.Answered.{Turn}
+use Rattle.client.specs.client_base.Answered.{ClientOutcome}
 use Rattle.client.specs.client_base.Steps.{Call, keeper_step}
 use Rattle.client.specs.Core.{Core, Does, Leaves}
 use Rattle.world_pipes.specs.declared.sending.Sending.{Sending}
@@ -27,7 +27,7 @@ use Rattle.world_pipes.proofs.StaysOpen.{publishing_stays, subscribing_stays, un
 
 -- ---- a refusal changes nothing
 
-same_core : (turn : Turn) (old new : Core) (cause : ClientError) → Does turn old (Err cause) new → new ≡ old
+same_core : (turn : ClientOutcome) (old new : Core) (cause : ClientError) → Does turn old (Err cause) new → new ≡ old
 same_core turn old new errors.Memory does = does
 same_core turn old new errors.NotActive does = does.1
 same_core turn old new errors.WindowFull does = does.1
@@ -36,10 +36,10 @@ same_core turn old new errors.SessionLost does = does.1
 same_core turn old new errors.Protocol does = does.1
 same_core turn old new (errors.Malformed kind) does = does.1
 
-pub call_refused : (turn : Turn) (old new : Piped) (cause : ClientError) → Calls turn old (Err cause) new → new ≡ old
+pub call_refused : (turn : ClientOutcome) (old new : Piped) (cause : ClientError) → Calls turn old (Err cause) new → new ≡ old
 call_refused turn old new cause calls = ap₂ piped (same_core turn old.core new.core cause calls.0) calls.1
 
-same_left : (turn : Turn) (old new : Core) (cause : ClientError) → Leaves turn old (Err cause) new → new ≡ old
+same_left : (turn : ClientOutcome) (old new : Core) (cause : ClientError) → Leaves turn old (Err cause) new → new ≡ old
 same_left turn old new errors.Memory leaves = leaves
 same_left turn old new errors.NotActive leaves = leaves.1
 same_left turn old new errors.WindowFull leaves = leaves.1

@@ -6,7 +6,7 @@ use Rattle.std.proofs.lemmas.List.{append-nil}
 use Rattle.client.specs.packet.Spelling.{IsPacket}
 use Rattle.client.specs.lists.Lists.{Each}
 use Rattle.client.specs.client_base.State.{ClientState, is_open}
-use Rattle.client.specs.client_base.Answered.{Turn}
+use Rattle.client.specs.client_base.Answered.{ClientOutcome}
 use Rattle.client.specs.client_base.History as history
 use Rattle.client.specs.client_base.Written.{writes, writes_first}
 use Rattle.client.specs.Core.{AppendsAll, Core, gone}
@@ -36,7 +36,7 @@ use Rattle.world_pipes.proofs.Ways.{last_same, losing, losing_silent, newest_way
 -- ---- what was written, on the connection that is held
 
 -- the model's client after its call, with the held connection apart
-record HasCalled (turn : Turn) (core : Core) (older : List Way) (way : Way) (m : ClientPipes) (c : IsCalled turn m) : Type 0 where
+record HasCalled (turn : ClientOutcome) (core : Core) (older : List Way) (way : Way) (m : ClientPipes) (c : IsCalled turn m) : Type 0 where
   pub others : List Connection
   pub pipe : Pipe
   pub further : List Pipe
@@ -46,7 +46,7 @@ record HasCalled (turn : Turn) (core : Core) (older : List Way) (way : Way) (m :
   pub ways : AreWays (reverse older) further
   pub spelled : CanBeSpelled m.connections c.connections
 
-has_called : (turn : Turn) (old : Piped) (core : Core) (older : List Way) (way : Way) (m : ClientPipes) (c : IsCalled turn m) → StandsFor old m →
+has_called : (turn : ClientOutcome) (old : Piped) (core : Core) (older : List Way) (way : Way) (m : ClientPipes) (c : IsCalled turn m) → StandsFor old m →
     is_holding old ≡ true → old.ways ≡ older ++ way ∷ [] → AllSpelled turn → core.state ≡ turn.state → AppendsAll old.core.out core.out turn.writes →
     (is_open core.state.stage ≡ true → core.unread ≡ old.core.unread) → turn.state.accepted ≡ old.core.state.accepted → HasCalled turn core older way m c
 has_called turn old core older way m c s up splits whole same appends unread none =
@@ -85,7 +85,7 @@ has_called turn old core older way m c s up splits whole same appends unread non
     }
 
 -- it went up
-sent_stands : (turn : Turn) (core : Core) (older : List Way) (way : Way) (m : ClientPipes) (c : IsCalled turn m) → HasCalled turn core older way m c →
+sent_stands : (turn : ClientOutcome) (core : Core) (older : List Way) (way : Way) (m : ClientPipes) (c : IsCalled turn m) → HasCalled turn core older way m c →
     StandsFor (pipings.sent_up core older way) (after_writing c.keeper c.connections m)
 sent_stands turn core older way m c h =
     let up = way.up ++ core.out in
@@ -95,7 +95,7 @@ sent_stands turn core older way m c h =
     (λ on. (h.left.up, refl, refl))
 
 -- or the connection was lost
-lost_stands : (turn : Turn) (core : Core) (older : List Way) (way : Way) (m : ClientPipes) (c : IsCalled turn m) → HasCalled turn core older way m c →
+lost_stands : (turn : ClientOutcome) (core : Core) (older : List Way) (way : Way) (m : ClientPipes) (c : IsCalled turn m) → HasCalled turn core older way m c →
     StandsFor (broken core (older ++ way ∷ [])) (after_losing (after_writing c.keeper c.connections m))
 lost_stands turn core older way m c h =
     let m₁ = after_writing c.keeper c.connections m in
@@ -107,7 +107,7 @@ lost_stands turn core older way m c h =
 -- ---- what a call needs
 
 -- what a call of the model's client and of this are to each other
-pub record HasCall (published : List Publication) (turn : Turn) (old : Piped) (core : Core) : Type 0 where
+pub record HasCall (published : List Publication) (turn : ClientOutcome) (old : Piped) (core : Core) : Type 0 where
   pub state : core.state ≡ turn.state
   pub appends : AppendsAll old.core.out core.out turn.writes
   pub unread : is_open core.state.stage ≡ true → core.unread ≡ old.core.unread
@@ -116,7 +116,7 @@ pub record HasCall (published : List Publication) (turn : Turn) (old : Piped) (c
   pub too : (m : ClientPipes) → history.StandsFor m.keeper old.core.state → old.core.state.keep_alive ≡ 0 → (c : IsCalled turn m) × (published_by c.call ≡ published)
 
 -- a call of a client that holds a connection
-pub up_follows : (published : List Publication) (turn : Turn) (old : Piped) (core : Core) (sending : Sending) (new : Piped) → is_holding old ≡ true → HasCall published turn old core →
+pub up_follows : (published : List Publication) (turn : ClientOutcome) (old : Piped) (core : Core) (sending : Sending) (new : Piped) → is_holding old ≡ true → HasCall published turn old core →
     GoesUp core old.ways sending new → CallingFollows published old (Ok sending) new
 up_follows published turn old core sendings.Sent new up has (older, way, splits, is) = λ m s.
     let called = has.too m s.keeper s.fits.keep_alive in

@@ -12,7 +12,7 @@ use Rattle.client.specs.client_base.declared.error.ClientError.TheVariants as er
 use Rattle.client.specs.client_base.declared.stage.Stage.{Stage}
 use Rattle.client.specs.client_base.declared.stage.Stage.TheVariants as stages
 use Rattle.client.specs.client_base.State.{ClientState, is_online, is_open}
-use Rattle.client.specs.client_base.Answered.{Turn}
+use Rattle.client.specs.client_base.Answered.{ClientOutcome}
 use Rattle.client.specs.client_base.Publishing.{has_free_id, next_id, publish_refusal, published}
 use Rattle.client.specs.client_base.History as history
 use Rattle.client.specs.client_base.Keeper.{Written}
@@ -40,7 +40,7 @@ closed_offline stages.Closed e = refl
 closed_offline stages.Opened e = absurd (both_ways true e refl)
 closed_offline stages.Online e = absurd (both_ways true e refl)
 
-unless_none : (refusal : Option ClientError) (turn : Turn) (state : ClientState) → turn.writes ≡ [] → (unless_refused refusal turn state).writes ≡ []
+unless_none : (refusal : Option ClientError) (turn : ClientOutcome) (state : ClientState) → turn.writes ≡ [] → (unless_refused refusal turn state).writes ≡ []
 unless_none None turn state none = none
 unless_none (Some cause) turn state none = refl
 
@@ -48,7 +48,7 @@ published_none : (p : Publication) (id : ℕ) (state : ClientState) (answered on
 published_none p id state answered false e = refl
 published_none p id state answered true e = absurd (both_ways true e refl)
 
-asked_none : (online free : Bool) (turn : Turn) (state : ClientState) → online ≡ false →
+asked_none : (online free : Bool) (turn : ClientOutcome) (state : ClientState) → online ≡ false →
     (unless_refused (if not online then Some errors.NotActive else if not free then Some errors.WindowFull else None) turn state).writes ≡ []
 asked_none false free turn state e = refl
 asked_none true free turn state e = absurd (both_ways true e refl)
@@ -82,7 +82,7 @@ same_accepted : (more : List Written) (connections : List Connection) → accept
 same_accepted more [] = refl
 same_accepted more (κ ∷ others) = refl
 
-idle_follows : (published : List Publication) (turn : Turn) (old : Piped) (core : Core) (new : Piped) → is_holding old ≡ false → turn.state.stage ≡ old.core.state.stage → turn.writes ≡ [] →
+idle_follows : (published : List Publication) (turn : ClientOutcome) (old : Piped) (core : Core) (new : Piped) → is_holding old ≡ false → turn.state.stage ≡ old.core.state.stage → turn.writes ≡ [] →
     HasCall published turn old core → new ≡ piped core old.ways → CallingFollows published old (Ok sendings.Sent) new
 idle_follows published turn old core new closed stays none has is = λ m s.
     let called = has.too m s.keeper s.fits.keep_alive in
@@ -111,7 +111,7 @@ idle_follows published turn old core new closed stays none has is = λ m s.
 
 -- ---- a call, whether a connection is held or not
 
-pub call_follows : (published : List Publication) (turn : Turn) (old : Piped) (core : Core) (new : Piped) (up : Bool) → is_holding old ≡ up → turn.state.stage ≡ old.core.state.stage →
+pub call_follows : (published : List Publication) (turn : ClientOutcome) (old : Piped) (core : Core) (new : Piped) (up : Bool) → is_holding old ≡ up → turn.state.stage ≡ old.core.state.stage →
     (is_holding old ≡ false → turn.writes ≡ []) → HasCall published turn old core → (sending : Sending) → GoesUpWhere up core old.ways sending new →
     CallingFollows published old (Ok sending) new
 call_follows published turn old core new true held stays none has sending goes = up_follows published turn old core sending new held has goes

@@ -3,7 +3,7 @@ use Rattle.std.proofs.Common.{◌≡◌, ℕ, Bool, true, false, ◌⊎◌, inl,
 use Rattle.std.proofs.lemmas.List.{map-append}
 use Rattle.client.specs.client_base.declared.error.ClientError.{ClientError}
 use Rattle.client.specs.client_base.declared.error.ClientError.TheVariants as errors
-use Rattle.client.specs.client_base.Answered.{Turn}
+use Rattle.client.specs.client_base.Answered.{ClientOutcome}
 use Rattle.client.specs.Core.{Core}
 use Rattle.byte_world.specs.world_base.declared.Port.{Port}
 use Rattle.world_pipes.specs.declared.sending.Sending.{Sending}
@@ -31,11 +31,11 @@ where_leads : (up : Bool) (core : Core) (ways : List Way) (sending : Sending) (n
 where_leads true core ways sending new goes = up_leads core ways sending new goes
 where_leads false core ways sending new goes = ap (λ (p : Piped). leads p.ways) goes.1
 
-pub calls_lead : (turn : Turn) (old : Piped) (result : Result Sending ClientError) (new : Piped) → Calls turn old result new → leads new.ways ≡ leads old.ways
+pub calls_lead : (turn : ClientOutcome) (old : Piped) (result : Result Sending ClientError) (new : Piped) → Calls turn old result new → leads new.ways ≡ leads old.ways
 calls_lead turn old (Ok sending) new (core, does, goes) = where_leads (is_holding old) core old.ways sending new goes
 calls_lead turn old (Err cause) new calls = ap leads calls.1
 
-pub leaving_leads : (turn : Turn) (old : Piped) (result : Result Sending ClientError) (new : Piped) → TakesLeave turn old result new → leads new.ways ≡ leads old.ways
+pub leaving_leads : (turn : ClientOutcome) (old : Piped) (result : Result Sending ClientError) (new : Piped) → TakesLeave turn old result new → leads new.ways ≡ leads old.ways
 leaving_leads turn old (Ok sending) new (core, leaves, goes) = up_leads core old.ways sending new goes
 leaving_leads turn old (Err cause) new leaves = ap leads leaves.1
 

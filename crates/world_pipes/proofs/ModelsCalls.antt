@@ -12,7 +12,7 @@ use Rattle.client.specs.client_base.declared.request.Request.TheVariants as requ
 use Rattle.client.specs.client_base.declared.stage.Stage.{Stage}
 use Rattle.client.specs.client_base.declared.stage.Stage.TheVariants as stages
 use Rattle.client.specs.client_base.State.{ClientState, is_online, is_open}
-use Rattle.client.specs.client_base.Answered.{Turn}
+use Rattle.client.specs.client_base.Answered.{ClientOutcome}
 use Rattle.client.specs.client_base.Called as called
 use Rattle.client.specs.client_base.Publishing.{has_free_id, publish_refusal, published}
 use Rattle.client.specs.client_base.Handled as handling
@@ -31,7 +31,7 @@ use Rattle.byte_world.specs.Published.{published_by}
 use Rattle.world_pipes.proofs.NotRefused.{asked_so, is_published, not_refused}
 
 -- a call of the model's client, and what it writes on its newest connection
-pub record IsCalled (turn : Turn) (m : ClientPipes) : Type 0 where
+pub record IsCalled (turn : ClientOutcome) (m : ClientPipes) : Type 0 where
   pub keeper : Keeper
   pub connections : List Connection
   pub call : StoryStep usual_limits (story_alone m) (record { past = []; connections = connections; keeper = keeper })

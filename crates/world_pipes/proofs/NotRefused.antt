@@ -6,12 +6,12 @@ use Rattle.client.specs.session_base.Publication.{is_answered}
 use Rattle.client.specs.client_base.declared.error.ClientError.{ClientError}
 use Rattle.client.specs.client_base.declared.error.ClientError.TheVariants as errors
 use Rattle.client.specs.client_base.State.{ClientState, is_online}
-use Rattle.client.specs.client_base.Answered.{Turn}
+use Rattle.client.specs.client_base.Answered.{ClientOutcome}
 use Rattle.client.specs.client_base.Publishing.{has_free_id, is_over_limit, publish_packet, publish_refusal}
 use Rattle.client.specs.client_base.Steps.{unless_refused}
 
 -- a call that is not refused
-pub not_refused : (refusal : Option ClientError) (turn : Turn) (state : ClientState) → (unless_refused refusal turn state).refusal ≡ None → refusal ≡ None
+pub not_refused : (refusal : Option ClientError) (turn : ClientOutcome) (state : ClientState) → (unless_refused refusal turn state).refusal ≡ None → refusal ≡ None
 not_refused None turn state taken = refl
 not_refused (Some cause) turn state taken = taken
 

@@ -7,7 +7,7 @@ use Rattle.client.proofs.of_packet.OneSpelling.{spelling_is}
 use Rattle.client.specs.cutter.Stream.{Stream, Takes}
 use Rattle.client.specs.lists.Lists.{Each}
 use Rattle.client.specs.client_base.State.{ClientState, is_open}
-use Rattle.client.specs.client_base.Answered.{Turn}
+use Rattle.client.specs.client_base.Answered.{ClientOutcome}
 use Rattle.client.specs.client_base.Handled.{handled}
 use Rattle.client.specs.client_base.History as history
 use Rattle.client.specs.client_base.Keeper as keepers
@@ -73,7 +73,7 @@ one_goes before core next after m others p₀ further packet up s reads done =
     let p = s.pipe in
     let side : Side = record { keeper = m.keeper; connection = κ } in
     let later : Side = handled packet side in
-    let turn : Turn = turn_of packet next in
+    let turn : ClientOutcome = turn_of packet next in
     let stands : history.StandsFor m.keeper next.state = subst (history.StandsFor m.keeper) (sym reads.1) s.keeper in
     let opened : is_open next.state.stage ≡ true = ap (λ (state : ClientState). is_open state.stage) reads.1 ∙ up in
     let whole : AllSpelled turn =

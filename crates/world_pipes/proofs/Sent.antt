@@ -9,7 +9,7 @@ use Rattle.client.specs.client_base.State.{ClientState, is_open}
 use Rattle.client.specs.client_base.declared.stage.Stage.{Stage}
 use Rattle.client.specs.client_base.declared.stage.Stage.TheVariants as stages
 use Rattle.client.specs.client_base.Steps.{Call, keeper_step, disconnected}
-use Rattle.client.specs.client_base.Answered.{Turn}
+use Rattle.client.specs.client_base.Answered.{ClientOutcome}
 use Rattle.client.specs.Core.{Core, Does, Leaves}
 use Rattle.world_pipes.specs.declared.way.Way.{Way}
 use Rattle.world_pipes.specs.declared.sending.Sending.{Sending}
@@ -39,7 +39,7 @@ goes_up false core left ways after sending holding leads s = (s.0, ap₂ piped s
 goes_up true core left ways after sendings.Sent holding leads s = moved_is_sent core left ways after (leads refl) s.1
 goes_up true core left ways after sendings.Lost holding leads s = ap₂ piped s.1 s.2
 
-pub called_so : (turn : Turn) (old : Piped) (core left : Core) (after : List Way) (sending : Sending) (holds holding : Bool) → IsHeld holds old.core old.ways
+pub called_so : (turn : ClientOutcome) (old : Piped) (core left : Core) (after : List Way) (sending : Sending) (holds holding : Bool) → IsHeld holds old.core old.ways
     → Does turn old.core (Ok tt) core → SendsUp holds core old.ways sending holding left after → Calls turn old (Ok sending) (piped left after)
 called_so turn old core left after sending holds holding held does s = (
   core,
@@ -76,7 +76,7 @@ held_after true core left ways after sendings.Lost holding known leads s =
     }
 
 -- a call that ends no connection
-pub held_so : (turn : Turn) (before core left : Core) (ways after : List Way) (sending : Sending) (holds holding : Bool) → IsHeld holds before ways
+pub held_so : (turn : ClientOutcome) (before core left : Core) (ways after : List Way) (sending : Sending) (holds holding : Bool) → IsHeld holds before ways
     → turn.state.stage ≡ before.state.stage → Does turn before (Ok tt) core → SendsUp holds core ways sending holding left after → IsHeld holding left after
 held_so turn before core left ways after sending holds holding held stays does s =
     held_after holds core left ways after sending holding

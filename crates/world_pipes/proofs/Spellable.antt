@@ -17,12 +17,12 @@ use Rattle.client.specs.client_base.declared.kept_publication.KeptPublication.{K
 use Rattle.client.specs.client_base.declared.stage.Stage.{Stage}
 use Rattle.client.specs.client_base.declared.stage.Stage.TheVariants as stages
 use Rattle.client.specs.client_base.State.{ClientState, lost, publish_kept, resent}
-use Rattle.client.specs.client_base.Answered.{Turn, awaits_pubrec, on_publish, on_pubrec}
+use Rattle.client.specs.client_base.Answered.{ClientOutcome, awaits_pubrec, on_publish, on_pubrec}
 use Rattle.client.specs.client_base.Calls.{confirmed, discarded, numbered, loses_session, on_first, on_later, received}
 use Rattle.world_pipes.specs.Standing.{CanGoOut}
 
 -- what a step writes, and what it leaves
-pub record AllSpelled (turn : Turn) : Type 0 where
+pub record AllSpelled (turn : ClientOutcome) : Type 0 where
   pub writes : Each IsPacket turn.writes
   pub left : CanGoOut turn.state
 

@@ -16,7 +16,7 @@ use Rattle.client.specs.client_base.declared.error.ClientError.TheVariants as er
 use Rattle.client.specs.client_base.declared.stage.Stage.{Stage}
 use Rattle.client.specs.client_base.declared.stage.Stage.TheVariants as stages
 use Rattle.client.specs.client_base.State.{ClientState, is_open, is_online}
-use Rattle.client.specs.client_base.Answered.{Turn, on_publish, on_pubrec, awaits_pubrec}
+use Rattle.client.specs.client_base.Answered.{ClientOutcome, on_publish, on_pubrec, awaits_pubrec}
 use Rattle.client.specs.client_base.Calls.{on_first, on_later, received}
 use Rattle.client.specs.client_base.Publishing.{publish_refusal, published}
 use Rattle.client.specs.client_base.Steps.{Call, keeper_step, request_refusal, subscribed, unsubscribed, unless_refused}
@@ -27,12 +27,12 @@ use Rattle.world_pipes.specs.Inside.{stays_open}
 
 -- ---- calls
 
-unless_same : (refusal : Option ClientError) (turn : Turn) (state : ClientState) → turn.state.stage ≡ state.stage →
+unless_same : (refusal : Option ClientError) (turn : ClientOutcome) (state : ClientState) → turn.state.stage ≡ state.stage →
     (unless_refused refusal turn state).state.stage ≡ state.stage
 unless_same None turn state same = same
 unless_same (Some cause) turn state same = refl
 
-either : (test : Bool) (one other : Turn) (stage : Stage) → one.state.stage ≡ stage → other.state.stage ≡ stage →
+either : (test : Bool) (one other : ClientOutcome) (stage : Stage) → one.state.stage ≡ stage → other.state.stage ≡ stage →
     (if test then one else other).state.stage ≡ stage
 either true one other stage a b = a
 either false one other stage a b = b

@@ -5,7 +5,7 @@ use Rattle.byte_world.specs.world_base.declared.Port.{Port}
 use Rattle.client.specs.client_base.declared.error.ClientError.{ClientError}
 use Rattle.client.specs.client_base.declared.error.ClientError.TheVariants as errors
 use Rattle.client.specs.client_base.State.{is_open}
-use Rattle.client.specs.client_base.Answered.{Turn}
+use Rattle.client.specs.client_base.Answered.{ClientOutcome}
 use Rattle.client.specs.Core.{Core, Does, Leaves, Opens, gone, new_core}
 use Rattle.client.specs.Reading.{OnBytes}
 use Rattle.world_pipes.specs.declared.way.Way.{Way}
@@ -58,14 +58,14 @@ GoesUpWhere false core ways sending new = (sending ≡ sendings.Sent) × (new �
 -- ---- calls
 
 -- A call is the client's, and what it writes goes up; one that the client refuses changes nothing.
-abbrev pub Calls : Turn → Piped → Result Sending ClientError → Piped → Type 0
+abbrev pub Calls : ClientOutcome → Piped → Result Sending ClientError → Piped → Type 0
 Calls turn old (Ok sending) new =
     (core : Core) × Does turn old.core (Ok tt) core
     × GoesUpWhere (is_holding old) core old.ways sending new
 Calls turn old (Err cause) new = Does turn old.core (Err cause) new.core × (new.ways ≡ old.ways)
 
 -- disconnecting is a call like the others
-abbrev pub TakesLeave : Turn → Piped → Result Sending ClientError → Piped → Type 0
+abbrev pub TakesLeave : ClientOutcome → Piped → Result Sending ClientError → Piped → Type 0
 TakesLeave turn old (Ok sending) new =
     (core : Core) × Leaves turn old.core (Ok tt) core × GoesUp core old.ways sending new
 TakesLeave turn old (Err cause) new =
@@ -73,7 +73,8 @@ TakesLeave turn old (Err cause) new =
 
 -- its CONNECT is all that is in transit on a new connection; only memory may run out, and then
 -- there is no connection
-abbrev pub Connects : ℕ → Port → Turn → Piped → Result (Unit {0}) ClientError → Piped → Type 0
+abbrev pub Connects :
+    ℕ → Port → ClientOutcome → Piped → Result (Unit {0}) ClientError → Piped → Type 0
 Connects node port turn old (Ok done) new =
     (core : Core) × Opens turn old.core (Ok tt) core
     × (new ≡ sent_up core old.ways (new_way node port))

@@ -10,14 +10,14 @@ use Rattle.client_base.specs.declared.error.ClientError.{ClientError}
 use Rattle.client_base.specs.declared.error.ClientError.TheVariants as errors
 use Rattle.client_base.specs.declared.kept_publication.KeptPublication.{KeptPublication}
 use Rattle.client_base.specs.State.{ClientState, is_online, publish_kept}
-use Rattle.client_base.specs.Answered.{Turn, going_on}
+use Rattle.client_base.specs.Answered.{ClientOutcome, going_on}
 use Rattle.client_base.specs.Calls.{refused}
 use Rattle.client_base.specs.Publishing.{is_over_limit}
 use Rattle.client.specs.Core.{Core, IsDone}
 use Rattle.client.specs.Reading.{Reads, turn_of, StopsFor, Handles, cause_of, fed}
 
 -- the whole turn is done; one that ends the connection changes nothing here
-abbrev pub Tries : Turn → Core → Result (Unit {0}) ClientError → Core → Type 0
+abbrev pub Tries : ClientOutcome → Core → Result (Unit {0}) ClientError → Core → Type 0
 Tries turn old (Ok done) new = (turn.refusal ≡ None) × IsDone turn old new
 Tries turn old (Err errors.Memory) new = new ≡ old
 Tries turn old (Err errors.SessionLost) new =
@@ -38,8 +38,8 @@ ReadsOne old (Err errors.SessionLost) new =
     × IsDone (turn_of packet next) next new
 ReadsOne old (Err cause) new = StopsFor cause old × (new.state ≡ old.state) × (new.out ≡ old.out)
 
--- a turn that writes nothing
-abbrev pub changed : Turn → Core → Core
+-- an outcome that writes nothing
+abbrev pub changed : ClientOutcome → Core → Core
 changed turn core = record core { state = turn.state }
 
 -- the client with this state
@@ -100,12 +100,12 @@ TakesNext old (Err cause) new =
     × (new.state ≡ old.state) × (new.out ≡ old.out)
 
 -- a publication is sent, and kept as sent
-abbrev pub sending : KeptPublication → ClientState → Turn
+abbrev pub sending : KeptPublication → ClientState → ClientOutcome
 sending kept state =
     going_on (record state { sent = state.sent ++ kept ∷ [] }) (publish_kept false kept ∷ [])
 
 -- a publication that is not too large is kept, and sent at once if the client is online
-abbrev pub keeping : KeptPublication → ClientState → Turn
+abbrev pub keeping : KeptPublication → ClientState → ClientOutcome
 keeping kept state =
     if is_over_limit (publish_kept false kept) then refused errors.TooLarge state else
     if is_online state.stage then sending kept state
