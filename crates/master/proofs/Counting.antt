@@ -25,10 +25,10 @@ use Rattle.snapshots.specs.Masters.{MasterOutcome, activated, assigned}
 use Rattle.snapshots.specs.agreement.MasterState.{MasterState, refusal}
 use Rattle.ballot.specs.Body.{Body}
 use Rattle.ballot.specs.Body.TheVariants.{NewBallot, Join, State, Install, Installed, Activate, Activated, Superseded, Append, Held, Commit}
-use Rattle.master.specs.Turns.Turn.{by_node, by_cut, by_master, unheeded}
+use Rattle.master.specs.Turns.EventOutcome.{by_node, by_cut, by_master, unheeded}
 use Rattle.master.specs.Group.{GroupState}
 use Rattle.master.specs.Exact.{takes, hears, comes, gives, turn, after, group_step}
-use Rattle.master.specs.Turns.{NodeTurn, Turn, running, can_take, taking, stopping, cut_turn, cutting}
+use Rattle.master.specs.Turns.{NodeTurn, EventOutcome, running, can_take, taking, stopping, cut_turn, cutting}
 use Rattle.master.specs.Steps.{Freezes, Happens, StepsBy, LosesNothing}
 use Rattle.master.specs.Steps.Happens.{nothing_happens, node_goes, master_goes}
 use Rattle.master.specs.Inside.{RunsAt, asks_for}
@@ -64,18 +64,18 @@ pub cuts_turn : {S C O : Type 0} (rules : Rules S C O) (nodes : List (ReplicaSta
     cutting rules (node - 1) (running nodes node) ≡ Some (by_cut (cut_turn rules at x.replica))
 cuts_turn {S = S} {C = C} {O = O} rules nodes node at x can =
     ap (cutting rules (node - 1)) x.runs
-    ∙ ap (λ b. let t : Option (Turn S C O) = cond b (Some (by_cut (cut_turn rules (node - 1) x.replica))) None in t) can
-    ∙ ap (λ n. let t : Option (Turn S C O) = Some (by_cut (cut_turn rules n x.replica)) in t) (sym x.index)
+    ∙ ap (λ b. let t : Option (EventOutcome S C O) = cond b (Some (by_cut (cut_turn rules (node - 1) x.replica))) None in t) can
+    ∙ ap (λ n. let t : Option (EventOutcome S C O) = Some (by_cut (cut_turn rules n x.replica)) in t) (sym x.index)
 
 pub cuts_nothing : {S C O : Type 0} (rules : Rules S C O) (nodes : List (ReplicaState S C)) (node at : ℕ) (x : RunsAt nodes node at) → can_cut x.replica ≡ false →
     cutting rules (node - 1) (running nodes node) ≡ None
 cuts_nothing {S = S} {C = C} {O = O} rules nodes node at x cannot =
     ap (cutting rules (node - 1)) x.runs
-    ∙ ap (λ b. let t : Option (Turn S C O) = cond b (Some (by_cut (cut_turn rules (node - 1) x.replica))) None in t) cannot
+    ∙ ap (λ b. let t : Option (EventOutcome S C O) = cond b (Some (by_cut (cut_turn rules (node - 1) x.replica))) None in t) cannot
 
 -- what a cut froze, by the turn
-pub freezes_as : {S C O : Type 0} (rules : Rules S C O) {t u : Option (Turn S C O)} → t ≡ u → Freezes rules t → Freezes rules u
-freezes_as {S = S} {C = C} {O = O} rules e f = subst (λ (x : Option (Turn S C O)). Freezes rules x) e f
+pub freezes_as : {S C O : Type 0} (rules : Rules S C O) {t u : Option (EventOutcome S C O)} → t ≡ u → Freezes rules t → Freezes rules u
+freezes_as {S = S} {C = C} {O = O} rules e f = subst (λ (x : Option (EventOutcome S C O)). Freezes rules x) e f
 
 -- an event with a turn is not idle
 pub some_idle : {X : Type 0} {P : Type 0} {o : Option X} {x : X} → o ≡ Some x → o ≡ None → P
@@ -181,7 +181,7 @@ hears_ballot rules m from ballot (Join b a) e = cc
 hears_ballot rules m from ballot (State b log) e = cc
 hears_ballot rules m from ballot (Install b log) e = cc
 hears_ballot rules m from ballot (Installed b held) e = cc
-hears_ballot {S = S} {C = C} {O = O} rules m from ballot (Activate b) e = let same : b ≡ ballot = cc in (ap Activate same, ap (λ x. let t : Turn S C O = by_master (activated C m x from m.waiting) in t) same)
+hears_ballot {S = S} {C = C} {O = O} rules m from ballot (Activate b) e = let same : b ≡ ballot = cc in (ap Activate same, ap (λ x. let t : EventOutcome S C O = by_master (activated C m x from m.waiting) in t) same)
 hears_ballot rules m from ballot (Activated b) e = cc
 hears_ballot rules m from ballot (Superseded b) e = cc
 hears_ballot rules m from ballot (Append b place command) e = cc

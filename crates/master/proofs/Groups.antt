@@ -40,7 +40,7 @@ use Rattle.master.specs.Inside.{HasCounted, IsGroup, ToldIn, least_but_one, next
 use Rattle.master.specs.Inside.Losing.{MasterTook, TookCut, TookTurn}
 use Rattle.master.specs.Exact.{after}
 use Rattle.master.specs.Turns.{cut_turn}
-use Rattle.master.specs.Turns.Turn.{by_cut}
+use Rattle.master.specs.Turns.EventOutcome.{by_cut}
 use Rattle.master.specs.Steps.{Freezes}
 use Rattle.ballot.specs.Cutting.{can_cut}
 use Rattle.master.proofs.Happening.{MayGo, IsMasterTurn, cut_may, master_may, master_turn_lost, node_may}

@@ -29,8 +29,8 @@ use Rattle.master.specs.declared.event.Event.{Event}
 use Rattle.master.specs.declared.event.Event.TheVariants.{Propose, Assign, Deliver, Tick, Cut, Crash}
 use Rattle.master.specs.Group.{GroupState}
 use Rattle.master.specs.Exact.{takes, hears, comes, comes_to, gives, turn, after, group_step}
-use Rattle.master.specs.Turns.{NodeTurn, Turn, running, unless_stopped, can_take, taking, stopping, cut_turn, cutting}
-use Rattle.master.specs.Turns.Turn.{by_node, by_cut, by_master, unheeded}
+use Rattle.master.specs.Turns.{NodeTurn, EventOutcome, running, unless_stopped, can_take, taking, stopping, cut_turn, cutting}
+use Rattle.master.specs.Turns.EventOutcome.{by_node, by_cut, by_master, unheeded}
 use Rattle.master.specs.Steps.{Freezes, Happens, StepsBy}
 use Rattle.master.specs.Steps.Happens.{nothing_happens, node_goes, master_goes}
 use Rattle.ballot.specs.Losses.{one_more}
@@ -356,7 +356,7 @@ happens_may rules {a = a} {e = e} (node_goes t {new = new} {given = given} is lo
 happens_may rules {a = a} {e = e} (master_goes o is) = master_turn_lost rules a o (master_turn_is rules a e o is)
 
 -- and what it comes to
-exactly_may : {S C O : Type 0} (rules : Rules S C O) (a : Moment S C O) (e : Event C) (t : Option (Turn S C O)) → turn rules a e ≡ t →
+exactly_may : {S C O : Type 0} (rules : Rules S C O) (a : Moment S C O) (e : Event C) (t : Option (EventOutcome S C O)) → turn rules a e ≡ t →
     Freezes rules t → MayGo rules a (after a t)
 exactly_may rules a e None is f = nothing_may rules a
 exactly_may rules a e (Some (by_node t)) is f =

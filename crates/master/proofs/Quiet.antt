@@ -23,8 +23,8 @@ use Rattle.master.specs.declared.event.Event.{Event}
 use Rattle.master.specs.declared.event.Event.TheVariants.{Assign, Cut, Deliver, Tick, Crash}
 use Rattle.master.specs.Group.{GroupState}
 use Rattle.master.specs.Exact.{after, gives, turn}
-use Rattle.master.specs.Turns.{NodeTurn, Turn, can_take}
-use Rattle.master.specs.Turns.Turn.{by_node, by_cut, by_master, unheeded}
+use Rattle.master.specs.Turns.{NodeTurn, EventOutcome, can_take}
+use Rattle.master.specs.Turns.EventOutcome.{by_node, by_cut, by_master, unheeded}
 use Rattle.master.specs.Copying.{has_numbers_alone}
 use Rattle.master.specs.Inside.{RunsAt}
 use Rattle.master.specs.Inside.Losing.{TookTurn}
@@ -34,7 +34,7 @@ use Rattle.master.proofs.Calling.{proposal_busy}
 use Rattle.master.proofs.Counting.{delivers_turn, some_idle, stops_turn, takes_turn}
 
 -- an event that changes nothing is done by doing nothing
-same_moment : {S C O : Type 0} (rules : Rules S C O) (old : GroupState S C O) (event : Event C) (x : Option (Turn S C O)) →
+same_moment : {S C O : Type 0} (rules : Rules S C O) (old : GroupState S C O) (event : Event C) (x : Option (EventOutcome S C O)) →
     turn rules old.moment event ≡ x → after old.moment x ≡ old.moment → old ≡ done_exactly rules old event
 same_moment {S = S} {C = C} {O = O} rules old event x e f =
     ap (λ (a : Moment S C O). let z : GroupState S C O = record { moment = a; losses = old.losses } in z)

@@ -15,39 +15,40 @@ use Rattle.snapshots.specs.World.{World, moved, recorded}
 use Rattle.master.specs.declared.event.Event.{Event}
 use Rattle.master.specs.declared.event.Event.TheVariants.{Propose, Assign, Deliver, Tick}
 use Rattle.master.specs.declared.event.Event.TheVariants.{Cut, Crash}
-use Rattle.master.specs.Turns.Turn.{by_node, by_cut, by_master, unheeded}
-use Rattle.master.specs.Turns.{Turn, cutting, running, stopping, taking}
+use Rattle.master.specs.Turns.EventOutcome.{by_node, by_cut, by_master, unheeded}
+use Rattle.master.specs.Turns.{EventOutcome, cutting, running, stopping, taking}
 
 -- a node takes an input
 abbrev pub takes : {S C O : Type 0} →
-    Rules S C O → World S C O → ℕ → Input C → Option (Turn S C O)
+    Rules S C O → World S C O → ℕ → Input C → Option (EventOutcome S C O)
 takes rules w node input = taking rules (node - 1) (running w.nodes node) input
 
 -- the master answers an Activate, and ignores every other message
-abbrev pub hears : {S C O : Type 0} → Rules S C O → MasterState → ℕ → Body C → Turn S C O
+abbrev pub hears : {S C O : Type 0} → Rules S C O → MasterState → ℕ → Body C → EventOutcome S C O
 hears {C = C} rules m from (Activate ballot) = by_master (activated C m ballot from m.waiting)
 hears rules m from _ = unheeded
 
 -- a message reaches the master or a node
 abbrev pub comes_to : {S C O : Type 0} →
-    Rules S C O → Moment S C O → ℕ → Message C → Option (Turn S C O)
+    Rules S C O → Moment S C O → ℕ → Message C → Option (EventOutcome S C O)
 comes_to rules a zero message = Some (hears rules a.master message.from message.body)
 comes_to rules a (suc n) message = takes rules a.world (suc n) (Receives message)
 
 -- a message reaches its receiver, if it was sent
 abbrev pub comes : {S C O : Type 0} →
-    Rules S C O → Moment S C O → Option (ℕ × Message C) → Option (Turn S C O)
+    Rules S C O → Moment S C O → Option (ℕ × Message C) → Option (EventOutcome S C O)
 comes rules a None = None
 comes rules a (Some (receiver, message)) = comes_to rules a receiver message
 
 -- the master gives a ballot, unless it refuses
 abbrev pub gives : {S C O : Type 0} →
-    Rules S C O → MasterState → Config → Option AssignRefusal → Option (Turn S C O)
+    Rules S C O → MasterState → Config → Option AssignRefusal → Option (EventOutcome S C O)
 gives rules m config (Some why) = None
 gives {C = C} rules m config None = Some (by_master (assigned C m config))
 
 -- what an event does; none if it is idle
-abbrev pub turn : {S C O : Type 0} → Rules S C O → Moment S C O → Event C → Option (Turn S C O)
+abbrev pub turn : {S C O : Type 0} →
+    Rules S C O → Moment S C O → Event C → Option (EventOutcome S C O)
 turn rules a (Propose node command) = takes rules a.world node (Proposes command)
 turn rules a (Assign config) = gives rules a.master config (refusal a.master config)
 turn rules a (Deliver number) = comes rules a (slice_get a.world.sent number)
@@ -56,7 +57,7 @@ turn rules a (Cut node) = cutting rules (node - 1) (running a.world.nodes node)
 turn rules a (Crash node) = stopping rules (node - 1) (running a.world.nodes node)
 
 -- the step of a group if memory suffices, and its steps one after another
-abbrev pub after : {S C O : Type 0} → Moment S C O → Option (Turn S C O) → Moment S C O
+abbrev pub after : {S C O : Type 0} → Moment S C O → Option (EventOutcome S C O) → Moment S C O
 after a None = a
 after a (Some (by_node t)) =
     record a { world = moved a.world t.index t.outcome.state t.outcome.effects }

@@ -11,8 +11,8 @@ use Rattle.master.specs.declared.event.Event.{Event}
 use Rattle.master.specs.declared.event.Event.TheVariants.{Crash}
 use Rattle.master.specs.Group.{GroupState}
 use Rattle.master.specs.Exact.{turn, group_step}
-use Rattle.master.specs.Turns.{NodeTurn, Turn}
-use Rattle.master.specs.Turns.Turn.{by_node, by_cut, by_master, unheeded}
+use Rattle.master.specs.Turns.{NodeTurn, EventOutcome}
+use Rattle.master.specs.Turns.EventOutcome.{by_node, by_cut, by_master, unheeded}
 
 -- what an event may do if memory runs out: nothing (then no log is cut), the step of its node with
 -- losses, or that of the master, whose message is lost
@@ -51,7 +51,7 @@ done_exactly rules old event =
     record { moment = group_step rules event old.moment; losses = old.losses }
 
 -- the snapshot of a cut thaws to the node's machine
-abbrev pub Freezes : {S C O : Type 0} → Rules S C O → Option (Turn S C O) → Type 0
+abbrev pub Freezes : {S C O : Type 0} → Rules S C O → Option (EventOutcome S C O) → Type 0
 Freezes rules None = Unit {0}
 Freezes rules (Some (by_node t)) = Unit {0}
 Freezes rules (Some (by_cut t)) =

@@ -1,4 +1,4 @@
--- The turn that an event is: of a node, a cut of its log, or the master's.
+-- What an event does: the step of a node, a cut of its log, or the answer of the master.
 use Rattle.std.specs.Prelude.{ℕ, zero, suc, Bool, true, List, [], slice_get, Option, Some, None}
 use Rattle.std.specs.Prelude.{◌&&◌, nat_lt, if◌then◌else◌}
 use Rattle.ballot.specs.machine.Machine.{Rules}
@@ -30,11 +30,11 @@ pub record NodeTurn (S C O : Type 0) : Type 0 where
 
 -- what an event does: the turn of a node, a cut of its log, the turn of the master, or a message
 -- that the master ignores
-pub data Turn (S C O : Type 0) : Type 0 where
-  by_node : NodeTurn S C O → Turn S C O  -- a node takes its step
-  by_cut : NodeTurn S C O → Turn S C O  -- a node cuts its log
-  by_master : MasterOutcome C → Turn S C O  -- the master answers
-  unheeded : Turn S C O  -- the master ignores a message
+pub data EventOutcome (S C O : Type 0) : Type 0 where
+  by_node : NodeTurn S C O → EventOutcome S C O  -- a node takes its step
+  by_cut : NodeTurn S C O → EventOutcome S C O  -- a node cuts its log
+  by_master : MasterOutcome C → EventOutcome S C O  -- the master answers
+  unheeded : EventOutcome S C O  -- the master ignores a message
 
 -- a proposal needs an active primary whose log has room
 abbrev pub can_take : {S C : Type 0} → ReplicaState S C → Input C → Bool
@@ -44,7 +44,7 @@ can_take r Ticks = true
 
 -- the turn of a node that takes an input, unless it refuses
 abbrev pub taking : {S C O : Type 0} →
-    Rules S C O → ℕ → Option (ReplicaState S C) → Input C → Option (Turn S C O)
+    Rules S C O → ℕ → Option (ReplicaState S C) → Input C → Option (EventOutcome S C O)
 taking rules n None input = None
 taking rules n (Some r) input =
     if can_take r input
@@ -53,7 +53,7 @@ taking rules n (Some r) input =
 
 -- the turn of a node that stops for good
 abbrev pub stopping : {S C O : Type 0} →
-    Rules S C O → ℕ → Option (ReplicaState S C) → Option (Turn S C O)
+    Rules S C O → ℕ → Option (ReplicaState S C) → Option (EventOutcome S C O)
 stopping rules n None = None
 stopping rules n (Some r) =
     Some (by_node (record {
@@ -69,6 +69,6 @@ cut_turn rules n r =
 
 -- the cut of a node's log, if the node runs
 abbrev pub cutting : {S C O : Type 0} →
-    Rules S C O → ℕ → Option (ReplicaState S C) → Option (Turn S C O)
+    Rules S C O → ℕ → Option (ReplicaState S C) → Option (EventOutcome S C O)
 cutting rules n None = None
 cutting rules n (Some r) = if can_cut r then Some (by_cut (cut_turn rules n r)) else None

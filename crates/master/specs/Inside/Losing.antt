@@ -17,7 +17,7 @@ use Rattle.master.specs.declared.turning.Taken.TheVariants.{Received, Proposed, 
 use Rattle.master.specs.Group.{GroupState}
 use Rattle.master.specs.Exact.{after}
 use Rattle.master.specs.Turns.{NodeTurn}
-use Rattle.master.specs.Turns.Turn.{by_cut}
+use Rattle.master.specs.Turns.EventOutcome.{by_cut}
 use Rattle.master.specs.Steps.{Freezes}
 
 -- the input of a node
