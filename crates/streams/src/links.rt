@@ -4,6 +4,7 @@ ghost use Rattle.std.specs.Prelude.{◌≡◌, ℕ, ◌<◌, ◌≤◌, ◌++◌
 ghost use Rattle.std.specs.Prelude.{IfNone, IfOk, IfSome};
 ghost use Rattle.std.specs.Arc.{arc_value};
 ghost use Rattle.slab.specs.Slab.{ContainsKey, Updates, get, slab_len};
+ghost use Rattle.streams.specs.declared.listener.TheConstants.{MAX_CONNECTIONS};
 
 use crate::idle_lanes::IdleLanes;
 use crate::link::Link;
@@ -17,8 +18,8 @@ use std::sync::Arc;
 #[derive(Drop)]
 pub(crate) struct Links {
     slots: Slab<Option<Arc<Link, Global>>>,
-    ghost few: { slab_len slots ≤ 60 },
-    ghost room: { slots.capacity ≡ 60 },
+    ghost few: { slab_len slots ≤ MAX_CONNECTIONS },
+    ghost room: { slots.capacity ≡ MAX_CONNECTIONS },
 }
 
 impl Links {
@@ -38,11 +39,11 @@ impl Links {
 
     /// Takes an index. There is none if sixty are taken.
     pub(crate) fn take(&mut self) -> Option<usize>
-        ensures below { IfSome result (λ index. index < 60) }
+        ensures below { IfSome result (λ index. index < MAX_CONNECTIONS) }
         ensures free { IfSome result (λ index. get self.old.slots index ≡ None) }
         ensures taken { IfSome result (λ index.
             Updates self.old.slots self.new.slots index (Some None)) }
-        ensures full { IfNone result (slab_len self.old.slots ≡ 60) }
+        ensures full { IfNone result (slab_len self.old.slots ≡ MAX_CONNECTIONS) }
         ensures same { IfNone result (self.new ≡ self.old) }
     {
         if self.slots.len() >= usize::from(MAX_CONNECTIONS) {
@@ -86,10 +87,10 @@ impl Links {
         ensures found { IfSome result (λ found.
             listed_at (get self.now.slots found.0) ≡ Some found.1.now) }
         ensures from { IfSome result (λ found. first ≤ found.0) }
-        ensures below { IfSome result (λ found. found.0 < 60) }
+        ensures below { IfSome result (λ found. found.0 < MAX_CONNECTIONS) }
         ensures before { IfSome result (λ found. (index : ℕ) → first ≤ index → index < found.0
             → listed_at (get self.now.slots index) ≡ None) }
-        ensures none { IfNone result ((index : ℕ) → first ≤ index → index < 60
+        ensures none { IfNone result ((index : ℕ) → first ≤ index → index < MAX_CONNECTIONS
             → listed_at (get self.now.slots index) ≡ None) }
     {
         for index in first..usize::from(MAX_CONNECTIONS) {
@@ -119,10 +120,10 @@ impl Links {
         first: usize,
         busy: &mut Vec<Arc<Link, Global>>,
     ) -> bool
-        requires { first ≤ 60 }
+        requires { first ≤ MAX_CONNECTIONS }
         ensures { result ≡ true → map arc_value busy.new.items
             ≡ map arc_value busy.old.items
-            ++ busy_between arc_value idle self.now.slots first 60
+            ++ busy_between arc_value idle self.now.slots first MAX_CONNECTIONS
             ++ busy_between arc_value idle self.now.slots 0 first }
     {
         let after = self.add_between(idle, first, usize::from(MAX_CONNECTIONS), busy);
