@@ -1,6 +1,7 @@
 -- Copies that find room one after another.
 use native.Mathlib.Omega.{arith}
 use Rattle.std.proofs.Common.{◌≡◌, ◌≤◌, ◌+◌, ◌-◌, ◌==◌, ◌&&◌, if◌then◌else◌, ℕ, zero, suc, Bool, true, false, List, [], ◌∷◌, ◌++◌, length, refl, ap, sym, ◌∙◌, append_assoc}
+use Rattle.session.specs.declared.session.TheConstants.{MAX_ENTRIES}
 use Rattle.session.specs.packet.declared.packet.Packet.{Packet}
 use Rattle.session.specs.session_base.declared.publication.Publication.{Publication}
 use Rattle.session.specs.session_base.Publication.{is_answered}
@@ -25,17 +26,17 @@ queued_first copy others = by (is_answered copy.qos)
     by false = omega arith
 
 -- the first of them finds room
-pub first_finds_room : (copy : Publication) (others : List Publication) (queue : Queue) → length (queued (copy ∷ others)) ≤ room 4096 queue →
-    is_answered copy.qos ≡ true → 1 ≤ room 4096 queue
+pub first_finds_room : (copy : Publication) (others : List Publication) (queue : Queue) → length (queued (copy ∷ others)) ≤ room MAX_ENTRIES queue →
+    is_answered copy.qos ≡ true → 1 ≤ room MAX_ENTRIES queue
 first_finds_room copy others queue enough answered =
     let many : length (queued (copy ∷ others)) ≡ suc (length (queued others)) = rw answered refl in
     omega (arith, enough, many)
 
 -- and leaves room for the others
-pub others_find_room : (w : ℕ) (copy : Publication) (others : List Publication) (queue : Queue) → length (queued (copy ∷ others)) ≤ room 4096 queue →
-    length (queued others) ≤ room 4096 (copies_left w (copy ∷ []) queue)
+pub others_find_room : (w : ℕ) (copy : Publication) (others : List Publication) (queue : Queue) → length (queued (copy ∷ others)) ≤ room MAX_ENTRIES queue →
+    length (queued others) ≤ room MAX_ENTRIES (copies_left w (copy ∷ []) queue)
 others_find_room w copy others queue enough =
-    let left : room 4096 (copies_left w (copy ∷ []) queue) ≡ room 4096 queue - length (queued (copy ∷ [])) = copies_take_room w 4096 (copy ∷ []) queue in
+    let left : room MAX_ENTRIES (copies_left w (copy ∷ []) queue) ≡ room MAX_ENTRIES queue - length (queued (copy ∷ [])) = copies_take_room w MAX_ENTRIES (copy ∷ []) queue in
     let many = queued_first copy others in
     omega (arith, enough, left, many)
 

@@ -19,9 +19,9 @@ use crate::client_row::ClientRow;
 use crate::sending::send_all;
 use broker_rows::broker_spec::{Output, Window};
 use machine::Halted;
-use session::Session;
 use session::packet::{Delivery, Packet, Publish, QoS};
 use session::session_base::Publication;
+use session::{MAX_ENTRIES, Session};
 use std::alloc::AllocError;
 
 /// Returns what a PUBLISH carries.
@@ -68,7 +68,7 @@ pub(crate) fn take_copy(
     copy: Publication,
     sent: &mut Vec<Packet>,
 ) -> Result<(), Halted>
-    requires room { is_answered copy.qos ≡ true → 1 ≤ room 4096 session.old.queue }
+    requires room { is_answered copy.qos ≡ true → 1 ≤ room MAX_ENTRIES session.old.queue }
     ensures state { OnOk result
         (session.new ≡ with_queue (copies_left window (copy ∷ []) session.old.queue) session.old) }
     ensures sends { OnOk result

@@ -11,10 +11,10 @@ use crate::delivering::{lower, take_copy};
 use broker_rows::broker_spec::Window;
 use broker_rows::retained::{RetainedPublication, RetainedStore};
 use machine::Halted;
-use session::Session;
 use session::packet::{Packet, QoS, Subscription};
 use session::session_base::Publication;
 use session::topics::TopicName;
+use session::{MAX_ENTRIES, Session};
 use std::alloc::{AllocError, Global};
 
 // Returns a copy of a retained publication, with RETAIN 1, at the lower of its QoS and the one that
@@ -67,7 +67,7 @@ pub(crate) fn take_copies(
     copies: Vec<Publication>,
     sent: &mut Vec<Packet>,
 ) -> Result<(), Halted>
-    requires room { length (queued copies.items) ≤ room 4096 session.old.queue }
+    requires room { length (queued copies.items) ≤ room MAX_ENTRIES session.old.queue }
     ensures state { OnOk result
         (session.new ≡ with_queue (copies_left window copies.items session.old.queue) session.old) }
     ensures sends { OnOk result

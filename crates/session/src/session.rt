@@ -98,7 +98,7 @@ impl Session {
 
     /// Returns how many more entries fit into the session.
     pub fn room(&self) -> usize
-        ensures { result ≡ room 4096 self.now.queue }
+        ensures { result ≡ room MAX_ENTRIES self.now.queue }
     {
         self.queue.room(MAX_ENTRIES)
     }
@@ -109,7 +109,7 @@ impl Session {
             (self.new ≡ with_queue (enqueue publication self.old.queue) self.old) }
 
         // `QueueFull` comes exactly if there is no room.
-        ensures full { (result ≡ Err QueueFull) ↔ (room 4096 self.old.queue ≡ 0) }
+        ensures full { (result ≡ Err QueueFull) ↔ (room MAX_ENTRIES self.old.queue ≡ 0) }
         ensures err { OnErr result (self.new ≡ self.old) }
     {
         if self.room() == 0 {
@@ -122,7 +122,7 @@ impl Session {
     /// Queues a publication after the others, if `room` said that there is room for it. The only
     /// error is that memory ran out.
     pub fn admit(&mut self, publication: Publication) -> Result<(), AllocError>
-        requires room { 1 ≤ room 4096 self.old.queue }
+        requires room { 1 ≤ room MAX_ENTRIES self.old.queue }
         ensures ok { OnOk result
             (self.new ≡ with_queue (enqueue publication self.old.queue) self.old) }
         ensures err { OnErr result (self.new ≡ self.old) }

@@ -1,6 +1,7 @@
 -- A copy takes one place at most, and the others find theirs.
 use Rattle.std.proofs.Common.{rules, ◌≡◌, ◌≤◌, ◌∷◌, ◌∙◌, ap, sym, subst, List, length}
 use Rattle.session.specs.session_base.declared.publication.Publication.{Publication}
+use Rattle.session.specs.declared.session.TheConstants.{MAX_ENTRIES}
 use Rattle.session.specs.session_base.Queue.{Queue, room}
 use Rattle.session.specs.session_base.Session.{SessionState}
 use Rattle.broker_rows.specs.broker_spec.Entries.{queued}
@@ -15,8 +16,8 @@ loop-copy-preserved c =
           c.take_copy.new.session.queue c.loop-copy.sent.items c.take_copy.new.sent.items cut
           (ap (λ (s : SessionState). s.queue) c.in_ok-take_copy.ensures.state) c.in_ok-take_copy.ensures.sends
           ∙ c.loop-copy.invariant.1,
-      subst (λ (queue : Queue). length (queued c.next.new.self.rest.items) ≤ room 4096 queue)
+      subst (λ (queue : Queue). length (queued c.next.new.self.rest.items) ≤ room MAX_ENTRIES queue)
           (sym (ap (λ (s : SessionState). s.queue) c.in_ok-take_copy.ensures.state))
           (others_find_room c.args.window c.in-Some.copy c.next.new.self.rest.items c.loop-copy.session.queue
-          (subst (λ (copies : List Publication). length (queued copies) ≤ room 4096 c.loop-copy.session.queue) cut c.loop-copy.invariant.2)),
+          (subst (λ (copies : List Publication). length (queued copies) ≤ room MAX_ENTRIES c.loop-copy.session.queue) cut c.loop-copy.invariant.2)),
     )

@@ -1,5 +1,6 @@
 -- What came so far, and what is still to come, make the whole.
 use Rattle.std.proofs.Common.{◌≡◌, ◌≤◌, ◌++◌, length}
+use Rattle.session.specs.declared.session.TheConstants.{MAX_ENTRIES}
 use Rattle.session.specs.session_base.Queue.{room}
 use Rattle.session.specs.session_base.Copies.{copies_left}
 use Rattle.broker_rows.specs.broker_spec.Entries.{queued}
@@ -13,4 +14,4 @@ invariant-loop-copy l =
     ≡ with_queue (copies_left l.window l.fn.copies.items l.fn.session.queue) l.fn.session)
     × (l.sent.items ++ copies_sent l.window l.copy-iterator.rest.items l.session.queue
     ≡ l.fn.sent.items ++ copies_sent l.window l.fn.copies.items l.fn.session.queue)
-    × (length (queued l.copy-iterator.rest.items) ≤ room 4096 l.session.queue)
+    × (length (queued l.copy-iterator.rest.items) ≤ room MAX_ENTRIES l.session.queue)
