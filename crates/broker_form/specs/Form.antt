@@ -8,6 +8,7 @@ use Rattle.packet_base.specs.TopicFields.{topic_at}
 use Rattle.packet.specs.ClientId.{is_client}
 use Rattle.packet.specs.Spelling.{max_body}
 use Rattle.broker_spec.specs.retained.declared.retained_publication.RetainedPublication.{RetainedPublication}
+use Rattle.broker_spec.specs.retained.Retained.{max_topics}
 use Rattle.session_base.specs.Counted.{keep, counted_at}
 use Rattle.session_base.specs.Form.{long_number_at, flag_at, qos_at, body_length, state_at}
 use Rattle.broker_spec.specs.Connection.{ConnectionName, is_connection_name}
@@ -91,11 +92,15 @@ head_at bytes = do
   keep ((form.0 == 1) || (form.0 == 2))
   if form.0 == 1 then Ok (16, form.1) else size_at form.1
 
--- at most 4,096 sessions and 16,384 topics, and nothing after them
+-- how many sessions a broker has at most
+abbrev pub max_sessions : ℕ
+max_sessions = 4096
+
+-- so many sessions and topics at most, and nothing after them
 abbrev pub content_at : ℕ → List ℕ → Result State Stop
 content_at window bytes = do
-  sessions ← counted_at number_at row_follows (row_at window) 4096 bytes
-  retained ← counted_at number_at topic_follows retained_at 16384 sessions.1
+  sessions ← counted_at number_at row_follows (row_at window) max_sessions bytes
+  retained ← counted_at number_at topic_follows retained_at max_topics sessions.1
   ended retained.1
   Ok (record { window = window; sessions = sessions.0; retained = retained.0 })
 

@@ -19,17 +19,31 @@ abbrev pub open_places : Option Status → ℕ
 open_places None = 0
 open_places (Some status) = if is_active status.role then status.held - status.committed else 0
 
--- Whether a node takes more bytes from its clients: while no more than 4,096 places are open, what
--- it took and is not known to be agreed has no more than 64 MiB, and no more than 256 KiB are in
--- transit.
-abbrev pub admits : Taking → Bool
-admits taking = nat_le (open_places taking.status) 4096
-    && (nat_le (taking.earlier + taking.later) 67108864 && nat_le taking.entering 262144)
+-- how many places may be open when more bytes are taken
+abbrev pub max_open : ℕ
+max_open = 4096
 
--- The bound of all that a node took and is not known to be agreed, together with what is in
--- transit: 64 MiB, 256 KiB, and one piece.
+-- how many bytes that were taken may be not known to be agreed then: 64 MiB
+abbrev pub max_open_bytes : ℕ
+max_open_bytes = 67108864
+
+-- how many bytes may be in transit then: 256 KiB
+abbrev pub max_entering : ℕ
+max_entering = 262144
+
+-- whether a node takes more bytes from its clients
+abbrev pub admits : Taking → Bool
+admits taking = nat_le (open_places taking.status) max_open
+    && (nat_le (taking.earlier + taking.later) max_open_bytes
+    && nat_le taking.entering max_entering)
+
+-- how many bytes there are at most of both: 64 MiB, 256 KiB, and one piece
+abbrev pub max_taken : ℕ
+max_taken = 67436544
+
+-- the bound of all that a node took and is not known to be agreed, together with what is in transit
 abbrev pub IsBounded : Taking → Type 0
-IsBounded taking = taking.entering + (taking.earlier + taking.later) ≤ 67436544
+IsBounded taking = taking.entering + (taking.earlier + taking.later) ≤ max_taken
 
 -- some bytes that were in transit were taken
 abbrev pub took : ℕ → Taking → Taking

@@ -20,13 +20,17 @@ abbrev pub of_nodes : List Item → ℕ
 of_nodes [] = 0
 of_nodes (item ∷ items) = (if is_of_node item then 1 else 0) + of_nodes items
 
--- Whether an item may be queued after these: a message of another node while fewer than 524,288
--- items wait, and a message of the master or an order whatever waits.
-abbrev pub has_room : Item → List Item → Bool
-has_room item items = not (is_of_node item) || nat_lt (length items) 524288
+-- how many items may wait, so that one more of another node is queued
+abbrev pub max_waiting : ℕ
+max_waiting = 524288
 
--- What may wait for the node of a number: what was queued for it, and at most 524,288 messages of
+-- Whether an item may be queued after these: a message of another node while fewer items wait than
+-- that, and a message of the master or an order whatever waits.
+abbrev pub has_room : Item → List Item → Bool
+has_room item items = not (is_of_node item) || nat_lt (length items) max_waiting
+
+-- What may wait for the node of a number: what was queued for it, and at most so many messages of
 -- other nodes.
 pub record Waits (number : ℕ) (items : List Item) : Type 0 where
   pub queued : Each (IsQueued number) items
-  pub bounded : of_nodes items ≤ 524288
+  pub bounded : of_nodes items ≤ max_waiting

@@ -40,9 +40,14 @@ after_put content topic qos (byte ∷ payload) =
 abbrev pub is_empty : List ℕ → Bool
 is_empty payload = length payload == 0
 
--- the topic would be one more than 16,384, this broker's own limit
+-- how many topics are kept at most, this broker's own limit
+abbrev pub max_topics : ℕ
+max_topics = 16384
+
+-- the topic would be one too many
 abbrev pub is_full_for : RetainedTopics → List ℕ → Bool
-is_full_for content topic = is_none (publication_on topic content) && nat_le 16384 (length content)
+is_full_for content topic =
+    is_none (publication_on topic content) && nat_le max_topics (length content)
 
 -- the publication is refused: an empty payload never is
 abbrev pub is_refused : RetainedTopics → List ℕ → List ℕ → Bool
