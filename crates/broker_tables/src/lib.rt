@@ -20,7 +20,7 @@ mod unsubscribing;
 
 pub use broker_rows::{broker_spec, retained, subs};
 pub use client_row::ClientRow;
-pub use limits::{MAX_SESSIONS, MAX_SUBSCRIPTIONS};
+pub use limits::MAX_SESSIONS;
 pub use machine;
 pub use session;
 pub use tables::Tables;

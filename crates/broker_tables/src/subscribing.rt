@@ -14,7 +14,6 @@ ghost use Rattle.broker_rows.specs.Indexed.{all_set};
 ghost use Rattle.broker_rows.specs.Owners.{owners_in};
 ghost use Rattle.broker_tables.specs.Tables.{IsConsistent, IsTied, state_in, stepped};
 
-use crate::limits::MAX_SUBSCRIPTIONS;
 use crate::retained_copies::{copies_for, queued, take_copies};
 use crate::sending::send_all;
 use crate::tables::Tables;
@@ -22,8 +21,8 @@ use broker_rows::broker_spec::{ConnectionId, Output, Window};
 use broker_rows::retained::RetainedStore;
 use broker_rows::subs::{SubIndex, TreeIndex};
 use machine::Halted;
-use session::Session;
 use session::packet::{ClientId, Packet, PacketList, Suback, SubackCode, Subscribe, Subscription};
+use session::{MAX_SUBSCRIPTIONS, Session};
 use std::alloc::{AllocError, Global};
 
 impl Tables {

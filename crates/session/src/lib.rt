@@ -14,6 +14,6 @@ mod thawing;
 
 pub use arrival::Arrival;
 pub use error::EnqueueError;
-pub use session::{MAX_ENTRIES, Session};
+pub use session::{MAX_ENTRIES, MAX_SUBSCRIPTIONS, Session};
 pub use session_base;
 pub use session_base::{packet, packet_base, topics};

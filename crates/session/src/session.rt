@@ -28,6 +28,9 @@ use std::marker::Model;
 /// The most entries that a session holds, including those in flight.
 pub const MAX_ENTRIES: usize = 4096;
 
+/// The most subscriptions of a session. [`Session::subscribe`] does not check it.
+pub const MAX_SUBSCRIPTIONS: usize = 64;
+
 /// One client's session: its subscriptions, the identifiers of QoS 2 publications that were
 /// received, the entries in flight and those that wait.
 #[derive(Drop)]

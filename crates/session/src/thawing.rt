@@ -14,7 +14,7 @@ ghost use Rattle.session_base.specs.OrderLaws.{IsReleasedFirst};
 
 use crate::received::Received;
 use crate::sending::waits_for_pubcomp;
-use crate::session::{MAX_ENTRIES, Session};
+use crate::session::{MAX_ENTRIES, MAX_SUBSCRIPTIONS, Session};
 use crate::session_queue::{SessionQueue, put_last};
 use crate::subscriptions::Subscriptions;
 use indexmap::IndexMap;
@@ -24,9 +24,6 @@ use session_base::topics::{Filter, MalformedKind};
 use session_base::{Awaits, Publication, keep, read_flight, read_held, read_waiting};
 use std::alloc::Global;
 use std::collections::VecDeque;
-
-/// The most subscriptions of a session.
-const MAX_SUBSCRIPTIONS: u8 = 64;
 
 const OUT_OF_MEMORY: Stop = Stop::Malformed(MalformedKind::Memory);
 
@@ -38,7 +35,7 @@ impl Subscriptions {
             (counted_at byte_at is_new_filter held_at 64 reader.old) }
     {
         let count = reader.byte()?;
-        keep(count <= MAX_SUBSCRIPTIONS)?;
+        keep(usize::from(count) <= MAX_SUBSCRIPTIONS)?;
         read_filters(alloc, count, reader)
     }
 
