@@ -17,7 +17,7 @@ use Rattle.node_connections.specs.declared.connection.Connection.{Connection}
 use Rattle.node_connections.specs.Connections.{changed, closed, has_failed, holding, is_open_at, is_proposed}
 use Rattle.world_base.specs.Core.{CoreState, Turn}
 use Rattle.world_base.specs.Failing.{loses_all_failed}
-use Rattle.world_base.specs.Inside.{IsCalm, Ran, Running, Turns}
+use Rattle.world_base.specs.Inside.{IsCalm, Ran, Running, DoesTurn}
 use Rattle.world_base.specs.KeepAlive.{ends_all_silent, ends_silent}
 use Rattle.world_base.specs.Losses.{DoesNothing, IsHeardQuietly, IsIgnored, ReadsNone, TakesNoMemory, was_proposed}
 use Rattle.world_base.specs.Lossy.{Account, Drives, Repeated, quietly}
@@ -165,9 +165,9 @@ none_open_at port core (Some i) false at is =
 
 -- the losses that follow from it, if any, are all that is done
 pub turns_ignored : (item : Item) (a b : Running) (x y : List (Effect Command Output)) → DoesNothing item a.core →
-    Turns a b x y (loses_all_failed a.core) → Turns a b x y (acts_on item a.core)
+    DoesTurn a b x y (loses_all_failed a.core) → DoesTurn a b x y (acts_on item a.core)
 turns_ignored item a b x y idle turns =
-    subst (λ (t : Turn). Turns a b x y t) (sym (ap (λ (t : Turn). then_also t loses_all_failed) (takes_nothing item a.core idle))) turns
+    subst (λ (t : Turn). DoesTurn a b x y t) (sym (ap (λ (t : Turn). then_also t loses_all_failed) (takes_nothing item a.core idle))) turns
 
 pub ran_ignored : (item : Item) (a b : CoreState) (x y : List (Effect Command Output)) → DoesNothing item a →
     Ran LosesAllFailed a b x y → Ran (ActsOn item) a b x y

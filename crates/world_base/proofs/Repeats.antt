@@ -5,7 +5,7 @@ use Rattle.node_connections.specs.broker_spec.declared.command.Command.{Command}
 use Rattle.node_connections.specs.broker_spec.declared.command.Output.{Output}
 use Rattle.ballot.specs.Effect.{Effect}
 use Rattle.world_base.specs.Core.{CoreState, Turn}
-use Rattle.world_base.specs.Inside.{Running, Turns}
+use Rattle.world_base.specs.Inside.{Running, DoesTurn}
 use Rattle.world_base.specs.Turns.{quiet, repeated, then_also}
 use Rattle.world_base.proofs.TurnsJoin.{turns_as, turns_idle, turns_join}
 
@@ -48,19 +48,19 @@ module _ (next : CoreState → Turn) where
 
   -- ---- what the code did
 
-  pub repeats_none : (r : Running) (x : List (Effect Command Output)) → Turns r r x x (repeated 0 next r.core)
-  repeats_none r x = subst (λ (t : Turn). Turns r r x x t) (sym (none_of_them r.core)) (turns_idle r x)
+  pub repeats_none : (r : Running) (x : List (Effect Command Output)) → DoesTurn r r x x (repeated 0 next r.core)
+  repeats_none r x = subst (λ (t : Turn). DoesTurn r r x x t) (sym (none_of_them r.core)) (turns_idle r x)
 
   pub repeats_more : (n : ℕ) (a b c : Running) (x y z : List (Effect Command Output)) →
-      Turns a b x y (repeated n next a.core) → Turns b c y z (next b.core) → Turns a c x z (repeated (suc n) next a.core)
+      DoesTurn a b x y (repeated n next a.core) → DoesTurn b c y z (next b.core) → DoesTurn a c x z (repeated (suc n) next a.core)
   repeats_more n a b c x y z done more =
-      subst (λ (t : Turn). Turns a c x z t) (sym (one_more n a.core))
+      subst (λ (t : Turn). DoesTurn a c x z t) (sym (one_more n a.core))
       (turns_join a b c x y z (repeated n next a.core) next done more)
 
   -- the last one says that the next would do nothing
   pub repeats_enough : (n all : ℕ) (a b : Running) (x y : List (Effect Command Output)) → n ≤ all →
-      Turns a b x y (repeated n next a.core) → (b.out_of_memory ≡ false → next b.core ≡ quiet b.core) →
-      Turns a b x y (repeated all next a.core)
+      DoesTurn a b x y (repeated n next a.core) → (b.out_of_memory ≡ false → next b.core ≡ quiet b.core) →
+      DoesTurn a b x y (repeated all next a.core)
   repeats_enough n all a b x y few done last =
       turns_as a b x y (repeated n next a.core) (repeated all next a.core) same done
     where

@@ -8,16 +8,16 @@ use Rattle.node_connections.specs.broker_spec.declared.command.Command.{Command}
 use Rattle.node_connections.specs.broker_spec.declared.command.Output.{Output}
 use Rattle.ballot.specs.Effect.{Effect}
 use Rattle.world_base.specs.Core.{CoreState, Turn}
-use Rattle.world_base.specs.Inside.{Running, Does, Turns}
+use Rattle.world_base.specs.Inside.{Running, Does, DoesTurn}
 use Rattle.world_base.specs.Turns.{quiet, then_also, delivered, served, is_message}
 
 -- nothing was done
-pub turns_idle : (r : Running) (out : List (Effect Command Output)) → Turns r r out out (quiet r.core)
+pub turns_idle : (r : Running) (out : List (Effect Command Output)) → DoesTurn r r out out (quiet r.core)
 turns_idle r out = record { given = []; appended = sym (append-nil out); exact = λ _. (refl, refl) }
 
 -- something without messages
 pub turns_quiet : (old new : Running) (out : List (Effect Command Output)) (core : CoreState) →
-    Does old new core → Turns old new out out (quiet core)
+    Does old new core → DoesTurn old new out out (quiet core)
 turns_quiet old new out core does =
     record { given = []; appended = sym (append-nil out); exact = λ whole. (does whole, refl) }
 
@@ -27,7 +27,7 @@ out_of_memory_kept a b core e whole = sym (ap (λ (z : Running). z.out_of_memory
 
 -- one thing and then another
 pub turns_join : (a b c : Running) (x y z : List (Effect Command Output)) (first : Turn) (next : CoreState → Turn) →
-    Turns a b x y first → Turns b c y z (next b.core) → Turns a c x z (then_also first next)
+    DoesTurn a b x y first → DoesTurn b c y z (next b.core) → DoesTurn a c x z (then_also first next)
 turns_join a b c x y z first next one two =
     record {
       given = one.given ++ two.given;
@@ -50,10 +50,10 @@ turns_join a b c x y z first next one two =
 
 -- effects that were done one by one
 pub turns_push : (a b c : Running) (x y z given : List (Effect Command Output)) (e : Effect Command Output) →
-    Turns a b x y (delivered given a.core) → Turns b c y z (delivered (e ∷ []) b.core) →
-    Turns a c x z (delivered (given ++ e ∷ []) a.core)
+    DoesTurn a b x y (delivered given a.core) → DoesTurn b c y z (delivered (e ∷ []) b.core) →
+    DoesTurn a c x z (delivered (given ++ e ∷ []) a.core)
 turns_push a b c x y z given e one two =
-    subst (λ (t : Turn). Turns a c x z t) same
+    subst (λ (t : Turn). DoesTurn a c x z t) same
     (turns_join a b c x y z (delivered given a.core) (delivered (e ∷ [])) one two)
   where
     same : then_also (delivered given a.core) (delivered (e ∷ [])) ≡ delivered (given ++ e ∷ []) a.core
@@ -65,7 +65,7 @@ turns_push a b c x y z given e one two =
 
 -- memory ran out before: nothing exact is said
 pub turns_out_of_memory : (a b c : Running) (x y : List (Effect Command Output)) (t u : Turn) → b.out_of_memory ≡ true →
-    Turns b c x y t → Turns a c x y u
+    DoesTurn b c x y t → DoesTurn a c x y u
 turns_out_of_memory a b c x y t u lost turns =
     record {
       given = turns.given;
@@ -75,7 +75,7 @@ turns_out_of_memory a b c x y t u lost turns =
 
 -- the same turn, if memory suffices
 pub turns_as : (a c : Running) (x y : List (Effect Command Output)) (t u : Turn) → (c.out_of_memory ≡ false → t ≡ u) →
-    Turns a c x y t → Turns a c x y u
+    DoesTurn a c x y t → DoesTurn a c x y u
 turns_as a c x y t u same turns =
     record {
       given = turns.given;
@@ -88,7 +88,7 @@ turns_as a c x y t u same turns =
 
 -- something after a change without messages
 pub turns_after : (a b c : Running) (x y : List (Effect Command Output)) (core : CoreState) (next : CoreState → Turn) →
-    b ≡ record a { core = core } → Turns b c x y (next b.core) → Turns a c x y (next core)
+    b ≡ record a { core = core } → DoesTurn b c x y (next b.core) → DoesTurn a c x y (next core)
 turns_after a b c x y core next e turns =
     record {
       given = turns.given;

@@ -36,7 +36,7 @@ abbrev pub Does : Running → Running → CoreState → Type 0
 Does old new core = new.out_of_memory ≡ false → new ≡ record old { core = core }
 
 -- the same with messages, which were appended to what was there
-pub record Turns (old new : Running) (before after : List (Effect Command Output)) (turn : Turn)
+pub record DoesTurn (old new : Running) (before after : List (Effect Command Output)) (turn : Turn)
     : Type 0 where
   pub given : List (Effect Command Output)
   pub appended : after ≡ before ++ given

@@ -4,7 +4,7 @@ ghost use Rattle.std.specs.Prelude.{◌≡◌, ◌<◌, ◌-◌, ◌^◌, false,
 ghost use Rattle.ballot.specs.Protocol.Input.{Receives, Ticks};
 ghost use Rattle.ballot.specs.Serving.{proposed};
 ghost use Rattle.world_base.specs.Core.{rules, serves};
-ghost use Rattle.world_base.specs.Inside.{Acts, Answered, Delivered, Does, Hears, IsCalm, ProposedBy, Ran, Turns};
+ghost use Rattle.world_base.specs.Inside.{Acts, Answered, Delivered, Does, DoesTurn, Hears, IsCalm, ProposedBy, Ran};
 ghost use Rattle.world_base.specs.Losses.{IsHeardQuietly, ReadsNone};
 ghost use Rattle.world_base.specs.Lossy.{Drives, Serves, quietly};
 ghost use Rattle.world_base.specs.LossyStep.{Cuts};
@@ -18,7 +18,7 @@ use node_connections::broker_spec::{Command, Output};
 impl SteppingNode {
     /// Proposes a command and does its effects at once. Returns whether it was taken.
     pub fn propose(&mut self, command: Command, effects: &mut Vec<Effect<Command, Output>>) -> bool
-        ensures turns { Turns self.old self.new effects.old.items effects.new.items
+        ensures turns { DoesTurn self.old self.new effects.old.items effects.new.items
             (proposes command self.old.core) }
         ensures run { Ran (ProposedBy result command) self.old.core self.new.core
             effects.old.items effects.new.items }
@@ -50,7 +50,7 @@ impl SteppingNode {
 
     /// Takes a message of another node and does its effects at once.
     pub fn receive(&mut self, message: Message<Command>, effects: &mut Vec<Effect<Command, Output>>)
-        ensures turns { Turns self.old self.new effects.old.items effects.new.items
+        ensures turns { DoesTurn self.old self.new effects.old.items effects.new.items
             (drives (Receives message) self.old.core) }
         ensures run { Ran (Drives (Receives message)) self.old.core self.new.core
             effects.old.items effects.new.items }
@@ -80,7 +80,7 @@ impl SteppingNode {
 
     /// Lets the replica repeat what others may have missed.
     pub fn tick(&mut self, effects: &mut Vec<Effect<Command, Output>>)
-        ensures turns { Turns self.old self.new effects.old.items effects.new.items
+        ensures turns { DoesTurn self.old self.new effects.old.items effects.new.items
             (drives Ticks self.old.core) }
         ensures run { Ran
             (Drives Ticks) self.old.core self.new.core effects.old.items effects.new.items }
@@ -135,7 +135,7 @@ impl SteppingNode {
         given: Vec<Effect<Command, Output>>,
         effects: &mut Vec<Effect<Command, Output>>,
     )
-        ensures turns { Turns self.old self.new effects.old.items effects.new.items
+        ensures turns { DoesTurn self.old self.new effects.old.items effects.new.items
             (delivered given.items self.old.core) }
         ensures run { Delivered given.items self.old.core self.new.core
             effects.old.items effects.new.items }
@@ -152,7 +152,7 @@ impl SteppingNode {
         effect: Effect<Command, Output>,
         effects: &mut Vec<Effect<Command, Output>>,
     )
-        ensures turns { Turns self.old self.new effects.old.items effects.new.items
+        ensures turns { DoesTurn self.old self.new effects.old.items effects.new.items
             (delivered (effect ∷ []) self.old.core) }
         ensures run { Delivered (effect ∷ []) self.old.core self.new.core
             effects.old.items effects.new.items }

@@ -5,7 +5,7 @@ ghost use Rattle.std.specs.List.{find};
 ghost use Rattle.node_connections.specs.broker_spec.declared.command.Command.TheVariants as commands;
 ghost use Rattle.node_connections.specs.broker_spec.Sized.{IsSized};
 ghost use Rattle.node_connections.specs.Connections.{closed, has_failed, holding, is_first, is_proposed};
-ghost use Rattle.world_base.specs.Inside.{BeginsOrSays, IsCalm, Ran, TellsLost, Turns};
+ghost use Rattle.world_base.specs.Inside.{BeginsOrSays, DoesTurn, IsCalm, Ran, TellsLost};
 ghost use Rattle.world_base.specs.declared.item.Item.TheVariants as items;
 ghost use Rattle.world_base.specs.Losses.{DoesNothing, IsHeardQuietly, ReadsNone, TakesNoMemory, was_proposed};
 ghost use Rattle.world_base.specs.Lossy.{quietly};
@@ -29,7 +29,7 @@ impl SteppingNode {
     /// Takes an item, and reports each connection that fails in it to the broker. Whether memory
     /// ran out is then told by `is_out_of_memory`.
     pub fn act_on(&mut self, item: Item, effects: &mut Vec<Effect<Command, Output>>)
-        ensures turns { Turns self.old self.new effects.old.items effects.new.items
+        ensures turns { DoesTurn self.old self.new effects.old.items effects.new.items
             (acts_on item self.old.core) }
         ensures run { Ran
             (ActsOn item) self.old.core self.new.core effects.old.items effects.new.items }
@@ -51,7 +51,7 @@ impl SteppingNode {
         effects: &mut Vec<Effect<Command, Output>>,
     )
         requires { DoesNothing (items.Peer message.now) self.old.core }
-        ensures turns { Turns self.old self.new effects.old.items effects.new.items
+        ensures turns { DoesTurn self.old self.new effects.old.items effects.new.items
             (acts_on (items.Peer message.now) self.old.core) }
         ensures run { Ran (ActsOn (items.Peer message.now)) self.old.core self.new.core
             effects.old.items effects.new.items }
@@ -63,7 +63,7 @@ impl SteppingNode {
 
     // Does what the item says, without the losses that follow from it.
     fn take_in(&mut self, item: Item, effects: &mut Vec<Effect<Command, Output>>)
-        ensures turns { Turns self.old self.new effects.old.items effects.new.items
+        ensures turns { DoesTurn self.old self.new effects.old.items effects.new.items
             (takes_in item self.old.core) }
         ensures run { Ran
             (TakesIn item) self.old.core self.new.core effects.old.items effects.new.items }
@@ -94,7 +94,7 @@ impl SteppingNode {
 
     // Proposes to end a client's session. If the proposal is refused, nothing is done.
     fn expel(&mut self, client: ClientId, effects: &mut Vec<Effect<Command, Output>>)
-        ensures turns { Turns self.old self.new effects.old.items effects.new.items
+        ensures turns { DoesTurn self.old self.new effects.old.items effects.new.items
             (proposes (commands.Expel client) self.old.core) }
         ensures run { Ran (Proposes (commands.Expel client)) self.old.core self.new.core
             effects.old.items effects.new.items }
@@ -104,7 +104,7 @@ impl SteppingNode {
 
     // Closes the silent connections as lost, in rising order of ports.
     fn end_silent(&mut self, now: u64, effects: &mut Vec<Effect<Command, Output>>)
-        ensures turns { Turns self.old self.new effects.old.items effects.new.items
+        ensures turns { DoesTurn self.old self.new effects.old.items effects.new.items
             (ends_all_silent now self.old.core) }
         ensures run { Ran
             (EndsAllSilent now) self.old.core self.new.core effects.old.items effects.new.items }
@@ -119,7 +119,7 @@ impl SteppingNode {
 
     // Holds bytes that arrived on a port. A connection without memory for them is lost.
     fn hold(&mut self, port: Port, piece: Piece, effects: &mut Vec<Effect<Command, Output>>)
-        ensures turns { Turns self.old self.new effects.old.items effects.new.items
+        ensures turns { DoesTurn self.old self.new effects.old.items effects.new.items
             (quiet (changes port (holding piece) self.old.core)) }
         ensures run { Ran
             (Holds port piece) self.old.core self.new.core effects.old.items effects.new.items }
@@ -132,7 +132,7 @@ impl SteppingNode {
 
     // Takes all packets of a port, one after another, that are whole at this time.
     fn read(&mut self, port: Port, now: u64, effects: &mut Vec<Effect<Command, Output>>)
-        ensures turns { Turns self.old self.new effects.old.items effects.new.items
+        ensures turns { DoesTurn self.old self.new effects.old.items effects.new.items
             (reads_all now port self.old.core) }
         ensures run { Ran
             (ReadsAll now port) self.old.core self.new.core effects.old.items effects.new.items }
@@ -151,7 +151,7 @@ impl SteppingNode {
         now: u64,
         effects: &mut Vec<Effect<Command, Output>>,
     ) -> bool
-        ensures turns { Turns self.old self.new effects.old.items effects.new.items
+        ensures turns { DoesTurn self.old self.new effects.old.items effects.new.items
             (reads_next now port self.old.core) }
         ensures run { Ran
             (ReadsNext now port) self.old.core self.new.core effects.old.items effects.new.items }
@@ -187,7 +187,7 @@ impl SteppingNode {
         effects: &mut Vec<Effect<Command, Output>>,
     )
         requires sized { IsSized packet }
-        ensures turns { Turns self.old self.new effects.old.items effects.new.items
+        ensures turns { DoesTurn self.old self.new effects.old.items effects.new.items
             (if is_first stage
             then begins port name packet self.old.core
             else says port name packet self.old.core) }
@@ -214,7 +214,7 @@ impl SteppingNode {
         connect: Connect,
         effects: &mut Vec<Effect<Command, Output>>,
     )
-        ensures turns { Turns self.old self.new effects.old.items effects.new.items
+        ensures turns { DoesTurn self.old self.new effects.old.items effects.new.items
             (asks port name connect self.old.core) }
         ensures run { Ran (Connects port name connect)
             self.old.core self.new.core effects.old.items effects.new.items }
@@ -234,7 +234,7 @@ impl SteppingNode {
         effects: &mut Vec<Effect<Command, Output>>,
     )
         requires sized { IsSized packet }
-        ensures turns { Turns self.old self.new effects.old.items effects.new.items
+        ensures turns { DoesTurn self.old self.new effects.old.items effects.new.items
             (says port name packet self.old.core) }
         ensures run { Ran (Says port name packet)
             self.old.core self.new.core effects.old.items effects.new.items }
@@ -249,7 +249,7 @@ impl SteppingNode {
 
     // Reports to the broker that a connection is lost, if its CONNECT was proposed.
     fn lose(&mut self, name: ConnectionId, stage: Stage, effects: &mut Vec<Effect<Command, Output>>)
-        ensures turns { Turns self.old self.new effects.old.items effects.new.items
+        ensures turns { DoesTurn self.old self.new effects.old.items effects.new.items
             (if is_proposed stage
             then proposes (commands.Lost name) self.old.core
             else quiet self.old.core) }
@@ -263,7 +263,7 @@ impl SteppingNode {
 
     // Closes the connection of a port as lost.
     fn end(&mut self, port: Port, effects: &mut Vec<Effect<Command, Output>>)
-        ensures turns { Turns self.old self.new effects.old.items effects.new.items
+        ensures turns { DoesTurn self.old self.new effects.old.items effects.new.items
             (ends port self.old.core) }
         ensures run { Ran
             (Ends port) self.old.core self.new.core effects.old.items effects.new.items }
@@ -285,7 +285,7 @@ impl SteppingNode {
     // Reports each connection that failed to the broker. What is then sent may close others, which
     // are reported too.
     fn lose_failed(&mut self, effects: &mut Vec<Effect<Command, Output>>)
-        ensures turns { Turns self.old self.new effects.old.items effects.new.items
+        ensures turns { DoesTurn self.old self.new effects.old.items effects.new.items
             (loses_all_failed self.old.core) }
         ensures run { Ran LosesAllFailed
             self.old.core self.new.core effects.old.items effects.new.items }
@@ -300,7 +300,7 @@ impl SteppingNode {
 
     // Reports the first connection that failed to the broker. Returns whether there was one.
     fn lose_one_failed(&mut self, effects: &mut Vec<Effect<Command, Output>>) -> bool
-        ensures turns { Turns self.old self.new effects.old.items effects.new.items
+        ensures turns { DoesTurn self.old self.new effects.old.items effects.new.items
             (loses_failed self.old.core) }
         ensures run { Ran LosesFailed
             self.old.core self.new.core effects.old.items effects.new.items }
