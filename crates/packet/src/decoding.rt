@@ -22,12 +22,23 @@ pub enum Step {
 
 /// Reads the packet at the front of the bytes; bytes may follow it.
 ///
-/// The first fault from the left is answered: `PacketType`, `Qos` or `Flags` of the first byte,
-/// `Length` of the Remaining Length, `TooLarge` if it is over 1,048,572; then, once the whole
-/// body is there, `Protocol`, `Text`, `Identifier`, `Shape` and `Refused` of its fields in their
-/// order. `Memory` may come once the whole body is there, and only for a packet with a text or a
-/// list: after all fields of a CONNECT, the topic of a PUBLISH, the identifier of SUBSCRIBE, SUBACK
-/// and UNSUBSCRIBE.
+/// The first fault from the left is answered. Of the first byte it is `PacketType`, `Qos` or
+/// `Flags`. Of the Remaining Length it is `Length`, or `TooLarge` if it is over 1,048,572.
+///
+/// Once the whole body is there, its fields are looked at in their order:
+///
+/// - `Protocol` and `Refused` are faults of a CONNECT, of which a refused length of the Client
+///   Identifier comes last.
+/// - `Text` is a fault of any text, and `Topic`, `Filter` and `TooDeep` are faults of a Topic Name
+///   or a Topic Filter.
+/// - `Identifier` is a fault of a Packet Identifier.
+/// - `Qos` is a fault of the QoS of a filter, and of a return code of a SUBACK.
+/// - `Shape` is a field that does not fit, bytes left over, an empty list, or a byte of a CONNACK
+///   outside its table.
+///
+/// `Memory` may come once the whole body is there, and only for a packet with a text or a list. It
+/// comes after all fields of a CONNECT, after the topic of a PUBLISH, and after the identifier of a
+/// SUBSCRIBE, a SUBACK and an UNSUBSCRIBE.
 pub fn decode(alloc: Global, bytes: &[u8]) -> Result<Step, DecodeFault>
     ensures exact { Decodes bytes.now result }
     ensures within { IfOk result (IsWithin bytes.now) }
@@ -43,7 +54,7 @@ pub fn decode(alloc: Global, bytes: &[u8]) -> Result<Step, DecodeFault>
     front_step(alloc, bytes)
 }
 
-// Does the same; its clause gives only the exact answer.
+// Reads the packet at the front of the bytes; its clauses give the exact answer, not its spelling.
 #[tactic(auto, unfolding(crate::specs::Verdict::verdict))]
 fn front_step(alloc: Global, bytes: &[u8]) -> Result<Step, DecodeFault>
     ensures exact { Decodes bytes.now result }
