@@ -92,7 +92,8 @@ impl Outbox {
     }
 
     /// Queues an item after all that waits, or replaces the newest if it supersedes that one.
-    /// Returns whether there was room and memory for it; if not, it is lost.
+    /// Returns whether there was room and memory for it. If not, it is lost, and so is the one that
+    /// it supersedes.
     pub(crate) fn queue(&mut self, item: Item) -> bool
         requires { IsPosted self.old.number item }
         ensures queued { result ≡ true →
@@ -104,8 +105,8 @@ impl Outbox {
         self.push(item)
     }
 
-    /// Queues an answer of the master after all that waits. Returns whether there was memory for
-    /// it; if not, it is lost.
+    /// Queues an answer of the master after all that waits, as [`Outbox::queue`] does. Returns
+    /// whether there was memory for it; if not, it is lost.
     pub(crate) fn queue_answer(&mut self, answer: Answer) -> bool
         requires { answer.receiver ≡ self.old.number }
         ensures queued { result ≡ true →
@@ -158,7 +159,8 @@ impl Outbox {
     }
 
     // Queues an item after all that waits, or replaces the newest if it supersedes that one.
-    // Returns whether there was room and memory for it.
+    // Returns whether there was room and memory for it. The one that it supersedes is dropped
+    // before that is known.
     fn push(&mut self, item: Item) -> bool
         requires { IsQueued self.old.number item }
         ensures queued { result ≡ true →
