@@ -79,7 +79,7 @@ OnePrimaryABallot {S} {C} {O} rules =
     (c d : Moment S C O) (m n ballot : ℕ) → In c (a ∷ past) → In d (a ∷ past) →
     IsPrimary c.world m ballot → IsPrimary d.world n ballot → m ≡ n
 
--- so what was taken in a ballot was taken by the one node that was its active primary
+-- what was taken in a ballot was taken by the one node that was its active primary
 abbrev pub OneNodeTakesABallot : {S C O : Type 0} → Rules S C O → Type 0
 OneNodeTakesABallot {S} {C} {O} rules =
     (config : Config) (a : Moment S C O) (past : List (Moment S C O)) →
@@ -96,8 +96,8 @@ AnswersAtTheNextPlaces {S} {C} {O} rules =
     (n : ℕ) (old new : ReplicaState S C) → slice_get a.world.nodes n ≡ Some old →
     slice_get b.world.nodes n ≡ Some new → GivesNext rules old new xs (given_in n step)
 
--- so between two moments of a ballot that it leads a node outputs the answers at all places of the
--- agreed list that it applied between them: none is left out, and none comes twice
+-- Between two moments of a ballot that it leads a node outputs the answers at all places of the
+-- agreed list that it applied between them: none is left out, and none comes twice.
 abbrev pub AnswersWhileItLeads : {S C O : Type 0} → Rules S C O → Type 0
 AnswersWhileItLeads {S} {C} {O} rules =
     (config : Config) (a b : Moment S C O) (past later : List (Moment S C O)) (xs : List C) →

@@ -62,7 +62,7 @@ taken_of (began nodes lawful is) = []
 taken_of (went_on came step) = taken_of came ++ taken_in step
 taken_of (learned came learns) = taken_of came
 
--- and what the node at index n took of it
+-- what the node at index n took in a step
 abbrev pub takes_at : {S C O : Type 0} {rules : Rules S C O} {m : MasterState} {w : World S C O}
     {k : MasterState} {v : World S C O} → ℕ → MayHappen rules m w k v → List (ℕ × C)
 takes_at n (node_takes i r input {new = new} {given = given} stands runs may loses) =

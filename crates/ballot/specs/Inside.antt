@@ -32,7 +32,7 @@ pub record Heard {S C O : Type 0} (rules : Rules S C O) (old : CountedReplica S 
       × (new.losses ≡ one_more old.losses)
       × (IsQuiet old.state outcome → unread ≡ true))
 
--- the same if no snapshot has to be read
+-- the step was done, or one with losses that were counted, when no snapshot has to be read
 abbrev pub Went : {S C O : Type 0} → Rules S C O → CountedReplica S C → Outcome S C O →
     CountedReplica S C → List (Effect C O) → List (Effect C O) → Type 0
 Went rules old outcome new before after = Heard rules old outcome false new before after

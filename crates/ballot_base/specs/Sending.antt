@@ -19,7 +19,7 @@ nothing_done O r = record { state = r; effects = [] }
 abbrev pub message_to : {C : Type 0} (O : Type 0) → ℕ → Body C → ℕ → Effect C O
 message_to O id body receiver = To receiver (record { from = id; body = body })
 
--- the same message to several nodes
+-- a message of this replica to each of several nodes
 abbrev pub message_to_each : {C : Type 0} (O : Type 0) → ℕ → Body C → List ℕ → List (Effect C O)
 message_to_each O id body receivers = map (message_to O id body) receivers
 

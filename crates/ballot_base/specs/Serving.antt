@@ -23,7 +23,7 @@ abbrev pub raised_progress : ℕ → ℕ → Progress → Progress
 raised_progress member held reached =
     if reached.member == member then record reached { held = max reached.held held } else reached
 
--- the same in a list, for this member
+-- the progress in a list, of which that of this member is raised
 abbrev pub raised : ℕ → ℕ → List Progress → List Progress
 raised member held progress = map (raised_progress member held) progress
 

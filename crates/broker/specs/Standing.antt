@@ -16,7 +16,7 @@ use Rattle.broker_form.specs.FormLaws.{IsUsualState}
 abbrev pub after : State → Command → State
 after state command = (step usual_limits 64 state command).0
 
--- and the answers to it
+-- the answers to a command, with the limits of this broker
 abbrev pub answers : State → Command → List Output
 answers state command = (step usual_limits 64 state command).1
 

@@ -84,7 +84,7 @@ StaysSound =
     (limits : Limits) → (later : ℕ) → (state : State) → (command : Command) → IsSound state →
     IsSound (step limits later state command).0
 
--- and a step keeps the queues quiet if they were
+-- a step keeps the queues quiet if they were
 abbrev pub StaysQuiet : Type 0
 StaysQuiet =
     (limits : Limits) → (later : ℕ) → (state : State) → (command : Command) → IsSound state →
@@ -100,7 +100,7 @@ StaysInWindow =
     AllInWindow (step limits later state command).0.window
     (step limits later state command).0.sessions
 
--- so the state of every list of commands satisfies both
+-- the state of every list of commands is sound, and its queues are quiet
 abbrev pub ListsAreSound : Type 0
 ListsAreSound =
     (limits : Limits) → (later : ℕ) → (window : ℕ) → (commands : List Command) →

@@ -46,7 +46,7 @@ sessions_left window place content (row ∷ rows) =
     (sessions_left window place content rows)
 sessions_left window place content [] = []
 
--- the same, together with that of the client of an accepted Connect
+-- the sessions that still exist after a place, with that of the client of an accepted Connect
 abbrev pub sessions_with : ℕ → Place → RetainedTopics → Sessions → Command → Mark → Sessions
 sessions_with window place content rows (commands.Connect x c clean) Mark.Accepted =
     put_session c (kept_connected window (x, clean) (session_in c rows))
@@ -79,7 +79,7 @@ state_from limits later state (command ∷ commands) =
     state_from limits later (step limits later state command).0 commands
 state_from limits later state [] = state
 
--- and the answers to them, place by place
+-- the answers to more commands, oldest first, place by place
 abbrev pub steps_from : Limits → ℕ → State → List Command → List (List Output)
 steps_from limits later state (command ∷ commands) =
     (step limits later state command).1

@@ -31,7 +31,7 @@ copies_answered window place content row =
     (copies_sent window (copies_with place.command place.mark content row.0
     row.1.state.subscriptions) row.1.state.queue)
 
--- the same for a client's session, if it has one
+-- what a client is sent for the copies that a place makes for its session, if it has one
 abbrev pub copies_to : ℕ → Place → RetainedTopics → Client → Option ClientSession → List Output
 copies_to window place content c (Some kept) = copies_answered window place content (c, kept)
 copies_to window place content c None = []
@@ -54,7 +54,7 @@ handled_sends window (packets.Pubrec id) kept =
     pubrec_sends id (on_pubrec id kept.state.queue.in_flight)
 handled_sends window _ kept = []
 
--- the same for a client's session, if it has one
+-- what a client's packet makes its session send, if it has one
 abbrev pub handled_of : ℕ → Packet → Option ClientSession → List Packet
 handled_of window packet (Some kept) = handled_sends window packet kept
 handled_of window packet None = []

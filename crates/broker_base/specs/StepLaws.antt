@@ -69,7 +69,7 @@ ListStandsFor =
     × (steps_from limits later (empty_state (limits.window [])) commands
     ≡ answers_from limits [] commands)
 
--- the same for this broker
+-- a list of commands gives this broker the state of the list, and its answers
 abbrev pub UsualListStandsFor : Type 0
 UsualListStandsFor =
     (commands : List Command) →
@@ -77,7 +77,8 @@ UsualListStandsFor =
     ≡ state_of usual_limits (past_of usual_limits commands))
     × (steps_from usual_limits 64 (empty_state 64) commands ≡ answers_from usual_limits [] commands)
 
--- and for one whose window was this one at first, and is 64 from the first Start on
+-- a list of commands gives a broker the state of the list, and its answers, whose window is this
+-- one at first and 64 from the first Start on
 abbrev pub GrowingListStandsFor : Type 0
 GrowingListStandsFor =
     (first : ℕ) → (commands : List Command) →

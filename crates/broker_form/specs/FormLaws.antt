@@ -21,7 +21,7 @@ IsUsualState state =
 abbrev pub FrozenIsThawed : Type 0
 FrozenIsThawed = (state : State) → IsUsualState state → thawed (frozen state) ≡ Some state
 
--- the same for form 1, if the window is 16
+-- what is frozen to form 1 is thawed, if the window is 16
 abbrev pub FrozenBeforeIsThawed : Type 0
 FrozenBeforeIsThawed =
     (state : State) → IsUsualState state → state.window ≡ 16

@@ -32,7 +32,7 @@ AnswersAreSpelled =
     limits.entries < 2 ^ 16 → IsBrokerCommand command →
     IsBrokerState limits state → AllByRecursion CanBeSpelled (step limits later state command).1
 
--- the same holds for this broker's limits after every list of commands of a log
+-- the state after every list of commands of a log is in range, with this broker's limits
 abbrev pub ListsAreInRange : Type 0
 ListsAreInRange =
     (window : ℕ) → (commands : List Command) → AllByRecursion IsBrokerCommand commands →

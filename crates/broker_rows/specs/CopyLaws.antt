@@ -33,7 +33,7 @@ CopiesTakeRoom =
     (window limit : ℕ) → (copies : List Publication) → (queue : Queue) →
     room limit (copies_left window copies queue) ≡ room limit queue - length (queued copies)
 
--- so if there is room for all of them, each finds room when its turn comes
+-- if there is room for all copies, each finds room when its turn comes
 abbrev pub CopiesFindRoom : Type 0
 CopiesFindRoom =
     (window limit : ℕ) → (before : List Publication) → (p : Publication) →

@@ -43,7 +43,8 @@ ConnectingSetsTheOwner =
     ≡ with_owner x c
     (without_owner (connection_of (session_in c state.sessions)) (owners_in state.sessions)) y
 
--- the same if a session continues
+-- if a session continues on a connection that is no client's current one, it becomes the client's,
+-- and the client's old one is removed
 abbrev pub ResumingSetsTheOwner : Type 0
 ResumingSetsTheOwner =
     (state : State) → (x : ConnectionName) → (c : Client) → (old new : ClientSession) →

@@ -40,7 +40,7 @@ EndsWithTheSession limits past =
     → session_start (opened ∷ earlier) c ≡ Some start
     → session_start (place ∷ below) c ≡ Some start
 
--- the same holds for every list of commands
+-- for every list of commands a connection is sent packets only at places of its session
 abbrev pub NothingAfterTheEnd : Type 0
 NothingAfterTheEnd =
     (limits : Limits) (commands : List Command)

@@ -62,7 +62,7 @@ released_at n (Entry.Released made p id start release ∷ entries) =
 released_at n (_ ∷ entries) = released_at n entries
 released_at n [] = []
 
--- the same for all places below n, in the order of their release
+-- the identifiers that were released at all places below n, in the order of their release
 abbrev pub released_below : ℕ → List Entry → List ℕ
 released_below zero entries = []
 released_below (suc n) entries = released_below n entries ++ released_at n entries

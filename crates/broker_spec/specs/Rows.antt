@@ -15,14 +15,13 @@ use Rattle.broker_spec.specs.declared.command.Output.TheVariants.{Close}
 abbrev pub ConnectIsAnswered : Type 0
 ConnectIsAnswered = Gives usual_limits [] (connect 1 a ∷ []) ((sends 1 (connack false) ∷ []) ∷ [])
 
--- the same client on a second connection: the first is closed, and its session is present (MQTT
--- 3.1.4)
+-- a client on a second connection: its first is closed, and its session is present (MQTT 3.1.4)
 abbrev pub SecondConnectionTakesOver : Type 0
 SecondConnectionTakesOver =
     Gives usual_limits (connect 1 a ∷ []) (connect 2 a ∷ [])
     ((Close (nth 1) ∷ sends 2 (connack true) ∷ []) ∷ [])
 
--- and packets of the first connection have no effect any more
+-- packets of a connection have no effect any more once its client has a newer one
 abbrev pub OlderConnectionIsSilent : Type 0
 OlderConnectionIsSilent =
     Gives usual_limits (connect 1 a ∷ connect 2 a ∷ [])
@@ -49,14 +48,15 @@ PublishReachesTheSubscriber =
     ((sends 2 (packets.Pubrec 1)
     ∷ sends 1 (publish (deliveries.ExactlyOnce false 1) false (codes "x")) ∷ []) ∷ [])
 
--- the same again before PUBREL: PUBREC again, and nothing to the subscriber (MQTT 4.3.3)
+-- a PUBLISH at QoS 2 that is repeated before PUBREL: PUBREC again, and nothing to the subscriber
+-- (MQTT 4.3.3)
 abbrev pub RepeatBeforePubrel : Type 0
 RepeatBeforePubrel =
     Gives usual_limits published_x
     (gets 2 (publish (deliveries.ExactlyOnce true 1) false (codes "x")) ∷ [])
     ((sends 2 (packets.Pubrec 1) ∷ []) ∷ [])
 
--- the same with DUP 1 after PUBREL: a publication like any other (MQTT 3.3.1.1, 4.3.3)
+-- a PUBLISH with DUP 1 after PUBREL: a publication like any other (MQTT 3.3.1.1, 4.3.3)
 abbrev pub DupAfterPubrel : Type 0
 DupAfterPubrel =
     Gives usual_limits (published_x ++ gets 2 (packets.Pubrel 1) ∷ [])

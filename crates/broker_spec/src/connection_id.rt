@@ -32,7 +32,7 @@ impl std::marker::Model for ConnectionId {
 
 impl ConnectionId {
     /// Returns the connection with this number in this ballot, or none if one of them is out of
-    /// range: 1 to 2^32 for the ballot, 1 to 2^40 for the number.
+    /// range. The range is 1 to 2^32 for the ballot, 1 to 2^40 for the number.
     pub fn new(ballot: u64, count: u64) -> Option<ConnectionId>
         ensures named { IfSome result (λ name. name ≡ record { ballot = ballot; count = count }) }
         ensures valid { IsSome result

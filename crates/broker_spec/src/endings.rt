@@ -5,7 +5,7 @@ ghost use Rattle.broker_spec.specs.EndingLaws.{NothingAfterTheEnd};
 ghost use Rattle.broker_spec.specs.TakenLaws.{EntersAsPublished, EntersWhereTaken};
 
 /// A connection whose accepted Connect lies in a session is sent packets only at places of that
-/// session: once it has ended nothing more is sent there, if no later connection has its name (MQTT
+/// session. Once it has ended nothing more is sent there, if no later connection has its name (MQTT
 /// 3.1.2.4, 4.1).
 pub fn nothing_after_the_end()
     ensures { NothingAfterTheEnd }
@@ -18,8 +18,8 @@ pub fn enters_where_taken()
 {}
 
 /// At the place where it is taken, a publication enters a session as it was published: its topic
-/// and payload, RETAIN 0, at the effective QoS; once if that is 1 or 2, and otherwise not (MQTT
-/// 3.3.1.3, 3.3.5).
+/// and payload, RETAIN 0, at the effective QoS. It enters once if that is 1 or 2, and otherwise not
+/// (MQTT 3.3.1.3, 3.3.5).
 pub fn enters_as_published()
     ensures { EntersAsPublished }
 {}

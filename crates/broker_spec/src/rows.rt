@@ -43,8 +43,8 @@ pub fn publish_reaches_the_subscriber()
     ensures { PublishReachesTheSubscriber }
 {}
 
-/// The same PUBLISH is a repeat until PUBREL, and not after it, whatever its DUP flag says (MQTT
-/// 3.3.1.1, 4.3.3).
+/// A PUBLISH that comes again is a repeat until PUBREL, and not after it, whatever its DUP flag
+/// says (MQTT 3.3.1.1, 4.3.3).
 pub fn a_repeat_before_pubrel()
     ensures repeat { RepeatBeforePubrel }
     ensures other { DupAfterPubrel }

@@ -16,7 +16,7 @@ abbrev pub goes_on : Bool → Option ClientSession → Bool
 goes_on clean (Some kept) = not clean && not kept.clean
 goes_on clean None = false
 
--- the same, by the state
+-- this client has a session in this state, and neither it nor the Connect is clean
 abbrev pub goes_on_in : State → Client → Bool → Bool
 goes_on_in state c clean = goes_on clean (session_in c state.sessions)
 

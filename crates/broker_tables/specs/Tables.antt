@@ -41,7 +41,7 @@ pub record IsTied (tables : Tables) : Type 0 where
       (x : ConnectionName) → owners_at tables.owners.entries x ≡ owners_in tables.sessions.entries x
   pub index : content_of tables.index ≡ content_in tables.sessions.entries
 
--- the tables are tied so, and the sessions are sound
+-- the tables are tied to the sessions, and the sessions are sound
 pub record IsConsistent (tables : Tables) : Type 0 where
   pub sound : IsSound (state_in tables)
   pub tied : IsTied tables

@@ -31,7 +31,7 @@ use std::alloc::AllocError;
 use std::collections::BTreeMap;
 
 impl Tables {
-    /// Does a PUBLISH of the client that is served on this connection: a repeat is answered once
+    /// Does a PUBLISH of the client that is served on this connection. A repeat is answered once
     /// more, one for which there is no room closes the connection, and any other is taken.
     pub(crate) fn publish(
         &mut self,

@@ -26,7 +26,7 @@ use session::{MAX_SUBSCRIPTIONS, Session};
 use std::alloc::{AllocError, Global};
 
 impl Tables {
-    /// Does a SUBSCRIBE of the client that is served on this connection: each filter is granted or
+    /// Does a SUBSCRIBE of the client that is served on this connection. Each filter is granted or
     /// not, SUBACK says which, and what is retained of those that are is sent after it.
     pub(crate) fn subscribe(
         &mut self,

@@ -31,8 +31,8 @@ PortsHavePipes =
     (n : ℕ) (core : CoreState) (d : NodesEnd) →
     slice_get w.group.nodes n ≡ Some core → In d core.connections → Leads w n d.port
 
--- and a node's names are distinct and were given, the last one in a ballot that is not above the
--- one that the node joined
+-- A node's names are distinct and were given, the last one in a ballot that is not above the one
+-- that the node joined.
 abbrev pub NodesAreOrderly : Type 0
 NodesAreOrderly =
     (nodes : ℕ) (config : Config) (cs : List Client) (w : World) → Reached nodes config cs w →

@@ -19,7 +19,7 @@ abbrev pub coming_with : ConnectionName → NodeCall → CoreState → List ℕ
 coming_with x (takes (Bytes port piece now)) core = piece_on x piece (open_at port core)
 coming_with x _ core = []
 
--- .. and those that are handed over on it
+-- the bytes that are handed over on the connection of a name with a call
 abbrev pub going_with : ConnectionName → NodeCall → CoreState → List ℕ
 going_with x (gives port) core = bytes_named x (listed_at port core)
 going_with x _ core = []

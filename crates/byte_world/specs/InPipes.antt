@@ -31,8 +31,8 @@ pub record IsInOrder (agreed : List Command) (κ : Connection) (p : Pipe) : Type
   pub down : IsPrefixOf (spelled handled ++ (p.came.held ++ p.down)) (answers_to κ.name agreed)
   pub sound : p.came.failed ≡ false
 
--- the same holds for each connection of each client, by the list on which the nodes agree at the
--- end of the group's steps on the way to the world
+-- each connection of each client is in order, by the list on which the nodes agree at the end of
+-- the group's steps on the way to the world
 pub record PipesAreInOrder {nodes : ℕ} {config : Config} {cs : List Client} {w : World}
     (trail : Reached nodes config cs w) : Type 0 where
   pub of : HasPast config w.group (groups_of (went_of trail)) (all_put (went_of trail))

@@ -23,8 +23,8 @@ NoneIsClean list =
     (x : ConnectionName) (c : Client) (clean : Bool) → In (commands.Connect x c clean) list →
     clean ≡ false
 
--- the same holds for each list that is agreed at the end of the group's steps on the way to the
--- world
+-- no list that is agreed at the end of the group's steps on the way to the world has a Connect that
+-- asks for a clean session
 pub record AsksForNoneClean {nodes : ℕ} {config : Config} {cs : List Client} {w : World}
     (trail : Reached nodes config cs w) : Type 0 where
   pub of : HasPast config w.group (groups_of (went_of trail)) (all_put (went_of trail))

@@ -10,7 +10,7 @@ IdentifiersAreDistinct =
     (calls : List Call) (client : List ℕ) (keep_alive : ℕ) →
     IsDistinct (used_ids (state_after calls (new_client client keep_alive)))
 
--- and none is a publication's and a request's
+-- no identifier in flight is both a publication's and a request's
 abbrev pub RequestsAreApart : Type 0
 RequestsAreApart =
     (calls : List Call) (client : List ℕ) (keep_alive id : ℕ) →

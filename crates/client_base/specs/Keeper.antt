@@ -39,7 +39,7 @@ pub record Keeper : Type 0 where
   pub client : List ℕ
   -- all that it published in sessions that it lost, in order; history: no field keeps it
   pub earlier : List Own
-  -- and in the session that it knows; history: the done ones
+  -- all that it published in the session that it knows; history: the done ones
   pub own : List Own
   pub releases : List ℕ  -- identifiers of the released ones, in the order of their PUBREC
   pub requests : List Request

@@ -45,7 +45,7 @@ sent_all [] = []
 abbrev pub writes : {Name : Type 0} → List Written → Connection Name → Connection Name
 writes more connection = record connection { written = connection.written ++ more }
 
--- the same for a client with its connection
+-- more is written on the connection of a client
 abbrev pub writing : {Name : Type 0} → List Written → Side Name → Side Name
 writing more side = record side { connection = writes more side.connection }
 

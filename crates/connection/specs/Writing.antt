@@ -60,7 +60,7 @@ abbrev pub faults_written : Wrote → ℕ → ℕ
 faults_written wrotes.Fault faults = counted_once faults
 faults_written _ faults = faults
 
--- the same after all writes of queued bytes
+-- the count of faults after all writes of queued bytes
 abbrev pub faults_flowed : Flow → ℕ → ℕ
 faults_flowed flows.Fault faults = counted_once faults
 faults_flowed _ faults = faults

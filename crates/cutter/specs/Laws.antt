@@ -48,7 +48,7 @@ NoPacketIsLeft =
     (fed : List ℕ) (given : List Packet) (s t : Stream) → Ran fed given s → Takes s (Ok None) t
     → CutsInto fed given s.held
 
--- so two cutters that were fed the same bytes, cut anywhere, gave the same and hold the same
+-- two cutters that were fed the same bytes, cut anywhere, gave the same and hold the same
 abbrev pub CuttingsAgree : Type 0
 CuttingsAgree = (fed : List ℕ) (given others : List Packet) (s t u v : Stream)
     → Ran fed given s → Takes s (Ok None) t → Ran fed others u → Takes u (Ok None) v

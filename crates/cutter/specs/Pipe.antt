@@ -53,7 +53,7 @@ PipeGivesNext =
     → IsPiped written handled s under_way
     → Takes s (Ok (Some p)) t → slice_get written (length handled) ≡ Some p
 
--- and it never answers a fault
+-- the cutter of a pipe never answers a fault
 abbrev pub PipeHasNoFault : Type 0
 PipeHasNoFault =
     (written handled : List Packet) (s t : Stream) (under_way : List ℕ) (error : CutError)

@@ -48,7 +48,8 @@ AnswerIsPutOut =
     length (spelling packet) ≤ max_pending →
     PutsOutFirst port (spelling packet) (node_step (Peer message) core).core
 
--- the same if a sole member reads the CONNECT, and its proposal is answered at once
+-- the answer is put out first if a sole member reads the CONNECT and its proposal is answered at
+-- once
 abbrev pub AnswerAloneIsPutOut : Type 0
 AnswerAloneIsPutOut =
     (core : CoreState) (port : Port) (now : ℕ) (piece : List ℕ) (c : Connection) (connect : Connect)

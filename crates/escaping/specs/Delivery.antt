@@ -33,8 +33,8 @@ pub record IsDelivery (core : CoreState) (o : Outcome State Command Output)
   pub messages : turn.messages ≡ o.effects
   pub calm : IsCalm turn.core
 
--- the same holds for the step on a message, if the replica runs and has no output, and the node is
--- calm or is no active primary afterwards
+-- A node's step on a message is a delivery, if the replica runs and has no output, and the node is
+-- calm or is no active primary afterwards.
 abbrev pub AStepIsADelivery : Type 0
 AStepIsADelivery =
     (core : CoreState) (message : Message Command) → core.replica.state.stopped ≡ false →

@@ -38,7 +38,7 @@ MessagesKeepItWaiting =
     (heard_by core message).state.stopped ≡ false →
     AwaitsAnswer port x (node_step (Peer message) core).core
 
--- and when bytes are handed over, at whichever port
+-- a connection that awaits its answer still does when bytes are handed over, at whichever port
 abbrev pub HandingKeepsItWaiting : Type 0
 HandingKeepsItWaiting =
     (port other : Port) (x : ConnectionName) (core : CoreState) → AwaitsAnswer port x core →
@@ -53,8 +53,8 @@ pub record AwaitsConnect (port : Port) (x : ConnectionName) (core : CoreState) :
   pub first : is_first waits.connection.stage ≡ true
   pub unread : waits.connection.unread ≡ []
 
--- the same holds for the first connection of a ballot, at a port for which the node lists none, if
--- no open connection has its name
+-- The first connection of a ballot awaits its CONNECT, at a port for which the node lists none, if
+-- no open connection has its name.
 abbrev pub FirstAwaitsConnect : Type 0
 FirstAwaitsConnect =
     (port : Port) (core : CoreState) → list_any (is_at port) core.connections ≡ false →
@@ -67,7 +67,7 @@ HandingKeepsTheConnect =
     (port other : Port) (x : ConnectionName) (core : CoreState) → AwaitsConnect port x core →
     AwaitsConnect port x (hands_over other core)
 
--- and when its CONNECT is proposed it waits for the answer
+-- a connection whose CONNECT is proposed waits for the answer
 abbrev pub AskedAwaitsAnswer : Type 0
 AskedAwaitsAnswer =
     (port : Port) (x : ConnectionName) (core : CoreState) (now : ℕ) (connect : Connect)

@@ -56,7 +56,7 @@ KeepNames n new =
     (at : ℕ) (node later : CountedCore) → slice_get n.nodes at ≡ Some node →
     slice_get new.nodes at ≡ Some later → later.core.last_name ≡ node.core.last_name
 
--- then nodes to which the messages come that are delivered in the model are seen as it says
+-- nodes to which the messages come that are delivered in the model are seen as the model says
 pub record AreFollowed (ballot : ℕ) (b : Moment State Command Output)
     (n new : NodesState) : Type 0 where
   pub seen : IsSeen b new

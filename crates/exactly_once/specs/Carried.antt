@@ -25,7 +25,7 @@ abbrev pub number_of : Option Written → Option ℕ
 number_of (Some w) = w.number
 number_of None = None
 
--- the same for the j-th packet that was written on a connection
+-- the number of the j-th packet that was written on a connection
 abbrev pub number_at : ℕ → Option Connection → Option ℕ
 number_at j (Some κ) = number_of (slice_get κ.written j)
 number_at j None = None

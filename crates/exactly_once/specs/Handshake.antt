@@ -64,7 +64,7 @@ abbrev pub heard : {V : Type 0} → Backward → List (Item V) → List (Item V)
 heard (Backward.Pubrec id) items = map (releasing id) items
 heard (Backward.Pubcomp id) items = map (finishing id) items
 
--- the same handshake with these items and this connection
+-- a handshake with these items and this connection in place of its own
 abbrev pub with_items : {V : Type 0} → List (Item V) → Link V → Handshake V → Handshake V
 with_items items l h =
     record { items = items; accepted = h.accepted; received = h.received; link = l }

@@ -75,7 +75,7 @@ pub record PublishedOnce (limits : Limits) (s : Story) : Type 0 where
   pub enters_once : (later earlier : Past) (d : Client) (k : ℕ) → s.past ≡ later ++ earlier →
       In k (published (all_own s.keeper)) →
       made_by s.connections k s.past (entries_of limits earlier d) ≤ 1
-  -- and if a publication is taken, at any QoS, it enters exactly the sessions with an effective QoS
+  -- if a publication is taken, at any QoS, it enters exactly the sessions with an effective QoS
   -- over 0, once
   pub enters : (place : Place) (below : Past) (x : ConnectionName) (p : Publish) (d : Client) →
       StandsAt s.past place below →

@@ -80,7 +80,7 @@ accepted_in past c start [] = []
 abbrev pub WasWelcome : Past → Client → Connection → Type 0
 WasWelcome past c κ = began_again past c κ.name ≡ true → κ.confirmed ≡ true
 
--- so on each connection except the newest
+-- on each connection except the newest, the CONNACK of a session that is not the first was received
 abbrev pub AreWelcome : Past → Client → List Connection → Type 0
 AreWelcome past c (κ ∷ connections) = Each (WasWelcome past c) connections
 AreWelcome past c [] = Unit {0}

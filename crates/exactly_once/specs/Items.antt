@@ -47,7 +47,7 @@ abbrev pub releasing : {V : Type 0} → ℕ → Item V → Item V
 releasing i (Item.Sent v id) = if i == id then Item.Released v id else Item.Sent v id
 releasing i item = item
 
--- the same for a PUBCOMP with this identifier
+-- an item after a PUBCOMP with this identifier
 abbrev pub finishing : {V : Type 0} → ℕ → Item V → Item V
 finishing i (Item.Released v id) = if i == id then Item.Finished v else Item.Released v id
 finishing i item = item

@@ -45,15 +45,15 @@ StoriesEnter =
 abbrev pub StoriesPublishOnce : Type 0
 StoriesPublishOnce = PublishesOnce usual_limits
 
--- the same of what clients accept
+-- clients of this broker accept in order
 abbrev pub StoriesAcceptInOrder : Type 0
 StoriesAcceptInOrder = AcceptsInOrder usual_limits
 
--- and for any limits whose window changes only at a new ballot
+-- clients publish once, for any limits whose window changes only at a new ballot
 abbrev pub SteadyStoriesPublishOnce : Type 0
 SteadyStoriesPublishOnce = (limits : Limits) → IsSteady limits → PublishesOnce limits
 
--- the same of what clients accept, for any such limits
+-- clients accept in order, for any limits whose window changes only at a new ballot
 abbrev pub SteadyStoriesAcceptInOrder : Type 0
 SteadyStoriesAcceptInOrder = (limits : Limits) → IsSteady limits → AcceptsInOrder limits
 
@@ -69,7 +69,7 @@ SteadyStoriesAreExact = (limits : Limits) → IsSteady limits → StoriesAreExac
 abbrev pub UsualLivesAccept : Type 0
 UsualLivesAccept = AcceptsInEachSession usual_limits
 
--- the same for any such limits
+-- what such a client accepts, for any limits whose window changes only at a new ballot
 abbrev pub SteadyLivesAccept : Type 0
 SteadyLivesAccept = (limits : Limits) → IsSteady limits → AcceptsInEachSession limits
 
@@ -77,6 +77,6 @@ SteadyLivesAccept = (limits : Limits) → IsSteady limits → AcceptsInEachSessi
 abbrev pub UsualLivesAreExact : Type 0
 UsualLivesAreExact = LivesAreExact usual_limits
 
--- the same for any such limits
+-- what such a client is promised, for any limits whose window changes only at a new ballot
 abbrev pub SteadyLivesAreExact : Type 0
 SteadyLivesAreExact = (limits : Limits) → IsSteady limits → LivesAreExact limits

@@ -11,7 +11,7 @@ use Rattle.exactly_once.specs.Lives.{Lived}
 abbrev pub IsUnexpelled : Client → Past → Type 0
 IsUnexpelled c = Each (λ (place : Place). expels place.command c ≡ false)
 
--- then it has one session at most, and so it is in step
+-- a client that no command expels has one session at most, and so it is in step
 pub record HasOneSession (s : Story) : Type 0 where
   pub first : IsFirstSession s.past s.keeper.client
   pub in_step : IsInStep s

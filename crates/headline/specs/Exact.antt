@@ -70,7 +70,7 @@ pub record IsExact {nodes : ℕ} {config : Config} {cs : List Client} {w : World
   pub is_agreed : IsAgreed config (moment_of w.group ∷ of.earlier) agreed
   pub exact : (list : List Command) → IsAgreed config (moment_of w.group ∷ of.earlier) list →
       IsExactBy list w
-  -- and what a client shows, with what it was asked to publish in these steps, is as promised
+  -- what a client shows, with what it was asked to publish in these steps, is as promised
   pub promises : (list : List Command) → IsAgreed config (moment_of w.group ∷ of.earlier) list →
       (i : ℕ) (c : ClientPipes) (state : ClientState) →
       slice_get w.clients i ≡ Some c → IsShownBy c state →

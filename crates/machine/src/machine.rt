@@ -7,7 +7,7 @@ use crate::error::{Halted, Memory, ThawFault};
 use std::alloc::Global;
 
 /// A deterministic machine: its next state and its outputs depend only on its state and the
-/// command, so that replicas that take the same commands in the same order stay equal.
+/// command. So replicas that take the same commands in the same order stay equal.
 ///
 /// `rules` gives the first state of every machine, the command that begins a ballot, what a command
 /// does to a state, its outputs, and the bytes of a state. `IsState` and `IsCommand` hold for every

@@ -47,7 +47,7 @@ receiver_view lanes taken may all bounds = record {
   bounds = bounds;
 }
 
--- the same once it has made all its lanes, each of which may send 2^55 items
+-- what a receiver shows once it has made all its lanes, each of which may send 2^55 items
 abbrev pub taker_view : {T : Type 0} → ℕ → List (ℕ × T) → Bounds → View T
 taker_view lanes taken bounds = receiver_view lanes taken 0 (lanes * 2 ^ 55) bounds
 

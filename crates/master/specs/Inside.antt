@@ -59,7 +59,7 @@ world_of {S = S} {C = C} archive nodes sent left =
       archive = archive;
     }
 
--- the same with the master: the moment that a group shows
+-- the moment that a group with its master shows
 abbrev pub moment_of : {S C O : Type 0} → List C → MasterState → List (CountedReplica S C) →
     List (ℕ × Message C) → List (Effect C O) → Moment S C O
 moment_of archive m nodes sent left =

@@ -92,7 +92,8 @@ impl Master {
         Ok(self.given)
     }
 
-    /// Does the same for a configuration that is not refused.
+    /// Gives the next ballot to a configuration that is not refused, and lets it wait. Returns the
+    /// ballot.
     pub(crate) fn give(&mut self, config: Config) -> u64
         requires { refusal self.old config ≡ None }
         ensures ballot { result ≡ self.old.given + 1 }

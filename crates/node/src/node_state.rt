@@ -100,8 +100,8 @@ impl<J: NodeNaming> NodeState<J> {
         self.receiver.receipt()
     }
 
-    /// Returns the number of the next call of [`NodeState::take_one`], from 1. It saturates at
-    /// 2^64 - 1.
+    /// Returns the number of the next call of [`NodeState::take_one`], from 1. It stays at
+    /// 2^64 - 1 once it is that.
     pub fn next_taking(&self) -> u64
         ensures { result ≡ next_taking self.now.takings }
     {
@@ -212,7 +212,7 @@ impl<J: NodeNaming> NodeState<J> {
         self.core.status()
     }
 
-    /// Says whether the log is to be cut because of its size: whether it has commands to drop, and
+    /// Says whether the log is to be cut because of its size. It is if it has commands to drop, and
     /// what was taken since the last cut counts more than 16 MiB and more than the snapshot has
     /// bytes.
     pub fn wants_cut(&self) -> bool
@@ -247,7 +247,8 @@ impl<J: NodeNaming> NodeState<J> {
         ensures whole { All (ArrivesWhole result.taken.items result.left.items) lanes.new }
         ensures lanes { map unmet lanes.new ≡ map unmet lanes.old }
 
-        // The same for what the node replayed.
+        // What the node replayed and what is left over are, lane by lane and in order, all that was
+        // sent.
         ensures all { All (TellsAll self.taker.taken result.left.items) lanes.new }
 
         // For each lane, the count of taken items is that of the replay.

@@ -24,7 +24,7 @@ const ASKS: u32 = 10_000;
 const ASK_MILLIS: u64 = 1;
 
 /// What the lock of a node holds. Whether it may be handed from thread to thread is proved for it
-/// as a whole, and not for everything that a node consists of at each thread that is started.
+/// as a whole. So this is not proved for each part of a node at each thread that is started.
 pub trait Stated<J: NodeNaming>: Drop {
     /// Returns the node's state.
     fn state(&mut self) -> &mut NodeState<J>;
@@ -102,8 +102,8 @@ impl<'g, J: NodeNaming, G: Gate> Node<'g, J, NodeState<J>, G> {
         ensures whole { All (ArrivesWhole result.taken.items result.left.items) lanes.new }
         ensures lanes { map unmet lanes.new ≡ map unmet lanes.old }
 
-        // It is about a node that was the replay of what was taken: how many items of each lane
-        // these were, which are the first that the lane sent, and where its log begins.
+        // It is about a node that was the replay of what was taken. It says how many items of each
+        // lane these were, which are the first that the lane sent, and where its log begins.
         ensures tells { ReportsOn (J.first_of self.entry.number) lanes.new result }
     {
         let Node {

@@ -23,7 +23,7 @@ abbrev pub counted_read : ReadOutcome → ℕ → ℕ
 counted_read Fault faults = counted_once faults
 counted_read _ faults = faults
 
--- the same after a write
+-- the count of faults after a write
 abbrev pub counted_write : WriteOutcome → ℕ → ℕ
 counted_write writes.Fault faults = counted_once faults
 counted_write _ faults = faults

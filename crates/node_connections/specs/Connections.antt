@@ -35,7 +35,7 @@ is_failed Proposed = false
 is_failed Over = false
 is_failed Failed = true
 
--- the same of a connection
+-- whether a connection is closed and its loss is still to be reported
 abbrev pub has_failed : Connection → Bool
 has_failed c = is_failed c.stage
 

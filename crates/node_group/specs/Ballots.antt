@@ -12,7 +12,7 @@ use Rattle.node_group.specs.Goes.{GroupTrace, all_put}
 abbrev pub IsInItsBallot : ℕ × Command → Type 0
 IsInItsBallot put = (x : ConnectionName) → is_packet_of put.1 x ≡ true → x.ballot ≡ put.0
 
--- the same holds for all that nodes of a group propose to their replicas
+-- all that nodes of a group propose for a connection is put in the ballot of its name
 abbrev pub PutsInTheBallotOfTheName : Type 0
 PutsInTheBallotOfTheName =
     (nodes : ℕ) (config : Config) (g : Group) (went : GroupTrace nodes config g) →

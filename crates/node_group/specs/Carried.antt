@@ -29,8 +29,8 @@ pub record IsCarried (x : ConnectionName) (written : List Packet) (handed : List
   pub up : IsPrefixOf (packets_of x agreed) (commands_of x 0 written)
   pub down : IsPrefixOf handed (answers_to x agreed)
 
--- The same holds for each connection on which packets are written, when a prefix of their bytes
--- arrived on it, and for each list on which the nodes agree.
+-- Each list on which the nodes agree carries each connection on which packets are written, when a
+-- prefix of their bytes arrived on it.
 pub record Carries {nodes : ℕ} {config : Config} {g : Group}
     (went : GroupTrace nodes config g) : Type 0 where
   pub of : HasPast config g (groups_of went) (all_put went)

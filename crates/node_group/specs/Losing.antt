@@ -1,5 +1,5 @@
--- The same in moves in which something may be lost: a command that the replica does not take does
--- not count as proposed.
+-- What nodes propose in moves in which something may be lost: a command that the replica does not
+-- take does not count as proposed.
 use Rattle.std.specs.Prelude.{ℕ, List, [], ◌∷◌, ◌++◌, map}
 use Rattle.node_moves.specs.ballot.Effect.{Effect}
 use Rattle.node_moves.specs.ballot.Protocol.{Input}
@@ -43,12 +43,12 @@ abbrev pub commands_put : {core : CoreState} {turn : Turn} → LossyMoves core t
 commands_put (exactly m) = exactly_put m
 commands_put m = proposal_of m
 
--- .. each with the ballot that it has joined then
+-- what a node proposes in a move, each with the ballot that it has joined then
 abbrev pub put_in_move : {core : CoreState} {turn : Turn} → LossyMoves core turn →
     List (ℕ × Command)
 put_in_move {core = core} m = map (λ command. ((replica_of core).joined, command)) (commands_put m)
 
--- .. and in a run, in order
+-- what a node proposes in a run, in order
 abbrev pub put_in_run : {core : CoreState} {turn : Turn} → LossyRuns core turn → List (ℕ × Command)
 put_in_run rests = []
 put_in_run (goes_on m run) = put_in_move m ++ put_in_run run

@@ -22,14 +22,15 @@ InputWasSent g n (Receives message) = In (n + 1, message) g.sent
 InputWasSent g n (Proposes command) = Unit {0}
 InputWasSent g n Ticks = Unit {0}
 
--- and the bytes to which it cuts its log thaw to its machine
+-- what a node receives in a move was sent, and the bytes to which it cuts its log thaw to its
+-- machine
 abbrev pub WasSent : Group → ℕ → {core : CoreState} {turn : Turn} → Moves core turn → Type 0
 WasSent g n (hears input is) = InputWasSent g n input
 WasSent g n {core = core} (cuts_log can) =
     rules.thawed (rules.frozen (replica_of core).machine) ≡ Some (replica_of core).machine
 WasSent g n _ = Unit {0}
 
--- the same for each move of a run
+-- what a node receives in each move of a run was sent
 abbrev pub AllWasSent : Group → ℕ → {core : CoreState} {turn : Turn} → Runs core turn → Type 0
 AllWasSent g n rests = Unit {0}
 AllWasSent g n (goes_on m run) = WasSent g n m × AllWasSent g n run
@@ -65,11 +66,11 @@ commands_put {core = core} (expels_one client) =
     if serves core then commands.Expel client ∷ [] else []
 commands_put _ = []
 
--- .. each with the ballot that it has joined then
+-- what a node proposes in a move, each with the ballot that it has joined then
 abbrev pub put_in_move : {core : CoreState} {turn : Turn} → Moves core turn → List (ℕ × Command)
 put_in_move {core = core} m = map (λ command. ((replica_of core).joined, command)) (commands_put m)
 
--- .. and in a run, in order
+-- what a node proposes in a run, in order
 abbrev pub put_in_run : {core : CoreState} {turn : Turn} → Runs core turn → List (ℕ × Command)
 put_in_run rests = []
 put_in_run (goes_on m run) = put_in_move m ++ put_in_run run

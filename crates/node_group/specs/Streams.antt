@@ -45,7 +45,7 @@ abbrev pub handed_on : ConnectionName → {core : CoreState} {turn : Turn} → M
 handed_on x {core = core} (hands port) = bytes_named x (listed_at port core)
 handed_on x _ = []
 
--- .. in a run, in order
+-- what is handed over on a connection in a run, in order
 abbrev pub handed_in_run : ConnectionName → {core : CoreState} {turn : Turn} → Runs core turn →
     List ℕ
 handed_in_run x rests = []

@@ -26,21 +26,19 @@ refusal_in x (refuses port c code at first is) =
     if same_connection c.name x then packets.Connack (connacks.Refused code) ∷ [] else []
 refusal_in x _ = []
 
--- how a connection that is closed after a move was closed: it was closed before, with the same
--- bytes to hand over; or it was open, and got no more in this move than a prefix of what is sent to
--- it
+-- how a connection that is closed after a move was closed
 pub data IsClosedBy (x : ConnectionName) {core : CoreState} {turn : Turn} (m : Moves core turn)
     (d : Connection) : Type 0 where
-  -- it was closed before
+  -- it was closed before, with the same bytes to hand over
   was_closed : (c : Connection) → listed_named x core ≡ Some c → is_over c.stage ≡ true →
       d.pending ≡ c.pending → IsClosedBy x m d
-  -- it was open before
+  -- it was open, and got no more in this move than a prefix of what is sent to it
   closes_now : (c : Connection) (front : List ℕ) → open_named x core ≡ Some c →
       d.pending ≡ c.pending ++ front →
       IsPrefixOf front (spelled (refusal_in x m ++ sends_to x (outputs_of (given_in m)))) →
       IsClosedBy x m d
 
--- the same holds for each connection that is closed after a move
+-- in each move, each connection that is closed after it was closed in one of these ways
 abbrev pub NothingOnClosed : Type 0
 NothingOnClosed =
     (core : CoreState) (turn : Turn) (m : Moves core turn) → IsOrderly core →

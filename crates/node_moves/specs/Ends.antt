@@ -1,5 +1,4 @@
--- One connection as its node has it, by its name: what is read from it and proposed, of all that
--- its client writes.
+-- One connection as its node has it, by its name: what is read and proposed of all that is written.
 use Rattle.std.specs.Prelude.{◌≡◌, ◌≤◌, ◌<◌, ◌⊎◌, ℕ, suc, Bool, true, false, if◌then◌else◌, List, [], ◌∷◌, ◌++◌, length, filter, Option, Some, None}
 use Rattle.std.specs.List.{find}
 use Rattle.exactly_once.specs.packet.declared.packet.Packet.{Packet}
@@ -28,8 +27,7 @@ abbrev pub AtMostOne : {X : Type 0} → (X → Bool) → List X → Type 0
 AtMostOne test [] = Unit {0}
 AtMostOne test (c ∷ cs) = (test c ≡ true → Each (λ d. test d ≡ false) cs) × AtMostOne test cs
 
--- names are in the order in which a node gives them, by ballot, then by number: one comes before
--- another
+-- one name comes before another in the order in which a node gives them: by ballot, then by number
 abbrev pub Precedes : ConnectionName → ConnectionName → Type 0
 Precedes x y = (x.ballot < y.ballot) ⊎ ((x.ballot ≡ y.ballot) × (x.count < y.count))
 
@@ -71,7 +69,7 @@ abbrev pub piece_on : ConnectionName → List ℕ → Option Connection → List
 piece_on x piece None = []
 piece_on x piece (Some c) = if same_connection c.name x then piece else []
 
--- .. in a move
+-- the bytes that come on the connection of a name in a move
 abbrev pub came_on : ConnectionName → {core : CoreState} {turn : Turn} → Moves core turn → List ℕ
 came_on x {core = core} (holds port piece) = piece_on x piece (open_at port core)
 came_on x _ = []
@@ -85,15 +83,17 @@ abbrev pub is_nothing : List Packet → Bool
 is_nothing [] = true
 is_nothing (p ∷ ps) = false
 
--- Of the packets that its client writes these were read, and these bytes are still to come: the
--- node has not given the name yet, or has the connection open, or it is closed.
+-- Of the packets that a client writes these were read, and these bytes are still to come.
 pub data IsEnd (x : ConnectionName) (core : CoreState) (written read : List Packet)
     (under_way : List ℕ) : Type 0 where
+  -- the node has not given the name yet: all that is written is under way
   not_yet : Precedes core.last_name x → read ≡ [] → IsPiped written [] (stream_of []) under_way →
       IsEnd x core written read under_way
+  -- it has the connection open, and holds the bytes that were not read
   is_open : (c : Connection) → IsGiven core.last_name x → open_named x core ≡ Some c →
       is_first c.stage ≡ is_nothing read →
       IsPiped written read (stream_of c.unread) under_way → IsEnd x core written read under_way
+  -- it has the connection no longer open: no more is read
   is_over : IsGiven core.last_name x → open_named x core ≡ None → IsPrefixOf read written →
       IsEnd x core written read under_way
 
@@ -102,8 +102,7 @@ abbrev pub commands_of : ConnectionName → ℕ → List Packet → List Command
 commands_of x n [] = []
 commands_of x n (p ∷ more) = command_of x n p ∷ commands_of x (suc n) more
 
--- What is newly read in a move: the next of the packets that were written, each of which is
--- proposed under the name, and nothing else is.
+-- In a move the next written packets are read. Each is proposed under the name, and nothing else.
 pub record ReadsOn (x : ConnectionName) {core : CoreState} {turn : Turn} (m : Moves core turn)
     (written read : List Packet) (later : List ℕ) : Type 0 where
   pub more : List Packet
@@ -111,7 +110,7 @@ pub record ReadsOn (x : ConnectionName) {core : CoreState} {turn : Turn} (m : Mo
   pub proposed : filter (λ command. is_packet_of command x) (proposal_of m)
       ≡ commands_of x (length read) more
 
--- the same holds for each connection in each move, and the node's connections stay in order
+-- in each move a node reads on in order on each connection, and its connections stay in order
 abbrev pub NodesReadInOrder : Type 0
 NodesReadInOrder =
     (core : CoreState) (turn : Turn) (m : Moves core turn) → IsOrderly core → IsOrderly turn.core

@@ -33,7 +33,7 @@ pub record ReadsOn (x : ConnectionName) {core : CoreState} {turn : Turn} (m : Lo
   pub proposed : filter (λ command. is_packet_of command x) (proposal_of m)
       ≡ commands_of x (length read) more
 
--- the same holds for each connection in each move; none is skipped while the connection is open
+-- in each move a node reads on in order on each connection; none is skipped while it is open
 abbrev pub LossesReadInOrder : Type 0
 LossesReadInOrder =
     (core : CoreState) (turn : Turn) (m : LossyMoves core turn) → IsOrderly core →

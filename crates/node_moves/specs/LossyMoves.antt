@@ -49,32 +49,32 @@ pub data LossyMoves (core : CoreState) : Turn → Type 0 where
   -- gives may be lost, and connections closed
   hears_losing : (input : Input Command) (did : Account) → is_proposal input ≡ false →
       Drives input core did → LossyMoves core (turn_of did)
-  -- the same if a CONNECT, the first packet of an open connection, is read and taken
+  -- a CONNECT, the first packet of an open connection, is read and taken, perhaps with losses
   first_losing : (now : ℕ) (port : Port) (c : Connection) (connect : Connect) (rest : List ℕ)
       (did : Account) → open_at port core ≡ Some c →
       is_first c.stage ≡ true → verdict c.unread ≡ Ok (packets.Connect connect, rest) →
       Takes (commands.Connect c.name connect.client connect.clean)
       (changes port (asked connect.keep_alive) (changes port (left_with now rest) core)) did →
       LossyMoves core (turn_of did)
-  -- .. or a later packet
+  -- a later packet is read and taken, perhaps with losses
   later_losing : (now : ℕ) (port : Port) (c : Connection) (packet : Packet) (rest : List ℕ)
       (did : Account) → open_at port core ≡ Some c →
       is_first c.stage ≡ false → verdict c.unread ≡ Ok (packet, rest) →
       Takes (commands.Packet c.name packet) (changes port (left_with now rest) core) did →
       LossyMoves core (turn_of did)
-  -- .. or that a connection is lost
+  -- that a connection is lost is taken, perhaps with losses
   tells_losing : (name : ConnectionName) (did : Account) → Takes (commands.Lost name) core did →
       LossyMoves core (turn_of did)
-  -- .. or an Expel
+  -- an Expel is taken, perhaps with losses
   expels_losing : (client : List ℕ) (did : Account) → Takes (commands.Expel client) core did →
       LossyMoves core (turn_of did)
   -- the replica does not take what it receives, and counts that
   forgets : LossyMoves core (quiet (forgetful core))
-  -- .. or it stops, and counts that
+  -- the replica stops, and counts that
   halts : LossyMoves core (quiet (halting core))
   -- a connection is closed as lost, and the loss is still to be reported to the broker
   fails : (port : Port) → LossyMoves core (quiet (changes port failing core))
-  -- .. or it will not be reported
+  -- a connection that was closed as lost is closed for good, and its loss is not reported
   unheard : LossyMoves core (quiet (closes_failed core))
   -- bytes come in on an open connection that is closed, since there is no memory for them
   drops : (port : Port) (piece : List ℕ) → LossyMoves core (quiet (changes port closed core))

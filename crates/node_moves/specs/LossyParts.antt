@@ -81,7 +81,7 @@ abbrev pub inputs_of : {core : CoreState} {turn : Turn} → Moves core turn → 
 inputs_of (hears input other) = input ∷ []
 inputs_of _ = []
 
--- the same in a move that may have losses
+-- what the replica receives in a move that may have losses
 abbrev pub inputs_in : {core : CoreState} {turn : Turn} → LossyMoves core turn →
     List (Input Command)
 inputs_in (exactly m) = inputs_of m

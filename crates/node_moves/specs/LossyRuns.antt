@@ -63,7 +63,7 @@ abbrev pub exactly_cuts : {core : CoreState} {turn : Turn} → Moves core turn �
 exactly_cuts (cuts_log can) = true
 exactly_cuts _ = false
 
--- the same in a move that may have losses
+-- whether a move that may have losses cuts the log
 abbrev pub cuts_in : {core : CoreState} {turn : Turn} → LossyMoves core turn → Bool
 cuts_in (exactly m) = exactly_cuts m
 cuts_in _ = false
@@ -79,7 +79,7 @@ Freezes {core = core} (exactly (cuts_log can)) =
     rules.thawed (rules.frozen core.replica.state.machine) ≡ Some core.replica.state.machine
 Freezes _ = Unit {0}
 
--- the same for each move of a run
+-- what is frozen in each move of a run can be read
 abbrev pub AllFreeze : {core : CoreState} {turn : Turn} → LossyRuns core turn → Type 0
 AllFreeze rests = Unit {0}
 AllFreeze (goes_on m run) = Freezes m × AllFreeze run

@@ -44,24 +44,23 @@ pub data Moves (core : CoreState) : Turn → Type 0 where
       verdict c.unread ≡ Ok (packets.Connect connect, rest) → has_room core ≡ true →
       Moves core (proposes (commands.Connect c.name connect.client connect.clean)
       (changes port (asked connect.keep_alive) (changes port (left_with now rest) core)))
-  -- the same for each later packet
+  -- each later packet of an open connection is read and proposed, if the log has room for it
   reads_later : (now : ℕ) (port : Port) (c : Connection) (packet : Packet) (rest : List ℕ) →
       open_at port core ≡ Some c → is_first c.stage ≡ false →
       verdict c.unread ≡ Ok (packet, rest) → has_room core ≡ true →
       Moves core (proposes (commands.Packet c.name packet) (changes port (left_with now rest) core))
   -- a connection is closed, and nothing more is read from it
   closes : (port : Port) → Moves core (quiet (changes port closed core))
-  -- .. with an answer, if its first packet is a CONNECT that is refused with a code
+  -- a connection is closed with an answer: its first packet is a CONNECT that is refused
   refuses : (port : Port) (c : Connection) (code : RefusalCode) → open_at port core ≡ Some c →
       is_first c.stage ≡ true →
       verdict c.unread ≡ Err (stops.Refused code) →
       Moves core (quiet (changes port (refused code) core))
-  -- .. and its loss is to be reported to the broker, if its Connect was proposed
+  -- a connection is closed, and its loss is proposed, since its Connect was
   loses_one : (port : Port) (c : Connection) → open_at port core ≡ Some c →
       is_proposed c.stage ≡ true →
       Moves core (proposes (commands.Lost c.name) (changes port closed core))
-  -- the same for a connection that was closed because there was no room for what was to be sent on
-  -- it
+  -- the loss of a connection is proposed that was closed for want of room for what was to be sent
   loses_next : (c : Connection) → find has_failed core.connections ≡ Some c →
       Moves core (proposes (commands.Lost c.name) (closes_failed core))
   -- an Expel of a client is proposed

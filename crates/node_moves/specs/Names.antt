@@ -14,7 +14,7 @@ pub record IsNextName (core : CoreState) (x : ConnectionName) : Type 0 where
   pub ballot : x.ballot ≡ core.replica.state.joined
   pub count : x.count ≡ accepted core + 1
 
--- the same holds for each connection that is new after a move
+-- each connection that is new after a move has a name of the ballot
 abbrev pub NewNamesAreOfTheBallot : Type 0
 NewNamesAreOfTheBallot =
     (core : CoreState) (turn : Turn) (m : Moves core turn) → IsOrderly core →

@@ -36,7 +36,7 @@ pub data TellsEach (lane : ℕ) (before : List Item) : ℕ → List Item → Typ
       → TellsEach lane before count sent → TellsOne (port_of lane count) sent after
       → TellsEach lane before (count + 1) after
 
--- the same, for any number of connections
+-- a lane sent what any number of its connections bring
 pub record SendsRow (lane : ℕ) (before after : List Item) : Type 0 where
   pub count : ℕ
   pub tells : TellsEach lane before count after

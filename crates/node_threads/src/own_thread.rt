@@ -1,4 +1,4 @@
-// The node's own thread: it takes what other nodes have for the node, gives the node the time, has
+// The node's own thread. It takes what other nodes have for the node, gives the node the time, has
 // the log cut, and ends connections whose first packet does not come. It does no other node's turn,
 // so each node always has a thread of its own.
 

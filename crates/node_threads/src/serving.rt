@@ -27,8 +27,8 @@ const PORTS_APART: u64 = 256;
 
 impl<'a, J: NodeNaming, S: Stated<J>, G: Gate> ServedNode<'a, J, S, G> {
     /// Serves one client after another by a lane until it sees the listener closed. Returns the
-    /// lane, which sent for each one after another the whole report of its connection, at a port
-    /// that no other has, and nothing else; and the witness, or none if all ports are used.
+    /// lane and the witness, or no witness if all ports are used. For each connection, one after
+    /// another, the lane sent the whole report, at a port that no other has, and nothing else.
     pub(crate) fn serve_lane<R: Wait + Clock>(
         &self,
         rt: &R,

@@ -75,7 +75,7 @@ asks_in_body headers.Suback body = begins_list body
 asks_in_body headers.Unsubscribe body = begins_list body
 asks_in_body header body = false
 
--- the same after a first byte and a length, once the whole body is there
+-- whether memory is needed for what is at the front, once the whole body is there
 unfoldable pub asks_memory : List ℕ → Result Bool Stop
 asks_memory [] = Err stops.More
 asks_memory (first ∷ bytes) = do

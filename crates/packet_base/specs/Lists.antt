@@ -22,7 +22,7 @@ items_of item (suc most) bytes =
 abbrev pub items_at : {A : Type 0} → ItemAt A → List ℕ → Result (List A) Stop
 items_at item bytes = items_of item (length bytes) bytes
 
--- the same if there has to be one (MQTT 3.8.3, 3.9.3, 3.10.3)
+-- all the items to the end of the bytes, of which there has to be one (MQTT 3.8.3, 3.9.3, 3.10.3)
 abbrev pub list_of : {A : Type 0} → ItemAt A → List ℕ → Result (List A) Stop
 list_of item bytes = do
   items ← items_at item bytes

@@ -17,7 +17,7 @@ abbrev pub Gives : {X Y : Type 0} → (X → Y) → Result X Stop → Result Y S
 Gives view (Ok x) read = read ≡ Ok (view x)
 Gives view (Err stop) read = StopsBy stop read
 
--- the same for a call of a reader, in which these bytes are left afterwards
+-- a call of a reader gives what was read, and these bytes are left afterwards
 abbrev pub Reads : {X Y : Type 0} → (X → Y) → Result X Stop → List ℕ
     → Result (Y × List ℕ) Stop → Type 0
 Reads view (Ok x) rest read = read ≡ Ok (view x, rest)

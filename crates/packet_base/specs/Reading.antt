@@ -16,7 +16,7 @@ abbrev pub ◌>>=◌ : {A B : Type 0} → Result A Stop → (A → Result B Stop
 (Err stop) >>= f = Err stop
 
 infixl 10 ◌>>◌
--- the same for a step without a value
+-- one step without a value and then the next, unless the first stops
 abbrev pub ◌>>◌ : {A B : Type 0} → Result A Stop → Result B Stop → Result B Stop
 (Ok x) >> next = next
 (Err stop) >> next = Err stop

@@ -71,8 +71,8 @@ pub enum Header {
 }
 
 impl Header {
-    /// Returns what a first byte says. A reserved type answers `PacketType`; a PUBLISH of QoS 3
-    /// answers `Qos`, and one of QoS 0 with DUP `Flags`; for any other type, flags that are not
+    /// Returns what a first byte says. A reserved type answers `PacketType`. A PUBLISH of QoS 3
+    /// answers `Qos`, and one of QoS 0 with DUP `Flags`. For any other type, flags that are not
     /// those of the type answer `Flags`.
     pub fn of(first: u8) -> Result<Header, Stop>
         ensures exact { result ≡ header_of first }

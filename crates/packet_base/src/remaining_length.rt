@@ -20,7 +20,8 @@ pub fn take_length(bytes: &[u8]) -> Result<(u32, &[u8]), Stop>
     length_from(bytes, 3)
 }
 
-// The same if at most `follow` bytes may follow the next one.
+// Returns the length at the front, and the bytes after it, if at most `follow` bytes may follow the
+// next one.
 #[tactic(auto, unfolding(crate::specs::Reading::length_at), using(crate::proofs::Lengths::limits))]
 fn length_from(bytes: &[u8], follow: u8) -> Result<(u32, &[u8]), Stop>
     requires { follow < 4 }

@@ -56,8 +56,8 @@ GivenIsPutOut =
           (end_given κ.name past (outputs (outputs_between broker_rules w.agreed e.seen past)) e);
     }) w)
 
--- The same holds for all outputs of a node of a group between two moments of a ballot that it
--- leads, on an open end that has what the node output before.
+-- All outputs of a node of a group between two moments of a ballot that it leads may be sent on an
+-- open end that has what the node output before.
 abbrev pub GroupsPutOut : Type 0
 GroupsPutOut =
     (config : Config) (a b : Moment State Command Output)

@@ -80,7 +80,7 @@ pub record AppendsAll (clients : List (List ℕ)) (orders : List Order)
   pub played : Played clients first orders lines last
   pub is : new ≡ old ++ lines
 
--- and the last line after them, with this count of losses
+-- the lines of these orders were appended, and the last line after them, with this count of losses
 pub record PlaysOn (clients : List (List ℕ)) (orders : List Order) (first : WorldState)
     (old new : List ℕ) (losses : ℕ) : Type 0 where
   pub last : WorldState

@@ -35,7 +35,7 @@ message_of outcome = record {
   message = record { from = 0; body = outcome.body };
 }
 
--- the same, if there is an outcome
+-- the message of an outcome of the master, if there is one
 abbrev pub message_if : Option (MasterOutcome Command) → Option Addressed
 message_if (Some outcome) = Some (message_of outcome)
 message_if None = None

@@ -30,7 +30,7 @@ higher None shown = if serves shown then Some shown else None
 higher (Some best) shown =
     if serves shown && nat_lt best.status.ballot shown.status.ballot then Some shown else Some best
 
--- the same for one node after another
+-- the active primary of the highest ballot among one that was found and these nodes
 abbrev pub highest_from : Option Shown → List Shown → Option Shown
 highest_from found [] = found
 highest_from found (shown ∷ nodes) = highest_from (higher found shown) nodes

@@ -120,7 +120,8 @@ impl Peer {
         ballot
     }
 
-    // Does the same, without waking the node.
+    // Lets the master give the next ballot to a configuration whose primary is this node. It queues
+    // the message, and does not wake the node.
     fn assign_locked<R: Wait>(
         &self,
         rt: &R,

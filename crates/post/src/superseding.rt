@@ -5,8 +5,8 @@ ghost use Rattle.post.specs.Superseding.{covers, is_commit_within, is_held_withi
 
 use node::{Body, Command, Item};
 
-/// Says whether an item says all that an older one said: each is from the same node, and counts the
-/// places that it, or every member, holds in the same ballot.
+/// Says whether an item says all that an older one said. Then each is from the same node, and
+/// counts the places that it, or every member, holds in the same ballot.
 pub(crate) fn supersedes(item: &Item, older: &Item) -> bool
     ensures { result ≡ supersedes item.now older.now }
 {

@@ -38,7 +38,7 @@ abbrev pub kept_of_payload : QoS → List ℕ → Option RetainedPublication
 kept_of_payload qos [] = None
 kept_of_payload qos (byte ∷ payload) = Some (record { qos = qos; payload = byte ∷ payload })
 
--- the same if there is a publication
+-- what is retained of a publication, if there is one
 abbrev pub kept_of : Option Put → Option RetainedPublication
 kept_of (Some p) = kept_of_payload p.qos p.payload
 kept_of None = None

@@ -82,11 +82,11 @@ unless (Some fault) text = None
 unfoldable pub client_of : Text → Option Text
 client_of text = unless (client_fault text) text
 
--- so is a Topic Name
+-- a Topic Name is written as it is
 unfoldable pub topic_of : Text → Option Text
 topic_of text = unless (topic_fault text) text
 
--- so is a Topic Filter
+-- a Topic Filter is written as it is
 unfoldable pub filter_of : Text → Option Text
 filter_of text = unless (filter_fault text) text
 
@@ -105,6 +105,6 @@ all_of reads (text ∷ texts) = with_first (reads text) (all_of reads texts)
 unfoldable pub numbers_of : Text → Option (List ℕ)
 numbers_of field = all_of number_of (parts_of field)
 
--- so are Client Identifiers
+-- Client Identifiers are written with commas between them
 unfoldable pub clients_of : Text → Option (List Text)
 clients_of field = all_of client_of (parts_of field)

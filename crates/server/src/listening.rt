@@ -44,8 +44,8 @@ where
     Ok(answer)
 }
 
-/// Does the same as [`serve_while`], but each node asks a gate before it takes an item, and reports
-/// at the end what it took and what it left: the reports are in the order of the nodes' numbers. If
+/// Serves as [`serve_while`] does, but each node asks a gate before it takes an item. At the end it
+/// reports what it took and what it left. The reports are in the order of the nodes' numbers. If
 /// the gate has not opened after it was asked ten thousand times, a millisecond apart, the node
 /// continues, and its report counts it.
 ///
@@ -68,7 +68,7 @@ where
     serve_all(rt, alloc, listeners, config, Some(gate), attend)
 }
 
-// Does the same with a gate or without one.
+// Serves the nodes of these listeners while the closure runs, with a gate or without one.
 fn serve_all<R, G, T, F>(
     rt: &R,
     alloc: Global,

@@ -10,7 +10,7 @@ use std::fmt;
 #[derive(Clone, Copy, Debug, PartialEq, Eq)]
 pub enum ServeError {
     /// No ballot may have the configuration: no member, more than 7, not strictly rising, one
-    /// outside 1 to 15, or a primary that is no member; or a node has a number outside 1 to 15, or
+    /// outside 1 to 15, or a primary that is no member. Or a node has a number outside 1 to 15, or
     /// that of another.
     BadMembers,
     /// Memory ran out.

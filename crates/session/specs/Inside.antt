@@ -16,7 +16,7 @@ started_with flights (p ∷ waiting) =
     record { in_flight = flights ++ started_flight flights p ∷ []; waiting = waiting }
 started_with flights [] = record { in_flight = flights; waiting = [] }
 
--- and is sent
+-- the first publication that waits is sent
 abbrev pub sends_with : List Flight → List Publication → List Packet
 sends_with flights (p ∷ waiting) =
     packets.Publish (publish_of false (started_flight flights p).0 p) ∷ []

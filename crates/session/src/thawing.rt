@@ -115,8 +115,9 @@ fn read_ids(alloc: Global, count: u16, reader: &mut Reader) -> Result<Received, 
 
 impl Session {
     /// Reads the session at the front of the bytes that are left. Whatever is not of the form stops
-    /// the reading: a filter or an identifier that occurs twice, a part out of its range, a 65th
-    /// subscription, more in flight than the window, a 4,097th entry. `Memory` if memory runs out.
+    /// the reading. This is a filter or an identifier that occurs twice, a part out of its range, a
+    /// 65th subscription, more in flight than the window, or a 4,097th entry. `Memory` if memory
+    /// runs out.
     #[tactic(auto, unfolding(session_base::specs::Form::state_at))]
     pub fn read(alloc: Global, window: usize, reader: &mut Reader) -> Result<Session, Stop>
         requires { window ≤ 4096 }

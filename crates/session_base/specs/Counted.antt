@@ -33,7 +33,7 @@ counted_at count follows item most bytes = do
   keep (nat_le many.0 most)
   items_after follows item many.0 [] many.1
 
--- and as they are written
+-- items as they are written: their count, then one after another
 abbrev pub counted : {A : Type 0} → (ℕ → List ℕ) → (A → List ℕ) → List A → List ℕ
 counted count bytes items = count (length items) ++ flat_map bytes items
 

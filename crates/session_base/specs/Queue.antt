@@ -48,11 +48,11 @@ is_pubcomp _ = false
 abbrev pub awaits_puback : ℕ → Flight → Bool
 awaits_puback id flight = (id == flight.0) && is_puback flight.1
 
--- the same for PUBREC
+-- whether this entry has the identifier and waits for PUBREC
 abbrev pub awaits_pubrec : ℕ → Flight → Bool
 awaits_pubrec id flight = (id == flight.0) && is_pubrec flight.1
 
--- the same for PUBCOMP
+-- whether this entry has the identifier and waits for PUBCOMP
 abbrev pub awaits_pubcomp : ℕ → Flight → Bool
 awaits_pubcomp id flight = (id == flight.0) && is_pubcomp flight.1
 

@@ -26,7 +26,7 @@ sent_anew id (waits_for.Puback p) = packets.Publish (publish_of true id p)
 sent_anew id (waits_for.Pubrec p) = packets.Publish (publish_of true id p)
 sent_anew id waits_for.Pubcomp = packets.Pubrel id
 
--- and of all that is in flight, in order
+-- what a client that comes back is sent of all that is in flight, in order
 abbrev pub resend : List Flight → List Packet
 resend = map (λ flight. sent_anew flight.0 flight.1)
 

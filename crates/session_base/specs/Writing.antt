@@ -55,7 +55,7 @@ state_bytes s =
 abbrev pub HasLength : Publication → Type 0
 HasLength p = length p.payload < 2 ^ 32
 
--- the same for an entry's publication, if it has one
+-- the length of the payload of an entry's publication fits four bytes, if it has one
 abbrev pub IsWritable : Awaits → Type 0
 IsWritable (waits_for.Puback p) = HasLength p
 IsWritable (waits_for.Pubrec p) = HasLength p

@@ -81,7 +81,7 @@ pub record IsSentRight {S C O : Type 0} (rules : Rules S C O) (archive : List C)
   pub snapshot : 0 < log.base
       → rules.thawed log.snapshot ≡ Some (replay rules (take log.base archive))
 
--- and for each log that was sent
+-- each log that was sent is right
 abbrev pub SentLogsAreRight : {S C O : Type 0} → Rules S C O → Type 0
 SentLogsAreRight {S} {C} {O} rules =
     (config : Config) (a : Moment S C O) (past : List (Moment S C O)) →
@@ -89,7 +89,7 @@ SentLogsAreRight {S} {C} {O} rules =
     (to : ℕ) (message : Message C) → In (to, message) a.world.sent →
     (log : Log C) → log_in message.body ≡ Some log → IsSentRight rules a.world.archive log
 
--- so if a node has to read the snapshot of a message, it can be read
+-- if a node has to read the snapshot of a message, it can be read
 abbrev pub SnapshotsAreRead : {S C O : Type 0} → Rules S C O → Type 0
 SnapshotsAreRead {S} {C} {O} rules =
     (config : Config) (a : Moment S C O) (past : List (Moment S C O)) →

@@ -69,8 +69,8 @@ AnswersAtTheNextPlaces {S} {C} {O} rules =
     slice_get b.world.nodes n ≡ Some new →
     GivesNext rules (whole a.world.archive old) (whole b.world.archive new) xs (given_in n step)
 
--- so between two moments of a ballot that it leads a node gives the answers at all places of the
--- agreed list that it applied between them: none is left out, and none comes twice
+-- Between two moments of a ballot that it leads a node gives the answers at all places of the
+-- agreed list that it applied between them: none is left out, and none comes twice.
 abbrev pub AnswersWhileItLeads : {S C O : Type 0} → Rules S C O → Type 0
 AnswersWhileItLeads {S} {C} {O} rules =
     (config : Config) (a b : Moment S C O) (past later : List (Moment S C O)) (xs : List C) →

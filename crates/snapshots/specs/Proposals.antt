@@ -41,7 +41,7 @@ taken_as (takes n r input {new = new} {given = given} stands runs may loses) = t
 taken_as (stops n r stands) = []
 taken_as (cuts n r stands runs below reads) = []
 
--- .. by the node at index n
+-- what the node at index n takes in a step of its own
 abbrev pub taken_by_node : {S C O : Type 0} {rules : Rules S C O} {w v : World S C O} →
     ℕ → NodeGoes rules w v → List (ℕ × C)
 taken_by_node n (takes i r input {new = new} {given = given} stands runs may loses) =

@@ -16,7 +16,7 @@ abbrev pub tells_from_master : {S C O : Type 0} → World S C O → MasterOutcom
 tells_from_master w o =
     record w { sent = w.sent ++ (o.receiver, record { from = master; body = o.body }) ∷ [] }
 
--- and after an Assign: its primary is sent the ballot
+-- the world after an Assign: if it is not refused, the primary is sent the ballot
 abbrev pub world_after : {S C O : Type 0} →
     MasterState → World S C O → Config → Option AssignRefusal → World S C O
 world_after m w config (Some why) = w

@@ -43,7 +43,7 @@ filters_told client [] content = content
 filters_told client (held ∷ more) content =
     filters_told client more (with_row content client held.0 held.1)
 
--- and those of all clients
+-- the filters of all clients are set
 abbrev pub clients_told : Clients → Content → Content
 clients_told [] content = content
 clients_told (entry ∷ rest) content = clients_told rest (filters_told entry.0 entry.1 content)

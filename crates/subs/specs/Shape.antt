@@ -27,7 +27,7 @@ asked shape at (level ∷ rest) client =
     if is_all level rest then shape.held at true client
     else option_and_then (λ below. asked shape below rest client) (shape.child at level)
 
--- the same below the root, if there is one
+-- the QoS at which the client asked for the filter of these levels, below the root, if there is one
 abbrev pub rows : Shape → Option ℕ → Levels → List ℕ → Option QoS
 rows shape root filter client = option_and_then (λ at. asked shape at filter client) root
 

@@ -32,6 +32,6 @@ LeadsTo nodes path at = led (shape nodes).child (root_of nodes) path ≡ Some at
 abbrev pub IsThere : Nodes → ℕ → Type 0
 IsThere nodes at = (path : Levels) × LeadsTo nodes path at
 
--- the same at the text of each filter
+-- at each client and filter what is at the levels of its text
 abbrev pub content_in : Nodes → Content
 content_in nodes client filter = rows_of nodes (levels filter) client

@@ -36,12 +36,12 @@ found_at shape at (level ∷ rest) client =
     (option_and_then (λ below. found_at shape below rest client) (shape.child at level))
     (option_and_then (λ below. found_at shape below rest client) (shape.child at (codes "+"))))
 
--- the same after the node of a level, if there is one
+-- the greatest QoS of the client's filters that match after the node of a level, if there is one
 abbrev pub found_after : Shape → Option ℕ → Levels → List ℕ → Option QoS
 found_after shape node rest client =
     option_and_then (λ below. found_at shape below rest client) node
 
--- the same for the filters that continue with this level
+-- the greatest QoS of the client's filters that match and continue with this level
 abbrev pub found_below : Shape → ℕ → List ℕ → Levels → List ℕ → Option QoS
 found_below shape at level rest client =
     option_and_then (λ below. found_at shape below rest client) (shape.child at level)
@@ -57,6 +57,6 @@ found_from shape at topic client =
     if starts_with 36 topic then found_named shape at (levels topic) client
     else found_at shape at (levels topic) client
 
--- the same from the root, if there is one
+-- what a client is granted of a topic, from the root on, if there is one
 abbrev pub found_for : Shape → Option ℕ → List ℕ → List ℕ → Option QoS
 found_for shape root topic client = option_and_then (λ at. found_from shape at topic client) root

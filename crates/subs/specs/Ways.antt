@@ -10,7 +10,7 @@ abbrev pub reach : Children → ℕ → Levels → Option ℕ
 reach child at [] = Some at
 reach child at (level ∷ rest) = option_and_then (λ below. reach child below rest) (child at level)
 
--- and from the root
+-- the node that levels lead to from the root, if there is one
 abbrev pub led : Children → Option ℕ → Levels → Option ℕ
 led child root path = option_and_then (λ at. reach child at path) root
 

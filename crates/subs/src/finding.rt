@@ -42,7 +42,7 @@ impl Nodes {
         self.find_after(child(&self.slab, root, level), after, found)
     }
 
-    // Does the same for the filters that continue after a node.
+    // Raises each client of a filter that continues after a node and matches there to its QoS.
     #[cycle(find_at)]
     fn find_at(&self, at: NodeId, topic: Option<&[u8]>, found: &mut Found) -> Result<(), AllocError>
         ensures ok { OnOk result
@@ -63,7 +63,7 @@ impl Nodes {
         self.find_after(node.plus, after, found)
     }
 
-    // Does the same after the node of a level, if there is one.
+    // Raises each client of a filter that continues after the node of a level, if there is one.
     #[cycle(find_at)]
     fn find_after(
         &self,

@@ -12,7 +12,7 @@ abbrev pub AsksNext : {S : Type 0} → (S → S → Type 0) → (S → S → Typ
 AsksNext opens rests zero old new = opens old new
 AsksNext {S} opens rests (suc asked) old new = (rested : S) × rests old rested × opens rested new
 
--- so many connections were asked for, one after another
+-- this many connections were asked for, one after another
 pub data Asks {S : Type 0} (opens rests : S → S → Type 0) (start : S) : ℕ → S → Type 0 where
   none : Asks opens rests start 0 start
   more : {asked : ℕ} {old : S} (new : S) → Asks opens rests start asked old

@@ -57,6 +57,6 @@ abbrev pub IsAcknowledgedAs :
 IsAcknowledgedAs contents None caller = kept_count caller.core.state ≡ 0
 IsAcknowledgedAs contents (Some publish) caller = WasTaken contents publish
 
--- the same of a `Publishing`
+-- what a `Publishing` was to publish is acknowledged
 abbrev pub IsAcknowledged : {D : Type 0} → (D → Option (List ℕ)) → Publishing → Type 0
 IsAcknowledged contents publishing = IsAcknowledgedAs contents publishing.once publishing.caller

@@ -26,7 +26,7 @@ pub record AllHoldIt {S C O : Type 0} (a : Moment S C O) (primary : ℕ) (log : 
   pub told : (m : ℕ) → In m others_of →
       In (primary, record { from = m; body = Held a.master.active (length log) }) a.world.sent
 
--- then that log is the agreed list, whatever came before
+-- the log that all members hold is the agreed list, whatever came before
 abbrev pub WhatAllHoldIsAgreed : {S C O : Type 0} → Rules S C O → Type 0
 WhatAllHoldIsAgreed {S} {C} {O} rules =
     (config : Config) (a : Moment S C O) (past : List (Moment S C O)) →

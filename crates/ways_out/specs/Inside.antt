@@ -26,7 +26,7 @@ fetching ballot members previous previous_members r =
       progress = [];
     }
 
--- and while it installs one
+-- the new primary while it installs a log
 abbrev pub installing : {S C : Type 0} →
     ℕ → List C → ReplicaState S C → List ℕ → ReplicaState S C
 installing ballot log r lacking =

@@ -82,6 +82,6 @@ on_tick_fetching O r =
       effects = message_to_each O r.id (Join r.joined r.previous) r.previous_members;
     }
 
--- and then sends the log to those that lack it
+-- a primary that installs its log sends it at a tick to those that lack it
 abbrev pub on_tick_installing : {S C : Type 0} (O : Type 0) → ReplicaState S C → Outcome S C O
 on_tick_installing O r = record { state = r; effects = installs O r r.lacking }

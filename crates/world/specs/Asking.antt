@@ -34,7 +34,7 @@ AskedBy (events.Publish name p) old asked new =
     AsksOne name p old asked new ⊎ AsksNone old asked new
 AskedBy _ old asked new = asked ≡ []
 
--- and only an event that was not idle
+-- only an event that was not idle asks a client
 abbrev pub IsAsked : Event → WorldState → Result (Unit {0}) Idle → List (ℕ × Publication) →
     WorldState → Type 0
 IsAsked event old (Err idle) asked new = asked ≡ []

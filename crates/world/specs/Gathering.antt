@@ -94,7 +94,7 @@ abbrev pub TakesWhere : Bool → ℕ → Item → NodesState → NodesState → 
 TakesWhere true node item old new = TakesExactly node item old new
 TakesWhere false node item old new = TakesIn node item old new
 
--- and what it queued then goes down
+-- a node takes just this item, and what it queued then goes down
 abbrev pub TakesItem : Bool → ℕ → Item → WorldState → WorldState → Type 0
 TakesItem whole node item old new =
     (between : NodesState) × TakesWhere whole node item old.nodes between

@@ -32,7 +32,7 @@ pub record GoesTo (g : Group) (new : NodesState) : Type 0 where
 abbrev pub NodesGo : NodesState → NodesState → Type 0
 NodesGo old new = (g : Group) → StandsFor g old → GoesTo g new
 
--- and their count of losses never falls
+-- the count of the nodes' losses never falls, and each group that corresponds to them moves
 pub record NodesGoOn (old new : NodesState) : Type 0 where
   pub rises : old.losses ≤ new.losses
   pub goes : NodesGo old new
@@ -74,7 +74,7 @@ abbrev pub StaysReached : NodesState → NodesState → Type 0
 StaysReached old new =
     (nodes : ℕ) (config : Config) → AreReached nodes config old → AreReached nodes config new
 
--- .. and the list on which they agreed before is a prefix of the list on which they agree then
+-- the list on which nodes agreed before is a prefix of the list on which they agree then
 abbrev pub AgreedGrows : NodesState → NodesState → Type 0
 AgreedGrows old new =
     (nodes : ℕ) (config : Config) (before : AreReached nodes config old) →

@@ -56,7 +56,7 @@ NoneOpens node port old client new later =
     × Connects (node - 1) port (keeper_step Call.Opens client.core.state) client (Ok tt) opened
     × (later ≡ taken_back opened) × ((new ≡ old) ⊎ TakesIn node (items.Opened port 0) old new))
 
--- the same in a world: no slot is added
+-- a client of a world opens no connection: no slot is added
 abbrev pub OpensNone : List ℕ → ℕ → WorldState → WorldState → Type 0
 OpensNone name node old new =
     (c : Named name old) × (piped : Piped) × (between : NodesState)

@@ -25,13 +25,13 @@ HoldsNothing node n =
 abbrev pub IsQuietAt : ℕ → Item → NodesState → Type 0
 IsQuietAt node item n = RestsAt node item n × HoldsNothing node n
 
--- the same for a message that arrives, including one that the master ignores
+-- a message that arrives takes no memory, including one that the master ignores
 abbrev pub ComesQuietly : Option (ℕ × Message Command) → NodesState → Type 0
 ComesQuietly None n = ⊥
 ComesQuietly (Some (zero, message)) n = IsUnheeded message.body
 ComesQuietly (Some (suc at, message)) n = IsQuietAt (suc at) (items.Peer message) n
 
--- the same for the end of a connection
+-- the end of a connection takes no memory at its node
 abbrev pub EndsQuietly : ℕ → Option ConnectionSlot → NodesState → Type 0
 EndsQuietly number None n = ⊥
 EndsQuietly number (Some slot) n = IsQuietAt slot.node (items.Ended (port_of number)) n

@@ -81,7 +81,7 @@ abbrev pub connections_in : Option ClientPipes → List Connection
 connections_in (Some c) = c.connections
 connections_in None = []
 
--- the same of the client at this index
+-- the connections of the client at this index
 abbrev pub connections_at : ℕ → World → List Connection
 connections_at i world = connections_in (slice_get world.clients i)
 

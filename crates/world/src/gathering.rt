@@ -29,8 +29,8 @@ impl World {
         }
     }
 
-    // Does the same on the connections whose end is open, at whichever node, from the newest to the
-    // oldest.
+    // Carries down what the node queued on the connections whose end is open, at whichever node,
+    // from the newest to the oldest.
     fn gather_open(&mut self, node: u8)
         ensures goes { GoesOn self.old self.new }
         ensures gathers { GathersAmong false (length self.old.connections) node self.old self.new }
@@ -44,8 +44,8 @@ impl World {
         }
     }
 
-    // Does the same on the one at this index among those whose end is open, if it leads to the
-    // node.
+    // Carries down what the node queued on the connection at this index among those whose end is
+    // open, if that leads to the node.
     fn ask_at(&mut self, node: u8, at: usize)
         requires { at < length (open_from 1 self.old.connections) }
         ensures goes { GoesOn self.old self.new }

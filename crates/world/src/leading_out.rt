@@ -24,15 +24,20 @@ use world_events::{EscapeError, Event, push_answers, push_client, push_group};
 const MAX_MESSAGES: u64 = 4_611_686_018_427_387_904;
 
 impl World {
-    /// Returns a list of events that leads out of this world, at most 6n + 5 for n members: to a
-    /// ballot of these members, the first of them its primary, and to the client online with its
-    /// session present. It changes nothing.
+    /// Returns a list of events that leads out of this world, at most 6n + 5 for n members. It
+    /// leads to a ballot of these members, the first of them its primary, and to the client online
+    /// with its session present. It changes nothing.
     ///
     /// When they are given to [`World::run`], and no loss is counted, the ballot that is given next
-    /// is active, and what was agreed before is a prefix of what is agreed. [`EscapeError::Idle`]
-    /// comes if there is no way out: for members that no ballot may have, after the last ballot, if
-    /// one of them or all of the active configuration have stopped, if the log that is to be
-    /// fetched has no two places left, and if the client is unknown or has no session after it.
+    /// is active. Then what was agreed before is a prefix of what is agreed.
+    ///
+    /// [`EscapeError::Idle`] comes if there is no way out:
+    ///
+    /// - no ballot may have these members, or the last ballot was given;
+    /// - one of the members has stopped, or all members of the active configuration have;
+    /// - the log that is to be fetched has no two places left;
+    /// - the client is unknown, or has no session after that log.
+    ///
     /// [`EscapeError::Memory`] comes if memory runs out.
     pub fn escape(&self, members: &[u8], client: &ClientId) -> Result<Vec<Event>, EscapeError>
         ensures short { IfOk result (λ events. length events.items ≤ 6 * length members.now + 5) }

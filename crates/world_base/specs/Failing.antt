@@ -21,6 +21,6 @@ loses_if (Some c) core = proposes (commands.Lost c.name) (closes_failed core)
 unfoldable pub loses_failed : CoreState → Turn
 loses_failed core = loses_if (find has_failed core.connections) core
 
--- the same for all of them; what is then sent may close others, which are reported too
+-- the loss of all of them is reported; what is then sent may close others, which are reported too
 abbrev pub loses_all_failed : CoreState → Turn
 loses_all_failed core = repeated (length core.connections) loses_failed core

@@ -35,7 +35,7 @@ pub record IsCalm (old new : Running) : Type 0 where
 abbrev pub Does : Running → Running → CoreState → Type 0
 Does old new core = new.out_of_memory ≡ false → new ≡ record old { core = core }
 
--- the same with messages, which were appended to what was there
+-- this is what was done, unless memory ran out; its messages were appended to what was there
 pub record DoesTurn (old new : Running) (before after : List (Effect Command Output)) (turn : Turn)
     : Type 0 where
   pub given : List (Effect Command Output)
@@ -63,7 +63,7 @@ pub record Ran (Did : CoreState → Account → Type 0) (old new : CoreState)
   pub core : new ≡ did.core
   pub appended : after ≡ before ++ did.messages
 
--- the same for what the replica output
+-- what the replica output was done; the messages among it were appended to what was there
 pub record Delivered (given : List (Effect Command Output)) (old new : CoreState)
     (before after : List (Effect Command Output)) : Type 0 where
   pub messages : List (Effect Command Output)
@@ -90,7 +90,7 @@ abbrev pub Answered : Bool → Command → CoreState → CoreState → List (Eff
 Answered true command old new given = Took command old new given
 Answered false command old new given = Declines old (quietly new) × (given ≡ [])
 
--- the same with its effects
+-- a command was taken with its effects, or declined
 abbrev pub ProposedBy : Bool → Command → CoreState → Account → Type 0
 ProposedBy true command core did = Takes command core did
 ProposedBy false command core did = Declines core did

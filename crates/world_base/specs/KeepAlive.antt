@@ -17,7 +17,7 @@ ends_if (Some port) core = ends port core
 unfoldable pub ends_silent : ℕ → CoreState → Turn
 ends_silent now core = ends_if (lowest_silent now core.connections) core
 
--- the same for all silent ones, in rising order of ports: they are at most as many as there are
--- connections
+-- all silent connections are closed, in rising order of ports: they are at most as many as there
+-- are connections
 abbrev pub ends_all_silent : ℕ → CoreState → Turn
 ends_all_silent now core = repeated (length core.connections) (ends_silent now) core

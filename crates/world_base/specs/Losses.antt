@@ -29,7 +29,7 @@ use Rattle.world_base.specs.Turns.{has_room, heard}
 abbrev pub IsIgnored : Input Command → CoreState → Type 0
 IsIgnored input core = heard input core.replica.state ≡ nothing_done Output core.replica.state
 
--- nor does it have to read a snapshot that does not thaw
+-- a node does not have to read a snapshot that does not thaw
 abbrev pub ReadsNone : Message Command → CoreState → Type 0
 ReadsNone message core =
     core.replica.state.stopped ≡ false → is_unread rules core.replica.state message.body ≡ false

@@ -47,7 +47,7 @@ pub record Then (First Next : CoreState → Account → Type 0) (core : CoreStat
   pub next : Next one.core two
   pub is : did ≡ joined one two
 
--- the same this many times, each after the one before
+-- one thing was done this many times, each after the one before
 abbrev pub Repeated : ℕ → (CoreState → Account → Type 0) → CoreState → Account → Type 0
 Repeated zero Next core did = did ≡ quietly core
 Repeated (suc more) Next core did = Then Next (Repeated more Next) core did

@@ -17,7 +17,7 @@ pub data Declines (core : CoreState) (did : Account) : Type 0 where
       did ≡ quietly
       (record core { replica = record core.replica { losses = one_more core.replica.losses } }) →
       Declines core did
-  -- .. and it stops
+  -- memory ran out: it counts a loss, and it stops
   stops : has_room core ≡ true →
       did ≡ quietly (record core {
         replica = record {

@@ -57,7 +57,7 @@ Asks command Otherwise core did = Takes command core did ⊎ Then Declines Other
 abbrev pub Closes : Port → CoreState → Account → Type 0
 Closes port core did = did ≡ quietly (changes port closed core)
 
--- .. or it is closed as lost, and the loss is still to be reported to the broker
+-- a connection is closed, or closed as lost, and the loss is still to be reported to the broker
 abbrev pub Shuts : Port → CoreState → Account → Type 0
 Shuts port core did = Closes port core did ⊎ (did ≡ quietly (changes port failing core))
 

@@ -33,7 +33,7 @@ loses port c core =
     then proposes (commands.Lost c.name) (changes port closed core)
     else quiet (changes port closed core)
 
--- the same if there is one; nothing happens otherwise
+-- a connection, if there is one, is closed as lost; nothing happens otherwise
 abbrev pub loses_open : Port → CoreState → Option Connection → Turn
 loses_open port core None = quiet core
 loses_open port core (Some c) = loses port c core
@@ -49,7 +49,7 @@ asks port name connect core =
     then proposes (commands.Connect name connect.client connect.clean) core
     else quiet (changes port closed core)
 
--- the same for any later packet, including a CONNECT
+-- a later packet, a CONNECT too, becomes a command; a refused proposal closes the connection
 abbrev pub says : Port → ConnectionName → Packet → CoreState → Turn
 says port name packet core =
     if has_room core

@@ -30,7 +30,7 @@ then_also first next =
       messages = first.messages ++ (next first.core).messages;
     }
 
--- the same this many times, each after the one before
+-- one thing this many times, each after the one before
 unfoldable pub repeated : ℕ → (CoreState → Turn) → CoreState → Turn
 repeated zero next core = quiet core
 repeated (suc more) next core = then_also (next core) (repeated more next)
@@ -48,7 +48,7 @@ abbrev pub served_by : Output → CoreState → CoreState
 served_by (outputs.Send name packet) core = changes_named name (put_out (spelling packet)) core
 served_by (outputs.Close name) core = changes_named name closed core
 
--- the same for any effect: a message does nothing to connections
+-- an effect is done on its connection; a message does nothing to connections
 abbrev pub served : CoreState → Effect Command Output → CoreState
 served core (Out place output) = served_by output core
 served core (To receiver message) = core

@@ -15,7 +15,7 @@ AgreeOn n list =
     (config : Config) (g : Group) (earlier : List (Moment State Command Output)) → StandsFor g n →
     Past rules config (moment_of g ∷ earlier) → IsAgreed config (moment_of g ∷ earlier) list
 
--- and the agreed list has this many commands
+-- the list on which the nodes agree has this many commands
 abbrev pub AgreeOnSoMany : NodesState → ℕ → Type 0
 AgreeOnSoMany n count =
     (config : Config) (g : Group) (earlier : List (Moment State Command Output)) → StandsFor g n →

@@ -71,7 +71,7 @@ HandsOver node port n before after =
     (core : CountedCore) → node_of n.nodes node ≡ Some core →
     after ≡ before ++ bytes_of (listed_at port core.core)
 
--- .. and the answer says whether more may come
+-- the answer to a handing over says whether more may come
 abbrev pub AnswersFor : ℕ → Port → NodesState → Handed → Type 0
 AnswersFor node port n handed =
     (core : CountedCore) → node_of n.nodes node ≡ Some core →
@@ -91,7 +91,7 @@ after_master o n =
 abbrev pub after_giving : Config → NodesState → NodesState
 after_giving config n = after_master (assigned Command n.master config) n
 
--- .. and after an Activate of a node
+-- the nodes after an Activate of a node that the master heard
 abbrev pub after_answer : ℕ → ℕ → NodesState → NodesState
 after_answer from ballot n =
     after_master (activated Command n.master ballot from n.master.waiting) n

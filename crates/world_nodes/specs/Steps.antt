@@ -49,7 +49,7 @@ recorded_if_cut archive old new =
     then recorded archive old.core.replica.state
     else archive
 
--- The same for a node that takes a cut: if its log was cut, what it had applied is in the record.
+-- A node takes a cut with losses: if its log was cut, what it had applied is in the record.
 pub record CutsWithLosses (at : ℕ) (core : CountedCore) (old new : NodesState) : Type 0 where
   pub node : CountedCore
   pub wanted : List (Effect Command Output)

@@ -27,7 +27,7 @@ pub record Follows (published : List Publication) (m : ClientPipes) (new : Piped
   pub publishes : published_along goes ≡ published
   pub stands : StandsFor new next
 
--- the same for each client of the model that corresponded to it before
+-- each client of the model that corresponded to it before follows, and publishes this
 abbrev pub FollowsBy : List Publication → Piped → Piped → Type 0
 FollowsBy published old new = (m : ClientPipes) → StandsFor old m → Follows published m new
 

@@ -26,7 +26,7 @@ pub record FollowsUp (count at : ℕ) (old : Piped) (way : Way) (new : Piped)
   pub up : there.pipe.up ≡ take count way.up ++ rest
   pub stands : StandsFor new (with_pipe (index_in_model at old) (record there.pipe { up = rest }) m)
 
--- the same for each client of the model that corresponded to it before
+-- each client of the model that corresponded to it before follows, with bytes taken up
 abbrev pub TakingUpFollows : ℕ → ℕ → Piped → Piped → Type 0
 TakingUpFollows at count old new =
     (m : ClientPipes) → StandsFor old m →
@@ -39,7 +39,7 @@ pub record FollowsDown (bytes : List ℕ) (at : ℕ) (old : Piped) (way : Way) (
   pub stands : StandsFor new
       (with_pipe (index_in_model at old) (record there.pipe { down = bytes }) m)
 
--- the same for each client of the model that corresponded to it before
+-- each client of the model that corresponded to it before follows, with its bytes exchanged
 abbrev pub SwappingFollows : ℕ → List ℕ → Piped → Piped → Type 0
 SwappingFollows at bytes old new =
     (m : ClientPipes) → StandsFor old m →

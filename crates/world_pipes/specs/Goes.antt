@@ -51,7 +51,7 @@ published_with (ClientStep.calls t h is spelled) = published_by h
 published_with (ClientStep.arrives j κ p piece rest connection pipe down) = []
 published_with (ClientStep.handles κ others p pipes packet left connections are up cut spelled) = []
 
--- .. in steps, one after another, the oldest first
+-- what a client publishes in steps, one after another, the oldest first
 abbrev pub published_along : {c d : ClientPipes} → ClientGoes c d → List Publication
 published_along ClientGoes.stays = []
 published_along (ClientGoes.goes_on goes step) = published_along goes ++ published_with step

@@ -15,7 +15,7 @@ pub record MovesUp (core : Core) (ways : List Way) (left : Core) (after : List W
   pub moved : (older : List Way) (way : Way) → ways ≡ older ++ way ∷ [] →
       after ≡ older ++ record way { up = way.up ++ core.out } ∷ []
 
--- the same if a connection is held, and it is lost if there is no memory
+-- what was written is sent up if a connection is held, which is lost if there is no memory
 abbrev pub SendsUp : Bool → Core → List Way → Sending → Bool → Core → List Way → Type 0
 SendsUp false core ways sending holds left after =
     (sending ≡ sendings.Sent) × (holds ≡ false) × (left ≡ core) × (after ≡ ways)

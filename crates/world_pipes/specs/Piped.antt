@@ -50,7 +50,7 @@ GoesUp core ways sendings.Sent new =
     (older : List Way) × (way : Way) × (ways ≡ older ++ way ∷ []) × (new ≡ sent_up core older way)
 GoesUp core ways sendings.Lost new = new ≡ broken core ways
 
--- and only while it holds one there is anything to send up
+-- there is anything to send up only while a client holds a connection
 abbrev pub GoesUpWhere : Bool → Core → List Way → Sending → Piped → Type 0
 GoesUpWhere true core ways sending new = GoesUp core ways sending new
 GoesUpWhere false core ways sending new = (sending ≡ sendings.Sent) × (new ≡ piped core ways)

@@ -45,11 +45,11 @@ pub data GroupStep {S C O : Type 0} (rules : Rules S C O) : MasterState → Worl
       In (0, record { from = from; body = Activate b }) w.sent →
       GroupStep rules m w (activated C m b from m.waiting).state (tells_from_master w
       (activated C m b from m.waiting))
-  -- the same if the master's message is lost
+  -- the master gives a ballot, and its message is lost
   assigns_unheard : {m : MasterState} {w : World S C O} (config : Config) →
       In config.primary config.members →
       GroupStep rules m w (assigned C m config).state w
-  -- the same for its answer to an Activate
+  -- the master hears an Activate, and its answer is lost
   hears_unanswered : {m : MasterState} {w : World S C O} (from b : ℕ) →
       In (0, record { from = from; body = Activate b }) w.sent →
       GroupStep rules m w (activated C m b from m.waiting).state w

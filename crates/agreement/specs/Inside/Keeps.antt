@@ -34,8 +34,8 @@ pub data LineAdds {C : Type 0} (adds : ℕ → C →
   adds_one : (l : Line C) (c : C) → h.line b ≡ Some l → k.list ≡ l.list ++ c ∷ [] → adds b c →
       LineAdds adds h b k
 
--- the same after a move of a node: no ballot is given or activated, and lists take only what may be
--- added
+-- After a move of a node no ballot is given or activated that was not, and lists take only what may
+-- be added.
 pub record NodeGoesOn {S C O : Type 0} (rules : Rules S C O) (w : World S C O) (h : History C)
     (adds : ℕ → C → Type 0)
     (v : World S C O) : Type 0 where
@@ -56,7 +56,7 @@ KeepsAdding {S = S} {C = C} {O = O} rules w h n adds o =
     (given : List (Effect C O)) → Thinned given o.effects →
     NodeGoesOn rules w h adds (moved w n o.state given)
 
--- and if it adds nothing to any list
+-- whichever of its messages are lost, the outcome of a node's step is sound, and adds nothing
 abbrev pub Keeps : {S C O : Type 0} → Rules S C O → World S C O → History C → ℕ → Outcome S C O →
     Type 0
 Keeps rules w h n o = KeepsAdding rules w h n (λ b c. ⊥) o

@@ -49,7 +49,7 @@ forward_of (packets.Pubrel id ∷ more) = Forward.Pubrel id ∷ forward_of more
 forward_of (_ ∷ more) = forward_of more
 forward_of [] = []
 
--- and of the client's packets
+-- the part of the client's packets that belongs to the handshake
 abbrev pub backward_of : List Written → List Backward
 backward_of (w ∷ more) = by w.packet (backward_of more)
   where

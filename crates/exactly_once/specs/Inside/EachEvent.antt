@@ -18,8 +18,8 @@ EventPublishes =
     (limits : Limits) (s t : Story) → IsSoundStory limits s → StoryStep limits s t →
     GoesTo (as_publisher limits s) (as_publisher limits t)
 
--- and of that in which it subscribes, while the window changes only at a new ballot: what starts
--- at another place is not always sent
+-- Each event is a run of the handshake in which the client subscribes, while the window changes
+-- only at a new ballot: what starts at another place is not always sent.
 abbrev pub EventSubscribes : Type 0
 EventSubscribes =
     (limits : Limits) (s t : Story) → IsSteady limits → IsSoundStory limits s →

@@ -88,7 +88,7 @@ IsMeant c past packet =
 abbrev pub IsWelcomed : Limits → Past → Client → ConnectionName → Type 0
 IsWelcomed limits past c x = Each (IsMeant c past) (put_to limits past x)
 
--- the same for each of these connections
+-- each packet that is sent to one of these connections is meant for the client
 abbrev pub AreWelcomed : Limits → Past → Client → List Connection → Type 0
 AreWelcomed limits past c connections =
     Each (λ (κ : Connection). IsWelcomed limits past c κ.name) connections

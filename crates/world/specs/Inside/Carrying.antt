@@ -55,7 +55,7 @@ CannotTake slot count nodes client =
     (way : Way) → slice_get client.ways slot.at ≡ Some way →
     (running nodes.nodes slot.node ≡ None) ⊎ IsNoPart count way.up
 
--- the same in a world
+-- these bytes of a slot reach its node in a world
 pub record TakesUpOn (number : ℕ) (slot : ConnectionSlot) (count : ℕ)
     (old new : WorldState) : Type 0 where
   pub client : WorldClient
@@ -72,7 +72,7 @@ TakesUpOnWhere false number slot count old new =
     (new ≡ old) × (client : WorldClient) × (slice_get old.clients slot.client ≡ Some client)
     × CanTake slot count old.nodes client.piped
 
--- the same in a world
+-- these bytes of a slot cannot reach its node: too few wait, or the node has stopped
 abbrev pub CannotTakeOn : ConnectionSlot → ℕ → WorldState → Type 0
 CannotTakeOn slot count w =
     (client : WorldClient) → slice_get w.clients slot.client ≡ Some client →

@@ -32,7 +32,7 @@ pub record HearsAndHas (has : Bool) (node : ℕ) (port : Port) (old new : NodesS
   pub acts : Acts (node - 1) (takes (Opened port 0)) old new
   pub known : IsKnown has node port new
 
--- .. or it is not reported
+-- a new connection is reported to a node, which then has it, or it is not reported
 abbrev pub HearsOfOne : Bool → ℕ → Port → NodesState → NodesState → Type 0
 HearsOfOne true node port old new = HearsAndHas true node port old new
 HearsOfOne false node port old new = (new ≡ old) ⊎ HearsAndHas false node port old new
@@ -44,7 +44,7 @@ pub record HasNew (node : ℕ) (port : Port) (old : NodesState) (client : Piped)
   pub follows : ConnectingFollows (node - 1) port client (Ok tt) later
   pub hears : HearsAndHas true node port old new
 
--- .. or it has none
+-- a client has a new connection to a node, which takes it, or it has none
 abbrev pub Reaches : Bool → ℕ → Port → NodesState → Piped → NodesState → Piped → Type 0
 Reaches true node port old client new later = HasNew node port old client new later
 Reaches false node port old client new later =
@@ -65,14 +65,14 @@ pub record ConnectsAt (i node : ℕ) (old new : WorldState) : Type 0 where
         ++ record { client = i; at = length client.piped.ways; node = node; is_open = true } ∷ [];
   }
 
--- and what the node queued then goes down
+-- the client at index i has a new connection, and what its node queued then goes down
 pub record OpensAt (i node : ℕ) (old new : WorldState) : Type 0 where
   pub between : WorldState
   pub connects : ConnectsAt i node old between
   pub gathers : Gathers false node between new
   pub uncounted : new.losses ≡ old.losses
 
--- or it has none
+-- the client at index i has no connection to a node
 pub record OpensNoneAt (i node : ℕ) (old new : WorldState) : Type 0 where
   pub client : WorldClient
   pub found : slice_get old.clients i ≡ Some client
@@ -81,7 +81,7 @@ pub record OpensNoneAt (i node : ℕ) (old new : WorldState) : Type 0 where
   pub none : NoneOpens node (port_of (next_number old)) old.nodes client.piped between piped
   pub is : new ≡ record (with_piped i client piped old) { nodes = between }
 
--- or nothing happened at all
+-- nothing happened at all, or the client has no connection
 abbrev pub MayOpenNone : ℕ → ℕ → WorldState → WorldState → Type 0
 MayOpenNone i node old new = (new ≡ old) ⊎ OpensNoneAt i node old new
 

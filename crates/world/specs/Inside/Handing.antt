@@ -33,7 +33,7 @@ HandsDown node port old before new after is_open =
     × (is_open ≡ is_told_open port (node_of old.nodes node)))
     ⊎ ((new ≡ nodes_forgetful old) × (after ≡ before) × (is_open ≡ true))
 
--- the same after what is in transit to a client on the connection at this index
+-- a node hands down what it queued, after what is in transit on the connection at this index
 abbrev pub PutsDown : ℕ → ℕ → Port → NodesState → Piped → NodesState → Piped → Bool → Type 0
 PutsDown at node port old client new later is_open =
     (way : Way) → slice_get client.ways at ≡ Some way →
@@ -46,7 +46,7 @@ MayHandDown node port old before new after =
     (NodesStay old new × (after ≡ before))
     ⊎ (Acts (node - 1) (gives port) old new × HandsOver node port old before after)
 
--- the same after what is in transit to a client on the connection at this index
+-- a node may hand down what it queued, after what is in transit on the connection at this index
 abbrev pub MayPutDown : ℕ → ℕ → Port → NodesState → Piped → NodesState → Piped → Type 0
 MayPutDown at node port old client new later =
     (way : Way) → slice_get client.ways at ≡ Some way →
@@ -69,7 +69,8 @@ pub record HandsOn (number : ℕ) (slot : ConnectionSlot) (old : WorldState) (is
       (way.down ++ put_out (port_of number) (node_of old.nodes.nodes slot.node)) client.piped) old)
       { nodes = between }
 
--- or its node ran out of memory: nothing changes, its end is open, and that is counted
+-- A slot is handed on, or its node ran out of memory: nothing changes, its end is open, and that is
+-- counted.
 abbrev pub MayHandOn : ℕ → ConnectionSlot → WorldState → Bool → WorldState → Type 0
 MayHandOn number slot old is_open new =
     HandsOn number slot old is_open new
