@@ -1,7 +1,7 @@
 // Stories: what a broker goes through. Each is made in one place, and lent from there.
 
 use crate::row::{Row, other_answer};
-use crate::tests::forms::Step;
+use crate::tests::forms::{Form, Step, is_built};
 use crate::tests::queues::{Part, other_part};
 use crate::tests::{forms, windows};
 use broker::BrokerMachine;
@@ -12,8 +12,8 @@ use std::alloc::Global;
 #[derive(Clone, Copy)]
 pub(crate) enum Start<'a> {
     Fresh,
-    /// The broker that is thawed from these bytes.
-    Thawed(&'a [u8]),
+    /// The broker that is thawed from the bytes of this form.
+    Thawed(Form<'a>),
 }
 
 /// What a broker goes through.
@@ -21,10 +21,10 @@ pub(crate) enum Start<'a> {
 pub(crate) enum Story<'a> {
     /// It answers these rows.
     Rows(&'a [Row<'a>]),
-    /// It is frozen to these bytes.
-    HasBytes(&'a [u8]),
-    /// It is frozen to these bytes, and to those of each step after it.
-    HasForms(&'a [u8], &'a [Step<'a>]),
+    /// It is frozen to the bytes of this form.
+    HasBytes(Form<'a>),
+    /// It is frozen to the bytes of this form, and to those of each step after it.
+    HasForms(Form<'a>, &'a [Step<'a>]),
     /// It answers these rows, as many times as they come.
     Parts(&'a [Part<'a>]),
     /// Seventeen entries are sent at once.
@@ -33,10 +33,21 @@ pub(crate) enum Story<'a> {
     FreesItsIdentifier,
 }
 
+// Returns the broker that is thawed from the bytes of a form.
+fn thawed(alloc: Global, form: Form<'_>) -> Option<BrokerMachine> {
+    let mut bytes = Vec::new(alloc);
+    if is_built(form, &mut bytes) {
+        BrokerMachine::thaw(alloc, bytes.as_slice()).ok()
+    } else {
+        None
+    }
+}
+
+// Returns the broker with which a story begins.
 fn started(alloc: Global, start: Start<'_>) -> Option<BrokerMachine> {
     match start {
         Start::Fresh => BrokerMachine::fresh(alloc).ok(),
-        Start::Thawed(bytes) => BrokerMachine::thaw(alloc, bytes).ok(),
+        Start::Thawed(form) => thawed(alloc, form),
     }
 }
 
@@ -45,10 +56,11 @@ fn fault_unless(is_right: bool) -> Option<usize> {
     if is_right { None } else { Some(0) }
 }
 
+// Finds the first step at which a broker goes through a story in another way.
 fn fault_of(alloc: Global, broker: &mut BrokerMachine, story: Story<'_>) -> Option<usize> {
     match story {
         Story::Rows(rows) => other_answer(alloc, broker, rows),
-        Story::HasBytes(bytes) => fault_unless(forms::has_bytes(alloc, broker, bytes)),
+        Story::HasBytes(form) => fault_unless(forms::has_bytes(alloc, broker, form)),
         Story::HasForms(first, steps) => forms::other_form(alloc, broker, first, steps),
         Story::Parts(parts) => other_part(alloc, broker, parts),
         Story::SendsSeventeen => fault_unless(windows::sends_seventeen(alloc, broker)),

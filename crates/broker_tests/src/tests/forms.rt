@@ -1,4 +1,5 @@
-// Frozen brokers: each expected byte is written by hand from the description of forms 1 and 2.
+// Frozen brokers: each expected byte is written by hand, field by field, from the description of
+// forms 1 and 2.
 
 use super::handshakes::{PUBLISH, SUBSCRIBE};
 use crate::row::{Answer, CLOSED, Event, NOTHING, Row, is_answered};
@@ -8,72 +9,145 @@ use broker::machine::Machine;
 use std::alloc::Global;
 use std::test::*;
 
-/// A fresh broker: the number of the form, the window, no session, no retained topic.
-const FRESH: &[u8] = &[2, 0x40, 0, 0, 0, 0];
+/// A frozen broker: its head, and the fields after it.
+pub(crate) type Form<'a> = (&'a [u8], &'a [&'a [u8]]);
 
-/// The same in form 1, and in form 2 with the window of 16.
-pub(crate) const FRESH_BEFORE: &[u8] = &[1, 0, 0, 0, 0];
+/// The heads: form 2 with the window of 64 and with that of 16, and form 1, which has no window.
+const WIDE: &[u8] = &[2, 0x40];
 
-const FRESH_NARROW: &[u8] = &[2, 0x10, 0, 0, 0, 0];
+const NARROW: &[u8] = &[2, 0x10];
+
+const BEFORE: &[u8] = &[1];
+
+/// A fresh broker.
+const FRESH: &[&[u8]] = &[
+    // no session, no retained topic
+    &[0, 0],
+    &[0, 0],
+];
+
+/// A broker that was read from form 1, which is fresh.
+pub(crate) const FRESH_BEFORE: Form<'static> = (BEFORE, FRESH);
 
 /// Client `a`, whose session is not clean, on connection 1 of ballot 1.
-const ONE_SESSION: &[u8] = &[
-    2, 0x40, 0, 1, 0, 1, 0x61, 0, 1, 0, 0, 0, 0, 0, 0, 0, 1, 0, 0, 0, 0, 0, 0, 0, 1, 0, 0, 0, 0, 0,
-    0, 0, 0, 0,
-];
-
-/// The same in form 1, and in form 2 with the window of 16.
-const ONE_SESSION_BEFORE: &[u8] = &[
-    1, 0, 1, 0, 1, 0x61, 0, 1, 0, 0, 0, 0, 0, 0, 0, 1, 0, 0, 0, 0, 0, 0, 0, 1, 0, 0, 0, 0, 0, 0, 0,
-    0, 0,
-];
-
-const ONE_SESSION_NARROW: &[u8] = &[
-    2, 0x10, 0, 1, 0, 1, 0x61, 0, 1, 0, 0, 0, 0, 0, 0, 0, 1, 0, 0, 0, 0, 0, 0, 0, 1, 0, 0, 0, 0, 0,
-    0, 0, 0, 0,
+const ONE_SESSION: &[&[u8]] = &[
+    // one session: client `a`, not clean
+    &[0, 1],
+    &[0, 1, 0x61],
+    &[0],
+    // a connection: its ballot and its number
+    &[1],
+    &[0, 0, 0, 0, 0, 0, 0, 1],
+    &[0, 0, 0, 0, 0, 0, 0, 1],
+    // no subscription, no received identifier, nothing in flight, nothing that waits
+    &[0],
+    &[0, 0],
+    &[0, 0],
+    &[0, 0],
+    // no retained topic
+    &[0, 0],
 ];
 
 /// The same client without a connection.
-const AWAY: &[u8] = &[2, 0x40, 0, 1, 0, 1, 0x61, 0, 0, 0, 0, 0, 0, 0, 0, 0, 0, 0];
-
-/// The same as [`ONE_SESSION`] with the subscription of `t/#` at QoS 2, the received identifier 1,
-/// an entry that waits for the PUBREC of identifier 1, and that publication retained: `x` on `t/1`
-/// at QoS 2.
-const ONE_ENTRY: &[u8] = &[
-    2, 0x40, 0, 1, 0, 1, 0x61, 0, 1, 0, 0, 0, 0, 0, 0, 0, 1, 0, 0, 0, 0, 0, 0, 0, 1, 1, 0, 3, 0x74,
-    0x2F, 0x23, 2, 0, 1, 0, 1, 0, 1, 0, 1, 1, 0, 2, 0, 3, 0x74, 0x2F, 0x31, 0, 0, 0, 1, 0x78, 0, 0,
-    0, 1, 2, 0, 3, 0x74, 0x2F, 0x31, 0, 0, 0, 1, 0x78,
+const AWAY: &[&[u8]] = &[
+    // one session: client `a`, not clean, no connection
+    &[0, 1],
+    &[0, 1, 0x61],
+    &[0],
+    &[0],
+    // no subscription, no received identifier, nothing in flight, nothing that waits
+    &[0],
+    &[0, 0],
+    &[0, 0],
+    &[0, 0],
+    // no retained topic
+    &[0, 0],
 ];
 
-/// A broker with something in every part: Client `a` on connection 258 of ballot 2 has `t/#` at QoS
-/// 0 and `t/1` at QoS 2, received identifiers 1 and 258, an entry that waits for PUBCOMP, one for
-/// PUBACK and one for PUBREC, and two that are not sent: a retained copy, and one without payload.
-/// Retained are `t/1` at QoS 0 and `t/2` at QoS 2.
-const FULL: &[u8] = &[
-    2, 0x40, 0, 1, 0, 1, 0x61, 0, 1, 0, 0, 0, 0, 0, 0, 0, 2, 0, 0, 0, 0, 0, 0, 1, 2, 2, 0, 3, 0x74,
-    0x2F, 0x23, 0, 0, 3, 0x74, 0x2F, 0x31, 2, 0, 2, 0, 1, 1, 2, 0, 3, 0, 3, 2, 0, 1, 0, 0, 1, 0, 3,
-    0x74, 0x2F, 0x31, 0, 0, 0, 1, 0x78, 0, 2, 1, 0, 2, 0, 3, 0x74, 0x2F, 0x31, 0, 0, 0, 1, 0x79, 0,
-    2, 1, 1, 0, 3, 0x74, 0x2F, 0x32, 0, 0, 0, 1, 0x7A, 0, 2, 0, 3, 0x74, 0x2F, 0x31, 0, 0, 0, 0, 0,
-    2, 0, 0, 3, 0x74, 0x2F, 0x31, 0, 0, 0, 1, 0x78, 2, 0, 3, 0x74, 0x2F, 0x32, 0, 0, 0, 2, 0x79,
-    0x7A,
+/// [`ONE_SESSION`] with the subscription of `t/#` at QoS 2, the received identifier 1, an entry
+/// that waits for the PUBREC of identifier 1, and that publication retained: `x` on `t/1` at QoS 2.
+const ONE_ENTRY: &[&[u8]] = &[
+    // one session: client `a`, not clean
+    &[0, 1],
+    &[0, 1, 0x61],
+    &[0],
+    // a connection: its ballot and its number
+    &[1],
+    &[0, 0, 0, 0, 0, 0, 0, 1],
+    &[0, 0, 0, 0, 0, 0, 0, 1],
+    // one subscription: `t/#` at QoS 2
+    &[1],
+    &[0, 3, 0x74, 0x2F, 0x23, 2],
+    // one received identifier
+    &[0, 1],
+    &[0, 1],
+    // one entry in flight: identifier 1, waits for PUBREC
+    &[0, 1],
+    &[0, 1, 1],
+    // its publication: RETAIN 0, QoS 2, topic, payload
+    &[0, 2],
+    &[0, 3, 0x74, 0x2F, 0x31],
+    &[0, 0, 0, 1, 0x78],
+    // nothing that waits
+    &[0, 0],
+    // one retained topic: QoS 2, topic, payload
+    &[0, 1],
+    &[2],
+    &[0, 3, 0x74, 0x2F, 0x31],
+    &[0, 0, 0, 1, 0x78],
 ];
 
-/// The same in form 1, and in form 2 with the window of 16.
-const FULL_BEFORE: &[u8] = &[
-    1, 0, 1, 0, 1, 0x61, 0, 1, 0, 0, 0, 0, 0, 0, 0, 2, 0, 0, 0, 0, 0, 0, 1, 2, 2, 0, 3, 0x74, 0x2F,
-    0x23, 0, 0, 3, 0x74, 0x2F, 0x31, 2, 0, 2, 0, 1, 1, 2, 0, 3, 0, 3, 2, 0, 1, 0, 0, 1, 0, 3, 0x74,
-    0x2F, 0x31, 0, 0, 0, 1, 0x78, 0, 2, 1, 0, 2, 0, 3, 0x74, 0x2F, 0x31, 0, 0, 0, 1, 0x79, 0, 2, 1,
-    1, 0, 3, 0x74, 0x2F, 0x32, 0, 0, 0, 1, 0x7A, 0, 2, 0, 3, 0x74, 0x2F, 0x31, 0, 0, 0, 0, 0, 2, 0,
-    0, 3, 0x74, 0x2F, 0x31, 0, 0, 0, 1, 0x78, 2, 0, 3, 0x74, 0x2F, 0x32, 0, 0, 0, 2, 0x79, 0x7A,
-];
-
-const FULL_NARROW: &[u8] = &[
-    2, 0x10, 0, 1, 0, 1, 0x61, 0, 1, 0, 0, 0, 0, 0, 0, 0, 2, 0, 0, 0, 0, 0, 0, 1, 2, 2, 0, 3, 0x74,
-    0x2F, 0x23, 0, 0, 3, 0x74, 0x2F, 0x31, 2, 0, 2, 0, 1, 1, 2, 0, 3, 0, 3, 2, 0, 1, 0, 0, 1, 0, 3,
-    0x74, 0x2F, 0x31, 0, 0, 0, 1, 0x78, 0, 2, 1, 0, 2, 0, 3, 0x74, 0x2F, 0x31, 0, 0, 0, 1, 0x79, 0,
-    2, 1, 1, 0, 3, 0x74, 0x2F, 0x32, 0, 0, 0, 1, 0x7A, 0, 2, 0, 3, 0x74, 0x2F, 0x31, 0, 0, 0, 0, 0,
-    2, 0, 0, 3, 0x74, 0x2F, 0x31, 0, 0, 0, 1, 0x78, 2, 0, 3, 0x74, 0x2F, 0x32, 0, 0, 0, 2, 0x79,
-    0x7A,
+/// A broker with something in every part. Client `a` on connection 258 of ballot 2 has two
+/// subscriptions, two received identifiers, three entries in flight, and two that wait: a retained
+/// copy, and one without payload. Two topics are retained.
+const FULL: &[&[u8]] = &[
+    // one session: client `a`, not clean
+    &[0, 1],
+    &[0, 1, 0x61],
+    &[0],
+    // a connection: its ballot and its number
+    &[1],
+    &[0, 0, 0, 0, 0, 0, 0, 2],
+    &[0, 0, 0, 0, 0, 0, 1, 2],
+    // two subscriptions: `t/#` at QoS 0, `t/1` at QoS 2
+    &[2],
+    &[0, 3, 0x74, 0x2F, 0x23, 0],
+    &[0, 3, 0x74, 0x2F, 0x31, 2],
+    // two received identifiers: 1 and 258
+    &[0, 2],
+    &[0, 1],
+    &[1, 2],
+    // three entries in flight; the first: identifier 3, waits for PUBCOMP
+    &[0, 3],
+    &[0, 3, 2],
+    // identifier 1, waits for PUBACK; RETAIN 0, QoS 1, topic, payload
+    &[0, 1, 0],
+    &[0, 1],
+    &[0, 3, 0x74, 0x2F, 0x31],
+    &[0, 0, 0, 1, 0x78],
+    // identifier 2, waits for PUBREC; RETAIN 0, QoS 2, topic, payload
+    &[0, 2, 1],
+    &[0, 2],
+    &[0, 3, 0x74, 0x2F, 0x31],
+    &[0, 0, 0, 1, 0x79],
+    // two that wait; the first: RETAIN 1, QoS 1, topic, payload
+    &[0, 2],
+    &[1, 1],
+    &[0, 3, 0x74, 0x2F, 0x32],
+    &[0, 0, 0, 1, 0x7A],
+    // RETAIN 0, QoS 2, topic, no payload
+    &[0, 2],
+    &[0, 3, 0x74, 0x2F, 0x31],
+    &[0, 0, 0, 0],
+    // two retained topics; the first: QoS 0, topic, payload
+    &[0, 2],
+    &[0],
+    &[0, 3, 0x74, 0x2F, 0x31],
+    &[0, 0, 0, 1, 0x78],
+    // QoS 2, topic, payload
+    &[2],
+    &[0, 3, 0x74, 0x2F, 0x32],
+    &[0, 0, 0, 2, 0x79, 0x7A],
 ];
 
 /// PUBLISH of `x` on `t/1` at QoS 2 with RETAIN 1 and identifier 1.
@@ -84,21 +158,37 @@ fn is_frozen(broker: &BrokerMachine, bytes: &mut Vec<u8>) -> bool {
     broker.freeze(bytes).is_ok()
 }
 
-/// Says whether a broker is frozen to these bytes.
-pub(crate) fn has_bytes(alloc: Global, broker: &BrokerMachine, wanted: &[u8]) -> bool {
-    let mut bytes = Vec::new(alloc);
-    is_frozen(broker, &mut bytes) && bytes.as_slice() == wanted
+/// Appends the bytes of a form, head first, and says whether memory was found.
+pub(crate) fn is_built(form: Form<'_>, bytes: &mut Vec<u8>) -> bool {
+    if bytes.extend_from_slice(form.0).is_err() {
+        return false;
+    }
+    for field in form.1.iter() {
+        if bytes.extend_from_slice(*field).is_err() {
+            return false;
+        }
+    }
+    true
 }
 
-/// What comes to a broker, what it sends then, and the bytes that the broker has then, if they are
+/// Says whether a broker is frozen to the bytes of this form.
+pub(crate) fn has_bytes(alloc: Global, broker: &BrokerMachine, wanted: Form<'_>) -> bool {
+    let mut built = Vec::new(alloc);
+    let mut bytes = Vec::new(alloc);
+    is_built(wanted, &mut built)
+        && is_frozen(broker, &mut bytes)
+        && bytes.as_slice() == built.as_slice()
+}
+
+/// What comes to a broker, what it sends then, and the form that the broker has then, if it is
 /// asked for.
-pub(crate) type Step<'a> = (Event<'a>, &'a [Answer<'a>], Option<&'a [u8]>);
+pub(crate) type Step<'a> = (Event<'a>, &'a [Answer<'a>], Option<Form<'a>>);
 
 const STEPS: &[Step<'static>] = &[
     (
         Event::Connect(1, "a", false),
         &[(1, &[0x20, 2, 0, 0])],
-        Some(ONE_SESSION),
+        Some((WIDE, ONE_SESSION)),
     ),
     (
         Event::Bytes(1, SUBSCRIBE),
@@ -108,21 +198,22 @@ const STEPS: &[Step<'static>] = &[
     (
         Event::Bytes(1, RETAINED),
         &[(1, &[0x50, 2, 0, 1]), (1, PUBLISH)],
-        Some(ONE_ENTRY),
+        Some((WIDE, ONE_ENTRY)),
     ),
 ];
 
-fn is_form(alloc: Global, broker: &BrokerMachine, wanted: Option<&[u8]>) -> bool {
+// Says whether a broker has this form, if one is asked for.
+fn is_form(alloc: Global, broker: &BrokerMachine, wanted: Option<Form<'_>>) -> bool {
     match wanted {
-        Some(bytes) => has_bytes(alloc, broker, bytes),
+        Some(form) => has_bytes(alloc, broker, form),
         None => true,
     }
 }
 
 // Returns which step leaves a broker with other answers or bytes, if there is one.
 fn other_bytes(alloc: Global, broker: &mut BrokerMachine, steps: &[Step<'_>]) -> Option<usize> {
-    for (index, (event, wanted, bytes)) in steps.iter().enumerate() {
-        if !is_answered(alloc, broker, *event, wanted) || !is_form(alloc, broker, *bytes) {
+    for (index, (event, wanted, form)) in steps.iter().enumerate() {
+        if !is_answered(alloc, broker, *event, wanted) || !is_form(alloc, broker, *form) {
             return Some(index);
         }
     }
@@ -133,7 +224,7 @@ fn other_bytes(alloc: Global, broker: &mut BrokerMachine, steps: &[Step<'_>]) ->
 pub(crate) fn other_form(
     alloc: Global,
     broker: &mut BrokerMachine,
-    first: &[u8],
+    first: Form<'_>,
     steps: &[Step<'_>],
 ) -> Option<usize> {
     if !has_bytes(alloc, broker, first) {
@@ -142,39 +233,45 @@ pub(crate) fn other_form(
     other_bytes(alloc, broker, steps)
 }
 
-// Finds what is wrong with the broker that is thawed from these bytes, if it is not frozen to them
-// again.
-fn other_again(alloc: Global, bytes: &[u8]) -> Option<usize> {
-    first_fault(alloc, Start::Thawed(bytes), Story::HasBytes(bytes))
+// Finds what is wrong with the broker that is thawed from form 2 with these fields, if it is not
+// frozen to them again.
+fn other_again(alloc: Global, fields: &[&[u8]]) -> Option<usize> {
+    let form = (WIDE, fields);
+    first_fault(alloc, Start::Thawed(form), Story::HasBytes(form))
 }
 
-/// What a broker of form 1 is frozen to: as it was read, and after a Start.
-const BEFORE: [(&[u8], &[u8], &[u8]); 2] = [
-    (FRESH_BEFORE, FRESH_NARROW, FRESH),
-    (ONE_SESSION_BEFORE, ONE_SESSION_NARROW, AWAY),
+// A Start, after which a broker has no session.
+const STARTED_FRESH: &[Step<'static>] = &[(Event::Start(2), NOTHING, Some((WIDE, FRESH)))];
+
+// A Start, after which the only session of a broker has no connection.
+const STARTED_AWAY: &[Step<'static>] = &[(Event::Start(2), NOTHING, Some((WIDE, AWAY)))];
+
+/// The fields of a broker that is read from form 1, and what it does at a Start.
+const READ: [(&[&[u8]], &[Step<'static>]); 2] = [
+    (FRESH, STARTED_FRESH),
+    (ONE_SESSION, STARTED_AWAY),
 ];
 
-// Finds what is wrong with the broker that is thawed from bytes of form 1.
-fn other_before(alloc: Global, before: &[u8], narrow: &[u8], wide: &[u8]) -> Option<usize> {
-    let steps = [(Event::Start(2), NOTHING, Some(wide))];
+// Finds what is wrong with the broker that is thawed from form 1 with these fields.
+fn other_before<'a>(alloc: Global, fields: &'a [&'a [u8]], steps: &'a [Step<'a>]) -> Option<usize> {
     first_fault(
         alloc,
-        Start::Thawed(before),
-        Story::HasForms(narrow, &steps),
+        Start::Thawed((BEFORE, fields)),
+        Story::HasForms((NARROW, fields), steps),
     )
 }
 
 // A broker that is read from form 1 has the window of 16, and that of 64 after a Start.
 #[test]
 fn form_1_is_read(rt: HostRuntime) {
-    for (before, narrow, wide) in BEFORE {
-        assert_eq!(rt; other_before(rt.alloc(), before, narrow, wide), None);
+    for (fields, steps) in READ {
+        assert_eq!(rt; other_before(rt.alloc(), fields, steps), None);
     }
     assert_eq!(rt;
         first_fault(
             rt.alloc(),
-            Start::Thawed(FULL_BEFORE),
-            Story::HasBytes(FULL_NARROW)
+            Start::Thawed((BEFORE, FULL)),
+            Story::HasBytes((NARROW, FULL))
         ),
         None
     );
@@ -183,7 +280,11 @@ fn form_1_is_read(rt: HostRuntime) {
 #[test]
 fn frozen_forms(rt: HostRuntime) {
     assert_eq!(rt;
-        first_fault(rt.alloc(), Start::Fresh, Story::HasForms(FRESH, STEPS)),
+        first_fault(
+            rt.alloc(),
+            Start::Fresh,
+            Story::HasForms((WIDE, FRESH), STEPS)
+        ),
         None
     );
     assert_eq!(rt; other_again(rt.alloc(), FRESH), None);
@@ -212,7 +313,11 @@ const GOES_ON: &[Row<'static>] = &[
 #[test]
 fn a_thawed_broker_goes_on(rt: HostRuntime) {
     assert_eq!(rt;
-        first_fault(rt.alloc(), Start::Thawed(ONE_ENTRY), Story::Rows(GOES_ON)),
+        first_fault(
+            rt.alloc(),
+            Start::Thawed((WIDE, ONE_ENTRY)),
+            Story::Rows(GOES_ON)
+        ),
         None
     );
 }
