@@ -3,6 +3,7 @@
 #![tactic(auto)]
 
 mod client;
+mod floods;
 mod heard;
 mod visiting;
 
@@ -10,5 +11,6 @@ pub use client::{
     Pair, SUBSCRIBE, SUBSCRIBED, connect, fills, is_answered, is_closed, is_delivered, is_open_for,
     is_silent, join, open, publish, waits_to_write,
 };
+pub use floods::{Flood, Large, large_publish};
 pub use heard::Heard;
 pub use visiting::visits;

@@ -3,9 +3,8 @@
 use super::nodes::fault_in;
 use super::row::{Missed, Row, Table, unless};
 use server::Listener;
-use server_clients::{connect, fills, join, open};
-use std::alloc::{AllocError, Global};
-use std::io::{Read, Write};
+use server_clients::{Flood, connect, fills, join, open};
+use std::io::Read;
 use std::net::{Net, TcpStream};
 use std::time::{Clock, Instant};
 
@@ -77,44 +76,6 @@ fn has_taken<R: Clock>(rt: &R, start: Instant) -> bool {
         Ok(took) => took.as_millis() > 1_500 && took.as_millis() < 5_000,
         Err(_) => false,
     }
-}
-
-/// What is sent in a flood, what has to be answered, and room for what is.
-#[derive(Drop)]
-pub(super) struct Flood {
-    sent: Vec<u8>,
-    wanted: Vec<u8>,
-    room: Vec<u8>,
-}
-
-impl Flood {
-    /// Returns 32,768 PINGREQ, and as many PINGRESP.
-    pub(super) fn new(alloc: Global) -> Result<Flood, AllocError> {
-        Ok(Flood {
-            sent: packets(alloc, 0xC0)?,
-            wanted: packets(alloc, 0xD0)?,
-            room: packets(alloc, 0)?,
-        })
-    }
-
-    /// Says whether the PINGREQ are sent.
-    pub(super) fn is_sent(&self, stream: &mut TcpStream) -> bool {
-        stream.write_all(self.sent.as_slice()).is_ok()
-    }
-
-    /// Says whether the PINGRESP come.
-    pub(super) fn is_heard(&mut self, stream: &mut TcpStream) -> bool {
-        stream.read_exact(self.room.as_mut_slice()).is_ok() && self.room == self.wanted
-    }
-}
-
-// 64 KiB of packets of this first byte, with nothing in them.
-fn packets(alloc: Global, first: u8) -> Result<Vec<u8>, AllocError> {
-    let mut bytes = Vec::with_capacity(alloc, 65_536)?;
-    for _ in 0..32_768 {
-        bytes.extend_from_slice(&[first, 0])?;
-    }
-    Ok(bytes)
 }
 
 /// 32,768 PINGREQ in one write are answered by as many PINGRESP and nothing else. Returns what of

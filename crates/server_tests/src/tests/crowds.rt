@@ -4,10 +4,11 @@ use super::nodes::fault_in;
 use super::row::{Missed, Row, Table, unless};
 use server::Listener;
 use server_clients::{
-    Pair, SUBSCRIBE, SUBSCRIBED, connect, is_answered, is_closed, is_open_for, join, open,
+    Large, Pair, SUBSCRIBE, SUBSCRIBED, connect, is_answered, is_closed, is_open_for, join,
+    large_publish, open,
 };
-use std::alloc::{AllocError, Global};
-use std::io::{Read, Write};
+use std::alloc::Global;
+use std::io::Write;
 use std::net::{Net, TcpStream};
 use std::sync::Wait;
 use std::thread;
@@ -165,42 +166,6 @@ where
         Some(mut stream) => is_answered(&mut stream, &connect(letter, true), &[0x20, 2, 0, 0]),
         None => false,
     }
-}
-
-// A PUBLISH, and room for the result of it.
-#[derive(Drop)]
-struct Large {
-    sent: Vec<u8>,
-    room: Vec<u8>,
-}
-
-impl Large {
-    fn new(alloc: Global) -> Result<Large, AllocError> {
-        Ok(Large {
-            sent: large_publish(alloc)?,
-            room: large_publish(alloc)?,
-        })
-    }
-
-    // Says whether the PUBLISH, with this last byte, comes to the subscriber as it was sent.
-    fn passes(&mut self, pair: &mut Pair, last: u8) -> bool {
-        if let Some(byte) = self.sent.last_mut() {
-            *byte = last;
-        }
-        pair.speaker.write_all(self.sent.as_slice()).is_ok()
-            && pair.hearer.read_exact(self.room.as_mut_slice()).is_ok()
-            && self.room == self.sent
-    }
-}
-
-/// Returns a PUBLISH at QoS 0 on `t/1` with 1,000,000 bytes of payload. The 1,000,005 bytes after
-/// its length are 69 + 128 * (4 + 128 * 61).
-pub(super) fn large_publish(alloc: Global) -> Result<Vec<u8>, AllocError> {
-    let mut bytes = Vec::from_elem(alloc, 0u8, 1_000_009)?;
-    if let Some(beginning) = bytes.first_chunk_mut() {
-        *beginning = [0x30, 0x80 + 69, 0x80 + 4, 61, 0, 3, 0x74, 0x2F, 0x31];
-    }
-    Ok(bytes)
 }
 
 /// A subscriber gets 50 MB while another one has the same subscription and never reads. Returns

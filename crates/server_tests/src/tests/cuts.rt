@@ -1,9 +1,9 @@
 // Nodes that cut their logs, as their reports show.
 
-use super::crowds::large_publish;
 use super::nodes::listen_all;
+use super::row::{Missed, unless};
 use server::{Config, Listener, Members, NoGate, NodeReport, serve_gated};
-use server_clients::{is_answered, join};
+use server_clients::{is_answered, join, large_publish};
 use std::io::Write;
 use std::net::{Net, TcpListener, TcpStream};
 use std::sync::Wait;
@@ -58,12 +58,12 @@ const ROWS: &[Row] = &[
 #[test]
 fn logs_are_cut(rt: HostRuntime) {
     for row in ROWS {
-        assert!(rt; holds(&rt, row), "{}", row.name);
+        assert_eq!(rt; missed_with(&rt, row), None, "{}", row.name);
     }
 }
 
-// Says whether a row holds with nodes of its own.
-fn holds<R>(rt: &R, row: &Row) -> bool
+// Returns the first step of a row that is not so with nodes of its own.
+fn missed_with<R>(rt: &R, row: &Row) -> Missed
 where
     R: AllocGlobal
         + Threads
@@ -73,10 +73,15 @@ where
         + Net<Listener = TcpListener, Stream = TcpStream>,
 {
     let mut listeners = Vec::new(rt.alloc());
-    listen_all(rt, row.members, &mut listeners) && serve(rt, row, listeners.as_slice())
+    if listen_all(rt, row.members, &mut listeners) {
+        serve(rt, row, listeners.as_slice())
+    } else {
+        Some("a port is free")
+    }
 }
 
-fn serve<R>(rt: &R, row: &Row, listeners: &[Listener]) -> bool
+// Returns the first step of a row that is not so with the nodes of these listeners.
+fn serve<R>(rt: &R, row: &Row, listeners: &[Listener]) -> Missed
 where
     R: AllocGlobal + Threads + Wait + Clock + Sync + Net<Stream = TcpStream>,
 {
@@ -84,7 +89,7 @@ where
         Members::from_slice(rt.alloc(), row.members),
         row.members.first(),
     ) else {
-        return false;
+        return Some("there is memory for a ballot");
     };
     let config = Config {
         members,
@@ -99,24 +104,27 @@ where
         |_cluster| sends(rt, row, listeners.first()),
     );
     match served {
-        Ok((sent, reports)) => sent && are_as_told(reports.as_slice(), row.are_cut),
-        Err(_) => false,
+        Ok((missed, reports)) => missed.or(unless(
+            are_as_told(reports.as_slice(), row.are_cut),
+            "just the logs of these nodes are cut",
+        )),
+        Err(_) => Some("the nodes serve"),
     }
 }
 
-// Says whether the publications are sent and taken, and then it waits.
-fn sends<R>(rt: &R, row: &Row, listener: Option<&Listener>) -> bool
+// Returns the first step that is not so: the publications are sent and taken. Then it waits.
+fn sends<R>(rt: &R, row: &Row, listener: Option<&Listener>) -> Missed
 where
     R: AllocGlobal + Wait + Clock + Net<Stream = TcpStream>,
 {
     let (Ok(large), Some(mut stream)) = (large_publish(rt.alloc()), join(rt, listener, b's', false))
     else {
-        return false;
+        return Some("a client comes");
     };
-    let sent = (0..row.publications).all(|_| stream.write_all(large.as_slice()).is_ok())
+    let is_taken = (0..row.publications).all(|_| stream.write_all(large.as_slice()).is_ok())
         && is_answered(&mut stream, &[0xC0, 0], &[0xD0, 0]);
     thread::sleep(rt, Duration::from_millis(row.milliseconds));
-    sent
+    unless(is_taken, "the publications are sent and taken")
 }
 
 // Says whether the logs of these nodes were cut, and of no others: a log that was cut begins at a

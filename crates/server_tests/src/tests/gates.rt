@@ -1,7 +1,8 @@
 // Nodes that are held at a gate.
 
-use super::lagging::{are_bytes_bounded, are_places_bounded};
+use super::lagging::{unbounded_bytes, unbounded_places};
 use super::nodes::{listen_all, opening};
+use super::row::{Missed, unless};
 use server::{Cluster, Gate, Listener, NodeReport, serve_gated};
 use server_clients::{Heard, Pair, is_answered, is_silent, publish, visits};
 use std::io::Write;
@@ -13,14 +14,15 @@ use std::time::{Clock, Duration};
 
 // A gate, and what is done while nodes ask it.
 trait Watched: Gate {
-    fn attend<R>(&self, rt: &R, cluster: &Cluster, listener: Option<&Listener>) -> bool
+    // Returns the first step that is not so while nodes ask it.
+    fn attend<R>(&self, rt: &R, cluster: &Cluster, listener: Option<&Listener>) -> Missed
     where
         R: AllocGlobal + Wait + Clock + Net<Stream = TcpStream>;
 }
 
-// Says whether that goes well with these nodes, the members of ballot 1, of which node 1 is the
-// primary, and each node took what was sent to it.
-fn goes_well<R, G>(rt: &R, members: &[u8], gate: &G) -> bool
+// Returns the first step that is not so with these nodes, the members of ballot 1, of which node 1
+// is the primary. The last one is that each node took what was sent to it.
+fn missed_at<R, G>(rt: &R, members: &[u8], gate: &G) -> Missed
 where
     R: AllocGlobal
         + Threads
@@ -31,16 +33,21 @@ where
     G: Watched + Sync,
 {
     let mut listeners = Vec::new(rt.alloc());
-    listen_all(rt, members, &mut listeners) && serve(rt, members, listeners.as_slice(), gate)
+    if listen_all(rt, members, &mut listeners) {
+        serve(rt, members, listeners.as_slice(), gate)
+    } else {
+        Some("a port is free")
+    }
 }
 
-fn serve<R, G>(rt: &R, members: &[u8], listeners: &[Listener], gate: &G) -> bool
+// Returns the first step that is not so with the nodes of these listeners.
+fn serve<R, G>(rt: &R, members: &[u8], listeners: &[Listener], gate: &G) -> Missed
 where
     R: AllocGlobal + Threads + Wait + Clock + Sync + Net<Stream = TcpStream>,
     G: Watched + Sync,
 {
     let Ok(config) = opening(rt.alloc(), members) else {
-        return false;
+        return Some("there is memory for a ballot");
     };
     let served = serve_gated(
         rt,
@@ -51,8 +58,11 @@ where
         |cluster| gate.attend(rt, cluster, listeners.first()),
     );
     match served {
-        Ok((went_well, reports)) => went_well && are_through(reports.as_slice(), listeners.len()),
-        Err(_) => false,
+        Ok((missed, reports)) => missed.or(unless(
+            are_through(reports.as_slice(), listeners.len()),
+            "each node took what was sent to it, and asked its gate",
+        )),
+        Err(_) => Some("the nodes serve"),
     }
 }
 
@@ -115,6 +125,7 @@ impl Meeting {
         there.iter().take(self.nodes).all(|node| *node)
     }
 
+    // Says whether all were there at one time.
     fn has_met<R: Wait>(&self, rt: &R) -> bool {
         *self.met.lock(rt)
     }
@@ -141,19 +152,24 @@ impl Gate for Meeting {
 }
 
 impl Watched for Meeting {
-    // Says whether the nodes meet within ten seconds, client `a` is answered then, and each taking
-    // was asked for by its number.
-    fn attend<R>(&self, rt: &R, _cluster: &Cluster, listener: Option<&Listener>) -> bool
+    // The nodes meet within ten seconds, client `a` is answered then, and each taking was asked for
+    // by its number.
+    fn attend<R>(&self, rt: &R, _cluster: &Cluster, listener: Option<&Listener>) -> Missed
     where
         R: AllocGlobal + Wait + Clock + Net<Stream = TcpStream>,
     {
         for _ in 0..1_000 {
             if self.has_met(rt) {
-                return visits(rt, listener) && *self.in_order.lock(rt);
+                let is_served = visits(rt, listener);
+                let is_in_order = *self.in_order.lock(rt);
+                return unless(is_served, "a client is answered").or(unless(
+                    is_in_order,
+                    "each taking is asked for by its number",
+                ));
             }
             thread::sleep(rt, Duration::from_millis(10));
         }
-        false
+        Some("the nodes meet within ten seconds")
     }
 }
 
@@ -163,7 +179,7 @@ impl Watched for Meeting {
 fn nodes_run_apart(rt: HostRuntime) {
     for members in [[1, 2].as_slice(), [1, 2, 3].as_slice()] {
         let meeting = Meeting::new(members.len());
-        assert!(rt; goes_well(&rt, members, &meeting), "{members:?}");
+        assert_eq!(rt; missed_at(&rt, members, &meeting), None, "{members:?}");
     }
 }
 
@@ -191,32 +207,39 @@ impl Bar {
         *self.shut.lock(rt) = shut;
     }
 
-    // Says whether `holds` holds for a subscriber and a publisher.
-    fn passes<R>(&self, rt: &R, listener: Option<&Listener>) -> bool
+    // Returns the first step of `holds` that is not so for a subscriber and a publisher.
+    fn passes<R>(&self, rt: &R, listener: Option<&Listener>) -> Missed
     where
         R: AllocGlobal + Wait + Net<Stream = TcpStream>,
     {
         let mut heard = Heard::new(rt);
         match Pair::join(rt, listener, false) {
             Some(mut pair) => self.holds(rt, &mut pair, &mut heard),
-            None => false,
+            None => Some("two clients come"),
         }
     }
 
-    // Says whether a publication at QoS 2 is answered, and comes to its subscriber, but neither
-    // while node 3 is held.
-    fn holds<R: Wait>(&self, rt: &R, pair: &mut Pair, heard: &mut Heard) -> bool {
-        let subscribed = pair.subscribes();
+    // Returns the first step that is not so: a publication at QoS 2 is answered, and comes to its
+    // subscriber, but neither while node 3 is held.
+    fn holds<R: Wait>(&self, rt: &R, pair: &mut Pair, heard: &mut Heard) -> Missed {
+        if !pair.subscribes() {
+            return Some("SUBACK comes");
+        }
         self.set(rt, true);
-        let held = pair.speaker.write_all(&publish(0x34, 1, b'x')).is_ok()
+        let is_held = pair.speaker.write_all(&publish(0x34, 1, b'x')).is_ok()
             && is_silent(&mut pair.speaker)
             && is_silent(&mut pair.hearer);
         self.set(rt, false);
-        subscribed
-            && held
-            && is_answered(&mut pair.speaker, &[], &[0x50, 2, 0, 1])
-            && heard.answers(&mut pair.hearer)
-            && heard.payloads.as_slice() == [b'x'].as_slice()
+        if !is_held {
+            return Some("nothing comes while node 3 is held");
+        }
+        if !is_answered(&mut pair.speaker, &[], &[0x50, 2, 0, 1]) {
+            return Some("PUBREC comes once node 3 goes on");
+        }
+        unless(
+            heard.answers(&mut pair.hearer) && heard.payloads.as_slice() == [b'x'].as_slice(),
+            "the publication comes once node 3 goes on",
+        )
     }
 }
 
@@ -233,14 +256,14 @@ impl Gate for Bar {
 }
 
 impl Watched for Bar {
-    fn attend<R>(&self, rt: &R, cluster: &Cluster, listener: Option<&Listener>) -> bool
+    fn attend<R>(&self, rt: &R, cluster: &Cluster, listener: Option<&Listener>) -> Missed
     where
         R: AllocGlobal + Wait + Clock + Net<Stream = TcpStream>,
     {
         match self.load {
             Load::One => self.passes(rt, listener),
-            Load::Packets => are_places_bounded(rt, self, cluster, listener),
-            Load::Bytes => are_bytes_bounded(rt, self, cluster, listener),
+            Load::Packets => unbounded_places(rt, self, cluster, listener),
+            Load::Bytes => unbounded_bytes(rt, self, cluster, listener),
         }
     }
 }
@@ -252,6 +275,6 @@ fn what_waits_for_a_held_member_is_bounded(rt: HostRuntime) {
             shut: Mutex::new(false),
             load,
         };
-        assert!(rt; goes_well(&rt, &[1, 2, 3], &bar), "{load:?}");
+        assert_eq!(rt; missed_at(&rt, &[1, 2, 3], &bar), None, "{load:?}");
     }
 }
