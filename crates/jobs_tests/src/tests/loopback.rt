@@ -64,8 +64,21 @@ fn parts_of<R: Files>(rt: &R) -> io::Result<[Part; 3]> {
     Ok([Part::Nodes(orders), Part::Meter, Part::Switch(giver)])
 }
 
-fn have_ended_well(parts: &[Part]) -> bool {
-    parts.iter().all(|part| matches!(part, Part::Ended(true)))
+// What each part has to do, in their order.
+const ENDS: &[&str] = &[
+    "the nodes answer the orders and end with 0",
+    "the subscriber prints what came and ends with 0",
+    "the publisher ends with 0, and the orders are given",
+];
+
+// Returns what the first part does not do that has not ended as it has to.
+fn other_end(parts: &[Part]) -> Option<&'static str> {
+    for (part, words) in parts.iter().zip(ENDS) {
+        if !matches!(part, Part::Ended(true)) {
+            return Some(*words);
+        }
+    }
+    None
 }
 
 // Takes a part to its end.
@@ -97,6 +110,7 @@ where
     }
 }
 
+// Says whether `serve` answers the orders of this input as it has to, and ends with status 0.
 fn are_answered<R>(rt: &R, table: &Table, input: &mut BufReader<PipeReader>) -> bool
 where
     R: Files + Threads + Wait + Clock + Sync + AllocGlobal,
@@ -182,6 +196,6 @@ fn nodes_and_clients_end_with_0(rt: HostRuntime) -> io::Result<()> {
         &|_, part| take_part(&rt, &table, part),
     );
     fs::remove_file(&rt, table.file.as_str())?;
-    assert!(rt; have_ended_well(parts.as_slice()));
+    assert_eq!(rt; other_end(parts.as_slice()), None);
     Ok(())
 }

@@ -147,7 +147,7 @@ where
     orders.write_all(THEN.as_bytes()).is_ok() && printed && published
 }
 
-// The same, by a pipe that then ends.
+// Gives the orders, and has the clients talk, by a pipe that then ends: whether these do so.
 fn order_all<R>(rt: &R, orders: PipeWriter, address: &str) -> bool
 where
     R: Threads + Clock + Sync + AllocGlobal,

@@ -182,9 +182,30 @@ fn closes<J: NodeNaming, R: Wait>(
     node.has_all(lanes) && tells(&node.close(rt, lanes), taken, missed)
 }
 
-// Says whether two nodes meet at a gate that shuts after this many takings, continue, and report
-// so: each is sent three ticks and takes two.
-fn meet<J, R>(rt: &R, alloc: Global, first: Start, second: Start, gate: &Meeting) -> bool
+// Returns the first of these steps that is not so, in words.
+fn first_missed(sent: bool, took: bool, closed: bool, heard: bool) -> Option<&'static str> {
+    if !sent {
+        Some("each lane sends three ticks")
+    } else if !took {
+        Some("each node takes two")
+    } else if !closed {
+        Some("each node reports so")
+    } else if !heard {
+        Some("the gate is informed of each taking")
+    } else {
+        None
+    }
+}
+
+// Returns the first step that is not so: two nodes meet at a gate that shuts after this many
+// takings, continue, and report so. Each is sent three ticks and takes two.
+fn meet<J, R>(
+    rt: &R,
+    alloc: Global,
+    first: Start,
+    second: Start,
+    gate: &Meeting,
+) -> Option<&'static str>
 where
     J: NodeNaming + Send + Sync,
     R: Threads + Wait + Clock + Sync,
@@ -194,27 +215,27 @@ where
     requires other_core { second.core ≡ J.first_of 2 }
 {
     let Ok((receiver, mut lanes)) = first.inbox.named::<J>(1, 1) else {
-        return false;
+        return Some("node 1 has a lane");
     };
     let Ok((other_receiver, mut other_lanes)) = second.inbox.named::<J>(2, 1) else {
-        return false;
+        return Some("node 2 has a lane");
     };
     let Ok(node) = Node::start(alloc, NodeState::new(receiver, first.core), Some(gate)) else {
-        return false;
+        return Some("node 1 starts");
     };
     let Ok(other) = Node::start(
         alloc,
         NodeState::new(other_receiver, second.core),
         Some(gate),
     ) else {
-        return false;
+        return Some("node 2 starts");
     };
     let missed = 2u64.saturating_sub(gate.shut_after);
     let sent = sends_three(rt, lanes.as_mut_slice()) && sends_three(rt, other_lanes.as_mut_slice());
     let took = take_both_states(rt, alloc, &node, &other, 2);
     let closed = closes(rt, node, lanes.as_mut_slice(), 2, missed)
         && closes(rt, other, other_lanes.as_mut_slice(), 2, missed);
-    sent && took && closed && gate.heard_all(rt, 2)
+    first_missed(sent, took, closed, gate.heard_all(rt, 2))
 }
 
 // Were one thread to run both nodes, or a lock round them held while the gate is asked, they would
@@ -224,8 +245,8 @@ fn nodes_meet_at_their_gate(rt: HostRuntime) -> Result<(), Fail> {
     let gate = Meeting::new(u64::MAX);
     let first = fresh(rt.alloc(), 1)?;
     let second = fresh(rt.alloc(), 2)?;
-    let met = meet::<Brand, HostRuntime>(&rt, rt.alloc(), first, second, &gate);
-    assert!(rt; met);
+    let missed = meet::<Brand, HostRuntime>(&rt, rt.alloc(), first, second, &gate);
+    assert_eq!(rt; missed, None);
     Ok(())
 }
 
@@ -236,7 +257,7 @@ fn a_gate_that_stays_shut_is_passed(rt: HostRuntime) -> Result<(), Fail> {
     let gate = Meeting::new(1);
     let first = fresh(rt.alloc(), 1)?;
     let second = fresh(rt.alloc(), 2)?;
-    let met = meet::<Brand, HostRuntime>(&rt, rt.alloc(), first, second, &gate);
-    assert!(rt; met);
+    let missed = meet::<Brand, HostRuntime>(&rt, rt.alloc(), first, second, &gate);
+    assert_eq!(rt; missed, None);
     Ok(())
 }

@@ -41,6 +41,17 @@ enum Act<'a> {
     HandOver(&'a [u8]),
 }
 
+// What goes otherwise than a story says.
+#[derive(Clone, Copy, Debug, PartialEq, Eq)]
+enum Otherwise {
+    // The act at this index.
+    Act(usize),
+    // The report at the end.
+    Report,
+    // There was no memory for the node.
+    Start,
+}
+
 // How many lanes a node has, what is done with it, how many items of each lane it took at the end,
 // and the lanes and times of the ticks that are left over.
 struct Story<'a> {
@@ -124,6 +135,7 @@ fn hands_over<J: NodeNaming>(alloc: Global, state: &mut NodeState<J>, bytes: &[u
     state.outgoing(PORT, &mut out) == Ok(Handed::Open) && out.as_slice() == bytes
 }
 
+// Says whether an act has its result.
 fn is_right<J: NodeNaming, R: Wait>(
     rt: &R,
     alloc: Global,
@@ -142,18 +154,19 @@ fn is_right<J: NodeNaming, R: Wait>(
     }
 }
 
-// The node's lock is held until the end, so a lane that waited for it would wait for ever.
-fn all_is_right<J: NodeNaming, R: Wait>(
+// Returns the index of the first act that goes otherwise. The node's lock is held until the end, so
+// a lane that waited for it would wait for ever.
+fn other_act<J: NodeNaming, R: Wait>(
     rt: &R,
     alloc: Global,
     node: &Node<'_, J, NodeState<J>, NoGate>,
     lanes: &mut [Lane<Item, J>],
     acts: &[Act<'_>],
-) -> bool {
+) -> Option<usize> {
     let mut guard = node.lock(rt);
     let state = &mut *guard;
     acts.iter()
-        .all(|act| is_right(rt, alloc, state, lanes, *act))
+        .position(|act| !is_right(rt, alloc, state, lanes, *act))
 }
 
 // Says whether a report is that of a story.
@@ -175,44 +188,53 @@ fn closes<J: NodeNaming, R: Wait>(
     node.has_all(lanes) && tells(&node.close(rt, lanes), story)
 }
 
-// Says whether a story comes out as it says with a node that is started for it.
-fn goes<J: NodeNaming, R: Wait>(
+// Returns what went otherwise, by the first other act and by whether the report is right.
+fn first_of(act: Option<usize>, is_told: bool) -> Option<Otherwise> {
+    match act {
+        Some(index) => Some(Otherwise::Act(index)),
+        None if is_told => None,
+        None => Some(Otherwise::Report),
+    }
+}
+
+// Finds what goes otherwise with a node that is started for a story.
+fn other_with<J: NodeNaming, R: Wait>(
     rt: &R,
     alloc: Global,
     state: NodeState<J>,
     lanes: &mut [Lane<Item, J>],
     story: &Story<'_>,
-) -> bool {
+) -> Option<Otherwise> {
     match Node::start(alloc, state, None::<&NoGate>) {
         Ok(node) => {
-            let right = all_is_right(rt, alloc, &node, lanes, story.acts);
-            closes(rt, node, lanes, story) && right
+            let act = other_act(rt, alloc, &node, lanes, story.acts);
+            first_of(act, closes(rt, node, lanes, story))
         }
-        Err(_) => false,
+        Err(_) => Some(Otherwise::Start),
     }
 }
 
-// Says whether a story comes out with node 1 as it says.
-fn comes_out<J: NodeNaming, R: Wait>(
+// Finds what goes otherwise with node 1 than a story says.
+fn first_other<J: NodeNaming, R: Wait>(
     rt: &R,
     alloc: Global,
     inbox: Inbox<Item>,
     core: NodeCore,
     story: &Story<'_>,
-) -> bool
+) -> Option<Otherwise>
     requires inbox { inbox ≡ J.inbox_of 1 }
     requires first { core ≡ J.first_of 1 }
     requires lanes { (1 ≤ story.now.lanes) × (story.now.lanes ≤ 16) }
 {
     match inbox.named::<J>(1, story.lanes) {
-        Ok((receiver, mut lanes)) => goes(
+        Ok((receiver, mut lanes)) => other_with(
             rt,
             alloc,
             NodeState::new(receiver, core),
             lanes.as_mut_slice(),
             story,
         ),
-        Err(_) => false,
+        Err(_) => Some(Otherwise::Start),
     }
 }
 
@@ -236,8 +258,8 @@ const IN_ORDER: &Story<'static> = &Story {
 fn items_are_taken_in_their_order(rt: HostRuntime) -> Result<(), Fail> {
     let inbox = Inbox::new(rt.alloc())?;
     let core = sole(rt.alloc(), 1)?;
-    let right = comes_out::<Brand, HostRuntime>(&rt, rt.alloc(), inbox, core, IN_ORDER);
-    assert!(rt; right);
+    let other = first_other::<Brand, HostRuntime>(&rt, rt.alloc(), inbox, core, IN_ORDER);
+    assert_eq!(rt; other, None);
     Ok(())
 }
 
@@ -262,8 +284,8 @@ const BESIDE: &Story<'static> = &Story {
 fn send_waits_for_no_lock(rt: HostRuntime) -> Result<(), Fail> {
     let inbox = Inbox::new(rt.alloc())?;
     let core = sole(rt.alloc(), 1)?;
-    let right = comes_out::<Brand, HostRuntime>(&rt, rt.alloc(), inbox, core, BESIDE);
-    assert!(rt; right);
+    let other = first_other::<Brand, HostRuntime>(&rt, rt.alloc(), inbox, core, BESIDE);
+    assert_eq!(rt; other, None);
     Ok(())
 }
 
@@ -288,7 +310,7 @@ const LEFT: &Story<'static> = &Story {
 fn what_is_not_taken_is_left_over(rt: HostRuntime) -> Result<(), Fail> {
     let inbox = Inbox::new(rt.alloc())?;
     let core = sole(rt.alloc(), 1)?;
-    let right = comes_out::<Brand, HostRuntime>(&rt, rt.alloc(), inbox, core, LEFT);
-    assert!(rt; right);
+    let other = first_other::<Brand, HostRuntime>(&rt, rt.alloc(), inbox, core, LEFT);
+    assert_eq!(rt; other, None);
     Ok(())
 }

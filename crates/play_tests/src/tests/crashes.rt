@@ -79,19 +79,19 @@ fn survives(alloc: Global, row: &[&str; 2], at: usize, line: &[u8]) -> bool {
     }
 }
 
-// Says whether it does so with a crash of each node put in at this byte.
+// Says whether a script goes no further with a crash of each node put in at this byte.
 fn survives_each(alloc: Global, row: &[&str; 2], at: usize) -> bool {
     CRASHES.iter().all(|line| survives(alloc, row, at, line))
 }
 
-// Says whether it does so after each of its lines.
-fn survives_after_each(alloc: Global, row: &[&str; 2]) -> bool {
+// Returns the byte at which a line of a script ends after which a crash leads further.
+fn further_after(alloc: Global, row: &[&str; 2]) -> Option<usize> {
     for (at, byte) in row[0].as_bytes().iter().enumerate() {
         if *byte == b'\n' && !survives_each(alloc, row, at.saturating_add(1)) {
-            return false;
+            return Some(at);
         }
     }
-    true
+    None
 }
 
 // Whichever node crashes after whichever event, the agreed list never becomes shorter, and no
@@ -99,7 +99,7 @@ fn survives_after_each(alloc: Global, row: &[&str; 2]) -> bool {
 #[test]
 fn a_crash_anywhere_takes_nothing_back(rt: HostRuntime) {
     for row in &SCRIPTS {
-        assert!(rt; survives_after_each(rt.alloc(), row), "{}", row[0]);
+        assert_eq!(rt; further_after(rt.alloc(), row), None, "{}", row[0]);
     }
-    assert!(rt; survives_after_each(rt.alloc(), &SNAPSHOT_TRAVELS));
+    assert_eq!(rt; further_after(rt.alloc(), &SNAPSHOT_TRAVELS), None);
 }

@@ -52,30 +52,30 @@ fn goes_as_ever(alloc: Global, row: &[&str; 2], at: usize, events: usize, line: 
     }
 }
 
-// Says whether it does so with a cut of each node.
+// Says whether a script continues as without it with a cut of each node inserted there.
 fn goes_with_each(alloc: Global, row: &[&str; 2], at: usize, events: usize) -> bool {
     CUTS.iter()
         .all(|line| goes_as_ever(alloc, row, at, events, line))
 }
 
-// Says whether it does so after each of its lines. The first line is no event.
-fn goes_after_each(alloc: Global, row: &[&str; 2]) -> bool {
+// Returns after how many events of a script a cut of a node changes it. The first line is no event.
+fn other_after(alloc: Global, row: &[&str; 2]) -> Option<usize> {
     let mut events = 0;
     for (at, byte) in row[0].as_bytes().iter().enumerate() {
         if *byte == b'\n' {
             if !goes_with_each(alloc, row, at.saturating_add(1), events) {
-                return false;
+                return Some(events);
             }
             events = events.saturating_add(1);
         }
     }
-    true
+    None
 }
 
 // A cut of node 1 or 2 after each event changes no message, no agreed length and no publication
 // that is accepted.
 #[test]
 fn cuts_change_nothing_that_is_told(rt: HostRuntime) {
-    let crashes = goes_after_each(rt.alloc(), &PRIMARY_CRASHES);
-    assert!(rt; crashes && goes_after_each(rt.alloc(), &STALE_PRIMARY));
+    assert_eq!(rt; other_after(rt.alloc(), &PRIMARY_CRASHES), None);
+    assert_eq!(rt; other_after(rt.alloc(), &STALE_PRIMARY), None);
 }

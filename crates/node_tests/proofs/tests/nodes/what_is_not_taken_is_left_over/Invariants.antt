@@ -1,7 +1,7 @@
 use Rattle.node_tests.proofs.tests.nodes.what_is_not_taken_is_left_over.Given as goal
 
-abbrev pub ghosts-comes_out-J-Naming : goal.ghosts-comes_out-J-Naming
-ghosts-comes_out-J-Naming g a = record { inbox_of = λ _. a.inbox }
+abbrev pub ghosts-first_other-J-Naming : goal.ghosts-first_other-J-Naming
+ghosts-first_other-J-Naming g a = record { inbox_of = λ _. a.inbox }
 
-abbrev pub ghosts-comes_out-J-NodeNaming : goal.ghosts-comes_out-J-NodeNaming
-ghosts-comes_out-J-NodeNaming g a = record { first_of = λ _. a.core }
+abbrev pub ghosts-first_other-J-NodeNaming : goal.ghosts-first_other-J-NodeNaming
+ghosts-first_other-J-NodeNaming g a = record { first_of = λ _. a.core }
