@@ -26,8 +26,8 @@ pub fn run(rt: &HostRuntime) -> Result<()> {
     Ok(())
 }
 
-// The same traffic with nothing handed over, and with all. What is large is lent below, so that no
-// way out has to drop it.
+// Prints the time of one traffic with nothing handed over, and with all. What is large is lent
+// below, so that no way out has to drop it.
 fn compare(rt: &HostRuntime, connections: u64, qos: QoS, packets: u8) -> Result<()> {
     let traffic = Traffic::new(rt.alloc(), connections, qos, packets)?;
     compare_with(rt, connections, qos, packets, &traffic)

@@ -110,6 +110,7 @@ fn sized(packet: Packet) -> Option<SizedPacket> {
     SizedPacket::new(packet).ok()
 }
 
+// Says whether these outputs are the answers of a row.
 fn are_wanted(alloc: Global, given: &[Output], wanted: &[Answer<'_>]) -> bool {
     if given.len() != wanted.len() {
         return false;
@@ -122,6 +123,7 @@ fn are_wanted(alloc: Global, given: &[Output], wanted: &[Answer<'_>]) -> bool {
     true
 }
 
+// Says whether an output is this answer.
 fn is_wanted(alloc: Global, output: &Output, answer: Answer<'_>) -> bool {
     let (count, bytes) = answer;
     match output {

@@ -80,7 +80,7 @@ fn first_fault(alloc: Global, task: Task) -> Option<usize> {
     }
 }
 
-// Finds it for one that is open.
+// Finds the first step at which this master does otherwise.
 fn fault_of(master: &mut Master, alloc: Global, task: Task) -> Option<usize> {
     match task {
         Task::Supersedes => supersedes(master, alloc),

@@ -49,7 +49,7 @@ pub fn begins(pair: &mut Pair, alloc: Global) -> Option<usize> {
     ])
 }
 
-// And then the ballot begins with its start, which is committed.
+// A ballot with another primary becomes active and begins with its start, which is committed.
 #[test]
 fn configuration_changes(rt: HostRuntime) {
     assert_eq!(rt; first_fault_of_two(rt.alloc(), &[1], Change::Begins), None);

@@ -30,6 +30,7 @@ fn other_row(alloc: Global, tally: &mut Tally) -> Option<usize> {
     None
 }
 
+// Says whether a fresh counting machine has the output of each row.
 fn counts(alloc: Global) -> bool {
     match Tally::fresh(alloc) {
         Ok(mut tally) => other_row(alloc, &mut tally).is_none(),
@@ -64,6 +65,7 @@ fn is_frozen(alloc: Global, tally: &Tally) -> bool {
         && is_refused(alloc, &bytes.as_slice()[1..])
 }
 
+// Says whether the counting machine is frozen to its total and thawed from it.
 fn freezes(alloc: Global) -> bool {
     match Tally::fresh(alloc) {
         Ok(mut tally) => {

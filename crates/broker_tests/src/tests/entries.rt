@@ -39,6 +39,7 @@ fn is_no_puback(alloc: Global, payload: &str, sent: &Awaits) -> bool {
     }
 }
 
+// Says whether this entry equals its copy, and none that differs in a part.
 fn equals_its_copy_alone(alloc: Global, sent: &Awaits) -> bool {
     has_equal_copy(sent)
         && is_no_pubrec(alloc, "y", sent)
@@ -46,6 +47,7 @@ fn equals_its_copy_alone(alloc: Global, sent: &Awaits) -> bool {
         && !(Awaits::Pubcomp == *sent)
 }
 
+// Says whether an entry that waits for PUBREC equals its copy, and no other.
 fn copies(alloc: Global) -> bool {
     match publication(alloc, "x") {
         Some(sent) => equals_its_copy_alone(alloc, &Awaits::Pubrec(sent)),

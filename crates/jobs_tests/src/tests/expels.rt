@@ -100,6 +100,7 @@ where
     ordered && lost
 }
 
+// Says whether the nodes of this table answer the orders, and the client reports its loss.
 fn go_well<R>(rt: &R, served: &Served) -> bool
 where
     R: Files + Threads + Wait + Clock + Sync + AllocGlobal,

@@ -77,6 +77,7 @@ fn comes(alloc: Global, words: &[&str], outcome: Outcome<'_>) -> bool {
     }
 }
 
+// Says whether a job is that of an outcome.
 fn is_job(job: &Job<'_>, outcome: Outcome<'_>) -> bool {
     match (job, outcome) {
         (Job::Serve(job), Outcome::Serves(config)) => job.config == config,
@@ -99,12 +100,14 @@ fn is_way(job: &Play<'_>, members: &str, client: &str) -> bool {
     }
 }
 
+// Says whether `pub` has its usual options, with these words.
 fn is_usual(job: &Publish<'_>) -> bool {
     (job.id, job.topic, job.message) == ("a", "t/1", "")
         && (job.qos, job.retain, job.tries) == (QoS::ExactlyOnce, false, 10)
         && job.addresses.as_slice() == ["h:1", "h:2"].as_slice()
 }
 
+// Says whether `sub` has the options that the words give it.
 fn is_wanted(job: &Subscribe<'_>) -> bool {
     (job.id, job.filter, job.qos) == ("b", "#", QoS::AtMostOnce)
         && (job.count, job.tries) == (1_000_000, 1)

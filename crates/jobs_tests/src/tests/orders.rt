@@ -103,6 +103,7 @@ where
     is_printed(rt, &job)
 }
 
+// Says whether `sub` prints what it has to for this job.
 fn is_printed<R>(rt: &R, job: &Subscribe<'_>) -> bool
 where
     R: Clock + AllocGlobal + Net<Stream = TcpStream>,
@@ -169,6 +170,7 @@ where
     }
 }
 
+// Says whether the nodes of this table answer the orders, and the clients do as they have to.
 fn go_well<R>(rt: &R, served: &Served) -> bool
 where
     R: Files + Threads + Wait + Clock + Sync + AllocGlobal,

@@ -97,6 +97,7 @@ fn is_so(alloc: Global, members: &str, last: u32, twice: u32, is_read: bool) -> 
     add_nodes(alloc, &mut text, last, twice) && comes(alloc, text.as_str(), outcome)
 }
 
+// Returns a table's lines before its nodes.
 fn head(alloc: Global, members: &str) -> Result<String, AllocError> {
     format!(in alloc; "members = {members}\nprimary = 1\n")
 }

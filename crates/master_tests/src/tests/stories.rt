@@ -43,7 +43,7 @@ fn fault_of(alloc: Global, group: &mut Group<Tally>, story: Story) -> Option<usi
     }
 }
 
-// The same from the opening of a group on; `unopened` if it does not open.
+// Finds the first step at which a fresh group goes otherwise; `unopened` if it does not open.
 fn fault_from_the_opening(
     alloc: Global,
     nodes: u8,

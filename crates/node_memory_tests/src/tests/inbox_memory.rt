@@ -64,7 +64,7 @@ fn settles<J: Naming, R: Wait>(
     Some(counted.as_slice() == [1, 1].as_slice() && over.as_slice() == [(1, 21)].as_slice())
 }
 
-// The same, asked again if memory was refused.
+// Says whether all is settled, if it is asked again once memory was refused.
 fn is_settled<J: Naming, R: Wait>(
     rt: &R,
     alloc: Global,

@@ -31,6 +31,7 @@ struct Meeting {
 }
 
 impl Meeting {
+    // It shuts after this many takings of a node.
     fn new(shut_after: u64) -> Meeting {
         let heard = Heard {
             done: 0,
@@ -131,7 +132,7 @@ where
     one && other
 }
 
-// The same at the type that a node's state has.
+// Says whether two nodes take so at once, at the type that a node's state has.
 fn take_both_states<J, R>(
     rt: &R,
     alloc: Global,

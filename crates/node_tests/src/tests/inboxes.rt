@@ -92,6 +92,7 @@ fn settles<J: Naming, R: Wait>(
     counted.as_slice() == counts && over.as_slice() == left
 }
 
+// Says whether an act has its result.
 fn is_right<J: Naming, R: Wait>(
     rt: &R,
     alloc: Global,
@@ -198,6 +199,7 @@ struct Two<J: Naming> {
 }
 
 impl<J: Naming> Two<J> {
+    // Says whether the lane of the inbox at this index sends an item.
     fn send<R: Wait>(&self, rt: &R, at: usize, item: u64) -> bool {
         match self.lanes.get(at) {
             Some(lanes) => sends(rt, lanes.lock(rt).as_mut_slice(), 0, item, Ok(())),
@@ -205,16 +207,19 @@ impl<J: Naming> Two<J> {
         }
     }
 
+    // Takes the item that came first to the inbox at this index, with its lane.
     fn take<R: Wait>(&self, rt: &R, at: usize) -> Option<(u8, u64)> {
         take(rt, &mut self.receivers.get(at)?.lock(rt))
     }
 
+    // Returns how many items were taken of a lane, which may be that of the other inbox.
     fn meet<R: Wait>(&self, rt: &R, at: usize, lane_at: usize) -> Option<u64> {
         let mut receiver = self.receivers.get(at)?.lock(rt);
         let mut lanes = self.lanes.get(lane_at)?.lock(rt);
         meet(&mut receiver, lanes.as_mut_slice())
     }
 
+    // Says whether a call has its result.
     fn is_right<R: Wait>(&self, rt: &R, call: Call) -> bool {
         match call {
             Call::Send(at, item) => self.send(rt, at, item),
@@ -312,6 +317,7 @@ fn come_in_order<J: Naming, R: Wait>(rt: &R, receiver: &mut Receiver<u64, J>) ->
     take(rt, receiver).is_none()
 }
 
+// Sends all numbers by two lanes at once.
 fn pour_two<J: Naming + Send, R: Threads + Wait + Sync>(
     rt: &R,
     first: &mut Lane<u64, J>,

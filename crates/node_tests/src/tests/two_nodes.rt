@@ -30,6 +30,7 @@ struct Two<J: NodeNaming> {
 }
 
 impl<J: NodeNaming> Two<J> {
+    // Says whether the lane of the node at this index sends a tick.
     fn send<R: Wait>(&self, rt: &R, at: usize, now: u64) -> bool {
         match self.lanes.get(at) {
             Some(lanes) => sends(rt, lanes.lock(rt).as_mut_slice(), 0, Item::Tick(now)),
@@ -37,6 +38,7 @@ impl<J: NodeNaming> Two<J> {
         }
     }
 
+    // Says whether the node at this index takes an item, or finds none.
     fn take<R: Wait>(&self, rt: &R, alloc: Global, at: usize, wanted: bool) -> bool {
         match self.nodes.get(at) {
             Some(node) => takes(rt, alloc, &mut node.lock(rt), wanted),
@@ -44,12 +46,14 @@ impl<J: NodeNaming> Two<J> {
         }
     }
 
+    // Returns how many items were taken of a lane, which may be that of the other node.
     fn meet<R: Wait>(&self, rt: &R, at: usize, lane_at: usize) -> Option<u64> {
         let mut state = self.nodes.get(at)?.lock(rt);
         let mut lanes = self.lanes.get(lane_at)?.lock(rt);
         met(&mut state, lanes.as_mut_slice(), 0)
     }
 
+    // Says whether a call has its result.
     fn is_right<R: Wait>(&self, rt: &R, alloc: Global, call: Call) -> bool {
         match call {
             Call::Send(at, now) => self.send(rt, at, now),

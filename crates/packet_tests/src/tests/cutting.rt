@@ -53,6 +53,7 @@ fn is_cut(cutter: &mut Cutter, piece: &[u8], out: &mut Vec<u8>) -> bool {
     cutter.feed(piece).is_ok() && drain(cutter, out)
 }
 
+// Says whether these pieces are fed and all packets of them given.
 fn are_cut(cutter: &mut Cutter, pieces: &[&[u8]], out: &mut Vec<u8>) -> bool {
     for piece in pieces {
         if !is_cut(cutter, piece, out) {
@@ -84,6 +85,7 @@ fn cut_in_two_at_every_byte(rt: HostRuntime) {
     assert_eq!(rt; first_cut(rt.alloc(), &STREAM), None);
 }
 
+// Says whether a stream is fed byte by byte, and all packets of it given.
 fn are_bytes_cut(cutter: &mut Cutter, stream: &[u8], out: &mut Vec<u8>) -> bool {
     for byte in stream {
         if !is_cut(cutter, &[*byte], out) {
@@ -121,6 +123,7 @@ fn is_faulty(cutter: &mut Cutter, out: &mut Vec<u8>) -> bool {
         && cutter.feed(&[0xC0]).err() == Some(CutError::Failed)
 }
 
+// Says whether a fresh cutter answers a fault, and then that there was one.
 fn stops_at_a_fault(alloc: Global) -> bool {
     let mut cutter = Cutter::new(alloc);
     let mut out = Vec::new(alloc);

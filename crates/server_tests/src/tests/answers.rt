@@ -57,6 +57,7 @@ where
     }
 }
 
+// Returns what is not so of a client with keep alive 1 on this stream.
 fn silence_on<R: Clock>(rt: &R, start: Instant, stream: &mut TcpStream) -> Missed {
     let mut sent = connect(b'a', false);
     sent[11] = 1;
@@ -90,6 +91,7 @@ where
     }
 }
 
+// Returns what is not so of this flood by a client that joins for it.
 fn flooding_with<R>(rt: &R, listener: Option<&Listener>, flood: &mut Flood) -> Missed
 where
     R: Net<Stream = TcpStream>,
@@ -100,6 +102,7 @@ where
     }
 }
 
+// Returns what is not so of this flood on a stream.
 fn flooding_on(stream: &mut TcpStream, flood: &mut Flood) -> Missed {
     if flood.is_sent(stream) {
         unless(flood.is_heard(stream), "as many PINGRESP come")

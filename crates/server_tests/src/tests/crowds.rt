@@ -127,6 +127,7 @@ where
     }
 }
 
+// Returns what is not so of connections on which nothing is said: they last six seconds, not 14.
 fn silence_of(streams: &mut [TcpStream]) -> Missed {
     if streams.first_mut().map(|stream| is_open_for(stream, 6_000)) != Some(true) {
         Some("the first is open for six seconds")
@@ -197,6 +198,7 @@ where
     }
 }
 
+// Returns what is not so of fifty publications of 1 MB between these two.
 fn hearing_by(alloc: Global, pair: &mut Pair) -> Missed {
     if pair.subscribes() {
         unless(
@@ -208,6 +210,7 @@ fn hearing_by(alloc: Global, pair: &mut Pair) -> Missed {
     }
 }
 
+// Says whether each of fifty comes to the subscriber as it was sent.
 fn are_fifty_heard(alloc: Global, pair: &mut Pair) -> bool {
     match Large::new(alloc) {
         Ok(mut large) => (0..50).all(|count| large.passes(pair, count)),
@@ -236,6 +239,7 @@ where
     }
 }
 
+// Returns what is not so once 60 are there: 20 MB make the silent one lose its connection.
 fn room_beside<R>(rt: &R, listener: Option<&Listener>, speaker: Option<&mut TcpStream>) -> Missed
 where
     R: AllocGlobal + Wait + Clock + Net<Stream = TcpStream>,

@@ -48,6 +48,7 @@ where
     }
 }
 
+// Returns what is not so of two Expels of the subscriber of this pair.
 fn expelling_of<R>(
     rt: &R,
     cluster: &Cluster,

@@ -256,6 +256,7 @@ impl Gate for Bar {
 }
 
 impl Watched for Bar {
+    // What this load leads to is as it has to be.
     fn attend<R>(&self, rt: &R, cluster: &Cluster, listener: Option<&Listener>) -> Missed
     where
         R: AllocGlobal + Wait + Clock + Net<Stream = TcpStream>,

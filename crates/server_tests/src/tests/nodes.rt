@@ -30,6 +30,7 @@ where
     true
 }
 
+// Adds a listener for this node, on a free port. False if there is none.
 fn listens<R>(rt: &R, number: u8, listeners: &mut Vec<Listener>) -> bool
 where
     R: AllocGlobal + Net<Listener = TcpListener, Stream = TcpStream>,
@@ -81,6 +82,7 @@ where
     }
 }
 
+// Returns the first step of a row that is not so with the nodes of these listeners.
 fn serve<R>(rt: &R, members: &[u8], listeners: &[Listener], row: Row) -> Missed
 where
     R: AllocGlobal

@@ -53,6 +53,7 @@ where
     }
 }
 
+// Says whether client `a` is sent what it had not acknowledged, with its session present.
 fn finds<R>(rt: &R, listener: Option<&Listener>) -> bool
 where
     R: Net<Stream = TcpStream>,

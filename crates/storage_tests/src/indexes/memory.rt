@@ -62,7 +62,7 @@ fn is_appended<I: SubIndex>(index: &I, topic: &TopicName, rows: &mut Vec<(Client
         || (rows.len() == before && index.granted(topic, rows).is_ok())
 }
 
-// The same for the topic that is spelled so.
+// Appends what is granted at the topic that is spelled so, in the same way.
 fn is_shown<I: SubIndex>(
     alloc: Global,
     index: &I,
@@ -112,7 +112,7 @@ fn is_set<I: SubIndex>(
                 && index.set(client, filter, qos).is_ok()))
 }
 
-// The same for the client and the filter that are spelled so.
+// Sets the row of the client and the filter that are spelled so, in the same way.
 fn is_row_set<I: SubIndex>(
     alloc: Global,
     index: &mut I,

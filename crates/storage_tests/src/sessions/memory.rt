@@ -39,7 +39,7 @@ fn sends(alloc: Global, session: &mut Session, wanted: &[Sent]) -> bool {
     is_sent && are_sent(out.as_slice(), wanted)
 }
 
-// The same for what is sent again.
+// Says whether these are sent again, and nothing is if memory was refused.
 fn sends_again(alloc: Global, session: &Session, wanted: &[Sent]) -> bool {
     let mut out = Vec::new(alloc);
     let is_sent = session.resend(&mut out).is_ok()

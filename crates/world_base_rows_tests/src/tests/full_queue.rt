@@ -206,6 +206,7 @@ fn goes_on_with_the_rest(way: Way, node: &mut NodeCore, got: &mut Got) -> bool {
     }
 }
 
+// Says whether the queue of this node keeps the order on its way to a client.
 fn keeps_the_order(way: Way, node: &mut NodeCore, got: &mut Got) -> bool {
     fills(way, node)
         && answers(way, node, 2, THREE, FIRST, false)
@@ -215,6 +216,7 @@ fn keeps_the_order(way: Way, node: &mut NodeCore, got: &mut Got) -> bool {
         && node.losses() == 0
 }
 
+// Says whether a full queue keeps the order when pieces come so.
 fn is_kept(alloc: Global, coming: Coming) -> bool {
     match primary(alloc, &[1]) {
         Some(mut node) => keeps_the_order(Way { alloc, coming }, &mut node, &mut Got::new(alloc)),

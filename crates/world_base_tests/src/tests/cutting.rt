@@ -137,8 +137,8 @@ fn fault_of_going_over(alloc: Global, one: &mut NodeCore, two: &mut NodeCore) ->
     ])
 }
 
-// Finds it with a fresh second node; step 0 if there is no memory for one. Each node has an owner
-// of its own, which has one way on which it drops it.
+// Finds the first step that goes otherwise with a fresh second node; step 0 if there is no memory.
+// Each node has an owner of its own, which has one way on which it drops it.
 fn fault_with_fresh(alloc: Global, one: &mut NodeCore) -> Option<usize> {
     match node_of(alloc, 2, &[1]) {
         Some(mut two) => fault_of_going_over(alloc, one, &mut two),
@@ -146,7 +146,7 @@ fn fault_with_fresh(alloc: Global, one: &mut NodeCore) -> Option<usize> {
     }
 }
 
-// Finds it with two fresh nodes.
+// Finds the first step that goes otherwise with two fresh nodes.
 fn fault_of_fresh(alloc: Global) -> Option<usize> {
     match node_of(alloc, 1, &[1]) {
         Some(mut one) => fault_with_fresh(alloc, &mut one),
@@ -223,7 +223,7 @@ fn first_not_lost(alloc: Global, two: &mut NodeCore) -> Option<usize> {
     }
 }
 
-// Finds it for a node that is given ballot 2; row 0 if there is no memory for that.
+// Finds the first row that is not lost once the node is given ballot 2; row 0 without memory.
 fn first_not_lost_in_2(alloc: Global, two: &mut NodeCore) -> Option<usize> {
     match ballot_2(alloc, &[2]) {
         Some(ballot) => {
@@ -234,7 +234,7 @@ fn first_not_lost_in_2(alloc: Global, two: &mut NodeCore) -> Option<usize> {
     }
 }
 
-// Finds it for a fresh node.
+// Finds the first row that is not lost for a fresh node; row 0 if there is no memory for it.
 fn first_not_lost_of_fresh(alloc: Global) -> Option<usize> {
     match node_of(alloc, 2, &[1]) {
         Some(mut two) => first_not_lost_in_2(alloc, &mut two),
@@ -314,7 +314,8 @@ fn goes_over_or_counts(alloc: Global, one: &mut NodeCore, two: &mut NodeCore) ->
     finds_session(alloc, one, two)
 }
 
-// If memory runs out for a node nothing is asked of the other.
+// Says whether it gives its snapshot to a fresh second node, or a refusal is counted. If memory
+// runs out for a node nothing is asked of the other.
 fn is_well_with(alloc: Global, one: &mut NodeCore) -> bool {
     match node_of(alloc, 2, &[1]) {
         Some(mut two) => goes_over_or_counts(alloc, one, &mut two),
@@ -322,7 +323,7 @@ fn is_well_with(alloc: Global, one: &mut NodeCore) -> bool {
     }
 }
 
-// The same for the first node.
+// Says whether a fresh first node gives its snapshot to a second one, or counts the refusal.
 fn is_well(alloc: Global) -> bool {
     match node_of(alloc, 1, &[1]) {
         Some(mut one) => is_well_with(alloc, &mut one),

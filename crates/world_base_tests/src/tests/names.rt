@@ -70,7 +70,7 @@ fn first_fault(alloc: Global, node: &mut NodeCore) -> Option<usize> {
     ])
 }
 
-// Finds it with a fresh node; step 0 if there is no memory for one.
+// Finds the first step that goes otherwise with a fresh node; step 0 if there is no memory for it.
 fn first_fault_of_fresh(alloc: Global) -> Option<usize> {
     match primary(alloc, &[1]) {
         Some(mut node) => first_fault(alloc, &mut node),

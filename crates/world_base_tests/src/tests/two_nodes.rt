@@ -92,8 +92,8 @@ fn waits_for_both(alloc: Global, primary: &mut NodeCore, backup: &mut NodeCore) 
     is_silent(alloc, backup, committed) && primary.losses() == 0 && backup.losses() == 0
 }
 
-// The same with a fresh backup. Each node has an owner of its own, which has one way on which it
-// drops it.
+// Says whether the messages and bytes are these with a fresh backup. Each node has an owner of its
+// own, which has one way on which it drops it.
 fn waits_for_fresh(alloc: Global, primary: &mut NodeCore) -> bool {
     match node_of(alloc, 2, &[1, 2]) {
         Some(mut backup) => waits_for_both(alloc, primary, &mut backup),

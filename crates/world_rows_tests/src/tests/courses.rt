@@ -175,11 +175,9 @@ fn has_crashed(rows: &[Row], node: u8) -> bool {
     rows.iter().any(|row| is_crash(row, node))
 }
 
+// Says whether a row is the crash of this node.
 fn is_crash(row: &Row, node: u8) -> bool {
-    match row {
-        Row::Does(Action::Crash(crashed), _, _) => *crashed == node,
-        _ => false,
-    }
+    matches!(row, Row::Does(Action::Crash(crashed), _, _) if *crashed == node)
 }
 
 /// Returns the ballot that is given last in these rows.
@@ -193,11 +191,9 @@ pub fn last_ballot(rows: &[Row]) -> u64 {
     ballot
 }
 
+// Says whether a row asks for a ballot.
 fn is_assign(row: &Row) -> bool {
-    match row {
-        Row::Does(Action::Assign(_, _), _, _) => true,
-        _ => false,
-    }
+    matches!(row, Row::Does(Action::Assign(_, _), _, _))
 }
 
 /// Says whether members may form the next ballot after these rows: they rise, and are nodes that

@@ -27,6 +27,7 @@ fn all_hold(alloc: Global, world: &mut World, rows: &[Row], at: usize, node: u8)
     world.losses() == 0
 }
 
+// Says whether the rows hold for a fresh world with a cut of this node at an index.
 fn hold_from_the_opening(alloc: Global, rows: &[Row], at: usize, node: u8) -> bool {
     match opened(alloc, 2, &[1, 2]) {
         Some(mut world) => all_hold(alloc, &mut world, rows, at, node),

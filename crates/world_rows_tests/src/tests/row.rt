@@ -104,6 +104,7 @@ pub fn fault_in(alloc: Global, tables: &[Table]) -> Option<(&'static str, usize)
     None
 }
 
+// Returns the first row of a table that does not hold.
 fn fault_of(alloc: Global, table: &Table) -> Option<usize> {
     match opened(alloc, table.nodes, table.members) {
         Some(mut world) => first_fault(alloc, &mut world, table.rows),
@@ -111,6 +112,7 @@ fn fault_of(alloc: Global, table: &Table) -> Option<usize> {
     }
 }
 
+// Returns the first row that does not hold for this world.
 fn first_fault(alloc: Global, world: &mut World, rows: &[Row]) -> Option<usize> {
     for (at, row) in rows.iter().enumerate() {
         if !is_right(alloc, world, row) {

@@ -106,7 +106,7 @@ fn first_pubrel(alloc: Global, world: &mut World) -> Option<usize> {
     None
 }
 
-// Finds it from the opening of the world on; row 0 if the world does not open.
+// Finds the first such row of a fresh world; row 0 if the world does not open.
 fn first_pubrel_from_the_opening(alloc: Global) -> Option<usize> {
     match opened(alloc, 2, &[1, 2]) {
         Some(mut world) => first_pubrel(alloc, &mut world),

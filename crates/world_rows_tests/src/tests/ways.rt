@@ -76,6 +76,7 @@ fn is_back(alloc: Global, world: &World, client: &str) -> bool {
     }
 }
 
+// Says whether a client is online with its session present, by its name.
 fn is_served(world: &World, client: &ClientId) -> bool {
     match world.client(client) {
         Some(core) => core.connected() && core.present(),

@@ -45,7 +45,7 @@ fn first_fault(alloc: Global, world: &mut World) -> Option<u64> {
     }
 }
 
-// Finds it in a world of three nodes; change 0 if the world does not open.
+// Finds the first change that goes otherwise in a world of three nodes; 0 if it does not open.
 fn first_fault_of_three(alloc: Global) -> Option<u64> {
     match opened(alloc, 3, &[1, 2, 3]) {
         Some(mut world) => first_fault(alloc, &mut world),
