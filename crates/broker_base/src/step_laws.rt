@@ -50,10 +50,10 @@ pub fn list_stands_for()
     ensures growing { GrowingListStandsFor }
 {}
 
-/// A step keeps the sessions ordered by the bytes of their clients, each connection in at most one
-/// session, and each session in its form: filters and identifiers distinct, released entries first,
-/// a clean one connected. In each connected client's queue nothing waits or the window is full. No
-/// more is in flight than the window allows, if that does not shrink.
+/// A step keeps the sessions ordered by the bytes of their clients, and each connection in at most
+/// one session. It keeps each session in its form: filters and identifiers distinct, released
+/// entries first, a clean one connected. In each connected client's queue nothing waits or the
+/// window is full. No more is in flight than the window allows, if that does not shrink.
 pub fn states_stay_sound()
     ensures step { StaysSound }
     ensures quiet { StaysQuiet }
@@ -69,8 +69,8 @@ pub fn rows_step_by_step()
     ensures window { StepsWidenTheWindow }
 {}
 
-/// Entries start at a Connect, after PUBACK and PUBCOMP, and after each copy that is queued; also
-/// in a state that was read from bytes whose queue could have started before.
+/// Entries start at a Connect, after PUBACK and PUBCOMP, and after each copy that is queued. They
+/// do so also in a state that was read from bytes whose queue could have started before.
 pub fn entries_start_where_they_are_sent()
     ensures others { OthersStartNothing }
     ensures answers { AnswersStartWhatWaits }

@@ -1,6 +1,6 @@
--- An example of both forms with something in every part, each byte written by hand: a session with
--- two filters, two received identifiers, an entry in flight of each kind and two that wait, and two
--- retained publications.
+-- An example of both forms with something in every part, each byte written by hand. It has a
+-- session with two filters, two received identifiers, an entry in flight of each kind and two that
+-- wait, and two retained publications.
 use Rattle.std.specs.Prelude.{◌≡◌, ℕ, false, List, [], ◌∷◌, ◌++◌, Some, codes}
 use Rattle.packet.specs.declared.qos.QoS.TheVariants as levels
 use Rattle.session_base.specs.FormRows.{full_session, full_session_by_hand}

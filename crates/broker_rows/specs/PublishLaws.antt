@@ -1,4 +1,4 @@
--- What a PUBLISH of a served client does, if it is no repeat: it is refused as a whole, or it is
+-- What a PUBLISH of a served client does, if it is no repeat. It is refused as a whole, or it is
 -- taken, and only the granted rows are touched, each of them once (MQTT 3.3.1.3, 3.3.4, 3.3.5,
 -- 4.3).
 use Rattle.std.specs.Prelude.{◌≡◌, ℕ, Bool, false, true, ◌||◌, List, [], ◌∷◌, ◌++◌, Some, None}
@@ -43,7 +43,7 @@ RefusedStep =
     ≡ (with_session c (left_off kept) state, Close x ∷ [])
 
 -- A publication that is taken is retained, its publisher's session notes it, and each granted
--- session gets its copy; its publisher is answered first (MQTT 3.3.4), then each granted client,
+-- session gets its copy. Its publisher is answered first (MQTT 3.3.4), then each granted client,
 -- one after another.
 abbrev pub TakenStep : Type 0
 TakenStep =

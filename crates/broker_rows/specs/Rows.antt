@@ -1,5 +1,5 @@
--- Three clients' sessions, and what the definitions of the laws say about them, computed: a is
--- clean and served on connection 1; b is offline and holds t/# at QoS 1; c is clean, served on
+-- Three clients' sessions, and what the definitions of the laws say about them, computed. Client a
+-- is clean and served on connection 1; b is offline and holds t/# at QoS 1; c is clean, served on
 -- connection 2 and holds t/1 at QoS 2.
 use Rattle.std.specs.Prelude.{◌≡◌, ℕ, Bool, true, false, List, [], ◌∷◌, Option, Some, None, codes}
 use Rattle.subs.specs.packet.declared.qos.QoS.{QoS}

@@ -4,7 +4,7 @@ ghost use Rattle.broker_rows.specs.ExpelLaws.{ExpelDropsTheClient, ExpelRemovesT
 ghost use Rattle.broker_rows.specs.ExpelLaws.{ExpelStep, NobodysExpelStep};
 
 /// An Expel removes the client's session with all that it kept, closes its connection if it has
-/// one, and touches no other; the map of owners and the index of subscriptions follow.
+/// one, and touches no other. The map of owners and the index of subscriptions follow.
 pub fn expel_steps()
     ensures step { ExpelStep }
     ensures nobody { NobodysExpelStep }

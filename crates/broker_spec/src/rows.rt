@@ -86,7 +86,7 @@ pub fn puback_frees_its_identifier()
     ensures { PubackFreesItsIdentifier }
 {}
 
-/// With a window of 64, 64 entries of a session are in flight at once; with a window that grows
+/// With a window of 64, 64 entries of a session are in flight at once. With a window that grows
 /// from 16 at a new ballot, this is so from the first ballot on that begins.
 pub fn window_of_64()
     ensures wide { WideWindowSendsAll }

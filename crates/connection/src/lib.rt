@@ -1,6 +1,6 @@
-//! One connection over a device to read from and one to write to: what comes on it is reported to a
-//! `Hearer`, piece by piece, and what is queued for it is written in order, as far as the device
-//! takes it.
+//! One connection over a device to read from and one to write to. What comes on it is reported to a
+//! `Hearer`, piece by piece. What is queued for it is written in order, as far as the device takes
+//! it.
 #![tactic(auto)]
 
 mod ending;

@@ -14,7 +14,7 @@ Joins (p ∷ ps) bytes =
     × Joins ps rest
 
 -- The packets written on one side are those handled on the other, followed by those in the bytes
--- that the cutter holds and that are still in transit; no fault was found.
+-- that the cutter holds and that are still in transit. No fault was found.
 pub record IsPiped (written handled : List Packet) (s : Stream) (under_way : List ℕ) : Type 0 where
   pub rest : List Packet
   pub is : written ≡ handled ++ rest

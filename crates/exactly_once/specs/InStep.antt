@@ -86,7 +86,7 @@ AreWelcome past c (κ ∷ connections) = Each (WasWelcome past c) connections
 AreWelcome past c [] = Unit {0}
 
 -- For each of its sessions except the first, the client opened no further connection before it
--- handled the CONNACK of the Connect that began it: what it has not handled on a connection by then
+-- handled the CONNACK of the Connect that began it. What it has not handled on a connection by then
 -- it never handles.
 abbrev pub IsInStep : Story → Type 0
 IsInStep s = AreWelcome s.past s.keeper.client s.connections

@@ -42,7 +42,7 @@ pub fn lives_accept_in_each_session()
 {}
 
 /// States that a client whose sessions an Expel ends, and that is in step, has its QoS 2
-/// publications new in the list in the order of its calls, each at most once; each that was
+/// publications new in the list in the order of its calls, each at most once. Each that was
 /// answered is there, and each enters each session at most once. In each of its own sessions it
 /// accepts a prefix of the entries (MQTT 4.3.2, 4.3.3, 4.6).
 pub fn lives_are_exact()
@@ -51,7 +51,7 @@ pub fn lives_are_exact()
 {}
 
 /// States that a client that no Expel of the list names has one session at most, which lasts once
-/// it began, and is in step: so all that is promised for clients in step holds for it (MQTT
+/// it began, and is in step. So all that is promised for clients in step holds for it (MQTT
 /// 3.1.2.4).
 pub fn unexpelled_lives_are_in_step()
     ensures { UnexpelledLivesAreInStep }

@@ -3,7 +3,7 @@
 
 ghost use Rattle.headline.specs.Rows.{AClientIsServed, APublicationIsAccepted};
 
-/// Shows that a client connects to a node that is the only one of its group: its CONNECT comes up
+/// Shows that a client connects to a node that is the only one of its group. Its CONNECT comes up
 /// as bytes, the node opens a session, and the CONNACK comes down, so the client is served (MQTT
 /// 3.1, 3.2).
 pub fn a_client_is_served()

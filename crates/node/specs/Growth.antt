@@ -54,9 +54,9 @@ can_drop core =
     not core.replica.state.stopped
     && nat_lt core.replica.state.log.base core.replica.state.committed
 
--- Whether the log of a node that took these items is to be cut because of its size: there are
--- commands to drop, and what was taken since the last cut counts more than 16 MiB and more than the
--- snapshot has bytes. Each command to drop counts another 128 bytes.
+-- Whether the log of a node that took these items is to be cut because of its size. It is if there
+-- are commands to drop, and what was taken since the last cut counts more than 16 MiB and more than
+-- the snapshot has bytes. Each command to drop counts another 128 bytes.
 abbrev pub wants_cut : List (ℕ × Item) → CoreState → Bool
 wants_cut taken core =
     can_drop core

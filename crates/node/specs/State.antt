@@ -11,7 +11,7 @@ use Rattle.world_base.specs.Handing.{hands_over}
 use Rattle.world_base.specs.Losses.{Stepped}
 
 -- A chain from the first state of a node: one step for each item, in order, each with the lane from
--- which it came; in between, queued bytes may have been handed over.
+-- which it came. In between, queued bytes may have been handed over.
 pub data Replays (first : CountedCore) : List (ℕ × Item) → CountedCore → Type 0 where
   -- no item was taken yet
   opens : Replays first [] first

@@ -1,5 +1,5 @@
-//! The open connections of a node: the bytes that came and are not read yet, the bytes that wait to
-//! be handed over, and what happens to a connection when it is read, written to or closed.
+//! The open connections of a node. Each has the bytes that came and are not read yet, and those
+//! that wait to be handed over. This says what happens to it when it is read, written to or closed.
 #![tactic(auto)]
 
 mod connection;

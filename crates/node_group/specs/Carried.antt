@@ -23,7 +23,7 @@ abbrev pub answers_to : ConnectionName → List Command → List ℕ
 answers_to x agreed = spelled (put_to usual_limits (past_of usual_limits agreed) x)
 
 -- A connection's commands in the list are a prefix of the packets that were written on it, in
--- order; and what went down on it is a prefix of the spellings of the answers that name it.
+-- order. What went down on it is a prefix of the spellings of the answers that name it.
 pub record IsCarried (x : ConnectionName) (written : List Packet) (handed : List ℕ)
     (agreed : List Command) : Type 0 where
   pub up : IsPrefixOf (packets_of x agreed) (commands_of x 0 written)

@@ -100,9 +100,9 @@ abbrev pub is_cut : Item → Bool
 is_cut Cut = true
 is_cut _ = false
 
--- Each step that takes an item with losses is a run of such moves: the replica receives what comes
--- with the item, in the first of them, on each connection the bytes of the item come, nothing is
--- handed over, no log is cut unless the item is a cut, and what is frozen can be read.
+-- Each step that takes an item with losses is a run of such moves. In the first of them the replica
+-- receives what comes with the item. On each connection the bytes of the item come, and nothing is
+-- handed over. No log is cut unless the item is a cut, and what is frozen can be read.
 pub record IsRunOn (item : Item) (core : CoreState) (turn : Turn) : Type 0 where
   pub run : LossyRuns core turn
   pub first : HearsAtFirst run

@@ -51,7 +51,7 @@ is_handing (hands port) = true
 is_handing _ = false
 
 -- On a connection that stays open a move queues the packets that the outputs of this move send to
--- it, in order, after what was queued before; except for handing over, nothing else changes what is
+-- it, in order, after what was queued before. Except for handing over, nothing else changes what is
 -- queued.
 abbrev pub PutsInOrder : Type 0
 PutsInOrder =

@@ -11,7 +11,7 @@ ghost use Rattle.node_moves.specs.LossyRuns.{LossesAreMoves};
 ghost use Rattle.node_moves.specs.Moves.{NodeCallsAreMoves};
 
 /// States that everything that a node does, its steps and the handing over of bytes, is a run of a
-/// few moves: what it reads from a client it proposes, and nothing else; the effects of its replica
+/// few moves. What it reads from a client it proposes, and nothing else. The effects of its replica
 /// are done at once.
 pub fn node_calls_are_moves()
     ensures { NodeCallsAreMoves }
@@ -36,7 +36,7 @@ pub fn each_loss_is_told()
 {}
 
 /// States that each open connection of a node has a name of the ballot that the node leads, except
-/// between the moment at which its replica receives something and the settling move after it; so it
+/// between the moment at which its replica receives something and the settling move after it. So it
 /// proposes under a name only in the ballot of that name.
 pub fn names_keep_their_ballot()
     ensures { NamesKeepTheirBallot }
@@ -50,7 +50,7 @@ pub fn names_stay_apart()
 {}
 
 /// States that each step of a node in which memory ran out is a run of moves, too, in which
-/// something may be lost: the replica receives what comes with the item, and on each connection the
+/// something may be lost. The replica receives what comes with the item, and on each connection the
 /// bytes of the item come.
 pub fn losses_are_moves()
     ensures { LossesAreMoves }

@@ -1,8 +1,8 @@
 //! The threads of one node that serves clients over TCP. Each has a lane to the node's inbox for
-//! good: it accepts a client, reads its bytes, sends them by the lane, and then takes what waits in
-//! the inbox itself, so that no bytes are handed from thread to thread before they are answered.
-//! What a node has for another is taken there by the same thread, if no other does so; otherwise by
-//! that node's own thread, which also takes what the master has for it.
+//! good. It accepts a client, reads its bytes, sends them by the lane, and then takes what waits in
+//! the inbox itself. So no bytes are handed from thread to thread before they are answered. What a
+//! node has for another is taken there by the same thread, if no other does so. Otherwise that
+//! node's own thread takes it, which also takes what the master has for it.
 #![tactic(auto)]
 
 mod blocked_writer;

@@ -64,9 +64,9 @@ verdict (first ∷ bytes) = do
 abbrev pub IsUnfinished : List ℕ → Type 0
 IsUnfinished bytes = verdict bytes ≡ Err stops.More
 
--- Whether memory is needed, and so whether the fields before the first text or list are right: all
--- of a CONNECT, the topic of a PUBLISH, the identifier of a packet with a list, which is not empty.
--- No other packet has a text or a list.
+-- Whether memory is needed, and so whether the fields before the first text or list are right.
+-- These are all of a CONNECT, the topic of a PUBLISH, the identifier of a packet with a list, which
+-- is not empty. No other packet has a text or a list.
 abbrev pub asks_in_body : Header → List ℕ → Bool
 asks_in_body headers.Connect body = is_ok (connect_of body)
 asks_in_body (headers.Publish flags retain) body = is_ok (topic_at body)

@@ -20,8 +20,8 @@ abbrev pub commands_from : ConnectionName → ℕ → List Written → List Comm
 commands_from x n (w ∷ more) = command_of x n w.packet ∷ commands_from x (suc n) more
 commands_from x n [] = []
 
--- A connection's commands in the agreed list are a prefix of what its client wrote, in order; what
--- its node sent is a prefix of the answers to it; and its client handled a prefix of that.
+-- A connection's commands in the agreed list are a prefix of what its client wrote, in order. What
+-- its node sent is a prefix of the answers to it, and its client handled a prefix of that.
 pub record PipeInOrder (agreed : List Command) (κ : Connection) (e : End) : Type 0 where
   pub up : IsPrefixOf (filter (λ command. is_packet_of command κ.name) agreed)
       (commands_from κ.name 0 κ.written)

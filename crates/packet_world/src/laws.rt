@@ -18,29 +18,29 @@ pub fn worlds_are_exact()
 {}
 
 /// States that if the list on which the nodes agree grows, and keeps for each connection the order
-/// in which its packets were proposed, a world reaches the longer list: so its steps need no more
+/// in which its packets were proposed, a world reaches the longer list. So its steps need no more
 /// from the nodes than their agreement.
 pub fn worlds_are_served()
     ensures { WorldsAreServed }
 {}
 
 /// States that of the commands that were taken only in one ballot, such as those of one connection,
-/// the list on which nodes agree has a prefix in the order of proposing; the past says which were
+/// the list on which nodes agree has a prefix in the order of proposing. The past says which were
 /// taken.
 pub fn agreed_keeps_the_order<M: Machine>()
     ensures { AgreedKeepsTheOrder M.rules }
 {}
 
-/// States that a group of nodes that take of each connection the packets that its end has read, in
-/// order and in the ballot of its name, and none of other connections, serves the world: what it
+/// States that a group of nodes serves the world, if they take of each connection the packets that
+/// its end has read, in order and in the ballot of its name, and none of other connections. What it
 /// agrees on next is a list to which the world comes.
 pub fn groups_serve()
     ensures { GroupsServe }
 {}
 
 /// States that the outputs of the broker's machine at the next places of the agreed list, none left
-/// out, may be sent on an open end of a connection, as far as they are for the connection: a world
-/// reaches a state that has them.
+/// out, may be sent on an open end of a connection, as far as they are for the connection. Then a
+/// world reaches a state that has them.
 pub fn given_is_put_out()
     ensures { GivenIsPutOut }
 {}

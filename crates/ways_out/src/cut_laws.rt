@@ -16,8 +16,8 @@ pub fn cut_groups_have_ways_out<M: Machine>()
 {}
 
 /// States that the primary of a ballot, whose other members hold all of its log, answers the next
-/// command at its place, whichever logs were cut: at once if it is the only member, and otherwise
-/// when all others have acknowledged that they hold it too.
+/// command at its place, whichever logs were cut. It does so at once if it is the only member, and
+/// otherwise when all others have acknowledged that they hold it too.
 pub fn cut_groups_answer<M: Machine>()
     ensures { CutGroupsAnswer M.rules }
 {}

@@ -21,8 +21,8 @@ pub fn what_all_hold_is_agreed<M: Machine>()
 {}
 
 /// States that the primary of a ballot, whose other members hold all of its log, answers the next
-/// command at its place: at once if it is the only member, and otherwise when all others have
-/// acknowledged that they hold it too.
+/// command at its place. It does so at once if it is the only member, and otherwise when all others
+/// have acknowledged that they hold it too.
 pub fn commands_are_answered<M: Machine>()
     ensures { CommandsAreAnswered M.rules }
 {}

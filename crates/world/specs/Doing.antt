@@ -79,7 +79,7 @@ Does whole (events.Subscribe name filter qos) old new =
 Does whole (events.Unsubscribe name filter) old new =
     ClientDoes name (Asks (Call.Unsubscribes filter) whole) old new
 
--- How memory runs out at a client and not at a node: a client makes its call, and its connection is
+-- How memory runs out at a client and not at a node. A client makes its call, and its connection is
 -- lost; it has no memory for what it receives; or there is no new connection.
 abbrev pub LosesAtClient : Event → WorldState → WorldState → Type 0
 LosesAtClient (events.Open name node) old new = OpensNone name node old new

@@ -55,8 +55,8 @@ pub record WorldGoesOn (old new : WorldState) : Type 0 where
 -- ---- agreement
 
 -- The nodes are those of a group that moved from its opening with this many nodes, in this
--- configuration. There is an agreed list; the nodes agree on it, hold it, and the outputs of their
--- replicas are its answers in order; and for each connection it has, as each log has, a prefix of
+-- configuration. There is an agreed list. The nodes agree on it and hold it, and the outputs of
+-- their replicas are its answers in order. For each connection it has, as each log has, a prefix of
 -- the packets that nodes proposed for it, in order.
 pub record AreReached (nodes : ℕ) (config : Config) (new : NodesState) : Type 0 where
   pub group : Group

@@ -37,9 +37,9 @@ EndsQuietly number None n = ⊥
 EndsQuietly number (Some slot) n = IsQuietAt slot.node (items.Ended (port_of number)) n
 
 -- An event takes no memory if a client only loses its connection, if an Open finds no name left, if
--- a message reaches the master that it ignores, and if a message, a tick, the end of a connection
--- or a crash reaches a node that then sends nothing, adds nothing to its log, takes no log, applies
--- nothing, and has nothing to hand over.
+-- a message reaches the master that it ignores, and in one case more. In it a message, a tick, the
+-- end of a connection or a crash reaches a node that then sends nothing and has nothing to hand
+-- over. Such a node adds nothing to its log, takes no log and applies nothing.
 abbrev pub TakesNoMemory : Event → WorldState → Type 0
 TakesNoMemory (events.Deliver number) w = ComesQuietly (slice_get w.nodes.sent number) w.nodes
 TakesNoMemory (events.Tick node) w = IsQuietAt node (items.Tick 0) w.nodes

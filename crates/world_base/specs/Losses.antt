@@ -85,7 +85,7 @@ IsExactly old turn new given =
 abbrev pub Steps : CountedCore → Turn → CountedCore → List (Effect Command Output) → Type 0
 Steps old turn new given = IsExactly old turn new given ⊎ (new.losses ≡ one_more old.losses)
 
--- The messages of a step were appended to what was there. It is exactly the step, or counted; a
+-- The messages of a step were appended to what was there. It is exactly the step, or counted. A
 -- step on an item that takes no memory is never counted, as long as there is no failed connection
 -- that is still to be reported to the broker. In any case it did no more than the step may do if
 -- memory runs out.

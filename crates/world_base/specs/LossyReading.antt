@@ -76,8 +76,8 @@ Begins port name _ core did = Closes port core did
 abbrev pub Says : Port → ConnectionName → Packet → CoreState → Account → Type 0
 Says port name packet core did = Asks (commands.Packet name packet) (Shuts port) core did
 
--- The packet at the front of a port's bytes is removed and proposed; or there is less than a
--- packet; or the connection ends, because there is no packet, or because there is no memory to read
+-- The packet at the front of a port's bytes is removed and proposed, or there is less than a
+-- packet. Or the connection ends, because there is no packet, or because there is no memory to read
 -- it.
 pub data ReadsNext (now : ℕ) (port : Port) (core : CoreState) (did : Account) : Type 0 where
   -- less than a packet is there
