@@ -85,53 +85,62 @@ fn cut_in_two_at_every_byte(rt: HostRuntime) {
     assert_eq!(rt; first_cut(rt.alloc(), &STREAM), None);
 }
 
-// Says whether a stream is fed byte by byte, and all packets of it given.
-fn are_bytes_cut(cutter: &mut Cutter, stream: &[u8], out: &mut Vec<u8>) -> bool {
-    for byte in stream {
+// Returns the first byte of a stream, fed byte by byte, that is not taken.
+fn other_byte(cutter: &mut Cutter, stream: &[u8], out: &mut Vec<u8>) -> Option<usize> {
+    for (at, byte) in stream.iter().enumerate() {
         if !is_cut(cutter, &[*byte], out) {
-            return false;
+            return Some(at);
         }
     }
-    true
+    None
 }
 
-// Says whether the stream is cut into its packets if it comes byte by byte.
-fn is_stream_of_bytes(alloc: Global) -> bool {
+// Returns the first byte of the stream that is not taken; the one after the last if other packets
+// are given than those of the stream.
+fn other_in_stream(alloc: Global) -> Option<usize> {
     let mut cutter = Cutter::new(alloc);
     let mut out = Vec::new(alloc);
-    are_bytes_cut(&mut cutter, &STREAM, &mut out) && out.as_slice() == STREAM.as_slice()
+    let other = other_byte(&mut cutter, &STREAM, &mut out);
+    if out.as_slice() == STREAM.as_slice() {
+        other
+    } else {
+        other.or(Some(STREAM.len()))
+    }
 }
 
 #[test]
 fn byte_by_byte(rt: HostRuntime) {
-    assert!(rt; is_stream_of_bytes(rt.alloc()));
+    assert_eq!(rt; other_in_stream(rt.alloc()), None);
 }
 
 // Packet type 15 is reserved (MQTT 2.2.1).
 const FAULT: CutError = CutError::Decode(DecodeFault::Malformed(MalformedKind::PacketType));
 
-// Says whether the answers are, in turn, three packets, the fault, and that there is a fault
-// already.
-fn is_faulty(cutter: &mut Cutter, out: &mut Vec<u8>) -> bool {
-    cutter.feed(&STREAM).is_ok()
-        && cutter.feed(&[0xF0, 0x00]).is_ok()
-        && take(cutter, out) == Taken::One
-        && take(cutter, out) == Taken::One
-        && take(cutter, out) == Taken::One
-        && take(cutter, out) == Taken::Fault(FAULT)
-        && take(cutter, out) == Taken::Fault(CutError::Failed)
-        && cutter.feed(&[0xC0]).err() == Some(CutError::Failed)
+// Returns the first step that is not so: the answers are, in turn, three packets, the fault, and
+// that there is a fault already.
+fn other_answer_of(cutter: &mut Cutter, out: &mut Vec<u8>) -> Option<usize> {
+    let steps = [
+        cutter.feed(&STREAM).is_ok(),
+        cutter.feed(&[0xF0, 0x00]).is_ok(),
+        take(cutter, out) == Taken::One,
+        take(cutter, out) == Taken::One,
+        take(cutter, out) == Taken::One,
+        take(cutter, out) == Taken::Fault(FAULT),
+        take(cutter, out) == Taken::Fault(CutError::Failed),
+        cutter.feed(&[0xC0]).err() == Some(CutError::Failed),
+    ];
+    steps.iter().position(|is_so| !*is_so)
 }
 
-// Says whether a fresh cutter answers a fault, and then that there was one.
-fn stops_at_a_fault(alloc: Global) -> bool {
+// Returns the first step that is not so of a fresh cutter.
+fn other_answer_of_fresh(alloc: Global) -> Option<usize> {
     let mut cutter = Cutter::new(alloc);
     let mut out = Vec::new(alloc);
-    is_faulty(&mut cutter, &mut out)
+    other_answer_of(&mut cutter, &mut out)
 }
 
 #[test]
 fn a_fault_after_good_packets(rt: HostRuntime) {
-    assert!(rt; stops_at_a_fault(rt.alloc()));
+    assert_eq!(rt; other_answer_of_fresh(rt.alloc()), None);
     assert_eq!(rt; FAULT.number(), Some(1));
 }

@@ -60,7 +60,7 @@ where
     match served {
         Ok((missed, reports)) => missed.or(unless(
             are_through(reports.as_slice(), listeners.len()),
-            "each node took what was sent to it, and asked its gate",
+            "each node took what was sent to it, and passed no shut gate",
         )),
         Err(_) => Some("the nodes serve"),
     }
