@@ -12,7 +12,7 @@ pub(crate) const ONE_SESSION: &[u8] = &[
     0, 0, 0, 0,
 ];
 
-/// The same as [`ONE_SESSION`] with the subscription of `t/#` at QoS 2, the received identifier 1,
+/// [`ONE_SESSION`] with the subscription of `t/#` at QoS 2, the received identifier 1,
 /// an entry that waits for the PUBREC of identifier 1, and that publication retained: `x` on `t/1`
 /// at QoS 2.
 pub(crate) const ONE_ENTRY: &[u8] = &[

@@ -48,7 +48,7 @@ const ONE_SESSION: &[&[u8]] = &[
     &[0, 0],
 ];
 
-/// The same client without a connection.
+/// Client `a`, whose session is not clean, without a connection.
 const AWAY: &[&[u8]] = &[
     // one session: client `a`, not clean, no connection
     &[0, 1],

@@ -7,7 +7,7 @@ use std::test::*;
 /// PUBLISH of `x` on `t/1` at QoS 2 with identifier 1.
 pub(crate) const PUBLISH: &[u8] = &[0x34, 8, 0, 3, 0x74, 0x2F, 0x31, 0, 1, 0x78];
 
-/// The same with DUP 1.
+/// PUBLISH of `x` on `t/1` at QoS 2 with identifier 1 and DUP 1.
 pub(crate) const AGAIN: &[u8] = &[0x3C, 8, 0, 3, 0x74, 0x2F, 0x31, 0, 1, 0x78];
 
 /// SUBSCRIBE of `t/#` at QoS 2 with identifier 1.

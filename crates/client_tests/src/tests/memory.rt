@@ -18,7 +18,7 @@ fn shown_by(client: &ClientCore) -> Shown {
     (kept, accepted, client.connected(), client.present())
 }
 
-// The same, with the connection lost.
+// Returns what is seen once the connection is lost.
 fn offline(shown: Shown) -> Shown {
     (shown.0, shown.1, false, shown.3)
 }

@@ -25,7 +25,7 @@ fn fault_of_publishing(
     fault_of_publishing_within(alloc, qos, usize::MAX, connections, written, ended, rests)
 }
 
-// The same, if the first connection takes no more than `room` bytes.
+// Finds what is not so of a publication if the first connection takes no more than `room` bytes.
 fn fault_of_publishing_within(
     alloc: Global,
     qos: QoS,

@@ -127,13 +127,13 @@ pub const CONNECT: &[u8] = &[
 /// PUBLISH of `x` on `t/1` at QoS 2.
 pub const PUBLISH: &[u8] = &[0x34, 8, 0, 3, b't', b'/', b'1', 0, 1, b'x'];
 
-/// The same again, with DUP.
+/// PUBLISH of `x` on `t/1` at QoS 2 with DUP 1.
 pub const PUBLISH_AGAIN: &[u8] = &[0x3C, 8, 0, 3, b't', b'/', b'1', 0, 1, b'x'];
 
-/// The same at QoS 1.
+/// PUBLISH of `x` on `t/1` at QoS 1.
 pub const PUBLISH_ANSWERED: &[u8] = &[0x32, 8, 0, 3, b't', b'/', b'1', 0, 1, b'x'];
 
-/// The same at QoS 0.
+/// PUBLISH of `x` on `t/1` at QoS 0.
 pub const PUBLISH_ONCE: &[u8] = &[0x30, 6, 0, 3, b't', b'/', b'1', b'x'];
 
 /// PUBREL of Packet Identifier 1.

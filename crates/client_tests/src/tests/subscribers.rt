@@ -29,7 +29,7 @@ fn fault_of_hearing(
     fault_of_hearing_within(alloc, count, usize::MAX, connections, printed, written)
 }
 
-// The same, if the first connection takes no more than `room` bytes.
+// Finds what is not so of a client whose first connection takes no more than `room` bytes.
 fn fault_of_hearing_within(
     alloc: Global,
     count: u32,

@@ -116,7 +116,7 @@ where
     fs::remove_file(rt, name).is_ok() && is_played
 }
 
-// The same for a file that no program has.
+// Says whether the script is played from a file that no program has.
 fn is_played_from_a_file<R>(rt: &R) -> bool
 where
     R: Files + Threads + Wait + Clock + Sync + AllocGlobal,

@@ -10,7 +10,7 @@ use std::alloc::Global;
 pub(crate) enum Row<'a> {
     /// A publication with RETAIN 1 is put: its topic, QoS and payload.
     Put(&'a str, QoS, &'a str),
-    /// The same, which is refused, since the store is full.
+    /// Such a publication is refused, since the store is full.
     IsFull(&'a str, QoS, &'a str),
     /// A filter finds these topics, in this order, each with its QoS and the length of its payload.
     Finds(&'a str, &'a [(&'a str, QoS, usize)]),

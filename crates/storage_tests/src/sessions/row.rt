@@ -14,7 +14,7 @@ const WINDOW: usize = 16;
 pub(crate) enum Sent {
     /// A PUBLISH with this identifier.
     New(u16),
-    /// The same with DUP 1.
+    /// A PUBLISH with this identifier and DUP 1.
     Again(u16),
     /// A PUBREL.
     Release(u16),
