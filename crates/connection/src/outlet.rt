@@ -8,7 +8,7 @@ use std::sync::Wait;
 use world_base::{Handed, Memory};
 
 /// The source of the bytes that are queued for connections, each taken by its tap: a node, also one
-/// behind a lock.
+/// under a lock.
 pub trait Outlet<T: Tap> {
     /// Appends what was queued for the tap's connection and not yet handed over, and says whether
     /// more may come. The only error is that memory ran out, and then nothing is handed over.

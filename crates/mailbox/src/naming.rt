@@ -4,7 +4,7 @@ use std::marker::Brand;
 
 /// Which inbox each number means in a run, fixed before the first is named. A function that is
 /// generic in a `Naming` knows from their numbers that a lane and a receiver belong to one inbox,
-/// even behind a lock. Its caller passes [`Brand`] and chooses the inboxes that it made.
+/// even under a lock. Its caller passes [`Brand`] and chooses the inboxes that it made.
 pub trait Naming {
     ghost use Rattle.std.specs.Prelude.{ℕ};
     ghost use Rattle.atomic_table.specs.Seated.{TableId};

@@ -1,4 +1,4 @@
--- A node that runs behind a lock, its turns, and its end.
+-- A node that runs under a lock, its turns, and its end.
 use Rattle.std.specs.Prelude.{◌≡◌, ℕ, ◌<◌, List, Option, Bool, length, slice_index, slice_index_or, All, EachIndex, IfSome}
 use Rattle.mailbox.specs.Delivery.{items_of}
 use Rattle.mailbox.specs.Ends.{Sender}

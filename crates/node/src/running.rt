@@ -1,4 +1,4 @@
-// A node that runs: its state behind a lock, its gate, and its end.
+// A node that runs: its state under a lock, its gate, and its end.
 
 ghost use Rattle.std.specs.Prelude.{◌≡◌, ◌↔◌, All, IfOk, IfSome, IsSomeAnd, IsTrue, is_some, map, true};
 ghost use Rattle.mailbox.specs.Ends.{ArrivesWhole, unmet};
@@ -36,7 +36,7 @@ impl<J: NodeNaming> Stated<J> for NodeState<J> {
     }
 }
 
-/// A node that runs: its state behind a lock, and the gate before each of its takings. It has no
+/// A node that runs: its state under a lock, and the gate before each of its takings. It has no
 /// thread of its own: whoever sent it an item takes what waits, one thread after another.
 #[derive(Drop)]
 pub struct Node<'g, J: NodeNaming, S: Stated<J>, G: Gate> {
@@ -114,7 +114,7 @@ impl<'g, J: NodeNaming, G: Gate> Node<'g, J, NodeState<J>, G> {
             ..
         } = self;
         let state = state.into_inner();
-        // They are all its lanes, but no clause is about what was behind a lock.
+        // They are all its lanes, but no clause is about what was under a lock.
         if state.number() == number && state.lanes() == room.taken.len() && state.has_all(lanes) {
             return state.close(rt, lanes, room, missed.into_inner());
         }

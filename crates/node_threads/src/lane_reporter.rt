@@ -23,7 +23,7 @@ pub(crate) struct LaneReporter<'e, 'a, J: NodeNaming, S: Stated<J>, G: Gate> {
 impl<'e, 'a, J: NodeNaming, S: Stated<J>, G: Gate> Hearer for LaneReporter<'e, 'a, J, S, G> {
     ghost heard = { λ reporter. reporter.lane.sent };
 
-    // No clause is about what is behind a lock.
+    // No clause is about what is under a lock.
     ghost lets = { λ _ _. Unit {0} };
 
     fn now<R: Clock>(&self, rt: &R) -> u64 {

@@ -8,7 +8,7 @@ use post::node::{Item, NodeNaming};
 use std::marker::Model;
 
 /// The lane by which everything is sent to a node that does not come from its clients, and the
-/// node's number. It is behind a lock, so its type says what it sent since it was made: the time,
+/// node's number. It is under a lock, so its type says what it sent since it was made: the time,
 /// cuts of the log, and what was queued for the node.
 #[derive(Drop)]
 pub(crate) struct OwnLane<J: NodeNaming> {

@@ -64,7 +64,7 @@ impl<'a, J: NodeNaming, S: Stated<J>, G: Gate> ServedNode<'a, J, S, G> {
     // got the time last.
     fn take_own<R: Wait + Clock>(&self, rt: &R, last: LastTick) -> LastTick {
         let mut own = self.own.lock(rt);
-        // It is this node's, but no clause is about what is behind a lock.
+        // It is this node's, but no clause is about what is under a lock.
         if own.number() != self.shared.context.node.number {
             return last;
         }

@@ -21,7 +21,7 @@ pub(crate) const LANES: u8 = MAX_CONNECTIONS + 2;
 pub const THREADS: usize = LANES as usize + 1;
 
 /// The slot of a thread: its lane, unless it is using that, and the witness with which it returned.
-/// The first is that of the node's own thread, whose lane is behind a lock; the last is that of the
+/// The first is that of the node's own thread, whose lane is under a lock; the last is that of the
 /// thread that continues with full sockets. They have no lane.
 #[derive(Drop)]
 pub(crate) struct LaneSlot<J: NodeNaming> {

@@ -11,7 +11,7 @@ use std::sync::{Arc, Wait};
 use streams::connection::{Flow, Outlet};
 use streams::{Link, PortTap, WriteToken};
 
-// The node behind its lock, which queued bytes for its connections.
+// The node under its lock, which queued bytes for its connections.
 #[derive(Drop)]
 struct Source<'e, 'a, J: NodeNaming, S: Stated<J>, G: Gate> {
     shared: &'e Shared<'a, J, S, G>,

@@ -241,7 +241,7 @@ struct Round<'a> {
 }
 
 impl<'a> Carrier for Round<'a> {
-    // No clause is about what is behind a lock.
+    // No clause is about what is under a lock.
     ghost carries = { λ _ _ _ _. Unit {0} };
 
     fn carry<R: Wait>(&mut self, rt: &R, outgoing: Outgoing) {

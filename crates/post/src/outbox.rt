@@ -32,7 +32,7 @@ const MAX_WAITING: usize = 524_288;
 const MAX_HELPED: usize = 16;
 
 /// What the other nodes and the master have for a node, in the order in which it was queued. It is
-/// behind a lock, so its type says where each item comes from, and how many messages of other nodes
+/// under a lock, so its type says where each item comes from, and how many messages of other nodes
 /// wait at most.
 #[derive(Drop)]
 pub(crate) struct Outbox {

@@ -73,7 +73,7 @@ impl Peer {
         requires { outgoing.receiver ≡ self.now.number }
     {
         let mut outbox = self.outbox.lock(rt);
-        // It is this node's, but no clause is about what is behind a lock.
+        // It is this node's, but no clause is about what is under a lock.
         if outbox.number() == self.number {
             let _ = outgoing.queue_in(&mut outbox);
         } else {
@@ -133,7 +133,7 @@ impl Peer {
     {
         let mut master = master.lock(rt);
         let mut outbox = self.outbox.lock(rt);
-        // It is this node's, but no clause is about what is behind a lock. If it were another's,
+        // It is this node's, but no clause is about what is under a lock. If it were another's,
         // the answer would be `Memory` too.
         if outbox.number() != self.number {
             return Err(OrderError::Memory);
@@ -155,7 +155,7 @@ impl Peer {
         requires { answer.receiver ≡ self.now.number }
     {
         let mut outbox = self.outbox.lock(rt);
-        // It is this node's, but no clause is about what is behind a lock.
+        // It is this node's, but no clause is about what is under a lock.
         if outbox.number() == self.number {
             let _ = outbox.queue_answer(answer);
         } else {
@@ -168,7 +168,7 @@ impl Peer {
         requires { IsPosted self.now.number item }
     {
         let mut outbox = self.outbox.lock(rt);
-        // It is this node's, but no clause is about what is behind a lock.
+        // It is this node's, but no clause is about what is under a lock.
         outbox.number() == self.number && outbox.queue(item)
     }
 

@@ -51,7 +51,7 @@ impl Subscriptions {
     }
 }
 
-// Reads so many filters, each of which is new, with their QoS.
+// Reads this many filters, each of which is new, with their QoS.
 fn read_filters(alloc: Global, count: u8, reader: &mut Reader) -> Result<Subscriptions, Stop>
     ensures { Reads (λ x. x) result reader.new
         (items_after is_new_filter held_at count [] reader.old) }
@@ -101,7 +101,7 @@ impl Received {
     }
 }
 
-// Reads so many received identifiers, which rise.
+// Reads this many received identifiers, which rise.
 fn read_ids(alloc: Global, count: u16, reader: &mut Reader) -> Result<Received, Stop>
     ensures { Reads (λ x. x) result reader.new (items_after is_above id_at count [] reader.old) }
 {
@@ -165,7 +165,7 @@ fn read_counted_flights(
     read_flights(alloc, count, reader)
 }
 
-// Reads so many entries in flight, with distinct identifiers.
+// Reads this many entries in flight, with distinct identifiers.
 fn read_flights(
     alloc: Global,
     count: u16,
@@ -237,7 +237,7 @@ fn read_all_waiting(
     read_publications(alloc, count, reader)
 }
 
-// Reads so many publications that wait.
+// Reads this many publications that wait.
 fn read_publications(
     alloc: Global,
     count: u16,

@@ -77,7 +77,7 @@ impl Link {
     pub fn take_token<R: Wait>(&self, rt: &R) -> Option<WriteToken>
         ensures { IfSome result (λ token. IsTokenOf self.now.port token) }
     {
-        // It is this connection's, but no clause is about what is behind a lock.
+        // It is this connection's, but no clause is about what is under a lock.
         self.slot.lock(rt).take(self.port)
     }
 

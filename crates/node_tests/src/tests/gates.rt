@@ -66,7 +66,7 @@ fn note(all: &mut [Heard], node: u8, taking: u64, is_done: bool) {
 }
 
 impl Gate for Meeting {
-    // No clause is about what is behind a lock.
+    // No clause is about what is under a lock.
     ghost answers = { λ _ _ _ _. Unit {0} };
 
     ghost hears = { λ _ _ _. Unit {0} };

@@ -132,7 +132,7 @@ impl Meeting {
 }
 
 impl Gate for Meeting {
-    // No clause is about what is behind a lock.
+    // No clause is about what is under a lock.
     ghost answers = { λ _ _ _ _. Unit {0} };
 
     ghost hears = { λ _ _ _. Unit {0} };
