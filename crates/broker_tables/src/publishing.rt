@@ -88,7 +88,8 @@ impl Tables {
             || is_one_topic_over(&self.retained, publication)
     }
 
-    // Notes the identifier of a PUBLISH at QoS 2 in the publisher's session (MQTT 4.3.3).
+    // Notes the identifier of a PUBLISH at QoS 2 in the session of this client, if it has one (MQTT
+    // 4.3.3).
     fn note(&mut self, client: &ClientId, delivery: Delivery) -> Result<(), Halted>
         requires { IfSome (session_in client.now self.old.sessions.entries)
             (λ kept. is_again kept delivery ≡ false) }
@@ -130,7 +131,7 @@ fn acknowledge(
     Ok(())
 }
 
-// Notes the identifier of a PUBLISH at QoS 2 in the publisher's session (MQTT 4.3.3).
+// Notes the identifier of a PUBLISH at QoS 2 in the session of a row (MQTT 4.3.3).
 fn note(row: &mut ClientRow, delivery: Delivery) -> Result<(), Halted>
     requires { is_again row.old delivery ≡ false }
     ensures { OnOk result (row.new ≡ received_on delivery row.old) }

@@ -14,6 +14,8 @@ use std::marker::Model;
 /// from the server.
 #[derive(Drop)]
 pub struct ClientCore {
+    // The fields up to `accepted` mean what those of `ClientState` (client_base,
+    // `specs/State.antt`) do.
     pub(crate) client: ClientId,
     pub(crate) keep_alive: u16,
     pub(crate) released: Vec<PacketId>,
@@ -25,7 +27,9 @@ pub struct ClientCore {
     pub(crate) session: u64,
     pub(crate) present: bool,
     pub(crate) accepted: Vec<Accepted>,
+    /// The bytes of the server that were not read yet.
     pub(crate) cutter: Cutter,
+    /// The bytes for the server that were not yet handed over.
     pub(crate) out: Vec<u8>,
     pub(crate) alloc: Global,
 }

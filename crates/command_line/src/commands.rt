@@ -8,27 +8,32 @@ use crate::arguments;
 use clap::{Arg, Command};
 use std::alloc::{AllocError, Global};
 
+/// What `vbroker --help` prints at its end.
 const AFTER_HELP: &str = "Exit status: 0 done; 1 a fault of file, network or memory;
 2 a refused command line, or help; 3 a refused table, script, topic or other argument.
 
 Example:
   vbroker serve --config examples/one.toml";
 
+/// What `vbroker serve --help` prints at its end.
 const AFTER_SERVE: &str = "It serves until standard input ends or brings the line `quit`.
 
 Example:
   vbroker serve --config examples/one.toml";
 
+/// What `vbroker pub --help` prints at its end.
 const AFTER_PUBLISH: &str = "It prints nothing if all goes well.
 
 Example:
   vbroker pub --id switch --topic house/lamp --qos 2 --message on 127.0.0.1:1883";
 
+/// What `vbroker sub --help` prints at its end.
 const AFTER_SUBSCRIBE: &str = "Each message is one line: QoS, retain, topic, payload.
 
 Example:
   vbroker sub --id meter --filter 'house/#' --qos 2 --count 3 127.0.0.1:1883";
 
+/// What `vbroker play --help` prints at its end.
 const AFTER_PLAY: &str =
     "The first line opens the world: nodes, members, primary, clients. Each later
 line is one event, and is answered by its result. With --escape and --client it

@@ -17,10 +17,10 @@ use std::thread;
 use std::time::{Clock, Duration};
 use world_base::{Item, Memory};
 
-/// How often a gate that does not open is asked before one taking, and how long the thread sleeps
-/// after each time, in milliseconds.
+/// How many times, at most, a gate is asked before one taking.
 const ASKS: u32 = 10_000;
 
+/// How long the thread sleeps after each time that the gate does not open, in milliseconds.
 const ASK_MILLIS: u64 = 1;
 
 /// What the lock of a node holds. Whether it may be handed from thread to thread is proved for it

@@ -23,8 +23,8 @@ const TICK_MILLIS: u64 = 200;
 /// How long the first packet of a connection may take, in milliseconds.
 const FIRST_PACKET_MILLIS: u64 = 10_000;
 
-/// How often the thread looks for what comes before it sleeps. With the steps between two looks
-/// this takes about as long as it takes to wake a thread.
+/// How many times the thread looks for what comes before it sleeps. With the steps between two
+/// looks this takes about as long as it takes to wake a thread.
 const LOOKS: u32 = 64;
 
 /// How many steps it waits between two looks.

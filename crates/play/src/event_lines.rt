@@ -27,7 +27,7 @@ pub(crate) fn write_event(
     }
 }
 
-// `assign 1,2 1`
+// Appends the line of an Assign, as `assign 1,2 1`.
 fn write_assign(alloc: Global, config: &Config, text: &mut Vec<u8>) -> Result<(), AllocError>
     ensures { OnOk result (text.new.items ≡ text.old.items
         ++ two_fields (codes "assign ") (members_text config.now.members)
@@ -40,7 +40,7 @@ fn write_assign(alloc: Global, config: &Config, text: &mut Vec<u8>) -> Result<()
     text.extend_from_slice(rest.as_str().as_bytes())
 }
 
-// `1,2`
+// Appends the members, as `1,2`.
 fn write_members(alloc: Global, members: &[u8], text: &mut Vec<u8>) -> Result<(), AllocError>
     ensures { OnOk result (text.new.items ≡ text.old.items ++ members_text members.now) }
 {
@@ -53,7 +53,7 @@ fn write_members(alloc: Global, members: &[u8], text: &mut Vec<u8>) -> Result<()
     write_others(alloc, others, text)
 }
 
-// `,2,3`
+// Appends the members after the first, as `,2,3`.
 fn write_others(alloc: Global, members: &[u8], text: &mut Vec<u8>) -> Result<(), AllocError>
     ensures { OnOk result (text.new.items ≡ text.old.items ++ more_members members.now) }
 {
@@ -65,7 +65,7 @@ fn write_others(alloc: Global, members: &[u8], text: &mut Vec<u8>) -> Result<(),
     Ok(())
 }
 
-// `deliver 7`
+// Appends the line of a delivery, as `deliver 7`.
 fn write_deliver(alloc: Global, number: u64, text: &mut Vec<u8>) -> Result<(), AllocError>
     ensures { OnOk result
         (text.new.items ≡ text.old.items ++ one_field (codes "deliver ") (decimal number)) }
@@ -74,7 +74,7 @@ fn write_deliver(alloc: Global, number: u64, text: &mut Vec<u8>) -> Result<(), A
     text.extend_from_slice(line.as_str().as_bytes())
 }
 
-// `open a 2`
+// Appends the line of an opening, as `open a 2`.
 fn write_open(
     alloc: Global,
     client: &ClientId,
@@ -90,7 +90,7 @@ fn write_open(
     text.extend_from_slice(rest.as_str().as_bytes())
 }
 
-// `up 3 15`
+// Appends the line of bytes to the node, as `up 3 15`.
 fn write_up(
     alloc: Global,
     connection: u64,
@@ -104,7 +104,7 @@ fn write_up(
     text.extend_from_slice(line.as_str().as_bytes())
 }
 
-// `down 3 4`
+// Appends the line of bytes to the client, as `down 3 4`.
 fn write_down(
     alloc: Global,
     connection: u64,
@@ -118,7 +118,7 @@ fn write_down(
     text.extend_from_slice(line.as_str().as_bytes())
 }
 
-// `abandon a`
+// Appends the line of a lost connection, as `abandon a`.
 fn write_abandon(client: &ClientId, text: &mut Vec<u8>) -> Result<(), AllocError>
     ensures { OnOk result
         (text.new.items ≡ text.old.items ++ one_field (codes "abandon ") client.now) }

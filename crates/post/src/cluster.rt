@@ -86,7 +86,8 @@ impl Cluster {
 
     /// Crashes a node, for good. Returns whether there is a node of this number that has not
     /// stopped, and was not ordered to crash before. The order is queued for the node, and then the
-    /// node gets some time to obey. If memory runs out, the node is not crashed.
+    /// call waits until the node has stopped, some 40 ms at most. If memory runs out, the node is
+    /// not crashed.
     pub fn crash<R: Wait + Clock>(&self, rt: &R, number: u8) -> Result<bool, Memory> {
         let Some(node) = self.node(number) else {
             return Ok(false);

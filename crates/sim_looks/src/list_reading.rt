@@ -81,8 +81,8 @@ impl ListReading {
         self.taken.get(serial as usize).copied().unwrap_or(false)
     }
 
-    // Sessions lose their connections as a command says; a packet counts only on a session's
-    // current connection.
+    // Reads one command: sessions begin, lose their connections and end as it says. A packet counts
+    // only on a session's current connection.
     fn reads_one(&mut self, command: &Command) -> Option<()> {
         match command {
             Command::Connect(connection, client, clean) => self.connects(
@@ -107,7 +107,8 @@ impl ListReading {
             .position(|it| it.connection == Some(connection))
     }
 
-    // Sessions lose this connection, or, if none is named, each its own; the clean ones end.
+    // Takes this connection from its session, or, if none is named, from each session its own. The
+    // clean sessions that lose one end.
     fn ends(&mut self, connection: Option<ConnectionId>) -> Option<()> {
         for session in self.sessions.iter_mut() {
             let is_named = connection.is_none() || session.connection == connection;
@@ -131,7 +132,7 @@ impl ListReading {
         Some(())
     }
 
-    // A client's session ends, if it has one.
+    // Ends a client's session, if it has one.
     fn expels(&mut self, client: &ClientId) -> Option<()> {
         for session in self.sessions.iter_mut() {
             session.is_over = session.client == *client;
@@ -139,8 +140,9 @@ impl ListReading {
         self.archives()
     }
 
-    // A second CONNECT on a connection is a violation; otherwise it becomes the client's current
-    // one.
+    // Makes a connection the current one of a client. Its session continues if neither that nor the
+    // CONNECT is clean; otherwise it ends, and a new one begins. A second CONNECT on a connection
+    // is a violation, which ends the connection.
     fn connects(&mut self, connection: ConnectionId, client: &ClientId, clean: bool) -> Option<()> {
         if self.session_index(connection).is_some() {
             return self.ends(Some(connection));
@@ -156,7 +158,7 @@ impl ListReading {
         self.sessions.push(session).ok()
     }
 
-    // A packet of a session's current connection.
+    // Reads a packet of a session's current connection.
     fn takes(&mut self, at: usize, packet: &Packet) -> Option<()> {
         let session = self.sessions.get_mut(at)?;
         match packet {
@@ -182,7 +184,7 @@ impl ListReading {
         }
     }
 
-    // Each filter of a packet is granted, in order.
+    // Grants each filter of a packet, in order.
     fn subscribes_to_each(&mut self, at: usize, subscribe: &Subscribe) -> Option<()> {
         for asked in subscribe.filters.as_slice() {
             self.subscribes(at, &asked.filter, asked.qos)?;
@@ -190,7 +192,8 @@ impl ListReading {
         Some(())
     }
 
-    // A filter is granted, and brings what is retained.
+    // Grants a filter at this QoS. If that is 2, adds to the session what is retained at QoS 2 and
+    // matches.
     fn subscribes(&mut self, at: usize, filter: &Filter, qos: QoS) -> Option<()> {
         let session = self.sessions.get_mut(at)?;
         session.grants(filter, qos)?;
@@ -203,7 +206,8 @@ impl ListReading {
         Some(())
     }
 
-    // A publication that is no repeat is taken, by each session that wants it.
+    // Takes a publication that is no repeat. Adds one at QoS 2 to each session that wants it, notes
+    // that one above QoS 0 is taken, and retains one with RETAIN.
     fn publishes(&mut self, at: usize, publish: &Publish) -> Option<()> {
         if let Delivery::ExactlyOnce(_, id) = publish.delivery {
             if self.sessions.get_mut(at)?.repeats(id)? {
@@ -238,7 +242,7 @@ impl ListReading {
         Some(())
     }
 
-    // It replaces what was retained about its topic.
+    // Replaces what was retained about the publication's topic.
     fn retains(&mut self, qos: QoS, publish: &Publish) -> Option<()> {
         let topic = &publish.topic;
         self.retained.retain(|it| it.topic != *topic);

@@ -1,4 +1,4 @@
-// Returns which topics a filter matches (MQTT 4.7).
+// Which topics a filter matches (MQTT 4.7), written a second time.
 
 /// Says whether a filter matches a topic.
 pub fn is_match(filter: &str, topic: &str) -> bool {

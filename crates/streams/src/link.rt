@@ -89,8 +89,9 @@ impl Link {
         self.slot.lock(rt).put_back(token)
     }
 
-    /// Sets whether a write waits while the socket is full, for a short time. Only the thread that
-    /// has the token does so. Returns whether it could be set.
+    /// Sets whether a write waits while the socket is full, for as long as the stream's write
+    /// timeout says (1 ms in `node_threads`). Only the thread that has the token does so. Returns
+    /// whether it could be set.
     pub fn set_waiting(&self, waits: bool) -> bool {
         self.stream.set_nonblocking(!waits).is_ok()
     }

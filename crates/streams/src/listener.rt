@@ -20,7 +20,7 @@ pub const MAX_CONNECTIONS: u8 = 60;
 /// milliseconds.
 const PAUSE_MILLIS: u64 = 1;
 
-/// How often the threads that wait for clients are woken when a listener is closed.
+/// How many times, at most, the threads that wait for clients are woken when a listener is closed.
 const WAKES: u32 = 10_000;
 
 /// Where a node accepts its clients: its TCP listener and the table of its connections.

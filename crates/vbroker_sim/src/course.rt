@@ -90,7 +90,7 @@ impl Course {
         }
     }
 
-    // The last connection of a client is a new one.
+    // Notes a new connection as the last one of a client.
     fn is_opened(&mut self, index: usize) -> Option<()> {
         self.opened = self.opened.saturating_add(1);
         for _ in self.last.len()..=index {
@@ -107,7 +107,8 @@ impl Course {
         ((self.draw.below(u64::from(self.nodes)) % 256) as u8).saturating_add(1)
     }
 
-    // The last connection of a client; now and then the one before, or any one, also none that is.
+    // Draws a connection: mostly the last one of a client, now and then the one before, or any one,
+    // also one that does not exist.
     fn connection(&mut self, index: u8) -> u64 {
         let (last, before) = self.last.get(index as usize).copied().unwrap_or((0, 0));
         match self.draw.below(12) {
@@ -141,7 +142,8 @@ impl Course {
         self.begins(world, name, index)
     }
 
-    // A client that is served says something, one that is not comes back.
+    // Draws what a client that is served says, or how one that is not comes back. Now and then one
+    // that is served comes back, too.
     fn begins(&mut self, world: &World, name: ClientId, index: u8) -> Option<Event> {
         if !is_served(world, &name) || self.draw.one_in(16) {
             self.comes_back(world, name)
@@ -150,7 +152,8 @@ impl Course {
         }
     }
 
-    // A client opens a connection, and gives up the one before. Now and then nodes are helped.
+    // Draws how a client comes back: it opens a connection, or first gives up the one that it has.
+    // Now and then the active primary gets the time instead, or a change of the nodes is drawn.
     fn comes_back(&mut self, world: &World, name: ClientId) -> Option<Event> {
         match self.draw.below(32) {
             0 => self.changes(world),
@@ -185,7 +188,7 @@ impl Course {
         Event::Deliver(next)
     }
 
-    // A node crashes, or the next ballot is given to most of the nodes that run.
+    // Draws the crash of a node, or a next ballot of most of the nodes that run.
     fn changes(&mut self, world: &World) -> Option<Event> {
         let node = self.node();
         if self.draw.one_in(3) && self.may_crash(world, node) {
@@ -198,7 +201,7 @@ impl Course {
         Some(Event::Assign(Config { members, primary }))
     }
 
-    // A node may crash if another member of the active ballot runs.
+    // Says whether a node may crash: it runs, and so does another member of the active ballot.
     fn may_crash(&self, world: &World, node: u8) -> bool {
         let (_, members) = world.active();
         let is_left = |it: &u8| *it != node && self.runs(*it);
@@ -228,7 +231,7 @@ impl Course {
         self.primaries.get(at).copied().unwrap_or(1)
     }
 
-    // A client loses its connection, or ends it, or its session is ended.
+    // Draws how a client leaves: it loses its connection, or ends it, or its session is ended.
     fn leaves(&mut self, world: &World, name: ClientId) -> Event {
         match self.draw.below(8) {
             0 => Event::Disconnect(name),
@@ -237,7 +240,7 @@ impl Course {
         }
     }
 
-    // A client connects to the active primary; now and then to another node.
+    // Draws that a client connects to the active primary; now and then to any node.
     fn opens(&mut self, world: &World, name: ClientId) -> Option<Event> {
         let node = if self.draw.one_in(16) {
             self.node()
@@ -247,7 +250,8 @@ impl Course {
         Some(Event::Open(name, node))
     }
 
-    // Mostly a publication; one subscription is drawn for four of them.
+    // Draws what a client says: mostly a publication, now and then that it unsubscribes. One
+    // subscription is drawn for four publications.
     fn says(&mut self, world: &World, name: ClientId, index: u8) -> Option<Event> {
         if self.asked.saturating_mul(4) <= self.serial && is_served(world, &name) {
             self.asked = self.asked.saturating_add(1);

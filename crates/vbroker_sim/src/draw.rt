@@ -17,7 +17,7 @@ impl Draw {
         draw
     }
 
-    // The next number: the upper bits of a linear congruence.
+    // Draws the next number: the upper bits of a linear congruence.
     fn number(&mut self) -> u64 {
         self.state = self
             .state

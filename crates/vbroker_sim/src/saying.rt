@@ -8,8 +8,10 @@ use sim_looks::topics::{Filter, TopicName};
 use std::alloc::Global;
 use world::Event;
 
+// The topics of a run.
 const TOPICS: [&str; 4] = ["t/1", "t/2", "u", "t/1/x"];
 
+// The filters of a run.
 const FILTERS: [&str; 8] = ["t/#", "#", "t/1", "t/#", "t/+", "#", "+", "+/1/#"];
 
 /// Draws a subscription. None if it ran out of memory.
@@ -28,7 +30,7 @@ fn filter(alloc: Global, draw: &mut Draw) -> Option<Filter> {
     Filter::new(alloc, text).ok()
 }
 
-// Mostly QoS 2.
+// Draws a QoS, mostly QoS 2.
 fn qos(draw: &mut Draw) -> QoS {
     match draw.below(8) {
         0 => QoS::AtMostOnce,

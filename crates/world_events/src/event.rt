@@ -28,11 +28,13 @@ pub enum Event {
     /// A client opens a connection to a node. Idle if there is no such client, if it has a
     /// connection, and if the node is no running active primary.
     Open(ClientId, u8),
-    /// This many of the bytes that wait in a connection reach its node. Idle if its end at the node
-    /// is closed, or the node has stopped, for no bytes, and for more than wait.
+    /// On the connection of the first number, as many of the bytes that wait as the second one says
+    /// reach its node. Idle if its end at the node is closed, or the node has stopped, for no
+    /// bytes, and for more than wait.
     CarryUp(u64, u64),
-    /// This many of the bytes that wait in a connection reach its client. Idle if the client holds
-    /// another connection or none, for no bytes, and for more than wait.
+    /// On the connection of the first number, as many of the bytes that wait as the second one says
+    /// reach its client. Idle if the client holds another connection or none, for no bytes, and for
+    /// more than wait.
     CarryDown(u64, u64),
     /// A client loses its connection; what it wrote is still in transit. Idle if it has none.
     Abandon(ClientId),

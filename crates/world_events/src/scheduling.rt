@@ -36,7 +36,8 @@ pub fn push_group(
 }
 
 /// Appends the events by which a client opens a connection to the new primary, once it has lost the
-/// one that it holds, and its CONNECT arrives.
+/// one that it holds, and its CONNECT arrives. `number` is that of the new connection. The only
+/// error is that memory runs out.
 pub fn push_client(
     way: &mut Vec<Event>,
     piped: &PipedClient,
@@ -67,7 +68,8 @@ fn push_leaving(way: &mut Vec<Event>, piped: &PipedClient, client: &ClientId) ->
 }
 
 /// Appends the events by which the others hold the command and answer, when this many messages were
-/// sent before, and the CONNACK comes down.
+/// sent before, and the CONNACK comes down. `number` is that of the connection on which it comes.
+/// The only error is that memory runs out.
 pub fn push_answers(
     alloc: Global,
     way: &mut Vec<Event>,
