@@ -4,15 +4,15 @@ use Rattle.std.specs.List.{flat_map}
 use Rattle.client.specs.packet.QoS.{qos_number}
 use Rattle.client.specs.client_base.declared.accepted.Accepted.{Accepted}
 
--- 0x21 to 0x7E, but not the backslash
+-- whether a byte is printed as it is: 0x21 to 0x7E, but not the backslash
 abbrev pub is_plain : ℕ → Bool
 is_plain byte = nat_le 33 byte && (nat_le byte 126 && not (byte == 92))
 
--- `0` to `9`, `a` to `f`
+-- the hexadecimal digit of a number below 16: `0` to `9`, `a` to `f`
 abbrev pub digit : ℕ → ℕ
 digit n = if nat_lt n 10 then 48 + n else 87 + n
 
--- the byte itself, or `\x` and its two digits
+-- how a byte is printed: as it is, or as `\x` and its two digits
 abbrev pub printed_byte : ℕ → List ℕ
 printed_byte byte = if is_plain byte then byte ∷ []
     else 92 ∷ 120 ∷ digit (byte / 16) ∷ digit (byte % 16) ∷ []
@@ -25,7 +25,7 @@ printed text = flat_map printed_byte text
 abbrev pub flag : Bool → ℕ
 flag retain = if retain then 49 else 48
 
--- `2 0 house/lamp on`
+-- the line of a publication: QoS, RETAIN, topic and payload, as `2 0 house/lamp on`
 abbrev pub line_of : Accepted → List ℕ
 line_of accepted = (48 + qos_number accepted.qos) ∷ 32 ∷ flag accepted.retain ∷ 32
     ∷ (printed accepted.topic ++ 32 ∷ (printed accepted.payload ++ 10 ∷ []))
