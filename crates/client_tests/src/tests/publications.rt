@@ -169,15 +169,21 @@ fn is_limited(alloc: Global, qos: QoS, refused: usize, largest: usize) -> bool {
         && written_len(&mut client, alloc) == Some(1_048_576)
 }
 
-// After the fixed header a packet has at most 1,048,572 bytes: 5 of the topic and its length, 2 of
-// the identifier, and the payload. One byte more is refused, online and offline, and nothing
-// changes.
+// A QoS, how many bytes of payload are refused at it, and how many are sent. After the fixed header
+// a packet has at most 1,048,572 bytes: 5 of the topic and its length, 2 of the identifier if there
+// is one, and the payload.
+const LIMITS: &[(QoS, usize, usize)] = &[
+    (QoS::AtMostOnce, 1_048_568, 1_048_567),
+    (QoS::AtLeastOnce, 1_048_566, 1_048_565),
+    (QoS::ExactlyOnce, 1_048_566, 1_048_565),
+];
+
+// One byte more is refused, online and offline, and nothing changes.
 #[test]
 fn a_publication_too_large_is_refused(rt: HostRuntime) {
-    let alloc = rt.alloc();
-    assert!(rt; is_limited(alloc, QoS::AtMostOnce, 1_048_568, 1_048_567));
-    assert!(rt; is_limited(alloc, QoS::AtLeastOnce, 1_048_566, 1_048_565));
-    assert!(rt; is_limited(alloc, QoS::ExactlyOnce, 1_048_566, 1_048_565));
+    for (qos, refused, largest) in LIMITS {
+        assert!(rt; is_limited(rt.alloc(), *qos, *refused, *largest), "{qos:?}");
+    }
 }
 
 #[test]

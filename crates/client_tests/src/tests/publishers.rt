@@ -180,7 +180,7 @@ fn a_long_message_is_refused(rt: HostRuntime) -> Result<(), Fail> {
     let bytes = Vec::from_elem(rt.alloc(), b'x', 1_048_570)?;
     let message = std::str::from_utf8(bytes.as_slice()).map_err(|_| Fail::from("no text"))?;
     for qos in [QoS::AtMostOnce, QoS::AtLeastOnce] {
-        assert!(rt; is_too_long(rt.alloc(), message, qos));
+        assert!(rt; is_too_long(rt.alloc(), message, qos), "{qos:?}");
     }
     Ok(())
 }

@@ -43,11 +43,13 @@ const ANSWERS: &str = "expel b\n\
     refused 6\n\
     bye\n";
 
-// Says whether a `sub` whose session is ended while it waits reports that its session is lost.
+// Says whether a `sub` whose session is ended while it waits reports that its session is lost. It
+// comes once the node may serve.
 fn is_lost<R>(rt: &R, address: &str) -> bool
 where
     R: Clock + AllocGlobal + Net<Stream = TcpStream>,
 {
+    thread::sleep(rt, Duration::from_millis(500));
     let mut addresses = Vec::new(rt.alloc());
     if addresses.push(address).is_err() {
         return false;
@@ -78,59 +80,54 @@ fn orders_all<R: Clock>(rt: &R, orders: PipeWriter) -> bool {
         && gives(rt, &mut orders, 1_000, LAST)
 }
 
-// The client comes once the node may serve.
-fn waits_and_is_lost<R>(rt: &R, address: &str) -> bool
-where
-    R: Clock + AllocGlobal + Net<Stream = TcpStream>,
-{
-    thread::sleep(rt, Duration::from_millis(500));
-    is_lost(rt, address)
-}
-
 // Says whether the orders are given, and the client reports that its session is lost.
 fn talks<R>(rt: &R, orders: PipeWriter, address: &str) -> bool
 where
     R: Threads + Clock + Sync + AllocGlobal + Net<Stream = TcpStream>,
 {
-    let (ordered, lost) = thread::join(
-        rt,
-        || orders_all(rt, orders),
-        || waits_and_is_lost(rt, address),
-    );
+    let (ordered, lost) = thread::join(rt, || orders_all(rt, orders), || is_lost(rt, address));
     ordered && lost
 }
 
-// Says whether the nodes of this table answer the orders, and the client reports its loss.
-fn go_well<R>(rt: &R, served: &Served) -> bool
+// Returns what is not so: the nodes of this table answer the orders, and the client reports that
+// its session is lost.
+fn missed_with<R>(rt: &R, served: &Served) -> Option<&'static str>
 where
     R: Files + Threads + Wait + Clock + Sync + AllocGlobal,
     R: Net<Listener = TcpListener, Stream = TcpStream>,
 {
     let Ok((input, orders)) = io::pipe(rt) else {
-        return false;
+        return Some("there is a pipe");
     };
     let (answered, talked) = thread::join(
         rt,
         || serve(rt, served.table.as_str(), input, ANSWERS),
         || talks(rt, orders, served.address.as_str()),
     );
-    answered && talked
+    match (answered, talked) {
+        (true, true) => None,
+        (false, _) => Some("the orders are answered"),
+        (true, false) => Some("the orders are given, and the client's session is lost"),
+    }
 }
 
-// Says whether nodes on this port answer the orders, and the client reports it.
-fn go_well_at<R>(rt: &R, port: u16) -> bool
+// Returns what is not so of nodes on this port and their client.
+fn missed_at<R>(rt: &R, port: u16) -> Option<&'static str>
 where
     R: Files + Threads + Wait + Clock + Sync + AllocGlobal,
     R: Net<Listener = TcpListener, Stream = TcpStream>,
 {
     match Served::new(rt.alloc(), port) {
-        Ok(served) => go_well(rt, &served),
-        Err(_) => false,
+        Ok(served) => missed_with(rt, &served),
+        Err(_) => Some("there is memory for a table"),
     }
 }
 
 #[test]
 fn clients_are_expelled(rt: HostRuntime) {
-    let port = free_port(&rt);
-    assert!(rt; port.is_ok_and(|port| go_well_at(&rt, port)));
+    let missed = match free_port(&rt) {
+        Ok(port) => missed_at(&rt, port),
+        Err(_) => Some("a port is free"),
+    };
+    assert_eq!(rt; missed, None);
 }

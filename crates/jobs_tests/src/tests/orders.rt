@@ -158,37 +158,44 @@ where
     order(rt, &mut orders, address)
 }
 
-// Says whether nodes on this port answer the orders, and the clients do as they have to.
-fn go_well_at<R>(rt: &R, port: u16) -> bool
+// Returns what is not so of nodes on this port and their clients.
+fn missed_at<R>(rt: &R, port: u16) -> Option<&'static str>
 where
     R: Files + Threads + Wait + Clock + Sync + AllocGlobal,
     R: Net<Listener = TcpListener, Stream = TcpStream>,
 {
     match Served::new(rt.alloc(), port) {
-        Ok(served) => go_well(rt, &served),
-        Err(_) => false,
+        Ok(served) => missed_with(rt, &served),
+        Err(_) => Some("there is memory for a table"),
     }
 }
 
-// Says whether the nodes of this table answer the orders, and the clients do as they have to.
-fn go_well<R>(rt: &R, served: &Served) -> bool
+// Returns what is not so: the nodes of this table answer the orders, and the clients talk.
+fn missed_with<R>(rt: &R, served: &Served) -> Option<&'static str>
 where
     R: Files + Threads + Wait + Clock + Sync + AllocGlobal,
     R: Net<Listener = TcpListener, Stream = TcpStream>,
 {
     let Ok((input, orders)) = io::pipe(rt) else {
-        return false;
+        return Some("there is a pipe");
     };
     let (answered, talked) = thread::join(
         rt,
         || serve(rt, served.table.as_str(), input, ANSWERS),
         || order_all(rt, orders, served.address.as_str()),
     );
-    answered && talked
+    match (answered, talked) {
+        (true, true) => None,
+        (false, _) => Some("the orders are answered"),
+        (true, false) => Some("the orders are given, and the clients talk"),
+    }
 }
 
 #[test]
 fn orders_are_answered(rt: HostRuntime) {
-    let port = free_port(&rt);
-    assert!(rt; port.is_ok_and(|port| go_well_at(&rt, port)));
+    let missed = match free_port(&rt) {
+        Ok(port) => missed_at(&rt, port),
+        Err(_) => Some("a port is free"),
+    };
+    assert_eq!(rt; missed, None);
 }

@@ -79,25 +79,34 @@ fn loses(alloc: Global, node: &mut NodeCore, time: u64, wanted: &[u64]) -> bool 
     }
 }
 
-// Both fall silent: the one of the lower port is lost first.
-fn closes_in_order(alloc: Global, node: &mut NodeCore) -> bool {
-    connects(alloc, node, 7, CONNECT_A)
-        && connects(alloc, node, 3, CONNECT_B)
-        && loses(alloc, node, 90_001, &[2, 1])
-        && hands_over(alloc, node, 3, NOTHING, false)
-        && hands_over(alloc, node, 7, NOTHING, false)
-        && node.losses() == 0
+// Both fall silent: the one of the lower port is lost first. Returns the first step that is not so.
+fn missed_step(alloc: Global, node: &mut NodeCore) -> Option<&'static str> {
+    if !connects(alloc, node, 7, CONNECT_A) {
+        Some("the client of port 7 connects")
+    } else if !connects(alloc, node, 3, CONNECT_B) {
+        Some("the client of port 3 connects")
+    } else if !loses(alloc, node, 90_001, &[2, 1]) {
+        Some("both are lost, that of port 3 first")
+    } else if !hands_over(alloc, node, 3, NOTHING, false) {
+        Some("port 3 is closed")
+    } else if !hands_over(alloc, node, 7, NOTHING, false) {
+        Some("port 7 is closed")
+    } else if node.losses() != 0 {
+        Some("no step ran out of memory")
+    } else {
+        None
+    }
 }
 
-// Returns the primary of two nodes.
-fn is_in_order(alloc: Global) -> bool {
+// Returns the first step that is not so of the primary of two nodes.
+fn missed_by_a_primary(alloc: Global) -> Option<&'static str> {
     match primary(alloc, &[1, 2]) {
-        Some(mut node) => closes_in_order(alloc, &mut node),
-        None => false,
+        Some(mut node) => missed_step(alloc, &mut node),
+        None => Some("there is memory for a primary"),
     }
 }
 
 #[test]
 fn silent_ones_are_closed_by_port(rt: HostRuntime) {
-    assert!(rt; is_in_order(rt.alloc()));
+    assert_eq!(rt; missed_by_a_primary(rt.alloc()), None);
 }
