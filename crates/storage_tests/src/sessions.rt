@@ -121,7 +121,7 @@ fn first_undone(alloc: Global, rows: &[Row<'_>]) -> Option<usize> {
 }
 
 #[test]
-fn rows_are_done(rt: HostRuntime) {
+fn a_new_session_does_as_its_rows_say(rt: HostRuntime) {
     assert_eq!(rt; first_undone(rt.alloc(), FREES_ITS_IDENTIFIER), None);
     assert_eq!(rt; first_undone(rt.alloc(), RELEASED_COME_FIRST), None);
     assert_eq!(rt; first_undone(rt.alloc(), NEW_AFTER_PUBREL), None);

@@ -67,7 +67,7 @@ fn copies_are_equal(rt: HostRuntime) {
 
 // The laws are calls that do nothing.
 #[test]
-fn laws_are_called() {
+fn laws_can_be_called() {
     fill_takes_what_waits();
     fills_join();
     answers_keep_identifiers_apart();

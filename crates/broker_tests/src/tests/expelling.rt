@@ -148,7 +148,7 @@ const EXPELLED_NOBODY: &[Row<'static>] = &[
 ];
 
 #[test]
-fn expelled_nobody(rt: HostRuntime) {
+fn an_expel_of_nobody_changes_nothing(rt: HostRuntime) {
     assert_eq!(rt;
         first_fault(rt.alloc(), Start::Fresh, Story::Rows(EXPELLED_NOBODY)),
         None
@@ -167,7 +167,7 @@ const EXPELLED_CLEAN: &[Row<'static>] = &[
 ];
 
 #[test]
-fn expelled_clean(rt: HostRuntime) {
+fn an_expelled_clean_session_ends(rt: HostRuntime) {
     assert_eq!(rt;
         first_fault(rt.alloc(), Start::Fresh, Story::Rows(EXPELLED_CLEAN)),
         None

@@ -278,7 +278,7 @@ fn form_1_is_read(rt: HostRuntime) {
 }
 
 #[test]
-fn frozen_forms(rt: HostRuntime) {
+fn brokers_have_their_frozen_bytes(rt: HostRuntime) {
     assert_eq!(rt;
         first_fault(
             rt.alloc(),

@@ -33,7 +33,7 @@ fn requests_are_compared(rt: HostRuntime) -> Result<(), Fail> {
 
 // The laws are calls that do nothing.
 #[test]
-fn laws_are_called() -> Result<(), Fail> {
+fn laws_can_be_called() -> Result<(), Fail> {
     accepted_once_an_identifier();
     history_is_followed();
     identifiers_are_distinct();

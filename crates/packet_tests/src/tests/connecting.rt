@@ -188,7 +188,7 @@ fn is_client(alloc: Global, text: &str, later: &str) -> bool {
 }
 
 #[test]
-fn client_identifiers(rt: HostRuntime) {
+fn a_client_identifier_may_have_64_bytes(rt: HostRuntime) {
     let longest = "0123456789012345678901234567890123456789012345678901234567890123";
     assert!(rt; is_client(rt.alloc(), longest, "b"));
 }

@@ -109,7 +109,7 @@ fn other_in_stream(alloc: Global) -> Option<usize> {
 }
 
 #[test]
-fn byte_by_byte(rt: HostRuntime) {
+fn a_stream_byte_by_byte_gives_its_packets(rt: HostRuntime) {
     assert_eq!(rt; other_in_stream(rt.alloc()), None);
 }
 

@@ -60,7 +60,7 @@ fn are_printed(alloc: Global, code: RefusalCode, id: PacketId, wanted: &str) -> 
 
 // MQTT 3.2.2.3, table 3.1.
 #[test]
-fn codes_and_identifiers(rt: HostRuntime) {
+fn a_code_and_an_identifier_have_their_words(rt: HostRuntime) {
     let code = RefusalCode::NotAuthorized;
     assert_eq!(rt; code.number(), 5);
     assert!(rt; are_printed(rt.alloc(), code, PacketId::new(7), "not authorized 7"));

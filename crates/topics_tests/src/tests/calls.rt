@@ -77,7 +77,7 @@ fn are_names(alloc: Global, row: Order<'_>) -> bool {
 }
 
 #[test]
-fn names_in_order(rt: HostRuntime) {
+fn names_are_ordered_by_bytes(rt: HostRuntime) {
     assert!(rt; are_names(rt.alloc(), ("B", "a")));
 }
 
@@ -118,7 +118,7 @@ fn are_filters(alloc: Global, row: Order<'_>) -> bool {
 }
 
 #[test]
-fn filters_in_order(rt: HostRuntime) {
+fn filters_are_ordered_by_bytes(rt: HostRuntime) {
     assert!(rt; are_filters(rt.alloc(), ("#", "+")));
 }
 
@@ -160,7 +160,7 @@ fn kinds_and_their_texts(rt: HostRuntime) {
 }
 
 #[test]
-fn laws_of_matching() {
+fn laws_can_be_called() {
     matches_is_tested();
     bare_matches_itself();
 }

@@ -61,7 +61,7 @@ fn first_filter<'a>(alloc: Global, texts: &[&'a str]) -> Option<&'a str> {
 }
 
 #[test]
-fn no_filters(rt: HostRuntime) {
+fn malformed_filters_are_refused(rt: HostRuntime) {
     assert_eq!(rt; first_filter(rt.alloc(), NO_FILTERS), None);
 }
 
@@ -78,7 +78,7 @@ fn first_topic<'a>(alloc: Global, texts: &[&'a str]) -> Option<&'a str> {
 }
 
 #[test]
-fn no_topics(rt: HostRuntime) {
+fn malformed_topics_are_refused(rt: HostRuntime) {
     assert_eq!(rt; first_topic(rt.alloc(), NO_TOPICS), None);
 }
 

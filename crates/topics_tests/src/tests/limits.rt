@@ -45,7 +45,7 @@ const LONG_FILTERS: &[Row<'static>] = &[
 ];
 
 #[test]
-fn lengths(rt: HostRuntime) {
+fn a_text_has_at_most_65535_bytes(rt: HostRuntime) {
     assert_eq!(rt; other_topic(rt.alloc(), LONG_TOPICS), None);
     assert_eq!(rt; other_filter(rt.alloc(), LONG_FILTERS), None);
 }
@@ -66,7 +66,7 @@ const DEEP_FILTERS: &[Row<'static>] = &[
 const DEEP_TOPICS: &[Row<'static>] = &[("/", 31, None), ("/", 32, Some(MalformedKind::TooDeep))];
 
 #[test]
-fn levels(rt: HostRuntime) {
+fn a_text_has_at_most_32_levels(rt: HostRuntime) {
     assert_eq!(rt; other_filter(rt.alloc(), DEEP_FILTERS), None);
     assert_eq!(rt; other_topic(rt.alloc(), DEEP_TOPICS), None);
 }

@@ -43,7 +43,7 @@ const HASH: &[Row<'static>] = &[
 
 // MQTT 4.7.1.2: the pairs that the standard names, and their kin.
 #[test]
-fn any_number_of_levels(rt: HostRuntime) {
+fn hash_matches_any_number_of_levels(rt: HostRuntime) {
     assert_eq!(rt; other_answer(rt.alloc(), HASH), None);
 }
 
@@ -67,7 +67,7 @@ const PLUS: &[Row<'static>] = &[
 
 // MQTT 4.7.1.3.
 #[test]
-fn one_level(rt: HostRuntime) {
+fn plus_matches_one_level(rt: HostRuntime) {
     assert_eq!(rt; other_answer(rt.alloc(), PLUS), None);
 }
 

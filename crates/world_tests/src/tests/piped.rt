@@ -118,7 +118,7 @@ const TABLES: &[(&str, &[Row<'static>])] = &[
 ];
 
 #[test]
-fn rows_hold(rt: HostRuntime) {
+fn a_client_with_its_pipes_does_as_its_rows_say(rt: HostRuntime) {
     for (name, rows) in TABLES {
         let fault = fault_of(rt.alloc(), rows);
         assert!(rt; fault.is_none(), "{name}: row {fault:?}");
