@@ -4,7 +4,7 @@ use Rattle.std.specs.List.{position}
 use Rattle.std.proofs.lemmas.List.{append-nil, append_assoc, take_more}
 use Rattle.user_client.specs.client_base.declared.accepted.Accepted.{Accepted}
 use Rattle.script.specs.session_base.declared.publication.Publication.{Publication}
-use Rattle.script.specs.declared.order.Order.{Order}
+use Rattle.script.specs.declared.order.ScriptLine.{ScriptLine}
 use Rattle.play.specs.Lines.{accepted_line}
 use Rattle.world.specs.world_events.declared.event.Event.{Event}
 use Rattle.world.specs.declared.world.WorldClient.{WorldClient}
@@ -100,7 +100,7 @@ none_written all (c ∷ cs) w is = (sym (ap length none), none_written all cs w 
 
 -- ---- orders
 
-pub no_event : (order : Order) (world : WorldState) (idle : Idle) → asked_in world order ≡ None → Comes order world (Err idle) world
+pub no_event : (order : ScriptLine) (world : WorldState) (idle : Idle) → asked_in world order ≡ None → Comes order world (Err idle) world
 no_event order world idle none =
     record {
       comes = subst (λ (o : Option Event). ComesTo o world (Err idle) world) (sym none) (refl, refl);
@@ -111,7 +111,7 @@ no_event order world idle none =
       exact = λ nodes config cs r. (r, sym (append-nil (asked_on r)));
     }
 
-pub happened : (order : Order) (old : WorldState) (event : Event) (result : Result (Unit {0}) Idle) (new : WorldState) → asked_in old order ≡ Some event → Happens event old result new
+pub happened : (order : ScriptLine) (old : WorldState) (event : Event) (result : Result (Unit {0}) Idle) (new : WorldState) → asked_in old order ≡ Some event → Happens event old result new
     → WorldGoesOn old new → StaysReached old.nodes new.nodes → (asked : List (ℕ × Publication)) × IsAsked event old result asked new × WorldGoesBy asked old new × KeepsReached asked old new → Comes order old result new
 happened order old event result new is happens goes reached asks =
     record {
@@ -124,7 +124,7 @@ happened order old event result new is happens goes reached asks =
     }
 
 -- an order, its line, and if the last call succeeds, what clients accepted
-pub appends : {E : Type 0} (end : Result (Unit {0}) E) (clients : List (List ℕ)) (index : ℕ) (order : Order) (result : Result (Unit {0}) Idle) (before after : WorldState) (ls : List Recipient)
+pub appends : {E : Type 0} (end : Result (Unit {0}) E) (clients : List (List ℕ)) (index : ℕ) (order : ScriptLine) (result : Result (Unit {0}) Idle) (before after : WorldState) (ls : List Recipient)
     (a b c : List ℕ) → Comes order before result after → Written index result after a b → names_of ls ≡ clients → AreWritten ls before → OnOk end (c ≡ b ++ lines_unwritten ls after)
     → OnOk end (Appends clients index order before after a c)
 appends (Err error) clients index order result before after ls a b c comes line named written tells = tells

@@ -5,7 +5,7 @@ use Rattle.std.proofs.lemmas.List.{append-nil, append_assoc, length-take-le, tak
 use Rattle.world.specs.ballot.Config.{Config}
 use Rattle.world.specs.packet_world.World.{AreApart}
 use Rattle.script.specs.Scripts.{IsScript, lines_of}
-use Rattle.script.specs.declared.order.Order.{Order}
+use Rattle.script.specs.declared.order.ScriptLine.{ScriptLine}
 use Rattle.script.specs.declared.reading.Script.{Script}
 use Rattle.play.specs.Lines.{end_line}
 use Rattle.world.specs.Goes.{AreReached}
@@ -20,12 +20,12 @@ use Rattle.play.specs.Inside.{Appends, AppendsAll, Ends, PlaysOn}
 pub appends_none : (clients : List (List ℕ)) (world : WorldState) (text : List ℕ) → AppendsAll clients [] world world text text
 appends_none clients world text = record { lines = []; played = opens; is = sym (append-nil text) }
 
-pub appends_more : (clients : List (List ℕ)) (orders : List Order) (i : ℕ) (order : Order) (first old new : WorldState) (a b c : List ℕ) → i < length orders → order ≡ get_or orders i order
+pub appends_more : (clients : List (List ℕ)) (orders : List ScriptLine) (i : ℕ) (order : ScriptLine) (first old new : WorldState) (a b c : List ℕ) → i < length orders → order ≡ get_or orders i order
     → AppendsAll clients (take i orders) first old a b → Appends clients i order old new b c → AppendsAll clients (take (i + 1) orders) first new a c
 appends_more clients orders i order first old new a b c below is before one =
     let many : length (take i orders) ≡ i = length-take-le i orders (let l : i ≤ length orders = omega (arith, below) in l) in
     let step = subst (λ (k : ℕ). Step clients k order old new one.lines) (sym many) one.step in
-    subst (λ (l : List Order). AppendsAll clients l first new a c) (sym (take_more orders i order below ∙ ap (λ (z : Order). take i orders ++ z ∷ []) (sym is)))
+    subst (λ (l : List ScriptLine). AppendsAll clients l first new a c) (sym (take_more orders i order below ∙ ap (λ (z : ScriptLine). take i orders ++ z ∷ []) (sym is)))
     (record {
       lines = before.lines ++ one.lines;
       played = goes_on before.played order step;
@@ -33,7 +33,7 @@ appends_more clients orders i order first old new a b c below is before one =
     })
 
 -- the same clients by another name
-pub renamed : {clients names : List (List ℕ)} {i : ℕ} {order : Order} {old new : WorldState} {a b : List ℕ} → clients ≡ names
+pub renamed : {clients names : List (List ℕ)} {i : ℕ} {order : ScriptLine} {old new : WorldState} {a b : List ℕ} → clients ≡ names
     → Appends clients i order old new a b → Appends names i order old new a b
 renamed {i = i} {order = order} {old = old} {new = new} {a = a} {b = b} is one =
     subst (λ (n : List (List ℕ)). Appends n i order old new a b) is one
@@ -49,14 +49,14 @@ opened_exact {nodes = nodes} {config = config} {world = world} is exact =
 
 -- ---- agreement
 
-agrees_on : (nodes : ℕ) (config : Config) (clients : List (List ℕ)) (first : WorldState) (orders : List Order) (lines : List ℕ) (last : WorldState)
+agrees_on : (nodes : ℕ) (config : Config) (clients : List (List ℕ)) (first : WorldState) (orders : List ScriptLine) (lines : List ℕ) (last : WorldState)
     → Played clients first orders lines last → AreReached nodes config first.nodes → AreReached nodes config last.nodes
 agrees_on nodes config clients first _ _ last opens reached = reached
 agrees_on nodes config clients first _ _ last (goes_on {orders} {lines} {more} {old} played order step) reached =
     step.reached nodes config (agrees_on nodes config clients first orders lines old played reached)
 
 -- and each client stays exact
-exact_on : (nodes : ℕ) (config : Config) (cs clients : List (List ℕ)) (first : WorldState) (orders : List Order) (lines : List ℕ) (last : WorldState)
+exact_on : (nodes : ℕ) (config : Config) (cs clients : List (List ℕ)) (first : WorldState) (orders : List ScriptLine) (lines : List ℕ) (last : WorldState)
     → Played clients first orders lines last → IsReached nodes config cs first → IsReached nodes config cs last
 exact_on nodes config cs clients first _ _ last opens reached = reached
 exact_on nodes config cs clients first _ _ last (goes_on {orders} {lines} {more} {old} played order step) reached =
@@ -65,7 +65,7 @@ exact_on nodes config cs clients first _ _ last (goes_on {orders} {lines} {more}
 -- ---- the whole
 
 -- if the last line was written, memory suffices
-pub plays_on : {E : Type 0} (result : Result (Unit {0}) E) (clients : List (List ℕ)) (orders : List Order) (first last : WorldState) (old mid new : List ℕ)
+pub plays_on : {E : Type 0} (result : Result (Unit {0}) E) (clients : List (List ℕ)) (orders : List ScriptLine) (first last : WorldState) (old mid new : List ℕ)
     → AppendsAll clients orders first last old mid → OnOk result (Ends last mid new) → OnOk result (last.losses ≡ 0)
     → OnOk result (PlaysOn clients orders first old new 0)
 plays_on (Ok done) clients orders first last old mid new all ends none =
@@ -103,16 +103,16 @@ plays text old new script first losses is opened exact whole on =
     }
 
 pub plays_well : {E : Type 0} (result : Result (Unit {0}) E) (text old new : List ℕ) (script : Script) (first : WorldState)
-    (clients : List (List ℕ)) (orders : List Order) → IsScript (lines_of text) script
+    (clients : List (List ℕ)) (orders : List ScriptLine) → IsScript (lines_of text) script
     → AreReached script.opening.nodes script.opening.config first.nodes
     → (reached : IsReached script.opening.nodes script.opening.config script.opening.clients.items first) × (asked_on reached ≡ []) → first.losses ≡ 0
     → clients ≡ script.opening.clients.items → orders ≡ script.orders.items → OnOk result (PlaysOn clients orders first old new 0) → OnOk result (Plays text old new 0)
 plays_well (Ok done) text old new script first clients orders is opened exact whole named all on =
     plays text old new script first 0 is opened exact whole
-    (subst (λ (o : List Order). PlaysOn script.opening.clients.items o first old new 0) all (subst (λ (n : List (List ℕ)). PlaysOn n orders first old new 0) named on))
+    (subst (λ (o : List ScriptLine). PlaysOn script.opening.clients.items o first old new 0) all (subst (λ (n : List (List ℕ)). PlaysOn n orders first old new 0) named on))
 plays_well (Err error) text old new script first clients orders is opened exact whole named all on = on
 
-pub plays_losing : (text old new : List ℕ) (script : Script) (first : WorldState) (clients : List (List ℕ)) (orders : List Order) → IsScript (lines_of text) script
+pub plays_losing : (text old new : List ℕ) (script : Script) (first : WorldState) (clients : List (List ℕ)) (orders : List ScriptLine) → IsScript (lines_of text) script
     → AreReached script.opening.nodes script.opening.config first.nodes
     → (reached : IsReached script.opening.nodes script.opening.config script.opening.clients.items first) × (asked_on reached ≡ []) → first.losses ≡ 0
     → clients ≡ script.opening.clients.items → orders ≡ script.orders.items → (losses : ℕ) × ((0 < losses) × PlaysOn clients orders first old new losses)
@@ -122,7 +122,7 @@ plays_losing text old new script first clients orders is opened exact whole name
   (
     some,
     plays text old new script first losses is opened exact whole
-        (subst (λ (o : List Order). PlaysOn script.opening.clients.items o first old new losses) all
+        (subst (λ (o : List ScriptLine). PlaysOn script.opening.clients.items o first old new losses) all
         (subst (λ (n : List (List ℕ)). PlaysOn n orders first old new losses) named on)),
   ),
 )

@@ -3,8 +3,8 @@ use Rattle.std.specs.Prelude.{ℕ, Bool, nat_le, if◌then◌else◌, ◌&&◌, 
 use Rattle.std.specs.List.{list_all}
 use Rattle.script.specs.declared.order.Amount.{Amount}
 use Rattle.script.specs.declared.order.Amount.TheVariants as amounts
-use Rattle.script.specs.declared.order.Order.{Order}
-use Rattle.script.specs.declared.order.Order.TheVariants as orders
+use Rattle.script.specs.declared.order.ScriptLine.{ScriptLine}
+use Rattle.script.specs.declared.order.ScriptLine.TheVariants as orders
 use Rattle.world.specs.world_events.declared.event.Event.{Event}
 use Rattle.world.specs.world_events.declared.event.Event.TheVariants as events
 use Rattle.world.specs.Found.{way_of}
@@ -31,7 +31,7 @@ count_of waiting amounts.All = waiting
 count_of waiting (amounts.Bytes count) = count
 
 -- the event of an order, when this many bytes wait on the connection that it names
-abbrev pub event_of : ℕ → Order → Option Event
+abbrev pub event_of : ℕ → ScriptLine → Option Event
 event_of waiting (orders.Assign members primary) = assign_of members primary
 event_of waiting (orders.Deliver message) = Some (events.Deliver message)
 event_of waiting (orders.Tick node) = option_map events.Tick (node_of node)
@@ -51,11 +51,11 @@ event_of waiting (orders.Subscribe client filter qos) = Some (events.Subscribe c
 event_of waiting (orders.Unsubscribe client filter) = Some (events.Unsubscribe client filter)
 
 -- how many bytes wait on the connection that an order names, the way that they are carried
-abbrev pub waiting_for : Order → WorldState → ℕ
+abbrev pub waiting_for : ScriptLine → WorldState → ℕ
 waiting_for (orders.CarryUp connection amount) w = length (up_of (way_of connection w))
 waiting_for (orders.CarryDown connection amount) w = length (down_of (way_of connection w))
 waiting_for _ w = 0
 
 -- the event that an order asks for in a world
-abbrev pub asked_in : WorldState → Order → Option Event
+abbrev pub asked_in : WorldState → ScriptLine → Option Event
 asked_in w order = event_of (waiting_for order w) order

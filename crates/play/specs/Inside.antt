@@ -2,7 +2,7 @@
 use Rattle.std.specs.Prelude.{◌≡◌, ℕ, List, [], ◌∷◌, ◌++◌, Some, Result, length, map}
 use Rattle.world.specs.master.declared.event.Idle.{Idle}
 use Rattle.script.specs.session_base.declared.publication.Publication.{Publication}
-use Rattle.script.specs.declared.order.Order.{Order}
+use Rattle.script.specs.declared.order.ScriptLine.{ScriptLine}
 use Rattle.play.specs.Lines.{end_line}
 use Rattle.world.specs.world_events.declared.event.Event.{Event}
 use Rattle.world.specs.Goes.{StaysReached, WorldGoesOn}
@@ -14,11 +14,11 @@ use Rattle.play.specs.Events.{asked_in, event_of}
 use Rattle.play.specs.Transcripts.{ComesTo, IsAskedIn, IsLine, Played, Step, accepted_in, lines_after}
 
 -- what an order asks of a client, whatever waits on connections
-abbrev pub IsCallOf : Order → Event → Type 0
+abbrev pub IsCallOf : ScriptLine → Event → Type 0
 IsCallOf order event = (waiting : ℕ) → event_of waiting order ≡ Some event
 
 -- what an order asks for had this result
-pub record Comes (order : Order) (old : WorldState) (result : Result (Unit {0}) Idle)
+pub record Comes (order : ScriptLine) (old : WorldState) (result : Result (Unit {0}) Idle)
     (new : WorldState) : Type 0 where
   pub comes : ComesTo (asked_in old order) old result new
   pub goes : WorldGoesOn old new
@@ -67,21 +67,21 @@ new_recipient name = record { client = name; written = 0 }
 -- ---- orders
 
 -- the lines of one order were appended
-pub record Appends (clients : List (List ℕ)) (index : ℕ) (order : Order)
+pub record Appends (clients : List (List ℕ)) (index : ℕ) (order : ScriptLine)
     (before after : WorldState) (old new : List ℕ) : Type 0 where
   pub lines : List ℕ
   pub step : Step clients index order before after lines
   pub is : new ≡ old ++ lines
 
 -- the lines of these orders were appended
-pub record AppendsAll (clients : List (List ℕ)) (orders : List Order)
+pub record AppendsAll (clients : List (List ℕ)) (orders : List ScriptLine)
     (first last : WorldState) (old new : List ℕ) : Type 0 where
   pub lines : List ℕ
   pub played : Played clients first orders lines last
   pub is : new ≡ old ++ lines
 
 -- the lines of these orders were appended, and the last line after them, with this count of losses
-pub record PlaysOn (clients : List (List ℕ)) (orders : List Order) (first : WorldState)
+pub record PlaysOn (clients : List (List ℕ)) (orders : List ScriptLine) (first : WorldState)
     (old new : List ℕ) (losses : ℕ) : Type 0 where
   pub last : WorldState
   pub mid : List ℕ

@@ -6,7 +6,7 @@ use Rattle.user_client.specs.client_base.declared.accepted.Accepted.{Accepted}
 use Rattle.script.specs.session_base.declared.publication.Publication.{Publication}
 use Rattle.world.specs.master.declared.event.Idle.{Idle}
 use Rattle.script.specs.Scripts.{IsScript, lines_of}
-use Rattle.script.specs.declared.order.Order.{Order}
+use Rattle.script.specs.declared.order.ScriptLine.{ScriptLine}
 use Rattle.script.specs.declared.reading.Script.{Script}
 use Rattle.play.specs.Lines.{accepted_line, done_line, end_line, idle_line}
 use Rattle.world.specs.world_events.declared.event.Event.{Event}
@@ -67,7 +67,7 @@ IsLine index (Ok done) new line =
 -- One order: its line, and a line for each publication that a client newly accepted. Even if memory
 -- ran out in it, the nodes did what they may do, and agree as before, and each client stays exact,
 -- by what it was asked to publish.
-pub record Step (clients : List (List ℕ)) (index : ℕ) (order : Order) (old new : WorldState)
+pub record Step (clients : List (List ℕ)) (index : ℕ) (order : ScriptLine) (old new : WorldState)
     (lines : List ℕ) : Type 0 where
   pub result : Result (Unit {0}) Idle
   pub comes : ComesTo (asked_in old order) old result new
@@ -82,11 +82,11 @@ pub record Step (clients : List (List ℕ)) (index : ℕ) (order : Order) (old n
 
 -- the lines of these orders, from the opening on
 pub data Played (clients : List (List ℕ)) (first : WorldState)
-    : List Order → List ℕ → WorldState → Type 0 where
+    : List ScriptLine → List ℕ → WorldState → Type 0 where
   opens : Played clients first [] [] first  -- no order yet
   -- one more order, with its lines
-  goes_on : {orders : List Order} {lines more : List ℕ} {old new : WorldState}
-      → Played clients first orders lines old → (order : Order)
+  goes_on : {orders : List ScriptLine} {lines more : List ℕ} {old new : WorldState}
+      → Played clients first orders lines old → (order : ScriptLine)
       → Step clients (length orders) order old new more
       → Played clients first (orders ++ order ∷ []) (lines ++ more) new
 

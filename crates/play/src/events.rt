@@ -11,7 +11,7 @@ ghost use Rattle.play.specs.Inside.{IsCallOf};
 use crate::error::PlayError;
 use script::ballot_base::{Config, Members};
 use script::packet::ClientId;
-use script::{Amount, Numbers, Order};
+use script::{Amount, Numbers, ScriptLine};
 use std::alloc::Global;
 use world::{Event, World};
 
@@ -20,47 +20,47 @@ use world::{Event, World};
 pub(crate) fn event_of(
     alloc: Global,
     world: &World,
-    order: &Order,
+    order: &ScriptLine,
 ) -> Result<Option<Event>, PlayError>
     ensures event { IfOk result (λ event. event ≡ asked_in world.now order.now) }
     ensures memory { OnErr result (IsErrOf result PlayError.Memory) }
 {
     match order {
-        Order::Assign(members, primary) => assign(alloc, members, *primary),
-        Order::Deliver(message) => Ok(Some(Event::Deliver(*message))),
-        Order::Tick(node) => Ok(tick(*node)),
-        Order::Cut(node) => Ok(cut(*node)),
-        Order::Expel(client, node) => expel(client, *node),
-        Order::Crash(node) => Ok(crash(*node)),
-        Order::Open(client, node) => open(client, *node),
-        Order::CarryUp(connection, amount) => {
+        ScriptLine::Assign(members, primary) => assign(alloc, members, *primary),
+        ScriptLine::Deliver(message) => Ok(Some(Event::Deliver(*message))),
+        ScriptLine::Tick(node) => Ok(tick(*node)),
+        ScriptLine::Cut(node) => Ok(cut(*node)),
+        ScriptLine::Expel(client, node) => expel(client, *node),
+        ScriptLine::Crash(node) => Ok(crash(*node)),
+        ScriptLine::Open(client, node) => open(client, *node),
+        ScriptLine::CarryUp(connection, amount) => {
             let count = count_up(world, *connection, *amount);
             Ok(Some(Event::CarryUp(*connection, count)))
         }
-        Order::CarryDown(connection, amount) => {
+        ScriptLine::CarryDown(connection, amount) => {
             let count = count_down(world, *connection, *amount);
             Ok(Some(Event::CarryDown(*connection, count)))
         }
-        Order::Notice(connection) => Ok(Some(Event::Notice(*connection))),
+        ScriptLine::Notice(connection) => Ok(Some(Event::Notice(*connection))),
         _ => Ok(Some(call(order)?)),
     }
 }
 
 // Returns what a client has to do.
-fn call(order: &Order) -> Result<Event, PlayError>
+fn call(order: &ScriptLine) -> Result<Event, PlayError>
     ensures event { IfOk result (λ event. IsCallOf order.now event) }
     ensures memory { OnErr result (IsErrOf result PlayError.Memory) }
 {
     match order {
-        Order::Abandon(client) => Ok(Event::Abandon(client.clone()?)),
-        Order::Disconnect(client) => Ok(Event::Disconnect(client.clone()?)),
-        Order::Publish(client, publication) => {
+        ScriptLine::Abandon(client) => Ok(Event::Abandon(client.clone()?)),
+        ScriptLine::Disconnect(client) => Ok(Event::Disconnect(client.clone()?)),
+        ScriptLine::Publish(client, publication) => {
             Ok(Event::Publish(client.clone()?, publication.clone()?))
         }
-        Order::Subscribe(client, filter, qos) => {
+        ScriptLine::Subscribe(client, filter, qos) => {
             Ok(Event::Subscribe(client.clone()?, filter.clone()?, *qos))
         }
-        Order::Unsubscribe(client, filter) => {
+        ScriptLine::Unsubscribe(client, filter) => {
             Ok(Event::Unsubscribe(client.clone()?, filter.clone()?))
         }
         _ => Err(PlayError::Memory),

@@ -12,7 +12,7 @@ use crate::error::PlayError;
 use crate::events::event_of;
 use crate::{write_accepted, write_done, write_end, write_idle};
 use script::packet::ClientId;
-use script::{Opening, Order};
+use script::{Opening, ScriptLine};
 use std::alloc::Global;
 use world::{Accepted, Idle, World};
 
@@ -67,7 +67,7 @@ impl PlayedWorld {
     pub(crate) fn play(
         &mut self,
         index: u64,
-        order: &Order,
+        order: &ScriptLine,
         transcript: &mut Vec<u8>,
     ) -> Result<(), PlayError>
         requires written { AreWritten self.old.recipients.items self.old.world }
@@ -89,7 +89,7 @@ impl PlayedWorld {
     }
 
     // Does what an order asks for, if it can happen.
-    fn happens(&mut self, order: &Order) -> Result<Result<(), Idle>, PlayError>
+    fn happens(&mut self, order: &ScriptLine) -> Result<Result<(), Idle>, PlayError>
         ensures comes { IfOk result (λ result.
             Comes order.now self.old.world result self.new.world) }
         ensures recipients { self.new.recipients.items ≡ self.old.recipients.items }

@@ -8,7 +8,7 @@ ghost use Rattle.play.specs.Inside.{AppendsAll, AreWritten, PlaysOn, names_of};
 
 use crate::error::PlayError;
 use crate::played_world::PlayedWorld;
-use script::{Order, Script, read};
+use script::{Script, ScriptLine, read};
 use std::alloc::Global;
 
 /// Plays a script, and appends its transcript. The whole text is read before anything is played.
@@ -37,7 +37,7 @@ pub fn play(alloc: Global, text: &[u8], transcript: &mut Vec<u8>) -> Result<(), 
 // Does what the orders ask for, and appends the results, up to the last line.
 fn play_whole(
     played: &mut PlayedWorld,
-    orders: &[Order],
+    orders: &[ScriptLine],
     transcript: &mut Vec<u8>,
 ) -> Result<(), PlayError>
     requires written { AreWritten played.old.recipients.items played.old.world }
@@ -55,7 +55,7 @@ fn play_whole(
 /// Does what the orders ask for, one after another, and appends the results.
 pub(crate) fn play_all(
     played: &mut PlayedWorld,
-    orders: &[Order],
+    orders: &[ScriptLine],
     transcript: &mut Vec<u8>,
 ) -> Result<(), PlayError>
     requires written { AreWritten played.old.recipients.items played.old.world }

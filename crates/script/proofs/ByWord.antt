@@ -3,20 +3,20 @@ use Rattle.std.proofs.Common.{◌≡◌, List, codes, bytes_eq, false, Option, S
 use Rattle.std.specs.Result.{IfOk}
 use Rattle.std.proofs.lemmas.Bool.{cases_Bool}
 use Rattle.std.proofs.lemmas.Slice.Eq.{bytes_eq-Decides}
-use Rattle.script.specs.declared.error.LineFault.{LineFault}
-use Rattle.script.specs.declared.order.Order.{Order}
-use Rattle.script.specs.declared.order.Order.TheVariants as orders
+use Rattle.script.specs.declared.error.FieldFault.{FieldFault}
+use Rattle.script.specs.declared.order.ScriptLine.{ScriptLine}
+use Rattle.script.specs.declared.order.ScriptLine.TheVariants as orders
 use Rattle.script.specs.Fields.{Text, amount_of, client_of, filter_of, number_of, numbers_of}
 use Rattle.script.specs.Inside.Ordering.{one, order_by, publish_of, subscribe_of, two}
 
 -- what was read of the fields is what the line orders
-pub value_by : (word w : Text) (fields : List Text) (o : Option Order) (r : Result Order LineFault) → word ≡ w
+pub value_by : (word w : Text) (fields : List Text) (o : Option ScriptLine) (r : Result ScriptLine FieldFault) → word ≡ w
     → order_by w fields ≡ o → IfOk r (λ x. o ≡ Some x) → IfOk r (λ x. order_by word fields ≡ Some x)
 value_by word w fields o (Ok x) is by_form h = ap (λ v. order_by v fields) is ∙ by_form ∙ h
 value_by word w fields o (Err e) is by_form h = tt
 
 -- fields without their form have no line
-pub form_by : (word w : Text) (fields : List Text) (o : Option Order) → word ≡ w
+pub form_by : (word w : Text) (fields : List Text) (o : Option ScriptLine) → word ≡ w
     → order_by w fields ≡ o → o ≡ None → order_by word fields ≡ None
 form_by word w fields o is by_form h = ap (λ v. order_by v fields) is ∙ by_form ∙ h
 

@@ -6,11 +6,11 @@ use Rattle.std.specs.Result.{IsErrOf}
 use Rattle.script.specs.declared.error.ScriptError.{ScriptError}
 use Rattle.script.specs.declared.error.ScriptError.TheVariants as errors
 use Rattle.script.specs.declared.opening.Opening.{Opening}
-use Rattle.script.specs.declared.order.Order.{Order}
+use Rattle.script.specs.declared.order.ScriptLine.{ScriptLine}
 use Rattle.script.specs.Fields.{Text, texts}
 use Rattle.script.specs.Scripts.{AreOrders, HasOrder, IsFirstBad, IsOpeningLine, IsOrderLine, Refuses}
 
-push_order : (ts : List Text) (os : List Order) (t : Text) (o : Order) → AreOrders ts os → IsOrderLine t o
+push_order : (ts : List Text) (os : List ScriptLine) (t : Text) (o : ScriptLine) → AreOrders ts os → IsOrderLine t o
     → AreOrders (ts ++ t ∷ []) (os ++ o ∷ [])
 push_order [] [] t o before is = (is, tt)
 push_order [] (p ∷ os) t o before is = absurd before
@@ -18,7 +18,7 @@ push_order (s ∷ ts) [] t o before is = absurd before
 push_order (s ∷ ts) (p ∷ os) t o before is = (before.0, push_order ts os t o before.1 is)
 
 -- one line more is read
-pub orders_more : (lines : List (Bor Text)) (i : ℕ) (d : Bor Text) (os ps : List Order) (o : Order)
+pub orders_more : (lines : List (Bor Text)) (i : ℕ) (d : Bor Text) (os ps : List ScriptLine) (o : ScriptLine)
     → i < length lines → AreOrders (take i (texts lines)) os → IsOrderLine (get_or lines i d).now o
     → ps ≡ os ++ o ∷ [] → AreOrders (take (i + 1) (texts lines)) ps
 orders_more lines i d os ps o within before is more =
@@ -31,12 +31,12 @@ orders_more lines i d os ps o within before is more =
     (subst (λ ts. AreOrders ts (os ++ o ∷ [])) (sym front) pushed)
 
 -- all lines are read
-pub orders_all : (lines : List (Bor Text)) (i : ℕ) (os : List Order) → length lines ≤ i
+pub orders_all : (lines : List (Bor Text)) (i : ℕ) (os : List ScriptLine) → length lines ≤ i
     → AreOrders (take i (texts lines)) os → AreOrders (texts lines) os
 orders_all lines i os end before =
     subst (λ ts. AreOrders ts os) (take_all i (texts lines) (omega (arith, length-map lines (λ (b : Bor Text). b.now)))) before
 
-first_bad_at : (ts : List Text) (i : ℕ) (d : Text) (os : List Order) → i < length ts → AreOrders (take i ts) os
+first_bad_at : (ts : List Text) (i : ℕ) (d : Text) (os : List ScriptLine) → i < length ts → AreOrders (take i ts) os
     → (HasOrder (get_or ts i d) → ⊥) → IsFirstBad ts i
 first_bad_at [] i d os within before bad = absurd (omega arith)
 first_bad_at (t ∷ ts) zero d os within before bad = bad
@@ -55,7 +55,7 @@ unfolding number_in
 one_number x a b one other = sym (ap number_in other) ∙ ap number_in one
 
 -- the first line that orders nothing
-pub first_bad : (lines : List (Bor Text)) (i : ℕ) (d : Bor Text) (os : List Order) → i < length lines
+pub first_bad : (lines : List (Bor Text)) (i : ℕ) (d : Bor Text) (os : List ScriptLine) → i < length lines
     → AreOrders (take i (texts lines)) os → (HasOrder (get_or lines i d).now → ⊥) → IsFirstBad (texts lines) i
 first_bad lines i d os within before bad =
     let here : get_or (texts lines) i d.now ≡ (get_or lines i d).now = get_or-map (λ (b : Bor Text). b.now) lines i d in

@@ -3,10 +3,10 @@ use Rattle.std.proofs.Common.{ℕ, suc, zero, List, [], ◌∷◌, inl, inr}
 use Rattle.script.specs.Fields.{Text}
 use Rattle.script.specs.Scripts.{AreOrders, IsFirstBad, IsScript, Refuses}
 use Rattle.script.specs.declared.error.ScriptError.TheVariants as errors
-use Rattle.script.specs.declared.order.Order.{Order}
+use Rattle.script.specs.declared.order.ScriptLine.{ScriptLine}
 use Rattle.script.specs.declared.reading.Script.{Script}
 
-none_is_bad : (lines : List Text) (orders : List Order) (index : ℕ) → AreOrders lines orders → IsFirstBad lines index → ⊥
+none_is_bad : (lines : List Text) (orders : List ScriptLine) (index : ℕ) → AreOrders lines orders → IsFirstBad lines index → ⊥
 none_is_bad [] orders index are bad = bad
 none_is_bad (line ∷ lines) [] index are bad = are
 none_is_bad (line ∷ lines) (order ∷ orders) zero are bad = bad (order, are.0)

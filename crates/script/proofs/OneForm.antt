@@ -3,8 +3,8 @@ use Rattle.std.proofs.Common.{◌≡◌, List, [], ◌∷◌, codes, bytes_eq, O
 use Rattle.std.proofs.lemmas.Bool.{cases_Bool, false≢true}
 use Rattle.std.proofs.lemmas.Option.{same_Some}
 use Rattle.std.proofs.lemmas.Slice.Eq.{bytes_eq-Decides}
-use Rattle.script.specs.declared.order.Order.{Order}
-use Rattle.script.specs.declared.order.Order.TheVariants as orders
+use Rattle.script.specs.declared.order.ScriptLine.{ScriptLine}
+use Rattle.script.specs.declared.order.ScriptLine.TheVariants as orders
 use Rattle.script.specs.Fields.{Text, amount_of, client_of, filter_of, number_of, numbers_of, payload_of, qos_of, retain_of, topic_of}
 use Rattle.script.specs.Orders as lines
 use Rattle.script.specs.Orders.{IsOrder}
@@ -24,14 +24,14 @@ made (Some f) (Some x) y is = record { f = f; x = x; make_is = refl; value_is = 
 made (Some f) None y is = absurd (false≢true (ap is_some is))
 made None value y is = absurd (false≢true (ap is_some is))
 
-record HasOne {X : Type 0} (make : X → Order) (reads : Text → Option X) (fields : List Text) (o : Order) : Type 0 where
+record HasOne {X : Type 0} (make : X → ScriptLine) (reads : Text → Option X) (fields : List Text) (o : ScriptLine) : Type 0 where
   a : Text
   x : X
   are : fields ≡ a ∷ []
   a_is : reads a ≡ Some x
   is : o ≡ make x
 
-has_one : {X : Type 0} (make : X → Order) (reads : Text → Option X) (fields : List Text) (o : Order)
+has_one : {X : Type 0} (make : X → ScriptLine) (reads : Text → Option X) (fields : List Text) (o : ScriptLine)
     → one make reads fields ≡ Some o → HasOne make reads fields o
 has_one make reads [] o h = absurd (false≢true (ap is_some h))
 has_one make reads (a ∷ []) o h =
@@ -39,7 +39,7 @@ has_one make reads (a ∷ []) o h =
     record { a = a; x = m.x; are = refl; a_is = m.value_is; is = m.is ∙ ap (λ g. g m.x) (sym (same_Some _ _ m.make_is)) }
 has_one make reads (a ∷ b ∷ more) o h = absurd (false≢true (ap is_some h))
 
-record HasTwo {X Y : Type 0} (make : X → Y → Order) (reads : Text → Option X) (next : Text → Option Y) (fields : List Text) (o : Order) : Type 0 where
+record HasTwo {X Y : Type 0} (make : X → Y → ScriptLine) (reads : Text → Option X) (next : Text → Option Y) (fields : List Text) (o : ScriptLine) : Type 0 where
   a : Text
   b : Text
   x : X
@@ -49,7 +49,7 @@ record HasTwo {X Y : Type 0} (make : X → Y → Order) (reads : Text → Option
   b_is : next b ≡ Some y
   is : o ≡ make x y
 
-has_two : {X Y : Type 0} (make : X → Y → Order) (reads : Text → Option X) (next : Text → Option Y) (fields : List Text) (o : Order)
+has_two : {X Y : Type 0} (make : X → Y → ScriptLine) (reads : Text → Option X) (next : Text → Option Y) (fields : List Text) (o : ScriptLine)
     → two make reads next fields ≡ Some o → HasTwo make reads next fields o
 has_two make reads next [] o h = absurd (false≢true (ap is_some h))
 has_two make reads next (a ∷ []) o h = absurd (false≢true (ap is_some h))
@@ -68,51 +68,51 @@ has_two make reads next (a ∷ b ∷ []) o h =
     }
 has_two make reads next (a ∷ b ∷ c ∷ more) o h = absurd (false≢true (ap is_some h))
 
-moved : (word : Text) (fields there : List Text) (o p : Order) → fields ≡ there → o ≡ p → IsOrder (word ∷ there) p
+moved : (word : Text) (fields there : List Text) (o p : ScriptLine) → fields ≡ there → o ≡ p → IsOrder (word ∷ there) p
     → IsOrder (word ∷ fields) o
 moved word fields there o p are is line =
     subst (λ fs. IsOrder (word ∷ fs) o) (sym are) (subst (λ q. IsOrder (word ∷ there) q) (sym is) line)
 
-assign_line : (fields : List Text) (o : Order) → two orders.Assign numbers_of number_of fields ≡ Some o → IsOrder (codes "assign" ∷ fields) o
+assign_line : (fields : List Text) (o : ScriptLine) → two orders.Assign numbers_of number_of fields ≡ Some o → IsOrder (codes "assign" ∷ fields) o
 assign_line fields o h = let p = has_two orders.Assign numbers_of number_of fields o h in moved _ _ _ _ _ p.are p.is (lines.assign p.a_is p.b_is)
 
-deliver_line : (fields : List Text) (o : Order) → one orders.Deliver number_of fields ≡ Some o → IsOrder (codes "deliver" ∷ fields) o
+deliver_line : (fields : List Text) (o : ScriptLine) → one orders.Deliver number_of fields ≡ Some o → IsOrder (codes "deliver" ∷ fields) o
 deliver_line fields o h = let p = has_one orders.Deliver number_of fields o h in moved _ _ _ _ _ p.are p.is (lines.deliver p.a_is)
 
-tick_line : (fields : List Text) (o : Order) → one orders.Tick number_of fields ≡ Some o → IsOrder (codes "tick" ∷ fields) o
+tick_line : (fields : List Text) (o : ScriptLine) → one orders.Tick number_of fields ≡ Some o → IsOrder (codes "tick" ∷ fields) o
 tick_line fields o h = let p = has_one orders.Tick number_of fields o h in moved _ _ _ _ _ p.are p.is (lines.tick p.a_is)
 
-cut_line : (fields : List Text) (o : Order) → one orders.Cut number_of fields ≡ Some o → IsOrder (codes "cut" ∷ fields) o
+cut_line : (fields : List Text) (o : ScriptLine) → one orders.Cut number_of fields ≡ Some o → IsOrder (codes "cut" ∷ fields) o
 cut_line fields o h = let p = has_one orders.Cut number_of fields o h in moved _ _ _ _ _ p.are p.is (lines.cut p.a_is)
 
-crash_line : (fields : List Text) (o : Order) → one orders.Crash number_of fields ≡ Some o → IsOrder (codes "crash" ∷ fields) o
+crash_line : (fields : List Text) (o : ScriptLine) → one orders.Crash number_of fields ≡ Some o → IsOrder (codes "crash" ∷ fields) o
 crash_line fields o h = let p = has_one orders.Crash number_of fields o h in moved _ _ _ _ _ p.are p.is (lines.crash p.a_is)
 
-open_line : (fields : List Text) (o : Order) → two orders.Open client_of number_of fields ≡ Some o → IsOrder (codes "open" ∷ fields) o
+open_line : (fields : List Text) (o : ScriptLine) → two orders.Open client_of number_of fields ≡ Some o → IsOrder (codes "open" ∷ fields) o
 open_line fields o h = let p = has_two orders.Open client_of number_of fields o h in moved _ _ _ _ _ p.are p.is (lines.opens p.a_is p.b_is)
 
-up_line : (fields : List Text) (o : Order) → two orders.CarryUp number_of amount_of fields ≡ Some o → IsOrder (codes "up" ∷ fields) o
+up_line : (fields : List Text) (o : ScriptLine) → two orders.CarryUp number_of amount_of fields ≡ Some o → IsOrder (codes "up" ∷ fields) o
 up_line fields o h = let p = has_two orders.CarryUp number_of amount_of fields o h in moved _ _ _ _ _ p.are p.is (lines.up p.a_is p.b_is)
 
-down_line : (fields : List Text) (o : Order) → two orders.CarryDown number_of amount_of fields ≡ Some o → IsOrder (codes "down" ∷ fields) o
+down_line : (fields : List Text) (o : ScriptLine) → two orders.CarryDown number_of amount_of fields ≡ Some o → IsOrder (codes "down" ∷ fields) o
 down_line fields o h = let p = has_two orders.CarryDown number_of amount_of fields o h in moved _ _ _ _ _ p.are p.is (lines.down p.a_is p.b_is)
 
-abandon_line : (fields : List Text) (o : Order) → one orders.Abandon client_of fields ≡ Some o → IsOrder (codes "abandon" ∷ fields) o
+abandon_line : (fields : List Text) (o : ScriptLine) → one orders.Abandon client_of fields ≡ Some o → IsOrder (codes "abandon" ∷ fields) o
 abandon_line fields o h = let p = has_one orders.Abandon client_of fields o h in moved _ _ _ _ _ p.are p.is (lines.abandon p.a_is)
 
-disconnect_line : (fields : List Text) (o : Order) → one orders.Disconnect client_of fields ≡ Some o → IsOrder (codes "disconnect" ∷ fields) o
+disconnect_line : (fields : List Text) (o : ScriptLine) → one orders.Disconnect client_of fields ≡ Some o → IsOrder (codes "disconnect" ∷ fields) o
 disconnect_line fields o h = let p = has_one orders.Disconnect client_of fields o h in moved _ _ _ _ _ p.are p.is (lines.disconnect p.a_is)
 
-notice_line : (fields : List Text) (o : Order) → one orders.Notice number_of fields ≡ Some o → IsOrder (codes "notice" ∷ fields) o
+notice_line : (fields : List Text) (o : ScriptLine) → one orders.Notice number_of fields ≡ Some o → IsOrder (codes "notice" ∷ fields) o
 notice_line fields o h = let p = has_one orders.Notice number_of fields o h in moved _ _ _ _ _ p.are p.is (lines.notice p.a_is)
 
-expel_line : (fields : List Text) (o : Order) → two orders.Expel client_of number_of fields ≡ Some o → IsOrder (codes "expel" ∷ fields) o
+expel_line : (fields : List Text) (o : ScriptLine) → two orders.Expel client_of number_of fields ≡ Some o → IsOrder (codes "expel" ∷ fields) o
 expel_line fields o h = let p = has_two orders.Expel client_of number_of fields o h in moved _ _ _ _ _ p.are p.is (lines.expel p.a_is p.b_is)
 
-unsubscribe_line : (fields : List Text) (o : Order) → two orders.Unsubscribe client_of filter_of fields ≡ Some o → IsOrder (codes "unsubscribe" ∷ fields) o
+unsubscribe_line : (fields : List Text) (o : ScriptLine) → two orders.Unsubscribe client_of filter_of fields ≡ Some o → IsOrder (codes "unsubscribe" ∷ fields) o
 unsubscribe_line fields o h = let p = has_two orders.Unsubscribe client_of filter_of fields o h in moved _ _ _ _ _ p.are p.is (lines.unsubscribe p.a_is p.b_is)
 
-subscribe_line : (fields : List Text) (o : Order) → subscribe_of fields ≡ Some o → IsOrder (codes "subscribe" ∷ fields) o
+subscribe_line : (fields : List Text) (o : ScriptLine) → subscribe_of fields ≡ Some o → IsOrder (codes "subscribe" ∷ fields) o
 subscribe_line [] o h = absurd (false≢true (ap is_some h))
 subscribe_line (c ∷ []) o h = absurd (false≢true (ap is_some h))
 subscribe_line (c ∷ f ∷ []) o h = absurd (false≢true (ap is_some h))
@@ -125,7 +125,7 @@ subscribe_line (c ∷ f ∷ q ∷ []) o h =
     rw (third.is ∙ ap (λ g. g third.x) third_is) (lines.subscribe first.value_is second.value_is third.value_is)
 subscribe_line (c ∷ f ∷ q ∷ d ∷ more) o h = absurd (false≢true (ap is_some h))
 
-publish_line : (fields : List Text) (o : Order) → publish_of fields ≡ Some o → IsOrder (codes "publish" ∷ fields) o
+publish_line : (fields : List Text) (o : ScriptLine) → publish_of fields ≡ Some o → IsOrder (codes "publish" ∷ fields) o
 unfolding publication_of
 publish_line [] o h = absurd (false≢true (ap is_some h))
 publish_line (c ∷ []) o h = absurd (false≢true (ap is_some h))
@@ -148,7 +148,7 @@ publish_line (c ∷ t ∷ q ∷ r ∷ p ∷ []) o h =
     (lines.publish sender.value_is first.value_is second.value_is third.value_is fourth.value_is)
 publish_line (c ∷ t ∷ q ∷ r ∷ p ∷ d ∷ more) o h = absurd (false≢true (ap is_some h))
 
-none_is_no_order : (word : Text) (fields : List Text) (o : Order) → order_by word fields ≡ None
+none_is_no_order : (word : Text) (fields : List Text) (o : ScriptLine) → order_by word fields ≡ None
     → order_by word fields ≡ Some o → ⊥
 none_is_no_order word fields o none some = false≢true (ap is_some (sym none ∙ some))
 
@@ -160,13 +160,13 @@ decide word w same differ = elim (cases_Bool (bytes_eq word w)) [
 ]
 
 -- the line of a word that is known
-known : (word w : Text) (fields : List Text) (o : Order) (form : Option Order) → word ≡ w → order_by w fields ≡ form
+known : (word w : Text) (fields : List Text) (o : ScriptLine) (form : Option ScriptLine) → word ≡ w → order_by w fields ≡ form
     → (form ≡ Some o → IsOrder (w ∷ fields) o) → order_by word fields ≡ Some o → IsOrder (word ∷ fields) o
 known word w fields o form is by_form line h =
     subst (λ v. IsOrder (v ∷ fields) o) (sym is) (line (sym by_form ∙ ap (λ v. order_by v fields) (sym is) ∙ h))
 
 -- what is read is said by the line
-pub has_line : (word : Text) (fields : List Text) (o : Order) → order_by word fields ≡ Some o → IsOrder (word ∷ fields) o
+pub has_line : (word : Text) (fields : List Text) (o : ScriptLine) → order_by word fields ≡ Some o → IsOrder (word ∷ fields) o
 has_line word fields o h =
     decide word (codes "assign") (λ e. known word _ fields o _ e (by_assign fields) (assign_line fields o) h) (λ n0.
     decide word (codes "deliver") (λ e. known word _ fields o _ e (by_deliver fields) (deliver_line fields o) h) (λ n1.
@@ -186,19 +186,19 @@ has_line word fields o h =
     absurd (none_is_no_order word fields o (by_none word fields n0 n1 n2 n3 n4 n5 n6 n7 n8 n9 n10 n11 n12 n13 n14) h))))))))))))))))
 
 -- what the fields order is said by them
-pub says : (fields : List Text) (o : Order) → order_of fields ≡ Some o → IsOrder fields o
+pub says : (fields : List Text) (o : ScriptLine) → order_of fields ≡ Some o → IsOrder fields o
 says [] o h = absurd (false≢true (ap is_some h))
 says (word ∷ fields) o h = has_line word fields o h
 
-with_one : {X : Type 0} (make : X → Order) (value : Option X) (x : X) → value ≡ Some x → with (Some make) value ≡ Some (make x)
+with_one : {X : Type 0} (make : X → ScriptLine) (value : Option X) (x : X) → value ≡ Some x → with (Some make) value ≡ Some (make x)
 with_one make value x is = rw is refl
 
-with_two : {X Y : Type 0} (make : X → Y → Order) (first : Option X) (second : Option Y) (x : X) (y : Y) → first ≡ Some x
+with_two : {X Y : Type 0} (make : X → Y → ScriptLine) (first : Option X) (second : Option Y) (x : X) (y : Y) → first ≡ Some x
     → second ≡ Some y → with (with (Some make) first) second ≡ Some (make x y)
 with_two make first second x y a b = rw (a, b) refl
 
 -- a line orders what is read of it
-pub is_read : (fields : List Text) (o : Order) → IsOrder fields o → order_of fields ≡ Some o
+pub is_read : (fields : List Text) (o : ScriptLine) → IsOrder fields o → order_of fields ≡ Some o
 unfolding publication_of
 is_read fields o (lines.assign a b) = by_assign _ ∙ with_two _ _ _ _ _ a b
 is_read fields o (lines.deliver a) = by_deliver _ ∙ with_one _ _ _ a

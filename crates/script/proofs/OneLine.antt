@@ -3,15 +3,15 @@ use Rattle.std.proofs.Common.{◌≡◌, List, Some, None, is_some, Result, Ok, 
 use Rattle.std.specs.Result.{IfOk}
 use Rattle.std.specs.Str.{IsUtf8}
 use Rattle.std.proofs.lemmas.Bool.{false≢true}
-use Rattle.script.specs.declared.error.LineFault.{LineFault}
-use Rattle.script.specs.declared.order.Order.{Order}
+use Rattle.script.specs.declared.error.FieldFault.{FieldFault}
+use Rattle.script.specs.declared.order.ScriptLine.{ScriptLine}
 use Rattle.script.specs.Fields.{Text, fields_of}
 use Rattle.script.specs.Scripts.{HasOrder, IsOrderLine}
 use Rattle.script.specs.Inside.Ordering.{order_of}
 use Rattle.script.proofs.OneForm.{is_read, says}
 
 -- what was read of a line
-pub order_said : (line text : Text) (fields : List Text) (r : Result Order LineFault) → text ≡ line → IsUtf8 line
+pub order_said : (line text : Text) (fields : List Text) (r : Result ScriptLine FieldFault) → text ≡ line → IsUtf8 line
     → fields ≡ fields_of text → IfOk r (λ o. order_of fields ≡ Some o) → IfOk r (IsOrderLine line)
 order_said line text fields (Ok o) same formed are read =
     (formed, says (fields_of line) o (ap order_of (sym (are ∙ ap fields_of same)) ∙ read))

@@ -5,7 +5,7 @@ use Rattle.std.specs.Str.{IsUtf8}
 use Rattle.std.proofs.lemmas.Bool.{and_parts, false≢true}
 use Rattle.std.proofs.lemmas.Option.{same_Some}
 use Rattle.std.proofs.lemmas.Slice.Eq.{bytes_eq-Decides}
-use Rattle.script.specs.declared.error.LineFault.{LineFault}
+use Rattle.script.specs.declared.error.FieldFault.{FieldFault}
 use Rattle.script.specs.declared.opening.Opening.{Opening}
 use Rattle.script.specs.Fields.{Text, clients_of, fields_of, number_of, numbers_of}
 use Rattle.script.specs.Scripts as lines
@@ -67,7 +67,7 @@ pub world_read : (fields : List Text) (o : Opening) → IsOpening fields o → w
 world_read fields o (lines.world n m p c lawful distinct) = rw (n, m, p, c, lawful, distinct) refl
 
 -- what was read of a line
-pub opening_said : (line text : Text) (fields : List Text) (r : Result Opening LineFault) → text ≡ line → IsUtf8 line
+pub opening_said : (line text : Text) (fields : List Text) (r : Result Opening FieldFault) → text ≡ line → IsUtf8 line
     → fields ≡ fields_of text → IfOk r (λ o. world_of fields ≡ Some (values_of o)) → IfOk r (IsOpeningLine line)
 opening_said line text fields (Ok o) same formed are read =
     (formed, world_says (fields_of line) o (ap world_of (sym (are ∙ ap fields_of same)) ∙ read))

@@ -3,27 +3,27 @@ use Rattle.std.proofs.Common.{◌≡◌, Option, Some, None, Result, Ok, Err, in
 use Rattle.std.specs.Result.{IsErrAnd}
 use Rattle.session_base.specs.topics.Text.{RefusesBy}
 use Rattle.session_base.specs.topics.declared.malformed.MalformedKind.{MalformedKind}
-use Rattle.script.specs.declared.error.LineFault.{LineFault}
-use Rattle.script.specs.declared.error.LineFault.TheVariants as faults
+use Rattle.script.specs.declared.error.FieldFault.{FieldFault}
+use Rattle.script.specs.declared.error.FieldFault.TheVariants as faults
 use Rattle.script.specs.Faults.{fault_of}
 use Rattle.script.specs.Fields.{Text, unless}
 
 memory_is_no_form : faults.Memory ≡ faults.Form → ⊥
 memory_is_no_form e = cc
 
-fault_in : {T : Type 0} → Result T LineFault → LineFault
+fault_in : {T : Type 0} → Result T FieldFault → FieldFault
 fault_in (Ok x) = faults.Memory
 fault_in (Err e) = e
 
 -- which fault a kind became
-gave_form : {T : Type 0} (r : Result T LineFault) (fault : LineFault) → IsErrAnd r (λ e. e ≡ fault)
+gave_form : {T : Type 0} (r : Result T FieldFault) (fault : FieldFault) → IsErrAnd r (λ e. e ≡ fault)
     → r ≡ Err faults.Form → fault ≡ faults.Form
 unfolding fault_in
 gave_form (Ok x) fault is same = absurd is
 gave_form (Err e) fault is same = sym is ∙ ap fault_in same
 
 -- a text that is refused, and not because memory ran out, has a fault
-pub no_text : {T : Type 0} (r : Result T LineFault) (fault : Option MalformedKind) (text : Text) (kind : MalformedKind)
+pub no_text : {T : Type 0} (r : Result T FieldFault) (fault : Option MalformedKind) (text : Text) (kind : MalformedKind)
     → RefusesBy fault kind → IsErrAnd r (λ e. e ≡ fault_of kind) → r ≡ Err faults.Form → unless fault text ≡ None
 no_text r fault text kind (inl is) gave form = ap (λ f. unless f text) is
 no_text r fault text kind (inr memory) gave form =

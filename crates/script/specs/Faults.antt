@@ -1,10 +1,10 @@
 -- How a fault of a field becomes one of its line.
 use Rattle.session_base.specs.topics.declared.malformed.MalformedKind.{MalformedKind}
 use Rattle.session_base.specs.topics.declared.malformed.MalformedKind.TheVariants as kinds
-use Rattle.script.specs.declared.error.LineFault.{LineFault}
-use Rattle.script.specs.declared.error.LineFault.TheVariants as faults
+use Rattle.script.specs.declared.error.FieldFault.{FieldFault}
+use Rattle.script.specs.declared.error.FieldFault.TheVariants as faults
 
 -- that memory ran out says nothing about the form
-abbrev pub fault_of : MalformedKind → LineFault
+abbrev pub fault_of : MalformedKind → FieldFault
 fault_of kinds.Memory = faults.Memory
 fault_of _ = faults.Form

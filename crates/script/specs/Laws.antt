@@ -4,12 +4,12 @@ use Rattle.script.specs.Fields.{Text}
 use Rattle.script.specs.Orders.{IsOrder}
 use Rattle.script.specs.Scripts.{IsScript, Refuses}
 use Rattle.script.specs.declared.error.ScriptError.TheVariants as errors
-use Rattle.script.specs.declared.order.Order.{Order}
+use Rattle.script.specs.declared.order.ScriptLine.{ScriptLine}
 use Rattle.script.specs.declared.reading.Script.{Script}
 
 -- the form of a line leaves no choice
 abbrev pub OneOrderALine : Type 0
-OneOrderALine = (fields : List Text) (order other : Order) → IsOrder fields order
+OneOrderALine = (fields : List Text) (order other : ScriptLine) → IsOrder fields order
     → IsOrder fields other → order ≡ other
 
 -- a script has no line without its form

@@ -3,11 +3,11 @@ use Rattle.std.specs.Prelude.{◌≡◌, ℕ, Bool, List, [], ◌∷◌, codes, 
 use Rattle.session_base.specs.packet.declared.qos.QoS.{QoS}
 use Rattle.script.specs.Fields.{Text, amount_of, client_of, filter_of, number_of, numbers_of, payload_of, qos_of, retain_of, topic_of}
 use Rattle.script.specs.declared.order.Amount.{Amount}
-use Rattle.script.specs.declared.order.Order.{Order}
-use Rattle.script.specs.declared.order.Order.TheVariants as orders
+use Rattle.script.specs.declared.order.ScriptLine.{ScriptLine}
+use Rattle.script.specs.declared.order.ScriptLine.TheVariants as orders
 
 -- the line of these fields orders this
-pub data IsOrder : List Text → Order → Type 0 where
+pub data IsOrder : List Text → ScriptLine → Type 0 where
   -- `assign 2,3 2`
   assign : {m p : Text} {members : List ℕ} {primary : ℕ}
       → numbers_of m ≡ Some members → number_of p ≡ Some primary

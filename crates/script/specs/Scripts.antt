@@ -8,7 +8,7 @@ use Rattle.script.specs.Orders.{IsOrder}
 use Rattle.script.specs.declared.error.ScriptError.{ScriptError}
 use Rattle.script.specs.declared.error.ScriptError.TheVariants as errors
 use Rattle.script.specs.declared.opening.Opening.{Opening}
-use Rattle.script.specs.declared.order.Order.{Order}
+use Rattle.script.specs.declared.order.ScriptLine.{ScriptLine}
 use Rattle.script.specs.declared.reading.Script.{Script}
 
 -- a line feed, 10, after the last line may be missing
@@ -53,11 +53,11 @@ abbrev pub IsOpeningLine : Text → Opening → Type 0
 IsOpeningLine line opening = IsUtf8 line × IsOpening (fields_of line) opening
 
 -- a line is UTF-8, and its fields are those of an order
-abbrev pub IsOrderLine : Text → Order → Type 0
+abbrev pub IsOrderLine : Text → ScriptLine → Type 0
 IsOrderLine line order = IsUtf8 line × IsOrder (fields_of line) order
 
 -- the lines order these, one after another
-abbrev pub AreOrders : List Text → List Order → Type 0
+abbrev pub AreOrders : List Text → List ScriptLine → Type 0
 AreOrders [] [] = Unit {0}
 AreOrders [] (order ∷ orders) = ⊥
 AreOrders (line ∷ lines) [] = ⊥
@@ -71,7 +71,7 @@ IsScript (first ∷ lines) script =
 
 -- some order, or no order, has this line
 abbrev pub HasOrder : Text → Type 0
-HasOrder line = (order : Order) × IsOrderLine line order
+HasOrder line = (order : ScriptLine) × IsOrderLine line order
 
 -- a line is a first line, which opens some world
 abbrev pub HasOpening : Text → Type 0

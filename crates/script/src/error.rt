@@ -49,45 +49,45 @@ impl<T: Drop> From<AllocFailed<T>> for ScriptError {
 
 /// Why a line or one of its fields was not read.
 #[derive(Clone, Copy, Debug, PartialEq, Eq)]
-pub(crate) enum LineFault {
+pub(crate) enum FieldFault {
     /// It does not have its form.
     Form,
     /// Memory ran out.
     Memory,
 }
 
-impl From<AllocError> for LineFault {
+impl From<AllocError> for FieldFault {
     ghost use Rattle.std.specs.Prelude.{◌≡◌};
-    ghost use Rattle.script.specs.declared.error.LineFault.TheVariants.{Memory};
+    ghost use Rattle.script.specs.declared.error.FieldFault.TheVariants.{Memory};
 
     ghost from_gives = { λ _ fault. fault ≡ Memory };
 
-    fn from(_error: AllocError) -> LineFault {
-        LineFault::Memory
+    fn from(_error: AllocError) -> FieldFault {
+        FieldFault::Memory
     }
 }
 
-impl<T: Drop> From<AllocFailed<T>> for LineFault {
+impl<T: Drop> From<AllocFailed<T>> for FieldFault {
     ghost use Rattle.std.specs.Prelude.{◌≡◌};
-    ghost use Rattle.script.specs.declared.error.LineFault.TheVariants.{Memory};
+    ghost use Rattle.script.specs.declared.error.FieldFault.TheVariants.{Memory};
 
     ghost from_gives = { λ _ fault. fault ≡ Memory };
 
-    fn from(_error: AllocFailed<T>) -> LineFault {
-        LineFault::Memory
+    fn from(_error: AllocFailed<T>) -> FieldFault {
+        FieldFault::Memory
     }
 }
 
-impl From<MalformedKind> for LineFault {
+impl From<MalformedKind> for FieldFault {
     ghost use Rattle.std.specs.Prelude.{◌≡◌};
     ghost use Rattle.script.specs.Faults.{fault_of};
 
     ghost from_gives = { λ kind fault. fault ≡ fault_of kind };
 
-    fn from(kind: MalformedKind) -> LineFault {
+    fn from(kind: MalformedKind) -> FieldFault {
         match kind {
-            MalformedKind::Memory => LineFault::Memory,
-            _ => LineFault::Form,
+            MalformedKind::Memory => FieldFault::Memory,
+            _ => FieldFault::Form,
         }
     }
 }

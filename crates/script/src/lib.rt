@@ -18,7 +18,7 @@ pub use error::ScriptError;
 pub use laws::{no_script_is_refused, one_order_a_line};
 pub use numbers::Numbers;
 pub use opening::Opening;
-pub use order::{Amount, Order};
+pub use order::{Amount, ScriptLine};
 pub use reading::{Script, read};
 pub use session_base;
 pub use session_base::{packet, topics};

@@ -6,7 +6,7 @@ ghost use Rattle.script.specs.Fields.{texts};
 ghost use Rattle.script.specs.Scripts.{are_distinct, are_nodes, has, is_lawful_opening};
 ghost use Rattle.script.specs.Inside.Worlds.{is_small, values_of, world_of};
 
-use crate::error::LineFault;
+use crate::error::FieldFault;
 use crate::values::{clients, number, numbers};
 use ballot_base::{Config, Members};
 use session_base::packet::ClientId;
@@ -27,16 +27,16 @@ pub struct Opening {
 const MAX_NODE: u64 = 15;
 
 /// Returns the world that the fields of the first line open.
-pub(crate) fn opening_of(alloc: Global, fields: &[&str]) -> Result<Opening, LineFault>
+pub(crate) fn opening_of(alloc: Global, fields: &[&str]) -> Result<Opening, FieldFault>
     ensures value { IfOk result (λ opening.
         world_of (texts fields.now) ≡ Some (values_of opening)) }
-    ensures form { IsErrOf result LineFault.Form → world_of (texts fields.now) ≡ None }
+    ensures form { IsErrOf result FieldFault.Form → world_of (texts fields.now) ≡ None }
 {
     let [word, count, members, primary, names] = fields else {
-        return Err(LineFault::Form);
+        return Err(FieldFault::Form);
     };
     if *word != "world" {
-        return Err(LineFault::Form);
+        return Err(FieldFault::Form);
     }
     let count = number(count)?;
     let members = numbers(alloc, members)?;
@@ -44,7 +44,7 @@ pub(crate) fn opening_of(alloc: Global, fields: &[&str]) -> Result<Opening, Line
     let clients = clients(alloc, names)?;
     let config = config(alloc, count, members.as_slice(), primary)?;
     if !are_distinct(clients.as_slice()) {
-        return Err(LineFault::Form);
+        return Err(FieldFault::Form);
     }
     Ok(Opening {
         nodes: count as u8,
@@ -54,18 +54,18 @@ pub(crate) fn opening_of(alloc: Global, fields: &[&str]) -> Result<Opening, Line
 }
 
 // Returns the configuration of these numbers, if a world of this many nodes may open with it.
-fn config(alloc: Global, count: u64, members: &[u64], primary: u64) -> Result<Config, LineFault>
+fn config(alloc: Global, count: u64, members: &[u64], primary: u64) -> Result<Config, FieldFault>
     ensures members { IfOk result (λ config. config.members ≡ members.now) }
     ensures primary { IfOk result (λ config. config.primary ≡ primary) }
     ensures lawful { OnOk result (is_lawful_opening count members.now primary ≡ true) }
-    ensures form { IsErrOf result LineFault.Form
+    ensures form { IsErrOf result FieldFault.Form
         → is_lawful_opening count members.now primary ≡ false }
 {
     if count > MAX_NODE || !are_nodes(count, members) {
-        return Err(LineFault::Form);
+        return Err(FieldFault::Form);
     }
     if primary > MAX_NODE {
-        return Err(LineFault::Form);
+        return Err(FieldFault::Form);
     }
     let members = small_members(alloc, members)?;
     let config = Config {
@@ -75,7 +75,7 @@ fn config(alloc: Global, count: u64, members: &[u64], primary: u64) -> Result<Co
     if config.is_lawful() {
         Ok(config)
     } else {
-        Err(LineFault::Form)
+        Err(FieldFault::Form)
     }
 }
 
@@ -87,10 +87,10 @@ fn are_nodes(count: u64, members: &[u64]) -> bool
 }
 
 // Returns the members if all numbers are at most 15.
-fn small_members(alloc: Global, members: &[u64]) -> Result<Members, LineFault>
+fn small_members(alloc: Global, members: &[u64]) -> Result<Members, FieldFault>
     requires { list_all is_small members.now ≡ true }
     ensures value { IfOk result (λ small. small ≡ members.now) }
-    ensures memory { result ≢ Err LineFault.Form }
+    ensures memory { result ≢ Err FieldFault.Form }
 {
     let mut small: Vec<u8> = Vec::new(alloc);
     for member in members {
@@ -98,7 +98,7 @@ fn small_members(alloc: Global, members: &[u64]) -> Result<Members, LineFault>
     }
     Members::from_slice(alloc, small.as_slice())
         .ok()
-        .ok_or(LineFault::Memory)
+        .ok_or(FieldFault::Memory)
 }
 
 // Says whether no two of the clients are the same.

@@ -17,7 +17,7 @@ pub enum Amount {
 /// What a line orders to happen. Every number is one that a line may write; whether there is such a
 /// node, message or connection is checked only when the order is done.
 #[derive(Drop)]
-pub enum Order {
+pub enum ScriptLine {
     /// A configuration of these members and this primary is assigned.
     Assign(Numbers, u64),
     /// The message of this number reaches its receiver.

@@ -4,26 +4,26 @@ ghost use Rattle.std.specs.Prelude.{◌≡◌, Some, None, IfOk, IsErrOf};
 ghost use Rattle.script.specs.Fields.{texts};
 ghost use Rattle.script.specs.Inside.Ordering.{order_by, order_of};
 
-use crate::error::LineFault;
+use crate::error::FieldFault;
 use crate::forms;
-use crate::order::Order;
+use crate::order::ScriptLine;
 use std::alloc::Global;
 
 /// Returns what the fields of a line order.
-pub(crate) fn order_of(alloc: Global, fields: &[&str]) -> Result<Order, LineFault>
+pub(crate) fn order_of(alloc: Global, fields: &[&str]) -> Result<ScriptLine, FieldFault>
     ensures value { IfOk result (λ order. order_of (texts fields.now) ≡ Some order) }
-    ensures form { IsErrOf result LineFault.Form → order_of (texts fields.now) ≡ None }
+    ensures form { IsErrOf result FieldFault.Form → order_of (texts fields.now) ≡ None }
 {
     match fields {
-        [] => Err(LineFault::Form),
+        [] => Err(FieldFault::Form),
         [word, fields @ ..] => order_by(alloc, word, fields),
     }
 }
 
 // Returns what the fields after a word order.
-fn order_by(alloc: Global, word: &str, fields: &[&str]) -> Result<Order, LineFault>
+fn order_by(alloc: Global, word: &str, fields: &[&str]) -> Result<ScriptLine, FieldFault>
     ensures value { IfOk result (λ order. order_by word.now (texts fields.now) ≡ Some order) }
-    ensures form { IsErrOf result LineFault.Form → order_by word.now (texts fields.now) ≡ None }
+    ensures form { IsErrOf result FieldFault.Form → order_by word.now (texts fields.now) ≡ None }
 {
     match word {
         "assign" => forms::assign(alloc, fields),
@@ -41,6 +41,6 @@ fn order_by(alloc: Global, word: &str, fields: &[&str]) -> Result<Order, LineFau
         "subscribe" => forms::subscribe(alloc, fields),
         "unsubscribe" => forms::unsubscribe(alloc, fields),
         "expel" => forms::expel(alloc, fields),
-        _ => Err(LineFault::Form),
+        _ => Err(FieldFault::Form),
     }
 }

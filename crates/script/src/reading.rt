@@ -2,15 +2,15 @@
 
 ghost use Rattle.std.specs.Prelude.{◌≡◌, ◌+◌, ◌∷◌, ℕ, Some, None, IfOk, IfErr, IsErrOf};
 ghost use Rattle.script.specs.declared.opening.Opening.{Opening};
-ghost use Rattle.script.specs.declared.order.Order.{Order};
+ghost use Rattle.script.specs.declared.order.ScriptLine.{ScriptLine};
 ghost use Rattle.script.specs.Fields.{texts};
 ghost use Rattle.script.specs.Scripts.{AreOrders, HasOpening, HasOrder, IsFirstBad, IsOpeningLine, IsOrderLine, IsScript, Refuses, lines_of};
 
-use crate::error::{LineFault, ScriptError};
+use crate::error::{FieldFault, ScriptError};
 use crate::fields::fields_of;
 use crate::lines::lines_of;
 use crate::opening::{Opening, opening_of};
-use crate::order::Order;
+use crate::order::ScriptLine;
 use crate::ordering::order_of;
 use std::alloc::Global;
 use std::str;
@@ -21,7 +21,7 @@ pub struct Script {
     /// The world at the beginning.
     pub opening: Opening,
     /// What happens in it, one after another.
-    pub orders: Vec<Order>,
+    pub orders: Vec<ScriptLine>,
 }
 
 /// Reads a whole script. Unless memory runs out, it is refused exactly if a line does not have its
@@ -52,8 +52,8 @@ fn script_after(alloc: Global, first: &[u8], others: &[&[u8]]) -> Result<Script,
 {
     let opening = match opening_line(alloc, first) {
         Ok(opening) => opening,
-        Err(LineFault::Form) => return Err(ScriptError::Line(1)),
-        Err(LineFault::Memory) => return Err(ScriptError::Memory),
+        Err(FieldFault::Form) => return Err(ScriptError::Line(1)),
+        Err(FieldFault::Memory) => return Err(ScriptError::Memory),
     };
     match orders(alloc, others) {
         Ok(orders) => Ok(Script { opening, orders }),
@@ -62,31 +62,31 @@ fn script_after(alloc: Global, first: &[u8], others: &[&[u8]]) -> Result<Script,
 }
 
 // Returns the world that the first line opens.
-fn opening_line(alloc: Global, line: &[u8]) -> Result<Opening, LineFault>
+fn opening_line(alloc: Global, line: &[u8]) -> Result<Opening, FieldFault>
     ensures value { IfOk result (IsOpeningLine line.now) }
-    ensures form { IsErrOf result LineFault.Form → HasOpening line.now → ⊥ }
+    ensures form { IsErrOf result FieldFault.Form → HasOpening line.now → ⊥ }
 {
     let Ok(line) = str::from_utf8(line) else {
-        return Err(LineFault::Form);
+        return Err(FieldFault::Form);
     };
     let fields = fields_of(alloc, line)?;
     opening_of(alloc, fields.as_slice())
 }
 
 // Returns what one of the other lines orders.
-fn order_line(alloc: Global, line: &[u8]) -> Result<Order, LineFault>
+fn order_line(alloc: Global, line: &[u8]) -> Result<ScriptLine, FieldFault>
     ensures value { IfOk result (IsOrderLine line.now) }
-    ensures form { IsErrOf result LineFault.Form → HasOrder line.now → ⊥ }
+    ensures form { IsErrOf result FieldFault.Form → HasOrder line.now → ⊥ }
 {
     let Ok(line) = str::from_utf8(line) else {
-        return Err(LineFault::Form);
+        return Err(FieldFault::Form);
     };
     let fields = fields_of(alloc, line)?;
     order_of(alloc, fields.as_slice())
 }
 
 // Returns what the lines after the first order. They are counted from the second line of the text.
-fn orders(alloc: Global, lines: &[&[u8]]) -> Result<Vec<Order>, ScriptError>
+fn orders(alloc: Global, lines: &[&[u8]]) -> Result<Vec<ScriptLine>, ScriptError>
     ensures orders { IfOk result (λ orders. AreOrders (texts lines.now) orders.items) }
     ensures refused { (bad : ℕ) → IsErrOf result (ScriptError.Line bad)
         → (index : ℕ) × (bad ≡ index + 2) × IsFirstBad (texts lines.now) index }
@@ -95,8 +95,8 @@ fn orders(alloc: Global, lines: &[&[u8]]) -> Result<Vec<Order>, ScriptError>
     for (index, line) in lines.iter().enumerate() {
         match order_line(alloc, line) {
             Ok(order) => orders.push(order)?,
-            Err(LineFault::Form) => return Err(ScriptError::Line(index as u64 + 2)),
-            Err(LineFault::Memory) => return Err(ScriptError::Memory),
+            Err(FieldFault::Form) => return Err(ScriptError::Line(index as u64 + 2)),
+            Err(FieldFault::Memory) => return Err(ScriptError::Memory),
         }
     }
     Ok(orders)

@@ -3,7 +3,7 @@
 ghost use Rattle.std.specs.Prelude.{◌≡◌, ◌==◌, Some, None, IfOk, IsErrOf, slice_index};
 ghost use Rattle.script.specs.Fields.{amount_of, client_of, clients_of, filter_of, number_of, numbers_of, payload_of, qos_of, retain_of, topic_of};
 
-use crate::error::LineFault;
+use crate::error::FieldFault;
 use crate::fields::parts_of;
 use crate::numbers::Numbers;
 use crate::order::Amount;
@@ -13,17 +13,17 @@ use session_base::topics::{Filter, TopicName};
 use std::alloc::Global;
 
 /// Reads a decimal number without a sign, below 2^64. `Form` says that the text is none.
-pub(crate) fn number(text: &str) -> Result<u64, LineFault>
+pub(crate) fn number(text: &str) -> Result<u64, FieldFault>
     ensures value { IfOk result (λ number. number_of text.now ≡ Some number) }
-    ensures form { IsErrOf result LineFault.Form → number_of text.now ≡ None }
+    ensures form { IsErrOf result FieldFault.Form → number_of text.now ≡ None }
 {
     // `parse` takes a sign.
     if has_sign(text) {
-        return Err(LineFault::Form);
+        return Err(FieldFault::Form);
     }
     match text.parse::<u64>() {
         Ok(number) => Ok(number),
-        Err(_) => Err(LineFault::Form),
+        Err(_) => Err(FieldFault::Form),
     }
 }
 
@@ -38,9 +38,9 @@ fn has_sign(text: &str) -> bool
 }
 
 /// Returns the numbers between commas.
-pub(crate) fn numbers(alloc: Global, text: &str) -> Result<Numbers, LineFault>
+pub(crate) fn numbers(alloc: Global, text: &str) -> Result<Numbers, FieldFault>
     ensures value { IfOk result (λ numbers. numbers_of text.now ≡ Some numbers) }
-    ensures form { IsErrOf result LineFault.Form → numbers_of text.now ≡ None }
+    ensures form { IsErrOf result FieldFault.Form → numbers_of text.now ≡ None }
 {
     let all = parts_of(alloc, text)?;
     let parts = all.as_slice();
@@ -53,36 +53,36 @@ pub(crate) fn numbers(alloc: Global, text: &str) -> Result<Numbers, LineFault>
 
 /// Returns a level of delivery.
 #[tactic(auto, unfolding(crate::specs::Fields::qos_of))]
-pub(crate) fn qos(text: &str) -> Result<QoS, LineFault>
+pub(crate) fn qos(text: &str) -> Result<QoS, FieldFault>
     ensures value { IfOk result (λ qos. qos_of text.now ≡ Some qos) }
-    ensures form { IsErrOf result LineFault.Form → qos_of text.now ≡ None }
+    ensures form { IsErrOf result FieldFault.Form → qos_of text.now ≡ None }
 {
     match number(text)? {
         0 => Ok(QoS::AtMostOnce),
         1 => Ok(QoS::AtLeastOnce),
         2 => Ok(QoS::ExactlyOnce),
-        _ => Err(LineFault::Form),
+        _ => Err(FieldFault::Form),
     }
 }
 
 /// Reads a RETAIN flag, `0` or `1`. `Form` says that the text is neither.
 #[tactic(auto, unfolding(crate::specs::Fields::retain_of))]
-pub(crate) fn retain(text: &str) -> Result<bool, LineFault>
+pub(crate) fn retain(text: &str) -> Result<bool, FieldFault>
     ensures value { IfOk result (λ retain. retain_of text.now ≡ Some retain) }
-    ensures form { IsErrOf result LineFault.Form → retain_of text.now ≡ None }
+    ensures form { IsErrOf result FieldFault.Form → retain_of text.now ≡ None }
 {
     match number(text)? {
         0 => Ok(false),
         1 => Ok(true),
-        _ => Err(LineFault::Form),
+        _ => Err(FieldFault::Form),
     }
 }
 
 /// Returns a count of bytes.
 #[tactic(auto, unfolding(crate::specs::Fields::amount_of))]
-pub(crate) fn amount(text: &str) -> Result<Amount, LineFault>
+pub(crate) fn amount(text: &str) -> Result<Amount, FieldFault>
     ensures value { IfOk result (λ amount. amount_of text.now ≡ Some amount) }
-    ensures form { IsErrOf result LineFault.Form → amount_of text.now ≡ None }
+    ensures form { IsErrOf result FieldFault.Form → amount_of text.now ≡ None }
 {
     if text == "all" {
         return Ok(Amount::All);
@@ -92,35 +92,35 @@ pub(crate) fn amount(text: &str) -> Result<Amount, LineFault>
 
 /// Returns a payload in hexadecimal.
 #[tactic(auto, unfolding(crate::specs::Fields::payload_of))]
-pub(crate) fn payload(alloc: Global, text: &str) -> Result<Payload, LineFault>
+pub(crate) fn payload(alloc: Global, text: &str) -> Result<Payload, FieldFault>
     ensures value { IfOk result (λ payload. payload_of text.now ≡ Some payload) }
-    ensures form { IsErrOf result LineFault.Form → payload_of text.now ≡ None }
+    ensures form { IsErrOf result FieldFault.Form → payload_of text.now ≡ None }
 {
     if text == "-" {
         return Ok(Payload::new(alloc, &[])?);
     }
     if text.is_empty() {
-        return Err(LineFault::Form);
+        return Err(FieldFault::Form);
     }
     match hex::decode(alloc, text) {
         Ok(bytes) => Ok(Payload::new(alloc, bytes.as_slice())?),
-        Err(FromHexError::OutOfMemory) => Err(LineFault::Memory),
-        Err(_) => Err(LineFault::Form),
+        Err(FromHexError::OutOfMemory) => Err(FieldFault::Memory),
+        Err(_) => Err(FieldFault::Form),
     }
 }
 
 /// Reads a Client Identifier. `Form` says that the text is none, `Memory` that memory ran out.
-pub(crate) fn client(alloc: Global, text: &str) -> Result<ClientId, LineFault>
+pub(crate) fn client(alloc: Global, text: &str) -> Result<ClientId, FieldFault>
     ensures value { IfOk result (λ client. client_of text.now ≡ Some client) }
-    ensures form { IsErrOf result LineFault.Form → client_of text.now ≡ None }
+    ensures form { IsErrOf result FieldFault.Form → client_of text.now ≡ None }
 {
     Ok(ClientId::new(alloc, text)?)
 }
 
 /// Returns the Client Identifiers between commas.
-pub(crate) fn clients(alloc: Global, text: &str) -> Result<Vec<ClientId>, LineFault>
+pub(crate) fn clients(alloc: Global, text: &str) -> Result<Vec<ClientId>, FieldFault>
     ensures value { IfOk result (λ clients. clients_of text.now ≡ Some clients.items) }
-    ensures form { IsErrOf result LineFault.Form → clients_of text.now ≡ None }
+    ensures form { IsErrOf result FieldFault.Form → clients_of text.now ≡ None }
 {
     let all = parts_of(alloc, text)?;
     let parts = all.as_slice();
@@ -132,17 +132,17 @@ pub(crate) fn clients(alloc: Global, text: &str) -> Result<Vec<ClientId>, LineFa
 }
 
 /// Reads a Topic Name. `Form` says that the text is none, `Memory` that memory ran out.
-pub(crate) fn topic(alloc: Global, text: &str) -> Result<TopicName, LineFault>
+pub(crate) fn topic(alloc: Global, text: &str) -> Result<TopicName, FieldFault>
     ensures value { IfOk result (λ topic. topic_of text.now ≡ Some topic) }
-    ensures form { IsErrOf result LineFault.Form → topic_of text.now ≡ None }
+    ensures form { IsErrOf result FieldFault.Form → topic_of text.now ≡ None }
 {
     Ok(TopicName::new(alloc, text)?)
 }
 
 /// Reads a Topic Filter. `Form` says that the text is none, `Memory` that memory ran out.
-pub(crate) fn filter(alloc: Global, text: &str) -> Result<Filter, LineFault>
+pub(crate) fn filter(alloc: Global, text: &str) -> Result<Filter, FieldFault>
     ensures value { IfOk result (λ filter. filter_of text.now ≡ Some filter) }
-    ensures form { IsErrOf result LineFault.Form → filter_of text.now ≡ None }
+    ensures form { IsErrOf result FieldFault.Form → filter_of text.now ≡ None }
 {
     Ok(Filter::new(alloc, text)?)
 }

@@ -2,7 +2,7 @@
 
 use crate::tests::worlds::World;
 use play::packet::{ClientId, Payload, QoS};
-use play::script::{Amount, Numbers, Opening, Order, Script, ScriptError, read};
+use play::script::{Amount, Numbers, Opening, Script, ScriptError, ScriptLine, read};
 use play::session_base::Publication;
 use play::topics::Filter;
 use std::alloc::{AllocError, Global};
@@ -64,7 +64,7 @@ fn is_opened(opening: &Opening, world: &World) -> bool {
 }
 
 // Says whether the lines of a text spell these orders.
-fn are_spelt(alloc: Global, orders: &[Order], lines: &str) -> bool {
+fn are_spelt(alloc: Global, orders: &[ScriptLine], lines: &str) -> bool {
     orders
         .iter()
         .zip(lines.split('\n'))
@@ -72,30 +72,32 @@ fn are_spelt(alloc: Global, orders: &[Order], lines: &str) -> bool {
 }
 
 // Says whether this line spells an order, without zeros in front.
-fn is_spelt(alloc: Global, order: &Order, line: &str) -> bool {
+fn is_spelt(alloc: Global, order: &ScriptLine, line: &str) -> bool {
     match spelt(alloc, order) {
         Ok(text) => text.as_str() == line,
         Err(_) => false,
     }
 }
 
-fn spelt(alloc: Global, order: &Order) -> Result<String, AllocError> {
+fn spelt(alloc: Global, order: &ScriptLine) -> Result<String, AllocError> {
     match order {
-        Order::Assign(members, primary) => assignment(alloc, members, *primary),
-        Order::Deliver(message) => format!(in alloc; "deliver {message}"),
-        Order::Tick(node) => format!(in alloc; "tick {node}"),
-        Order::Cut(node) => format!(in alloc; "cut {node}"),
-        Order::Crash(node) => format!(in alloc; "crash {node}"),
-        Order::Expel(client, node) => format!(in alloc; "expel {client} {node}"),
-        Order::Open(client, node) => format!(in alloc; "open {client} {node}"),
-        Order::CarryUp(connection, amount) => carrying(alloc, "up", *connection, *amount),
-        Order::CarryDown(connection, amount) => carrying(alloc, "down", *connection, *amount),
-        Order::Abandon(client) => format!(in alloc; "abandon {client}"),
-        Order::Disconnect(client) => format!(in alloc; "disconnect {client}"),
-        Order::Notice(connection) => format!(in alloc; "notice {connection}"),
-        Order::Publish(client, sent) => publication(alloc, client, sent),
-        Order::Subscribe(client, filter, qos) => subscription(alloc, client, filter, *qos),
-        Order::Unsubscribe(client, filter) => format!(in alloc; "unsubscribe {client} {filter}"),
+        ScriptLine::Assign(members, primary) => assignment(alloc, members, *primary),
+        ScriptLine::Deliver(message) => format!(in alloc; "deliver {message}"),
+        ScriptLine::Tick(node) => format!(in alloc; "tick {node}"),
+        ScriptLine::Cut(node) => format!(in alloc; "cut {node}"),
+        ScriptLine::Crash(node) => format!(in alloc; "crash {node}"),
+        ScriptLine::Expel(client, node) => format!(in alloc; "expel {client} {node}"),
+        ScriptLine::Open(client, node) => format!(in alloc; "open {client} {node}"),
+        ScriptLine::CarryUp(connection, amount) => carrying(alloc, "up", *connection, *amount),
+        ScriptLine::CarryDown(connection, amount) => carrying(alloc, "down", *connection, *amount),
+        ScriptLine::Abandon(client) => format!(in alloc; "abandon {client}"),
+        ScriptLine::Disconnect(client) => format!(in alloc; "disconnect {client}"),
+        ScriptLine::Notice(connection) => format!(in alloc; "notice {connection}"),
+        ScriptLine::Publish(client, sent) => publication(alloc, client, sent),
+        ScriptLine::Subscribe(client, filter, qos) => subscription(alloc, client, filter, *qos),
+        ScriptLine::Unsubscribe(client, filter) => {
+            format!(in alloc; "unsubscribe {client} {filter}")
+        }
     }
 }
 

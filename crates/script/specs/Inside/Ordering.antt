@@ -3,8 +3,8 @@ use Rattle.std.specs.Prelude.{Bool, if◌then◌else◌, List, [], ◌∷◌, co
 use Rattle.session_base.specs.packet.declared.qos.QoS.{QoS}
 use Rattle.session_base.specs.declared.publication.Publication.{Publication}
 use Rattle.script.specs.Fields.{Text, amount_of, client_of, filter_of, number_of, numbers_of, payload_of, qos_of, retain_of, topic_of}
-use Rattle.script.specs.declared.order.Order.{Order}
-use Rattle.script.specs.declared.order.Order.TheVariants as orders
+use Rattle.script.specs.declared.order.ScriptLine.{ScriptLine}
+use Rattle.script.specs.declared.order.ScriptLine.TheVariants as orders
 
 -- the result with one more value, if there is one
 abbrev pub with : {X Y : Type 0} → Option (X → Y) → Option X → Option Y
@@ -19,23 +19,23 @@ only reads (field ∷ []) = reads field
 only reads (field ∷ other ∷ more) = None
 
 -- one field
-abbrev pub one : {X : Type 0} → (X → Order) → (Text → Option X) → List Text → Option Order
+abbrev pub one : {X : Type 0} → (X → ScriptLine) → (Text → Option X) → List Text → Option ScriptLine
 one make reads fields = with (Some make) (only reads fields)
 
 -- two fields
-abbrev pub two : {X Y : Type 0} → (X → Y → Order) → (Text → Option X) → (Text → Option Y)
-    → List Text → Option Order
+abbrev pub two : {X Y : Type 0} → (X → Y → ScriptLine) → (Text → Option X) → (Text → Option Y)
+    → List Text → Option ScriptLine
 two make reads next [] = None
 two make reads next (field ∷ []) = None
 two make reads next (field ∷ other ∷ []) = with (with (Some make) (reads field)) (next other)
 two make reads next (field ∷ other ∷ third ∷ more) = None
 
 -- the order by which a client subscribes to a filter
-abbrev pub subscription_order : Text → Text → QoS → Order
+abbrev pub subscription_order : Text → Text → QoS → ScriptLine
 subscription_order client filter qos = orders.Subscribe client filter qos
 
 -- the three fields of `subscribe`
-abbrev pub subscribe_of : List Text → Option Order
+abbrev pub subscribe_of : List Text → Option ScriptLine
 subscribe_of [] = None
 subscribe_of (c ∷ []) = None
 subscribe_of (c ∷ f ∷ []) = None
@@ -55,11 +55,11 @@ publication_of t q r p =
     (payload_of p)
 
 -- the order by which a client publishes
-abbrev pub publication_order : Text → Publication → Order
+abbrev pub publication_order : Text → Publication → ScriptLine
 publication_order client sent = orders.Publish client sent
 
 -- the five fields of `publish`
-abbrev pub publish_of : List Text → Option Order
+abbrev pub publish_of : List Text → Option ScriptLine
 publish_of [] = None
 publish_of (c ∷ []) = None
 publish_of (c ∷ t ∷ []) = None
@@ -70,7 +70,7 @@ publish_of (c ∷ t ∷ q ∷ r ∷ p ∷ []) =
 publish_of (c ∷ t ∷ q ∷ r ∷ p ∷ d ∷ more) = None
 
 -- what the fields after this word order
-unfoldable pub order_by : Text → List Text → Option Order
+unfoldable pub order_by : Text → List Text → Option ScriptLine
 order_by word fields =
     if bytes_eq word (codes "assign") then two orders.Assign numbers_of number_of fields else
     if bytes_eq word (codes "deliver") then one orders.Deliver number_of fields else
@@ -91,6 +91,6 @@ order_by word fields =
     None
 
 -- what the fields of a line order
-abbrev pub order_of : List Text → Option Order
+abbrev pub order_of : List Text → Option ScriptLine
 order_of [] = None
 order_of (word ∷ fields) = order_by word fields
