@@ -24,8 +24,8 @@ abbrev pub committed_of : Option Status → ℕ
 committed_of None = 0
 committed_of (Some status) = status.committed
 
--- A node took these bytes, the newest first, and then its count is this one. Each time it publishes
--- its status its log has no fewer places, and no fewer of them are agreed.
+-- A node took these bytes, the newest first, and then its count is this one. Each time it shows its
+-- status its log has no fewer places, and no fewer of them are agreed.
 pub data Counts : List Taken → Taking → Type 0 where
   -- nothing was taken yet
   begins : Counts [] (record { status = None; entering = 0; mark = 0; earlier = 0; later = 0 })
@@ -37,7 +37,7 @@ pub data Counts : List Taken → Taking → Type 0 where
       → Counts
       (record { bytes = min bytes taking.entering; places = held_of taking.status } ∷ all)
       (took bytes taking)
-  -- the status is published
+  -- the status is shown
   shows : {all : List Taken} {taking : Taking} (status : Status) → Counts all taking
       → held_of taking.status ≤ status.held → committed_of taking.status ≤ status.committed
       → Counts all (shown status taking)

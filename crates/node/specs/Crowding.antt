@@ -56,7 +56,7 @@ took bytes taking = record taking {
 abbrev pub is_agreed : ℕ → Status → Bool
 is_agreed mark status = nat_le (min mark status.held) status.committed
 
--- The node publishes its status. Once the first `mark` places are agreed the later bytes become the
+-- The node shows its status. Once the first `mark` places are agreed the later bytes become the
 -- earlier ones.
 abbrev pub shown : Status → Taking → Taking
 shown status taking =

@@ -1,4 +1,4 @@
--- For which node an order about a client is queued, by the status that each node published last.
+-- For which node an order about a client is queued, by the status that each node showed last.
 use Rattle.std.specs.Prelude.{◌≡◌, ℕ, ◌≤◌, Bool, true, false, ◌&&◌, not, nat_lt, if◌then◌else◌, List, [], ◌∷◌, Option, Some, None}
 use Rattle.master.specs.ballot_base.Replica.{is_active}
 use Rattle.master.specs.lists.Lists.{Each, In}

@@ -103,8 +103,8 @@ impl Cluster {
     }
 
     /// Queues the order to end the session of a client for the running active primary of the
-    /// highest ballot. That is the one by what each node published after its last change: no node
-    /// is asked. Returns whether there is such a node. If memory runs out, the order is not queued.
+    /// highest ballot. That is the one by what each node showed after its last change: no node is
+    /// asked. Returns whether there is such a node. If memory runs out, the order is not queued.
     pub fn expel<R: Wait + Clock>(&self, rt: &R, client: &ClientId) -> Result<bool, Memory> {
         let shown = self.shown(rt)?;
         let Some(number) = primary_of(shown.as_slice()) else {

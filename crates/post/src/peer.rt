@@ -232,9 +232,9 @@ impl Peer {
         self.waker.sleep(rt, time);
     }
 
-    /// Publishes the node's status. A thread that changes the node does so before it releases the
-    /// node's lock.
-    pub fn publish<R: Wait>(&self, rt: &R, status: Status) {
+    /// Shows the node's status to the other nodes. A thread that changes the node does so before it
+    /// releases the node's lock.
+    pub fn show<R: Wait>(&self, rt: &R, status: Status) {
         self.intake.lock(rt).show(status);
     }
 
