@@ -6,7 +6,7 @@ pub use Rattle.client_base.specs.declared.error.ClientError
 pub use Rattle.client_base.specs.declared.kept_publication.KeptPublication
 pub use Rattle.client_base.specs.declared.request.Request
 pub use Rattle.client_base.specs.declared.stage.Stage
-pub use Rattle.client_base.specs.Numbers
+pub use Rattle.client_base.specs.Refusals
 pub use Rattle.client_base.specs.State
 pub use Rattle.client_base.specs.Answered
 pub use Rattle.client_base.specs.Calls

@@ -1,5 +1,5 @@
 pub mod Handshakes
-pub mod Numbers
+pub mod Refusals
 pub mod Publishing
 pub mod State
 pub mod Answered

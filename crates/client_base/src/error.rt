@@ -1,7 +1,7 @@
 // Why a call of a client is refused, or ends its connection.
 
 ghost use Rattle.std.specs.Prelude.{◌≡◌};
-ghost use Rattle.client_base.specs.Numbers.{client_number};
+ghost use Rattle.client_base.specs.Refusals.{client_number};
 
 use session_base::topics::MalformedKind;
 use std::alloc::{AllocError, AllocFailed};

@@ -1,6 +1,6 @@
 pub mod Stream
 pub mod Laws
-pub mod Numbers
+pub mod Refusals
 pub mod Pipe
 pub use Rattle.packet.specs as packet
 pub use Rattle.packet.specs.packet_base as packet_base

@@ -1,7 +1,7 @@
 // Why no packet is taken from a stream.
 
 ghost use Rattle.std.specs.Prelude.{◌≡◌};
-ghost use Rattle.cutter.specs.Numbers.{cut_number};
+ghost use Rattle.cutter.specs.Refusals.{cut_number};
 
 use packet::DecodeFault;
 use std::alloc::AllocError;

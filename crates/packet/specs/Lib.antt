@@ -11,7 +11,7 @@ pub mod Suback
 pub mod Unsubscribe
 pub mod Spelling
 pub mod Verdict
-pub mod Numbers
+pub mod Refusals
 pub mod Laws
 pub mod FaultRows
 pub use Rattle.packet_base.specs.declared.stop.Stop

@@ -1,7 +1,7 @@
 // Why a packet is not read or written.
 
 ghost use Rattle.std.specs.Prelude.{◌≡◌};
-ghost use Rattle.packet.specs.Numbers.{decode_number, encode_number};
+ghost use Rattle.packet.specs.Refusals.{decode_number, encode_number};
 
 use packet_base::RefusalCode;
 use packet_base::topics::MalformedKind;

@@ -1,5 +1,5 @@
 pub mod Retained
-pub mod Errors
+pub mod Refusals
 pub mod Inside
 pub mod Laws
 pub use Rattle.lists.specs as lists

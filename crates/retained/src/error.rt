@@ -1,7 +1,7 @@
 // Why the store refused a publication.
 
 ghost use Rattle.std.specs.Prelude.{◌≡◌};
-ghost use Rattle.retained.specs.Errors.{number_of};
+ghost use Rattle.retained.specs.Refusals.{number_of};
 
 use std::alloc::{AllocError, AllocFailed};
 use std::error::Error;

@@ -1,4 +1,4 @@
-pub mod Errors
+pub mod Refusals
 pub mod Inside
 pub use Rattle.session_base.specs.Session
 pub use Rattle.session_base.specs.Queue

@@ -1,7 +1,7 @@
 // Why a session refused a publication.
 
 ghost use Rattle.std.specs.Prelude.{◌≡◌};
-ghost use Rattle.session.specs.Errors.{number_of};
+ghost use Rattle.session.specs.Refusals.{number_of};
 
 use std::alloc::{AllocError, AllocFailed};
 use std::error::Error;

@@ -1,4 +1,4 @@
-pub mod Malformed
+pub mod Refusals
 pub mod Text
 pub mod Matching
 pub mod Laws

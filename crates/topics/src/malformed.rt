@@ -1,7 +1,7 @@
 // The thirteen causes for which bytes or texts are refused, with their numbers.
 
 ghost use Rattle.std.specs.Prelude.{◌≡◌};
-ghost use Rattle.topics.specs.Malformed.{number_of};
+ghost use Rattle.topics.specs.Refusals.{number_of};
 
 use std::alloc::{AllocError, AllocFailed};
 use std::error::Error;

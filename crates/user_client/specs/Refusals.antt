@@ -1,14 +1,14 @@
 -- Why a client is not made: its texts are checked in order, and memory may run out at any time.
 use Rattle.std.specs.Prelude.{◌≡◌, ◌⊎◌, ℕ, true, false, List, Option, Some, None, option_map}
-use Rattle.client.specs.client_base.Numbers.{client_number}
 use Rattle.client.specs.client_base.Publishing.{is_over_limit, publish_packet}
+use Rattle.client.specs.client_base.Refusals.{client_number}
 use Rattle.client.specs.client_base.State.{new_client}
 use Rattle.client.specs.client_base.declared.error.ClientError.{ClientError}
 use Rattle.client.specs.client_base.declared.error.ClientError.TheVariants as errors
 use Rattle.client.specs.packet.ClientId.{client_fault}
 use Rattle.client.specs.packet.declared.packet.Packet.{Packet}
 use Rattle.client.specs.session_base.declared.publication.Publication.{Publication}
-use Rattle.client.specs.topics.Malformed.{number_of}
+use Rattle.client.specs.topics.Refusals.{number_of}
 use Rattle.client.specs.topics.Text.{filter_fault, topic_fault}
 use Rattle.client.specs.topics.declared.malformed.MalformedKind.{MalformedKind}
 use Rattle.client.specs.topics.declared.malformed.MalformedKind.TheVariants as kinds

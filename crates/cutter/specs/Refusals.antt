@@ -1,6 +1,6 @@
 -- The numbers of what a cutter refuses.
 use Rattle.std.specs.Prelude.{ℕ, Option, Some}
-use Rattle.packet.specs.Numbers.{decode_number}
+use Rattle.packet.specs.Refusals.{decode_number}
 use Rattle.cutter.specs.declared.error.CutError.{CutError}
 use Rattle.cutter.specs.declared.error.CutError.TheVariants as errors
 
