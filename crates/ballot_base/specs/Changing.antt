@@ -47,8 +47,8 @@ installs O r [] = message_to O r.id (Activate r.joined) master ∷ []
 installs O r (member ∷ members) =
     message_to_each O r.id (Install r.joined r.log) (member ∷ members)
 
--- State(ballot, log): the first log that comes is taken, unless it lacks an applied place; then all
--- other members lack it, and are sent the log as it was taken
+-- whether a State is awaited: its ballot is the one joined, no log came yet, and this one lacks no
+-- applied place
 abbrev pub waits_for : {S C : Type 0} → ReplicaState S C → ℕ → ℕ → Bool
 waits_for r ballot held = r.joined == ballot && (is_fetching r.role && nat_le r.committed held)
 
@@ -64,7 +64,8 @@ hands_on O r ballot (Some took) =
     } in
     record { state = new; effects = installs O new new.lacking }
 
--- what State does
+-- State(ballot, log): the first log that comes is taken, unless it lacks an applied place; then all
+-- other members lack it, and are sent the log as it was taken
 unfoldable pub on_state : {S C O : Type 0} →
     Rules S C O → ReplicaState S C → ℕ → Log C → Outcome S C O
 on_state {O = O} rules r ballot log =
@@ -72,8 +73,8 @@ on_state {O = O} rules r ballot log =
     then hands_on O r ballot (taken rules r log)
     else nothing_done O r
 
--- Install(ballot, log): a log is taken once, unless it lacks an applied place; later it is only
--- answered, since more may have been added after it
+-- whether an Install is taken: no higher ballot was joined, the ballot's log was not taken yet, and
+-- this one lacks no applied place
 abbrev pub lacks : {S C : Type 0} → ReplicaState S C → ℕ → ℕ → Bool
 lacks r ballot held =
     (nat_lt r.joined ballot || (r.joined == ballot && nat_lt r.held_in ballot))
@@ -89,7 +90,8 @@ answers_installed O r from ballot held (Some took) =
       effects = message_to O r.id (Installed ballot held) from ∷ [];
     }
 
--- what Install does
+-- Install(ballot, log): a log is taken once, unless it lacks an applied place; later it is only
+-- answered, since more may have been added after it
 unfoldable pub on_install : {S C O : Type 0} →
     Rules S C O → ReplicaState S C → ℕ → ℕ → Log C → Outcome S C O
 on_install {O = O} rules r from ballot log =

@@ -16,7 +16,8 @@ use std::alloc::Global;
 
 impl ClientCore {
     /// Subscribes to a filter, at most at this QoS. `NotActive` comes exactly if the client is
-    /// offline, and otherwise `WindowFull` if no identifier is free; a refusal changes nothing.
+    /// offline, otherwise `WindowFull` if no identifier is free, otherwise `Memory` if memory runs
+    /// out; a refusal changes nothing.
     pub fn subscribe(&mut self, filter: Filter, qos: QoS) -> Result<(), ClientError>
         ensures { Does (keeper_step (Call.Subscribes filter qos) self.old.state)
             self.old result self.new }
