@@ -33,14 +33,15 @@ AppendsAll old new (packet ∷ packets) =
 
 -- the step is done: its state, and its packets appended to what was written
 abbrev pub IsDone : ClientOutcome → Core → Core → Type 0
-IsDone turn old new =
-    (new.state ≡ turn.state) × AppendsAll old.out new.out turn.writes × (new.unread ≡ old.unread)
+IsDone outcome old new =
+    (new.state ≡ outcome.state) × AppendsAll old.out new.out outcome.writes
+    × (new.unread ≡ old.unread)
 
 -- A call is its whole step; it is refused if the step is, and if memory runs out nothing changes.
 abbrev pub Does : ClientOutcome → Core → Result (Unit {0}) ClientError → Core → Type 0
-Does turn old (Ok done) new = (turn.refusal ≡ None) × IsDone turn old new
-Does turn old (Err errors.Memory) new = new ≡ old
-Does turn old (Err cause) new = (turn.refusal ≡ Some cause) × (new ≡ old)
+Does outcome old (Ok done) new = (outcome.refusal ≡ None) × IsDone outcome old new
+Does outcome old (Err errors.Memory) new = new ≡ old
+Does outcome old (Err cause) new = (outcome.refusal ≡ Some cause) × (new ≡ old)
 
 -- its connection is lost: what it wrote stays, what it has not read is dropped
 abbrev pub gone : Core → Core
@@ -48,17 +49,18 @@ gone core = record core { state = lost core.state; unread = nothing_read }
 
 -- it opens a connection: CONNECT is the first that is written on it
 abbrev pub Opens : ClientOutcome → Core → Result (Unit {0}) ClientError → Core → Type 0
-Opens turn old (Ok done) new =
-    (new.state ≡ turn.state) × AppendsAll [] new.out turn.writes × (new.unread ≡ nothing_read)
-Opens turn old (Err cause) new = (cause ≡ errors.Memory) × (new ≡ old)
+Opens outcome old (Ok done) new =
+    (new.state ≡ outcome.state) × AppendsAll [] new.out outcome.writes × (new.unread ≡ nothing_read)
+Opens outcome old (Err cause) new = (cause ≡ errors.Memory) × (new ≡ old)
 
 -- it disconnects: like a call, and what it has not read is dropped
 abbrev pub Leaves : ClientOutcome → Core → Result (Unit {0}) ClientError → Core → Type 0
-Leaves turn old (Ok done) new =
-    (turn.refusal ≡ None) × (new.state ≡ turn.state) × AppendsAll old.out new.out turn.writes
+Leaves outcome old (Ok done) new =
+    (outcome.refusal ≡ None) × (new.state ≡ outcome.state)
+    × AppendsAll old.out new.out outcome.writes
     × (new.unread ≡ nothing_read)
-Leaves turn old (Err errors.Memory) new = new ≡ old
-Leaves turn old (Err cause) new = (turn.refusal ≡ Some cause) × (new ≡ old)
+Leaves outcome old (Err errors.Memory) new = new ≡ old
+Leaves outcome old (Err cause) new = (outcome.refusal ≡ Some cause) × (new ≡ old)
 
 -- what it accepted is taken out
 abbrev pub without_accepted : Core → Core

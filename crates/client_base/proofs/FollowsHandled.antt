@@ -89,8 +89,8 @@ first_follows _ side state s up = record { stands = lost_stands side.keeper stat
 abbrev counted : Side ℕ → Side ℕ
 counted side = record side { connection = record side.connection { handled = suc side.connection.handled } }
 
-uncounted : (side after : Side ℕ) (turn : ClientOutcome) → Same (counted side) after turn → Same side after turn
-uncounted side after turn same = record { stands = same.stands; writes = same.writes }
+uncounted : (side after : Side ℕ) (outcome : ClientOutcome) → Same (counted side) after outcome → Same side after outcome
+uncounted side after outcome same = record { stands = same.stands; writes = same.writes }
 
 pub handled_follows : (packet : Packet) (stage : Stage) (online : Bool) (side : Side ℕ) (state : ClientState) → StandsFor side.keeper state → is_open stage ≡ true
     → side.keeper.is_open ≡ true → is_online stage ≡ online

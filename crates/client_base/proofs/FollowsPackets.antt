@@ -22,9 +22,9 @@ use Rattle.client_base.proofs.Readings.{puback_sent, puback_unsent, puback_relea
 use Rattle.client_base.proofs.Released.{has_without}
 
 -- what follows: the state corresponds to the client, and the same is written
-pub record Same (before after : Side ℕ) (turn : ClientOutcome) : Type 0 where
-  pub stands : StandsFor after.keeper turn.state
-  pub writes : WritesMore before.connection after.connection turn.writes
+pub record Same (before after : Side ℕ) (outcome : ClientOutcome) : Type 0 where
+  pub stands : StandsFor after.keeper outcome.state
+  pub writes : WritesMore before.connection after.connection outcome.writes
 
 -- nothing is written
 pub silent : (connection : Connection ℕ) → WritesMore connection connection []
@@ -56,13 +56,13 @@ received_stands keeper state xs ys accepted s same =
     }
 
 either_end : (j id : ℕ) (xs ys : List ℕ) → has_id j xs ≡ has_id j ys → has_id j (xs ++ id ∷ []) ≡ has_id j (id ∷ ys)
-either_end j id xs ys same = has_append j xs (id ∷ []) ∙ ap (λ b. b || has_id j (id ∷ [])) same ∙ turn (has_id j ys) (j == id)
+either_end j id xs ys same = has_append j xs (id ∷ []) ∙ ap (λ b. b || has_id j (id ∷ [])) same ∙ swap (has_id j ys) (j == id)
   where
-    turn : (a b : Bool) → (a || (b || false)) ≡ (b || a)
-    turn true true = refl
-    turn true false = refl
-    turn false true = refl
-    turn false false = refl
+    swap : (a b : Bool) → (a || (b || false)) ≡ (b || a)
+    swap true true = refl
+    swap true false = refl
+    swap false true = refl
+    swap false false = refl
 
 publish_two : (p : Publish) (dup : Bool) (id : ℕ) (side : Side ℕ) (state : ClientState) → StandsFor side.keeper state
     → Same side (takes_in (deliveries.ExactlyOnce dup id) (publication_of p) side) (on_publish p (deliveries.ExactlyOnce dup id) state)

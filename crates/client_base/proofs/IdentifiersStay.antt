@@ -53,17 +53,17 @@ asked_more : (i : ℕ) (requests : List Request) (one : Request) → often i (ma
 asked_more i [] one = omega arith
 asked_more i (r ∷ requests) one = let ih = asked_more i requests one in omega (arith, ih)
 
-either_turn : (b : Bool) (x y : ClientOutcome) → AreOnce x.state → AreOnce y.state → AreOnce (if b then x else y).state
-either_turn true x y e f = e
-either_turn false x y e f = f
+either_outcome : (b : Bool) (x y : ClientOutcome) → AreOnce x.state → AreOnce y.state → AreOnce (if b then x else y).state
+either_outcome true x y e f = e
+either_outcome false x y e f = f
 
 either_state : (b : Bool) (x y : ClientState) → AreOnce x → AreOnce y → AreOnce (if b then x else y)
 either_state true x y e f = e
 either_state false x y e f = f
 
-pub unless : (refusal : Option ClientError) (turn : ClientOutcome) (state : ClientState) → AreOnce state → AreOnce turn.state → AreOnce (unless_refused refusal turn state).state
-unless (Some cause) turn state e f = e
-unless None turn state e f = f
+pub unless : (refusal : Option ClientError) (outcome : ClientOutcome) (state : ClientState) → AreOnce state → AreOnce outcome.state → AreOnce (unless_refused refusal outcome state).state
+unless (Some cause) outcome state e f = e
+unless None outcome state e f = f
 
 pub sent_once : (law : IsLeastFree) (one : KeptPublication) (state : ClientState) → one.id ≡ next_id state → AreOnce state → AreOnce (record state { sent = state.sent ++ one ∷ [] })
 sent_once law one state is few =
@@ -77,7 +77,7 @@ unsent_once law one state is few =
 
 pub published_once : (law : IsLeastFree) (p : Publication) (state : ClientState) → AreOnce state → AreOnce (published p state).state
 published_once law p state few =
-    either_turn (is_online state.stage) _ _
+    either_outcome (is_online state.stage) _ _
     (either_state (is_answered p.qos) _ state (sent_once law (record { id = next_id state; publication = p }) state refl few) few)
     (unsent_once law (record { id = next_id state; publication = p }) state refl few)
 

@@ -71,28 +71,28 @@ accepts_unless_kept p dup id state = by (has_id id state.received) refl
 
 -- it stays, or the call is one of the two that may forget it
 abbrev Stays : ℕ → Call → ClientOutcome → Type 0
-Stays id call turn =
-    (has_id id turn.state.received ≡ true)
+Stays id call outcome =
+    (has_id id outcome.state.received ≡ true)
     ⊎ ((call ≡ Call.Receives (packets.Pubrel id)) ⊎ (call ≡ Call.Receives (packets.Connack (connacks.Accepted false))))
 
--- in either of two turns, or of two states
-either_turn : (id : ℕ) (b : Bool) (x y : ClientOutcome) → has_id id x.state.received ≡ true → has_id id y.state.received ≡ true
+-- in either of two outcomes, or of two states
+either_outcome : (id : ℕ) (b : Bool) (x y : ClientOutcome) → has_id id x.state.received ≡ true → has_id id y.state.received ≡ true
     → has_id id (if b then x else y).state.received ≡ true
-either_turn id true x y e f = e
-either_turn id false x y e f = f
+either_outcome id true x y e f = e
+either_outcome id false x y e f = f
 
 either_state : (id : ℕ) (b : Bool) (x y : ClientState) → has_id id x.received ≡ true → has_id id y.received ≡ true
     → has_id id (if b then x else y).received ≡ true
 either_state id true x y e f = e
 either_state id false x y e f = f
 
-unless : (id : ℕ) (refusal : Option ClientError) (turn : ClientOutcome) (state : ClientState)
-    → has_id id state.received ≡ true → has_id id turn.state.received ≡ true → has_id id (unless_refused refusal turn state).state.received ≡ true
-unless id (Some cause) turn state e f = e
-unless id None turn state e f = f
+unless : (id : ℕ) (refusal : Option ClientError) (outcome : ClientOutcome) (state : ClientState)
+    → has_id id state.received ≡ true → has_id id outcome.state.received ≡ true → has_id id (unless_refused refusal outcome state).state.received ≡ true
+unless id (Some cause) outcome state e f = e
+unless id None outcome state e f = f
 
 stays_published : (id : ℕ) (p : Publication) (state : ClientState) → has_id id state.received ≡ true → has_id id (published p state).state.received ≡ true
-stays_published id p state e = either_turn id (is_online state.stage) _ _ (either_state id (is_answered p.qos) _ state e e) e
+stays_published id p state e = either_outcome id (is_online state.stage) _ _ (either_state id (is_answered p.qos) _ state e e) e
 
 stays_ended : (id : ℕ) (stage : Stage) (state : ClientState) → has_id id state.received ≡ true → has_id id (disconnected stage state).state.received ≡ true
 stays_ended id stages.Closed state e = e
@@ -121,7 +121,7 @@ stays_pubrel id other state e = by (other == id) refl
 
 stays_later : (id : ℕ) (packet : Packet) (state : ClientState) → has_id id state.received ≡ true → Stays id (Call.Receives packet) (on_later packet state)
 stays_later id (packets.Publish p) state e = inl (stays_publish id p p.delivery state e)
-stays_later id (packets.Pubrec other) state e = inl (either_turn id (list_any (awaits_pubrec other) state.sent) _ _ e e)
+stays_later id (packets.Pubrec other) state e = inl (either_outcome id (list_any (awaits_pubrec other) state.sent) _ _ e e)
 stays_later id (packets.Pubrel other) state e = stays_pubrel id other state e
 stays_later id _ state e = inl e
 

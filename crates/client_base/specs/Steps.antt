@@ -63,8 +63,8 @@ pub data Call : Type 0 where
 
 -- what a call does, unless it is refused for a cause
 abbrev pub unless_refused : Option ClientError → ClientOutcome → ClientState → ClientOutcome
-unless_refused (Some cause) turn state = refused cause state
-unless_refused None turn state = turn
+unless_refused (Some cause) outcome state = refused cause state
+unless_refused None outcome state = outcome
 
 -- what each call does to a client
 abbrev pub keeper_step : Call → ClientState → ClientOutcome

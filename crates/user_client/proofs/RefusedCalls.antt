@@ -12,30 +12,30 @@ use Rattle.user_client.specs.Tracing.{Called}
 use Rattle.user_client.proofs.CallsAreSteps.{parts}
 
 -- the fault of the step's own cause
-caused : (turn : ClientOutcome) (cause : ClientError) (it : ClientFault) → it ≡ fault_of_call cause
-    → turn.refusal ≡ Some cause → IsRefusedFor turn.refusal it
-caused turn cause it is refused = inl (ap (option_map fault_of_call) refused ∙ ap Some (sym is))
+caused : (outcome : ClientOutcome) (cause : ClientError) (it : ClientFault) → it ≡ fault_of_call cause
+    → outcome.refusal ≡ Some cause → IsRefusedFor outcome.refusal it
+caused outcome cause it is refused = inl (ap (option_map fault_of_call) refused ∙ ap Some (sym is))
 
 -- the fault says why
-refused_for : (turn : ClientOutcome) (old new : Core) (cause : ClientError) (it : ClientFault) → it ≡ fault_of_call cause
-    → Does turn old (Err cause) new → IsRefusedFor turn.refusal it
-refused_for turn old new errors.Memory it is same = inr is
-refused_for turn old new (errors.Malformed kind) it is refused = caused turn (errors.Malformed kind) it is refused.0
-refused_for turn old new errors.Protocol it is refused = caused turn errors.Protocol it is refused.0
-refused_for turn old new errors.NotActive it is refused = caused turn errors.NotActive it is refused.0
-refused_for turn old new errors.TooLarge it is refused = caused turn errors.TooLarge it is refused.0
-refused_for turn old new errors.WindowFull it is refused = caused turn errors.WindowFull it is refused.0
-refused_for turn old new errors.SessionLost it is refused = caused turn errors.SessionLost it is refused.0
+refused_for : (outcome : ClientOutcome) (old new : Core) (cause : ClientError) (it : ClientFault) → it ≡ fault_of_call cause
+    → Does outcome old (Err cause) new → IsRefusedFor outcome.refusal it
+refused_for outcome old new errors.Memory it is same = inr is
+refused_for outcome old new (errors.Malformed kind) it is refused = caused outcome (errors.Malformed kind) it is refused.0
+refused_for outcome old new errors.Protocol it is refused = caused outcome errors.Protocol it is refused.0
+refused_for outcome old new errors.NotActive it is refused = caused outcome errors.NotActive it is refused.0
+refused_for outcome old new errors.TooLarge it is refused = caused outcome errors.TooLarge it is refused.0
+refused_for outcome old new errors.WindowFull it is refused = caused outcome errors.WindowFull it is refused.0
+refused_for outcome old new errors.SessionLost it is refused = caused outcome errors.SessionLost it is refused.0
 
 -- nothing changed
-unchanged : (turn : ClientOutcome) (old new : Core) (cause : ClientError) → Does turn old (Err cause) new → new ≡ old
-unchanged turn old new errors.Memory same = same
-unchanged turn old new (errors.Malformed kind) refused = refused.1
-unchanged turn old new errors.Protocol refused = refused.1
-unchanged turn old new errors.NotActive refused = refused.1
-unchanged turn old new errors.TooLarge refused = refused.1
-unchanged turn old new errors.WindowFull refused = refused.1
-unchanged turn old new errors.SessionLost refused = refused.1
+unchanged : (outcome : ClientOutcome) (old new : Core) (cause : ClientError) → Does outcome old (Err cause) new → new ≡ old
+unchanged outcome old new errors.Memory same = same
+unchanged outcome old new (errors.Malformed kind) refused = refused.1
+unchanged outcome old new errors.Protocol refused = refused.1
+unchanged outcome old new errors.NotActive refused = refused.1
+unchanged outcome old new errors.TooLarge refused = refused.1
+unchanged outcome old new errors.WindowFull refused = refused.1
+unchanged outcome old new errors.SessionLost refused = refused.1
 
 -- the same of a client that is seen as this one
 pub refused_seen : (call : Call) (core : Core) (was : Bool) {seen : Called} (new : Core) (cause : ClientError) (it : ClientFault)

@@ -29,18 +29,18 @@ abbrev size_refusal : Bool → Option ClientError
 size_refusal large = if large then Some errors.TooLarge else None
 
 -- it is too large, or memory ran out
-large_only : (large : Bool) (turn : ClientOutcome) (state : ClientState) (it : ClientFault) → turn.refusal ≡ None
-    → IsRefusedFor (unless_refused (size_refusal large) turn state).refusal it
+large_only : (large : Bool) (outcome : ClientOutcome) (state : ClientState) (it : ClientFault) → outcome.refusal ≡ None
+    → IsRefusedFor (unless_refused (size_refusal large) outcome state).refusal it
     → ((large ≡ true) × (it ≡ fault_of_call errors.TooLarge)) ⊎ (it ≡ faults.Memory)
-large_only large turn state it kept (inr memory) = inr memory
-large_only true turn state it kept (inl is) = inl (refl, sym (ap (λ (o : Option ClientFault). unwrap_or o it) is))
-large_only false turn state it kept (inl is) =
+large_only large outcome state it kept (inr memory) = inr memory
+large_only true outcome state it kept (inl is) = inl (refl, sym (ap (λ (o : Option ClientFault). unwrap_or o it) is))
+large_only false outcome state it kept (inl is) =
     absurd (both_ways true (ap is_some (sym is ∙ ap (option_map fault_of_call) kept)) refl)
 
-not_large : (large : Bool) (turn : ClientOutcome) (state : ClientState)
-    → (unless_refused (size_refusal large) turn state).refusal ≡ None → large ≡ false
-not_large true turn state taken = absurd (both_ways true (ap is_some taken) refl)
-not_large false turn state taken = refl
+not_large : (large : Bool) (outcome : ClientOutcome) (state : ClientState)
+    → (unless_refused (size_refusal large) outcome state).refusal ≡ None → large ≡ false
+not_large true outcome state taken = absurd (both_ways true (ap is_some taken) refl)
+not_large false outcome state taken = refl
 
 -- a new client refuses a publication at QoS 1 or 2 only for its size
 pub refuses_first : (id : List ℕ) (retain : Bool) (qos : QoS) (topic payload : List ℕ) (caller : Called) (it : ClientFault)
@@ -85,12 +85,12 @@ once_refusal online large =
     if not online then Some errors.NotActive else if large then Some errors.TooLarge else None
 
 -- it is written at once
-abbrev once_turn : Bool → ClientState → ClientState → Packet → ClientOutcome
-once_turn online state other packet = if online then going_on state (packet ∷ []) else going_on other []
+abbrev once_outcome : Bool → ClientState → ClientState → Packet → ClientOutcome
+once_outcome online state other packet = if online then going_on state (packet ∷ []) else going_on other []
 
 once_written : (online large : Bool) (state other : ClientState) (packet : Packet) (out new : List ℕ)
-    → (unless_refused (once_refusal online large) (once_turn online state other packet) state).refusal ≡ None
-    → AppendsAll out new (unless_refused (once_refusal online large) (once_turn online state other packet) state).writes
+    → (unless_refused (once_refusal online large) (once_outcome online state other packet) state).refusal ≡ None
+    → AppendsAll out new (unless_refused (once_refusal online large) (once_outcome online state other packet) state).writes
     → AppendsSpelling out new packet
 once_written true false state other packet out new taken writes =
     subst (λ (b : List ℕ). AppendsSpelling out b packet) (sym writes.2) writes.1

@@ -141,14 +141,14 @@ same_publication a b retain qos topic payload =
     ∙ ap (λ (x : List ℕ). publication_with b.retain b.qos x a.payload) topic ∙ ap (λ (x : List ℕ). publication_with b.retain b.qos b.topic x) payload
 
 -- a client that is asked says what it refuses
-refused_by : (refusal : Option ClientError) (turn : ClientOutcome) (state : ClientState) → is_some refusal ≡ true → (unless_refused refusal turn state).refusal ≡ None → ⊥
-refused_by None turn state some none = both_ways false refl some
-refused_by (Some cause) turn state some none = none-some cause (sym none)
+refused_by : (refusal : Option ClientError) (outcome : ClientOutcome) (state : ClientState) → is_some refusal ≡ true → (unless_refused refusal outcome state).refusal ≡ None → ⊥
+refused_by None outcome state some none = both_ways false refl some
+refused_by (Some cause) outcome state some none = none-some cause (sym none)
 
-allowed_by : (refusal : Option ClientError) (turn : ClientOutcome) (state : ClientState) → turn.refusal ≡ None → is_some refusal ≡ false
-    → ((unless_refused refusal turn state).refusal ≡ None → ⊥) → ⊥
-allowed_by None turn state free none refuses = refuses free
-allowed_by (Some cause) turn state free none refuses = both_ways true none refl
+allowed_by : (refusal : Option ClientError) (outcome : ClientOutcome) (state : ClientState) → outcome.refusal ≡ None → is_some refusal ≡ false
+    → ((unless_refused refusal outcome state).refusal ≡ None → ⊥) → ⊥
+allowed_by None outcome state free none refuses = refuses free
+allowed_by (Some cause) outcome state free none refuses = both_ways true none refl
 
 published_free : (p : Publication) (state : ClientState) → (published p state).refusal ≡ None
 published_free p state = by (is_online state.stage) refl

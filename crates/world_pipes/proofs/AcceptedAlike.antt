@@ -79,10 +79,10 @@ module _ (before : List Publication) (side : Side) (state : ClientState) (alike 
   side_still true one other x y = x
   side_still false one other x y = y
 
-  turn_still : (b : Bool) (one other : ClientOutcome) → one.state.accepted ≡ state.accepted → other.state.accepted ≡ state.accepted
+  outcome_still : (b : Bool) (one other : ClientOutcome) → one.state.accepted ≡ state.accepted → other.state.accepted ≡ state.accepted
       → (if b then one else other).state.accepted ≡ state.accepted
-  turn_still true one other x y = x
-  turn_still false one other x y = y
+  outcome_still true one other x y = x
+  outcome_still false one other x y = y
 
   still : (later : Side) (after : ClientState) → later.connection.accepted ≡ side.connection.accepted → after.accepted ≡ state.accepted → Alike before later after
   still later after one two = ap accepted_once two ∙ alike ∙ ap (λ (l : List Publication). before ++ l) (sym one)
@@ -91,7 +91,7 @@ module _ (before : List Publication) (side : Side) (state : ClientState) (alike 
   releasing_still id = side_still (is_sent_with id side.keeper.own) _ _ refl (side_still (has_id id side.keeper.releases) _ side refl refl)
 
   pubrec_still : (id : ℕ) → (on_pubrec id state).state.accepted ≡ state.accepted
-  pubrec_still id = turn_still (list_any (awaits_pubrec id) state.sent) _ _ refl refl
+  pubrec_still id = outcome_still (list_any (awaits_pubrec id) state.sent) _ _ refl refl
 
   later_alike : (packet : Packet) → ((id : ℕ) → has_id id state.received ≡ has_id id side.keeper.received) → Alike before (handled_online packet side) (on_later packet state).state
   later_alike (packets.Publish p) received = published_alike p.topic p.payload p.retain p.delivery received
@@ -154,10 +154,10 @@ accepts_alike before packet stages.Online side state up online kept alike =
 
 -- ---- of a call
 
-unless_still : (refusal : Option ClientError) (turn : ClientOutcome) (state : ClientState) → turn.state.accepted ≡ state.accepted →
-    (unless_refused refusal turn state).state.accepted ≡ state.accepted
-unless_still None turn state same = same
-unless_still (Some cause) turn state same = refl
+unless_still : (refusal : Option ClientError) (outcome : ClientOutcome) (state : ClientState) → outcome.state.accepted ≡ state.accepted →
+    (unless_refused refusal outcome state).state.accepted ≡ state.accepted
+unless_still None outcome state same = same
+unless_still (Some cause) outcome state same = refl
 
 either : (test : Bool) (one other : ClientOutcome) (accepted : List Accepted) → one.state.accepted ≡ accepted → other.state.accepted ≡ accepted →
     (if test then one else other).state.accepted ≡ accepted

@@ -27,26 +27,26 @@ use Rattle.world_pipes.proofs.StaysOpen.{publishing_stays, subscribing_stays, un
 
 -- ---- a refusal changes nothing
 
-same_core : (turn : ClientOutcome) (old new : Core) (cause : ClientError) → Does turn old (Err cause) new → new ≡ old
-same_core turn old new errors.Memory does = does
-same_core turn old new errors.NotActive does = does.1
-same_core turn old new errors.WindowFull does = does.1
-same_core turn old new errors.TooLarge does = does.1
-same_core turn old new errors.SessionLost does = does.1
-same_core turn old new errors.Protocol does = does.1
-same_core turn old new (errors.Malformed kind) does = does.1
+same_core : (outcome : ClientOutcome) (old new : Core) (cause : ClientError) → Does outcome old (Err cause) new → new ≡ old
+same_core outcome old new errors.Memory does = does
+same_core outcome old new errors.NotActive does = does.1
+same_core outcome old new errors.WindowFull does = does.1
+same_core outcome old new errors.TooLarge does = does.1
+same_core outcome old new errors.SessionLost does = does.1
+same_core outcome old new errors.Protocol does = does.1
+same_core outcome old new (errors.Malformed kind) does = does.1
 
-pub call_refused : (turn : ClientOutcome) (old new : Piped) (cause : ClientError) → Calls turn old (Err cause) new → new ≡ old
-call_refused turn old new cause calls = ap₂ piped (same_core turn old.core new.core cause calls.0) calls.1
+pub call_refused : (outcome : ClientOutcome) (old new : Piped) (cause : ClientError) → Calls outcome old (Err cause) new → new ≡ old
+call_refused outcome old new cause calls = ap₂ piped (same_core outcome old.core new.core cause calls.0) calls.1
 
-same_left : (turn : ClientOutcome) (old new : Core) (cause : ClientError) → Leaves turn old (Err cause) new → new ≡ old
-same_left turn old new errors.Memory leaves = leaves
-same_left turn old new errors.NotActive leaves = leaves.1
-same_left turn old new errors.WindowFull leaves = leaves.1
-same_left turn old new errors.TooLarge leaves = leaves.1
-same_left turn old new errors.SessionLost leaves = leaves.1
-same_left turn old new errors.Protocol leaves = leaves.1
-same_left turn old new (errors.Malformed kind) leaves = leaves.1
+same_left : (outcome : ClientOutcome) (old new : Core) (cause : ClientError) → Leaves outcome old (Err cause) new → new ≡ old
+same_left outcome old new errors.Memory leaves = leaves
+same_left outcome old new errors.NotActive leaves = leaves.1
+same_left outcome old new errors.WindowFull leaves = leaves.1
+same_left outcome old new errors.TooLarge leaves = leaves.1
+same_left outcome old new errors.SessionLost leaves = leaves.1
+same_left outcome old new errors.Protocol leaves = leaves.1
+same_left outcome old new (errors.Malformed kind) leaves = leaves.1
 
 -- ---- the calls
 

@@ -36,7 +36,7 @@ use Rattle.world_pipes.proofs.Ways.{last_same, losing, losing_silent, newest_way
 -- ---- what was written, on the connection that is held
 
 -- the model's client after its call, with the held connection apart
-record HasCalled (turn : ClientOutcome) (core : Core) (older : List Way) (way : Way) (m : ClientPipes) (c : IsCalled turn m) : Type 0 where
+record HasCalled (outcome : ClientOutcome) (core : Core) (older : List Way) (way : Way) (m : ClientPipes) (c : IsCalled outcome m) : Type 0 where
   pub others : List Connection
   pub pipe : Pipe
   pub further : List Pipe
@@ -46,10 +46,10 @@ record HasCalled (turn : ClientOutcome) (core : Core) (older : List Way) (way : 
   pub ways : AreWays (reverse older) further
   pub spelled : CanBeSpelled m.connections c.connections
 
-has_called : (turn : ClientOutcome) (old : Piped) (core : Core) (older : List Way) (way : Way) (m : ClientPipes) (c : IsCalled turn m) → StandsFor old m →
-    is_holding old ≡ true → old.ways ≡ older ++ way ∷ [] → AllSpelled turn → core.state ≡ turn.state → AppendsAll old.core.out core.out turn.writes →
-    (is_open core.state.stage ≡ true → core.unread ≡ old.core.unread) → turn.state.accepted ≡ old.core.state.accepted → HasCalled turn core older way m c
-has_called turn old core older way m c s up splits whole same appends unread none =
+has_called : (outcome : ClientOutcome) (old : Piped) (core : Core) (older : List Way) (way : Way) (m : ClientPipes) (c : IsCalled outcome m) → StandsFor old m →
+    is_holding old ≡ true → old.ways ≡ older ++ way ∷ [] → AllSpelled outcome → core.state ≡ outcome.state → AppendsAll old.core.out core.out outcome.writes →
+    (is_open core.state.stage ≡ true → core.unread ≡ old.core.unread) → outcome.state.accepted ≡ old.core.state.accepted → HasCalled outcome core older way m c
+has_called outcome old core older way m c s up splits whole same appends unread none =
     let held = s.held up in
     let κ = held.connection in
     let others = held.others in
@@ -57,10 +57,10 @@ has_called turn old core older way m c s up splits whole same appends unread non
     let newest : way ≡ held.way = last_same older held.older way held.way (sym splits ∙ held.ways) in
     let ways = newest_way old.ways older way m.pipes held.further p splits held.pipes s.ways in
     let first : c.connections ≡ writes c.more κ ∷ others = c.on_first ∙ ap (λ l. writes_first c.more l) held.connections in
-    let newly : newly_written m.connections c.connections ≡ turn.writes =
+    let newly : newly_written m.connections c.connections ≡ outcome.writes =
     ap₂ (λ before after. newly_written before after) held.connections first ∙ newly_is κ (writes c.more κ) others others c.more refl ∙ c.writes in
-    let out : core.out ≡ spelled turn.writes =
-    appended [] core.out turn.writes whole.writes (subst (λ o. AppendsAll o core.out turn.writes) held.sent appends) in
+    let out : core.out ≡ spelled outcome.writes =
+    appended [] core.out outcome.writes whole.writes (subst (λ o. AppendsAll o core.out outcome.writes) held.sent appends) in
     let counted : suc (length others) ≡ suc (length held.further) = sym (ap length held.connections) ∙ s.many ∙ ap length held.pipes in
     record {
       others = others;
@@ -85,9 +85,9 @@ has_called turn old core older way m c s up splits whole same appends unread non
     }
 
 -- it went up
-sent_stands : (turn : ClientOutcome) (core : Core) (older : List Way) (way : Way) (m : ClientPipes) (c : IsCalled turn m) → HasCalled turn core older way m c →
+sent_stands : (outcome : ClientOutcome) (core : Core) (older : List Way) (way : Way) (m : ClientPipes) (c : IsCalled outcome m) → HasCalled outcome core older way m c →
     StandsFor (pipings.sent_up core older way) (after_writing c.keeper c.connections m)
-sent_stands turn core older way m c h =
+sent_stands outcome core older way m c h =
     let up = way.up ++ core.out in
     finished older way way.up core (record core { out = [] }) (after_writing c.keeper c.connections m) h.others h.pipe h.further up [] h.left refl h.many h.ways
     (way_up older way way.up core (after_writing c.keeper c.connections m) h.others h.pipe h.further up [] h.left h.leads.0 h.leads.1 h.leads.2
@@ -95,9 +95,9 @@ sent_stands turn core older way m c h =
     (λ on. (h.left.up, refl, refl))
 
 -- or the connection was lost
-lost_stands : (turn : ClientOutcome) (core : Core) (older : List Way) (way : Way) (m : ClientPipes) (c : IsCalled turn m) → HasCalled turn core older way m c →
+lost_stands : (outcome : ClientOutcome) (core : Core) (older : List Way) (way : Way) (m : ClientPipes) (c : IsCalled outcome m) → HasCalled outcome core older way m c →
     StandsFor (broken core (older ++ way ∷ [])) (after_losing (after_writing c.keeper c.connections m))
-lost_stands turn core older way m c h =
+lost_stands outcome core older way m c h =
     let m₁ = after_writing c.keeper c.connections m in
     let left = left_lost way.up core m₁ h.others h.pipe h.further h.left in
     finished older way way.up (gone core) (gone core) (after_losing m₁) h.others h.pipe h.further way.up core.out left refl h.many h.ways
@@ -107,40 +107,40 @@ lost_stands turn core older way m c h =
 -- ---- what a call needs
 
 -- what a call of the model's client and of this are to each other
-pub record HasCall (published : List Publication) (turn : ClientOutcome) (old : Piped) (core : Core) : Type 0 where
-  pub state : core.state ≡ turn.state
-  pub appends : AppendsAll old.core.out core.out turn.writes
+pub record HasCall (published : List Publication) (outcome : ClientOutcome) (old : Piped) (core : Core) : Type 0 where
+  pub state : core.state ≡ outcome.state
+  pub appends : AppendsAll old.core.out core.out outcome.writes
   pub unread : is_open core.state.stage ≡ true → core.unread ≡ old.core.unread
-  pub fits : CanGoOut old.core.state → AllSpelled turn
-  pub accepts_none : turn.state.accepted ≡ old.core.state.accepted
-  pub too : (m : ClientPipes) → history.StandsFor m.keeper old.core.state → old.core.state.keep_alive ≡ 0 → (c : IsCalled turn m) × (published_by c.call ≡ published)
+  pub fits : CanGoOut old.core.state → AllSpelled outcome
+  pub accepts_none : outcome.state.accepted ≡ old.core.state.accepted
+  pub too : (m : ClientPipes) → history.StandsFor m.keeper old.core.state → old.core.state.keep_alive ≡ 0 → (c : IsCalled outcome m) × (published_by c.call ≡ published)
 
 -- a call of a client that holds a connection
-pub up_follows : (published : List Publication) (turn : ClientOutcome) (old : Piped) (core : Core) (sending : Sending) (new : Piped) → is_holding old ≡ true → HasCall published turn old core →
+pub up_follows : (published : List Publication) (outcome : ClientOutcome) (old : Piped) (core : Core) (sending : Sending) (new : Piped) → is_holding old ≡ true → HasCall published outcome old core →
     GoesUp core old.ways sending new → CallingFollows published old (Ok sending) new
-up_follows published turn old core sendings.Sent new up has (older, way, splits, is) = λ m s.
+up_follows published outcome old core sendings.Sent new up has (older, way, splits, is) = λ m s.
     let called = has.too m s.keeper s.fits.keep_alive in
     let c = called.0 in
-    let h = has_called turn old core older way m c s up splits (has.fits s.fits) has.state has.appends has.unread has.accepts_none in
+    let h = has_called outcome old core older way m c s up splits (has.fits s.fits) has.state has.appends has.unread has.accepts_none in
     record {
       story = record { past = []; connections = c.connections; keeper = c.keeper };
       call = c.call;
       is_one = c.is_one;
       publishes = called.1;
       spelled = h.spelled;
-      stands = subst (λ p. StandsFor p (after_writing c.keeper c.connections m)) (sym is) (sent_stands turn core older way m c h);
+      stands = subst (λ p. StandsFor p (after_writing c.keeper c.connections m)) (sym is) (sent_stands outcome core older way m c h);
     }
-up_follows published turn old core sendings.Lost new up has is = λ m s.
+up_follows published outcome old core sendings.Lost new up has is = λ m s.
     let held = s.held up in
     let called = has.too m s.keeper s.fits.keep_alive in
     let c = called.0 in
     let m₁ = after_writing c.keeper c.connections m in
-    let h = has_called turn old core held.older held.way m c s up held.ways (has.fits s.fits) has.state has.appends has.unread has.accepts_none in
+    let h = has_called outcome old core held.older held.way m c s up held.ways (has.fits s.fits) has.state has.appends has.unread has.accepts_none in
     let step : ClientStep m m₁ = ClientStep.calls (record { past = []; connections = c.connections; keeper = c.keeper }) c.call c.is_one h.spelled in
     record {
       next = after_losing m₁;
       goes = ClientGoes.goes_on (ClientGoes.goes_on ClientGoes.stays step) (losing m₁);
       publishes = ap (λ l. published_by c.call ++ l) (losing_silent m₁) ∙ append-nil (published_by c.call) ∙ called.1;
       stands = subst (λ p. StandsFor p (after_losing m₁)) (sym (is ∙ ap (λ l. broken core l) held.ways))
-          (lost_stands turn core held.older held.way m c h);
+          (lost_stands outcome core held.older held.way m c h);
     }

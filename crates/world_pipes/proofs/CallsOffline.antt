@@ -40,18 +40,18 @@ closed_offline stages.Closed e = refl
 closed_offline stages.Opened e = absurd (both_ways true e refl)
 closed_offline stages.Online e = absurd (both_ways true e refl)
 
-unless_none : (refusal : Option ClientError) (turn : ClientOutcome) (state : ClientState) → turn.writes ≡ [] → (unless_refused refusal turn state).writes ≡ []
-unless_none None turn state none = none
-unless_none (Some cause) turn state none = refl
+unless_none : (refusal : Option ClientError) (outcome : ClientOutcome) (state : ClientState) → outcome.writes ≡ [] → (unless_refused refusal outcome state).writes ≡ []
+unless_none None outcome state none = none
+unless_none (Some cause) outcome state none = refl
 
 published_none : (p : Publication) (id : ℕ) (state : ClientState) (answered online : Bool) → online ≡ false → (turn_of p id state answered online).writes ≡ []
 published_none p id state answered false e = refl
 published_none p id state answered true e = absurd (both_ways true e refl)
 
-asked_none : (online free : Bool) (turn : ClientOutcome) (state : ClientState) → online ≡ false →
-    (unless_refused (if not online then Some errors.NotActive else if not free then Some errors.WindowFull else None) turn state).writes ≡ []
-asked_none false free turn state e = refl
-asked_none true free turn state e = absurd (both_ways true e refl)
+asked_none : (online free : Bool) (outcome : ClientOutcome) (state : ClientState) → online ≡ false →
+    (unless_refused (if not online then Some errors.NotActive else if not free then Some errors.WindowFull else None) outcome state).writes ≡ []
+asked_none false free outcome state e = refl
+asked_none true free outcome state e = absurd (both_ways true e refl)
 
 pub publishing_offline : (p : Publication) (state : ClientState) → is_open state.stage ≡ false → (keeper_step (Call.Publishes p) state).writes ≡ []
 publishing_offline p state closed =
@@ -82,9 +82,9 @@ same_accepted : (more : List Written) (connections : List Connection) → accept
 same_accepted more [] = refl
 same_accepted more (κ ∷ others) = refl
 
-idle_follows : (published : List Publication) (turn : ClientOutcome) (old : Piped) (core : Core) (new : Piped) → is_holding old ≡ false → turn.state.stage ≡ old.core.state.stage → turn.writes ≡ [] →
-    HasCall published turn old core → new ≡ piped core old.ways → CallingFollows published old (Ok sendings.Sent) new
-idle_follows published turn old core new closed stays none has is = λ m s.
+idle_follows : (published : List Publication) (outcome : ClientOutcome) (old : Piped) (core : Core) (new : Piped) → is_holding old ≡ false → outcome.state.stage ≡ old.core.state.stage → outcome.writes ≡ [] →
+    HasCall published outcome old core → new ≡ piped core old.ways → CallingFollows published old (Ok sendings.Sent) new
+idle_follows published outcome old core new closed stays none has is = λ m s.
     let called = has.too m s.keeper s.fits.keep_alive in
     let c = called.0 in
     let newly : newly_written m.connections c.connections ≡ [] =
@@ -111,9 +111,9 @@ idle_follows published turn old core new closed stays none has is = λ m s.
 
 -- ---- a call, whether a connection is held or not
 
-pub call_follows : (published : List Publication) (turn : ClientOutcome) (old : Piped) (core : Core) (new : Piped) (up : Bool) → is_holding old ≡ up → turn.state.stage ≡ old.core.state.stage →
-    (is_holding old ≡ false → turn.writes ≡ []) → HasCall published turn old core → (sending : Sending) → GoesUpWhere up core old.ways sending new →
+pub call_follows : (published : List Publication) (outcome : ClientOutcome) (old : Piped) (core : Core) (new : Piped) (up : Bool) → is_holding old ≡ up → outcome.state.stage ≡ old.core.state.stage →
+    (is_holding old ≡ false → outcome.writes ≡ []) → HasCall published outcome old core → (sending : Sending) → GoesUpWhere up core old.ways sending new →
     CallingFollows published old (Ok sending) new
-call_follows published turn old core new true held stays none has sending goes = up_follows published turn old core sending new held has goes
-call_follows published turn old core new false held stays none has sending goes =
-    subst (λ sending. CallingFollows published old (Ok sending) new) (sym goes.0) (idle_follows published turn old core new held stays (none held) has goes.1)
+call_follows published outcome old core new true held stays none has sending goes = up_follows published outcome old core sending new held has goes
+call_follows published outcome old core new false held stays none has sending goes =
+    subst (λ sending. CallingFollows published old (Ok sending) new) (sym goes.0) (idle_follows published outcome old core new held stays (none held) has goes.1)

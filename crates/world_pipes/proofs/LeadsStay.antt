@@ -31,13 +31,13 @@ where_leads : (up : Bool) (core : Core) (ways : List Way) (sending : Sending) (n
 where_leads true core ways sending new goes = up_leads core ways sending new goes
 where_leads false core ways sending new goes = ap (λ (p : Piped). leads p.ways) goes.1
 
-pub calls_lead : (turn : ClientOutcome) (old : Piped) (result : Result Sending ClientError) (new : Piped) → Calls turn old result new → leads new.ways ≡ leads old.ways
-calls_lead turn old (Ok sending) new (core, does, goes) = where_leads (is_holding old) core old.ways sending new goes
-calls_lead turn old (Err cause) new calls = ap leads calls.1
+pub calls_lead : (outcome : ClientOutcome) (old : Piped) (result : Result Sending ClientError) (new : Piped) → Calls outcome old result new → leads new.ways ≡ leads old.ways
+calls_lead outcome old (Ok sending) new (core, does, goes) = where_leads (is_holding old) core old.ways sending new goes
+calls_lead outcome old (Err cause) new calls = ap leads calls.1
 
-pub leaving_leads : (turn : ClientOutcome) (old : Piped) (result : Result Sending ClientError) (new : Piped) → TakesLeave turn old result new → leads new.ways ≡ leads old.ways
-leaving_leads turn old (Ok sending) new (core, leaves, goes) = up_leads core old.ways sending new goes
-leaving_leads turn old (Err cause) new leaves = ap leads leaves.1
+pub leaving_leads : (outcome : ClientOutcome) (old : Piped) (result : Result Sending ClientError) (new : Piped) → TakesLeave outcome old result new → leads new.ways ≡ leads old.ways
+leaving_leads outcome old (Ok sending) new (core, leaves, goes) = up_leads core old.ways sending new goes
+leaving_leads outcome old (Err cause) new leaves = ap leads leaves.1
 
 pub hearing_leads : (count : ℕ) (old : Piped) (result : Result (Unit {0}) ClientError) (new : Piped) → Hears count old result new → leads new.ways ≡ leads old.ways
 hearing_leads count old result new h = by h.goes_up

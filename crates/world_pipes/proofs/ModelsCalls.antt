@@ -31,15 +31,15 @@ use Rattle.byte_world.specs.Published.{published_by}
 use Rattle.world_pipes.proofs.NotRefused.{asked_so, is_published, not_refused}
 
 -- a call of the model's client, and what it writes on its newest connection
-pub record IsCalled (turn : ClientOutcome) (m : ClientPipes) : Type 0 where
+pub record IsCalled (outcome : ClientOutcome) (m : ClientPipes) : Type 0 where
   pub keeper : Keeper
   pub connections : List Connection
   pub call : StoryStep usual_limits (story_alone m) (record { past = []; connections = connections; keeper = keeper })
   pub is_one : is_call call ≡ true
-  pub stands : history.StandsFor keeper turn.state
+  pub stands : history.StandsFor keeper outcome.state
   pub more : List Written
   pub on_first : connections ≡ writes_first more m.connections
-  pub writes : packets_of more ≡ turn.writes
+  pub writes : packets_of more ≡ outcome.writes
 
 -- a side on which nothing was written
 abbrev alone : Keeper → keepers.Side ℕ

@@ -11,9 +11,9 @@ use Rattle.client.specs.client_base.Publishing.{has_free_id, is_over_limit, publ
 use Rattle.client.specs.client_base.Steps.{unless_refused}
 
 -- a call that is not refused
-pub not_refused : (refusal : Option ClientError) (turn : ClientOutcome) (state : ClientState) → (unless_refused refusal turn state).refusal ≡ None → refusal ≡ None
-not_refused None turn state taken = refl
-not_refused (Some cause) turn state taken = taken
+pub not_refused : (refusal : Option ClientError) (outcome : ClientOutcome) (state : ClientState) → (unless_refused refusal outcome state).refusal ≡ None → refusal ≡ None
+not_refused None outcome state taken = refl
+not_refused (Some cause) outcome state taken = taken
 
 -- a publication has an identifier if it is answered, is sent at once if it is not, and is not too
 -- large

@@ -73,19 +73,19 @@ one_goes before core next after m others p₀ further packet up s reads done =
     let p = s.pipe in
     let side : Side = record { keeper = m.keeper; connection = κ } in
     let later : Side = handled packet side in
-    let turn : ClientOutcome = turn_of packet next in
+    let outcome : ClientOutcome = turn_of packet next in
     let stands : history.StandsFor m.keeper next.state = subst (history.StandsFor m.keeper) (sym reads.1) s.keeper in
     let opened : is_open next.state.stage ≡ true = ap (λ (state : ClientState). is_open state.stage) reads.1 ∙ up in
-    let whole : AllSpelled turn =
+    let whole : AllSpelled outcome =
     received_fits packet next.state.stage next.state (taken_fits core.unread next.unread packet reads.0).0 (subst CanGoOut (sym reads.1) s.fits) in
-    let same : Same (renamed side) (renamed later) turn =
-    subst (λ (after : keepers.Side ℕ). Same (renamed side) after turn) (handled_renamed packet side)
+    let same : Same (renamed side) (renamed later) outcome =
+    subst (λ (after : keepers.Side ℕ). Same (renamed side) after outcome) (handled_renamed packet side)
     (handled_follows packet next.state.stage m.keeper.is_online (renamed side) next.state stands opened (sym stands.is_open ∙ opened) stands.is_online) in
     let more = same.writes.0 in
-    let newly : newly_written m.connections (later.connection ∷ others) ≡ turn.writes =
+    let newly : newly_written m.connections (later.connection ∷ others) ≡ outcome.writes =
     ap (λ l. newly_written l (later.connection ∷ others)) s.connections ∙ newly_is κ later.connection others others more same.writes.1 ∙ same.writes.2 in
-    let out : after.out ≡ core.out ++ spelled turn.writes =
-    appended next.out after.out turn.writes whole.writes done.1 ∙ ap (λ o. o ++ spelled turn.writes) reads.2 in
+    let out : after.out ≡ core.out ++ spelled outcome.writes =
+    appended next.out after.out outcome.writes whole.writes done.1 ∙ ap (λ o. o ++ spelled outcome.writes) reads.2 in
     record {
       next = after_packet others further p next.unread later m;
       step = ClientStep.handles κ others p further packet next.unread s.connections s.pipes (sym s.keeper.is_open ∙ up)
@@ -103,7 +103,7 @@ one_goes before core next after m others p₀ further packet up s reads done =
         pipe = record p { came = next.unread; up = p.up ++ spelled (newly_written m.connections (later.connection ∷ others)) };
         pipes = refl;
         leads = s.leads;
-        up = ap₂ (λ u l. u ++ spelled l) s.up newly ∙ append_assoc before core.out (spelled turn.writes) ∙ ap (λ l. before ++ l) (sym out);
+        up = ap₂ (λ u l. u ++ spelled l) s.up newly ∙ append_assoc before core.out (spelled outcome.writes) ∙ ap (λ l. before ++ l) (sym out);
         came = sym done.2;
       };
     }

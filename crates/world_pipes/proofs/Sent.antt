@@ -39,9 +39,9 @@ goes_up false core left ways after sending holding leads s = (s.0, ap₂ piped s
 goes_up true core left ways after sendings.Sent holding leads s = moved_is_sent core left ways after (leads refl) s.1
 goes_up true core left ways after sendings.Lost holding leads s = ap₂ piped s.1 s.2
 
-pub called_so : (turn : ClientOutcome) (old : Piped) (core left : Core) (after : List Way) (sending : Sending) (holds holding : Bool) → IsHeld holds old.core old.ways
-    → Does turn old.core (Ok tt) core → SendsUp holds core old.ways sending holding left after → Calls turn old (Ok sending) (piped left after)
-called_so turn old core left after sending holds holding held does s = (
+pub called_so : (outcome : ClientOutcome) (old : Piped) (core left : Core) (after : List Way) (sending : Sending) (holds holding : Bool) → IsHeld holds old.core old.ways
+    → Does outcome old.core (Ok tt) core → SendsUp holds core old.ways sending holding left after → Calls outcome old (Ok sending) (piped left after)
+called_so outcome old core left after sending holds holding held does s = (
   core,
   does,
   subst (λ up. GoesUpWhere up core old.ways sending (piped left after)) held.known (goes_up holds core left old.ways after sending holding held.leads s),
@@ -76,9 +76,9 @@ held_after true core left ways after sendings.Lost holding known leads s =
     }
 
 -- a call that ends no connection
-pub held_so : (turn : ClientOutcome) (before core left : Core) (ways after : List Way) (sending : Sending) (holds holding : Bool) → IsHeld holds before ways
-    → turn.state.stage ≡ before.state.stage → Does turn before (Ok tt) core → SendsUp holds core ways sending holding left after → IsHeld holding left after
-held_so turn before core left ways after sending holds holding held stays does s =
+pub held_so : (outcome : ClientOutcome) (before core left : Core) (ways after : List Way) (sending : Sending) (holds holding : Bool) → IsHeld holds before ways
+    → outcome.state.stage ≡ before.state.stage → Does outcome before (Ok tt) core → SendsUp holds core ways sending holding left after → IsHeld holding left after
+held_so outcome before core left ways after sending holds holding held stays does s =
     held_after holds core left ways after sending holding
     (held.known ∙ ap is_open (sym stays) ∙ ap (λ (state : ClientState). is_open state.stage) (sym does.1.0))
     held.leads s

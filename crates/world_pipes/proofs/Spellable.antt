@@ -22,9 +22,9 @@ use Rattle.client.specs.client_base.Calls.{confirmed, discarded, numbered, loses
 use Rattle.world_pipes.specs.Standing.{CanGoOut}
 
 -- what a step writes, and what it leaves
-pub record AllSpelled (turn : ClientOutcome) : Type 0 where
-  pub writes : Each IsPacket turn.writes
-  pub left : CanGoOut turn.state
+pub record AllSpelled (outcome : ClientOutcome) : Type 0 where
+  pub writes : Each IsPacket outcome.writes
+  pub left : CanGoOut outcome.state
 
 kept_or_not : {X : Type 0} (P : X → Type 0) (b : Bool) (x : X) (xs : List X) → P x → Each P xs → Each P (if b then x ∷ xs else xs)
 kept_or_not P true x xs one all = (one, all)

@@ -27,10 +27,10 @@ use Rattle.world_pipes.specs.Inside.{stays_open}
 
 -- ---- calls
 
-unless_same : (refusal : Option ClientError) (turn : ClientOutcome) (state : ClientState) → turn.state.stage ≡ state.stage →
-    (unless_refused refusal turn state).state.stage ≡ state.stage
-unless_same None turn state same = same
-unless_same (Some cause) turn state same = refl
+unless_same : (refusal : Option ClientError) (outcome : ClientOutcome) (state : ClientState) → outcome.state.stage ≡ state.stage →
+    (unless_refused refusal outcome state).state.stage ≡ state.stage
+unless_same None outcome state same = same
+unless_same (Some cause) outcome state same = refl
 
 either : (test : Bool) (one other : ClientOutcome) (stage : Stage) → one.state.stage ≡ stage → other.state.stage ≡ stage →
     (if test then one else other).state.stage ≡ stage
@@ -89,24 +89,24 @@ first_opens (packets.Connack (connacks.Accepted present)) state ok = refl
 first_opens (packets.Connack (connacks.Refused code)) state ok = absurd (both_ways false refl ok)
 first_opens _ state ok = absurd (both_ways false refl ok)
 
-turn_stays : (packet : Packet) (stage : Stage) (state : ClientState) → state.stage ≡ stage → goes_on (received packet stage state).refusal ≡ true
+outcome_stays : (packet : Packet) (stage : Stage) (state : ClientState) → state.stage ≡ stage → goes_on (received packet stage state).refusal ≡ true
     → is_open (received packet stage state).state.stage ≡ true
-turn_stays packet stages.Closed state is ok = absurd (both_ways false refl ok)
-turn_stays packet stages.Opened state is ok = first_opens packet state ok
-turn_stays packet stages.Online state is ok = ap is_open (later_stays packet state ok ∙ is)
+outcome_stays packet stages.Closed state is ok = absurd (both_ways false refl ok)
+outcome_stays packet stages.Opened state is ok = first_opens packet state ok
+outcome_stays packet stages.Online state is ok = ap is_open (later_stays packet state ok ∙ is)
 
 pub handled_stays : (start last : Core) → Handles start last → is_open start.state.stage ≡ true → is_open last.state.stage ≡ true
 handled_stays start last Handles.none up = up
 handled_stays start last (Handles.more {s = s} {t = t} packet before reads taken done) up =
     ap (λ (state : ClientState). is_open state.stage) done.0
-    ∙ turn_stays packet t.state.stage t.state refl (ap goes_on taken)
+    ∙ outcome_stays packet t.state.stage t.state refl (ap goes_on taken)
 
 ends_open : (last new : Core) (read : Result (Unit {0}) ClientError) → is_open last.state.stage ≡ true → EndsWith last read new → stays_open read ≡ is_open new.state.stage
 ends_open last new (Ok done) up ends = sym up ∙ ap (λ (core : Core). is_open core.state.stage) (sym ends.1)
 ends_open last new (Err errors.SessionLost) up ends =
     let packet = ends.0 in
     let next = ends.1 in
-    sym (turn_stays packet next.state.stage next.state refl (ap goes_on ends.3))
+    sym (outcome_stays packet next.state.stage next.state refl (ap goes_on ends.3))
     ∙ ap (λ (state : ClientState). is_open state.stage) (sym ends.4.0)
 ends_open last new (Err errors.Memory) up ends = ap (λ (core : Core). is_open core.state.stage) (sym ends)
 ends_open last new (Err errors.NotActive) up ends = ap (λ (core : Core). is_open core.state.stage) (sym ends.1)

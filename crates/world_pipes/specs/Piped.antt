@@ -59,28 +59,29 @@ GoesUpWhere false core ways sending new = (sending ≡ sendings.Sent) × (new �
 
 -- A call is the client's, and what it writes goes up; one that the client refuses changes nothing.
 abbrev pub Calls : ClientOutcome → Piped → Result Sending ClientError → Piped → Type 0
-Calls turn old (Ok sending) new =
-    (core : Core) × Does turn old.core (Ok tt) core
+Calls outcome old (Ok sending) new =
+    (core : Core) × Does outcome old.core (Ok tt) core
     × GoesUpWhere (is_holding old) core old.ways sending new
-Calls turn old (Err cause) new = Does turn old.core (Err cause) new.core × (new.ways ≡ old.ways)
+Calls outcome old (Err cause) new =
+    Does outcome old.core (Err cause) new.core × (new.ways ≡ old.ways)
 
 -- disconnecting is a call like the others
 abbrev pub TakesLeave : ClientOutcome → Piped → Result Sending ClientError → Piped → Type 0
-TakesLeave turn old (Ok sending) new =
-    (core : Core) × Leaves turn old.core (Ok tt) core × GoesUp core old.ways sending new
-TakesLeave turn old (Err cause) new =
-    Leaves turn old.core (Err cause) new.core × (new.ways ≡ old.ways)
+TakesLeave outcome old (Ok sending) new =
+    (core : Core) × Leaves outcome old.core (Ok tt) core × GoesUp core old.ways sending new
+TakesLeave outcome old (Err cause) new =
+    Leaves outcome old.core (Err cause) new.core × (new.ways ≡ old.ways)
 
 -- its CONNECT is all that is in transit on a new connection; only memory may run out, and then
 -- there is no connection
 abbrev pub Connects :
     ℕ → Port → ClientOutcome → Piped → Result (Unit {0}) ClientError → Piped → Type 0
-Connects node port turn old (Ok done) new =
-    (core : Core) × Opens turn old.core (Ok tt) core
+Connects node port outcome old (Ok done) new =
+    (core : Core) × Opens outcome old.core (Ok tt) core
     × (new ≡ sent_up core old.ways (new_way node port))
-Connects node port turn old (Err cause) new = (cause ≡ errors.Memory) × (new.ways ≡ old.ways)
+Connects node port outcome old (Err cause) new = (cause ≡ errors.Memory) × (new.ways ≡ old.ways)
     × ((new.core ≡ old.core)
-    ⊎ ((core : Core) × Opens turn old.core (Ok tt) core × (new.core ≡ gone core)))
+    ⊎ ((core : Core) × Opens outcome old.core (Ok tt) core × (new.core ≡ gone core)))
 
 -- a connection that its node does not take is removed: nothing is left of it
 abbrev pub taken_back : Piped → Piped

@@ -16,13 +16,13 @@ use Rattle.client_base.specs.Publishing.{is_over_limit}
 use Rattle.client.specs.Core.{Core, IsDone}
 use Rattle.client.specs.Reading.{Reads, turn_of, StopsFor, Handles, cause_of, fed}
 
--- the whole turn is done; one that ends the connection changes nothing here
+-- the whole outcome comes about; one that ends the connection changes nothing here
 abbrev pub Tries : ClientOutcome → Core → Result (Unit {0}) ClientError → Core → Type 0
-Tries turn old (Ok done) new = (turn.refusal ≡ None) × IsDone turn old new
-Tries turn old (Err errors.Memory) new = new ≡ old
-Tries turn old (Err errors.SessionLost) new =
-    (turn.refusal ≡ Some errors.SessionLost) × IsDone turn old new
-Tries turn old (Err cause) new = (turn.refusal ≡ Some cause) × (new ≡ old)
+Tries outcome old (Ok done) new = (outcome.refusal ≡ None) × IsDone outcome old new
+Tries outcome old (Err errors.Memory) new = new ≡ old
+Tries outcome old (Err errors.SessionLost) new =
+    (outcome.refusal ≡ Some errors.SessionLost) × IsDone outcome old new
+Tries outcome old (Err cause) new = (outcome.refusal ≡ Some cause) × (new ≡ old)
 
 -- one packet is read and handled, if there is one
 abbrev pub ReadsOne : Core → Result Bool ClientError → Core → Type 0
@@ -40,7 +40,7 @@ ReadsOne old (Err cause) new = StopsFor cause old × (new.state ≡ old.state) �
 
 -- an outcome that writes nothing
 abbrev pub changed : ClientOutcome → Core → Core
-changed turn core = record core { state = turn.state }
+changed outcome core = record core { state = outcome.state }
 
 -- the client with this state
 abbrev pub with_state : ClientState → Core → Core
