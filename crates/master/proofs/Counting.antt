@@ -1,4 +1,4 @@
--- Counting.antt: a turn, a loss or nothing is the counted step of an event.
+-- Counting.antt: an outcome, a loss or nothing is the counted step of an event.
 use Rattle.std.proofs.Common.{◌≡◌, ℕ, zero, suc, get_or, ◌+◌, ◌-◌, ◌^◌, ◌<◌, ◌≤◌, ◌⊎◌, inl, inr, Bool, true, false, cond, min, List, [], ◌∷◌, length, Some, None, Option, refl, ap, sym, ◌∙◌, subst, arith}
 use Rattle.std.specs.Prelude.{slice_get, nat_lt, ◌&&◌}
 use Rattle.std.proofs.lemmas.Bool.{le-ltb, lt-ltb}
@@ -27,21 +27,21 @@ use Rattle.ballot.specs.Body.{Body}
 use Rattle.ballot.specs.Body.TheVariants.{NewBallot, Join, State, Install, Installed, Activate, Activated, Superseded, Append, Held, Commit}
 use Rattle.master.specs.Turns.EventOutcome.{by_node, by_cut, by_master, unheeded}
 use Rattle.master.specs.Group.{GroupState}
-use Rattle.master.specs.Exact.{takes, hears, comes, gives, turn, after, group_step}
-use Rattle.master.specs.Turns.{NodeTurn, EventOutcome, running, can_take, taking, stopping, cut_turn, cutting}
+use Rattle.master.specs.Exact.{takes, hears, comes, gives, outcome_of, after, group_step}
+use Rattle.master.specs.Turns.{NodeOutcome, EventOutcome, running, can_take, taking, stopping, cut_turn, cutting}
 use Rattle.master.specs.Steps.{Freezes, Happens, StepsBy, LosesNothing}
 use Rattle.master.specs.Steps.Happens.{nothing_happens, node_goes, master_goes}
 use Rattle.master.specs.Inside.{RunsAt, asks_for}
 use Rattle.master.specs.Inside.Losing.{MasterTook, TookCut, TookTurn}
 
--- the turn of a node that runs
+-- the outcome for a node that runs
 pub takes_turn : {S C O : Type 0} (rules : Rules S C O) (w : World S C O) (node at : ℕ) (input : Input C) (x : RunsAt w.nodes node at) →
     can_take x.replica input ≡ true →
     takes rules w node input ≡ Some (by_node (record { index = at; before = x.replica; outcome = replica_step rules x.replica input }))
 takes_turn {S = S} {C = C} {O = O} rules w node at input x can =
     ap (λ o. taking rules (node - 1) o input) x.runs
     ∙ ap (λ b. cond b (Some (by_node (record { index = node - 1; before = x.replica; outcome = replica_step rules x.replica input }))) None) can
-    ∙ ap (λ n. let t : NodeTurn S C O = record { index = n; before = x.replica; outcome = replica_step rules x.replica input } in Some (by_node t)) (sym x.index)
+    ∙ ap (λ n. let t : NodeOutcome S C O = record { index = n; before = x.replica; outcome = replica_step rules x.replica input } in Some (by_node t)) (sym x.index)
 
 pub takes_nothing : {S C O : Type 0} (rules : Rules S C O) (w : World S C O) (node : ℕ) (input : Input C) →
     running w.nodes node ≡ None → takes rules w node input ≡ None
@@ -57,9 +57,9 @@ pub stops_turn : {S C O : Type 0} (rules : Rules S C O) (nodes : List (ReplicaSt
     stopping rules (node - 1) (running nodes node) ≡ Some (by_node (record { index = at; before = x.replica; outcome = record { state = halted rules x.replica; effects = [] } }))
 stops_turn {S = S} {C = C} {O = O} rules nodes node at x =
     ap (stopping rules (node - 1)) x.runs
-    ∙ ap (λ n. let t : NodeTurn S C O = record { index = n; before = x.replica; outcome = record { state = halted rules x.replica; effects = [] } } in Some (by_node t)) (sym x.index)
+    ∙ ap (λ n. let t : NodeOutcome S C O = record { index = n; before = x.replica; outcome = record { state = halted rules x.replica; effects = [] } } in Some (by_node t)) (sym x.index)
 
--- the turn of a cut
+-- the outcome of a cut
 pub cuts_turn : {S C O : Type 0} (rules : Rules S C O) (nodes : List (ReplicaState S C)) (node at : ℕ) (x : RunsAt nodes node at) → can_cut x.replica ≡ true →
     cutting rules (node - 1) (running nodes node) ≡ Some (by_cut (cut_turn rules at x.replica))
 cuts_turn {S = S} {C = C} {O = O} rules nodes node at x can =
@@ -73,17 +73,17 @@ cuts_nothing {S = S} {C = C} {O = O} rules nodes node at x cannot =
     ap (cutting rules (node - 1)) x.runs
     ∙ ap (λ b. let t : Option (EventOutcome S C O) = cond b (Some (by_cut (cut_turn rules (node - 1) x.replica))) None in t) cannot
 
--- what a cut froze, by the turn
+-- what a cut froze, by the outcome
 pub freezes_as : {S C O : Type 0} (rules : Rules S C O) {t u : Option (EventOutcome S C O)} → t ≡ u → Freezes rules t → Freezes rules u
 freezes_as {S = S} {C = C} {O = O} rules e f = subst (λ (x : Option (EventOutcome S C O)). Freezes rules x) e f
 
--- an event with a turn is not idle
+-- an event with an outcome is not idle
 pub some_idle : {X : Type 0} {P : Type 0} {o : Option X} {x : X} → o ≡ Some x → o ≡ None → P
 some_idle a b = let e = sym a ∙ b in cc
 
--- a turn of a node is the step of its event
-pub steps_turn : {S C O : Type 0} (rules : Rules S C O) (old new : GroupState S C O) (event : Event C) (t : NodeTurn S C O) →
-    turn rules old.moment event ≡ Some (by_node t) → TookTurn rules old t new → StepsBy rules old event new
+-- an outcome for a node is the step of its event
+pub steps_turn : {S C O : Type 0} (rules : Rules S C O) (old new : GroupState S C O) (event : Event C) (t : NodeOutcome S C O) →
+    outcome_of rules old.moment event ≡ Some (by_node t) → TookTurn rules old t new → StepsBy rules old event new
 steps_turn {S = S} {C = C} {O = O} rules old new event t e took =
     record { way = by_way took.way; freezes = inl (freezes_as rules (sym e) tt) }
   where
@@ -102,7 +102,7 @@ steps_turn {S = S} {C = C} {O = O} rules old new event t e took =
 
 -- and the same for one of the master
 pub steps_master : {S C O : Type 0} (rules : Rules S C O) (old new : GroupState S C O) (event : Event C) (o : MasterOutcome C) →
-    turn rules old.moment event ≡ Some (by_master o) → MasterTook old o new → StepsBy rules old event new
+    outcome_of rules old.moment event ≡ Some (by_master o) → MasterTook old o new → StepsBy rules old event new
 steps_master {S = S} {C = C} {O = O} rules old new event o e took =
     record { way = by_way took.way; freezes = inl (freezes_as rules (sym e) tt) }
   where
@@ -121,8 +121,8 @@ steps_lost {S = S} {C = C} {O = O} rules old new event e =
     (record { way = inr (nothing_happens, refl); freezes = inr refl })
 
 -- and the same for a cut
-pub steps_cut : {S C O : Type 0} (rules : Rules S C O) (old new : GroupState S C O) (event : Event C) (t : NodeTurn S C O) →
-    turn rules old.moment event ≡ Some (by_cut t) → TookCut rules old t new → StepsBy rules old event new
+pub steps_cut : {S C O : Type 0} (rules : Rules S C O) (old new : GroupState S C O) (event : Event C) (t : NodeOutcome S C O) →
+    outcome_of rules old.moment event ≡ Some (by_cut t) → TookCut rules old t new → StepsBy rules old event new
 steps_cut {S = S} {C = C} {O = O} rules old new event t e took = by_way took.way
   where
     by_way : ((new.moment ≡ after old.moment (Some (by_cut t))) × (new.losses ≡ old.losses) × Freezes rules (Some (by_cut t)))
@@ -133,11 +133,11 @@ steps_cut {S = S} {C = C} {O = O} rules old new event t e took = by_way took.way
 
 -- an event that does nothing
 pub steps_idle : {S C O : Type 0} (rules : Rules S C O) (old : GroupState S C O) (event : Event C) →
-    turn rules old.moment event ≡ None → StepsBy rules old event old
+    outcome_of rules old.moment event ≡ None → StepsBy rules old event old
 steps_idle rules old event e = record { way = inl (sym (ap (after old.moment) e), refl); freezes = inr refl }
 
 pub steps_unheeded : {S C O : Type 0} (rules : Rules S C O) (old : GroupState S C O) (event : Event C) →
-    turn rules old.moment event ≡ Some unheeded → StepsBy rules old event old
+    outcome_of rules old.moment event ≡ Some unheeded → StepsBy rules old event old
 steps_unheeded rules old event e = record { way = inl (sym (ap (after old.moment) e), refl); freezes = inr refl }
 
 -- a count that did not rise lost nothing
@@ -153,24 +153,24 @@ steps_exactly rules old new event s exact = by_way s.way
 
 -- a message that was sent to a node, and one that was not sent
 came : {S C O : Type 0} (rules : Rules S C O) (a : Moment S C O) (k : ℕ) (x : ℕ × Message C) → 0 < x.0 → slice_get a.world.sent k ≡ Some x →
-    turn rules a (Deliver k) ≡ takes rules a.world x.0 (Receives x.1)
+    outcome_of rules a (Deliver k) ≡ takes rules a.world x.0 (Receives x.1)
 came rules a k (zero, m) positive e = absurd (omega (arith, positive))
 came rules a k (suc n, m) positive e = ap (comes rules a) e
 
 pub delivers_turn : {S C O : Type 0} (rules : Rules S C O) (a : Moment S C O) (k at : ℕ) (x : ℕ × Message C) (m : Message C) →
     slice_get a.world.sent k ≡ Some x → m ≡ x.1 → (y : RunsAt a.world.nodes x.0 at) →
-    turn rules a (Deliver k) ≡ Some (by_node (record { index = at; before = y.replica; outcome = replica_step rules y.replica (Receives m) }))
+    outcome_of rules a (Deliver k) ≡ Some (by_node (record { index = at; before = y.replica; outcome = replica_step rules y.replica (Receives m) }))
 delivers_turn {S = S} {C = C} {O = O} rules a k at x m e same y =
     came rules a k x y.positive e ∙ takes_turn rules a.world x.0 at (Receives x.1) y refl
-    ∙ ap (λ z. let t : NodeTurn S C O = record { index = at; before = y.replica; outcome = replica_step rules y.replica (Receives z) } in Some (by_node t)) (sym same)
+    ∙ ap (λ z. let t : NodeOutcome S C O = record { index = at; before = y.replica; outcome = replica_step rules y.replica (Receives z) } in Some (by_node t)) (sym same)
 
 pub delivers_nothing : {S C O : Type 0} (rules : Rules S C O) (a : Moment S C O) (k : ℕ) (x : ℕ × Message C) → 0 < x.0 →
-    slice_get a.world.sent k ≡ Some x → running a.world.nodes x.0 ≡ None → turn rules a (Deliver k) ≡ None
+    slice_get a.world.sent k ≡ Some x → running a.world.nodes x.0 ≡ None → outcome_of rules a (Deliver k) ≡ None
 delivers_nothing rules a k x positive e idle = came rules a k x positive e ∙ takes_nothing rules a.world x.0 (Receives x.1) idle
 
 -- a message that was sent to the master
 pub delivers_to_master : {S C O : Type 0} (rules : Rules S C O) (a : Moment S C O) (k : ℕ) (x : ℕ × Message C) → x.0 ≡ 0 → slice_get a.world.sent k ≡ Some x →
-    turn rules a (Deliver k) ≡ Some (hears rules a.master x.1.from x.1.body)
+    outcome_of rules a (Deliver k) ≡ Some (hears rules a.master x.1.from x.1.body)
 delivers_to_master rules a k (zero, m) zero_is e = ap (comes rules a) e
 delivers_to_master rules a k (suc n, m) zero_is e = absurd (omega (arith, zero_is))
 
@@ -202,7 +202,7 @@ hears_nothing rules m from (Append b place command) e = refl
 hears_nothing rules m from (Held b held) e = refl
 hears_nothing rules m from (Commit b held) e = refl
 
-pub not_sent : {S C O : Type 0} (rules : Rules S C O) (a : Moment S C O) (k : ℕ) → slice_get a.world.sent k ≡ None → turn rules a (Deliver k) ≡ None
+pub not_sent : {S C O : Type 0} (rules : Rules S C O) (a : Moment S C O) (k : ℕ) → slice_get a.world.sent k ≡ None → outcome_of rules a (Deliver k) ≡ None
 not_sent rules a k e = ap (comes rules a) e
 
 pub get_there : {X : Type 0} (xs : List X) (k : ℕ) (x : X) → k < length xs → x ≡ get_or xs k x → slice_get xs k ≡ Some x
@@ -234,7 +234,7 @@ proposal_taken r status active command e a on room =
 
 -- a ballot that is given
 pub gives_turn : {S C O : Type 0} (rules : Rules S C O) (a : Moment S C O) (config : Config) → refusal a.master config ≡ None →
-    turn rules a (Assign config) ≡ Some (by_master (assigned C a.master config))
+    outcome_of rules a (Assign config) ≡ Some (by_master (assigned C a.master config))
 gives_turn rules a config granted = ap (gives rules a.master config) granted
 
 -- whom the master is asked by

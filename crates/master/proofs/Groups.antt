@@ -298,7 +298,7 @@ master_sends {S = S} {C = C} {O = O} archive nodes sent more left losses counted
     inl (ap (λ us. world_of archive nodes us left) (told ∙ ap (λ x. sent ++ (o.receiver, let z : Message C = record { from = 0; body = x } in z) ∷ []) same), count)
 master_sends {S = S} {C = C} {O = O} archive nodes sent more left losses counted o body false same told lost count = inr (ap (λ us. world_of archive nodes us left) lost, count)
 
--- so it took its turn
+-- so it took its step
 pub master_took : {S C O : Type 0} (archive : List C) (m k : MasterState) (nodes : List (CountedReplica S C)) (sent more : List (ℕ × Message C)) (left : List (Effect C O)) (losses counted : ℕ)
     (o : MasterOutcome C) → k ≡ o.state →
     ((world_of archive nodes more left ≡ tells_from_master (world_of archive nodes sent left) o) × (counted ≡ losses))
@@ -342,7 +342,7 @@ turned told next told' next' before after stays turns = by_ballot (cases_eq befo
     by_ballot (inl e) = inl (sym e, (stays e).0, (stays e).1)
     by_ballot (inr ne) = inr (λ e. ne (sym e), (turns ne).0, (turns ne).1)
 
--- a node took its turn
+-- a node took its step
 pub group_turns : {S C O : Type 0} (rules : Rules S C O) (a v : Moment S C O) (told next told' next' : ToldIn) (old new : GroupState S C O) (input : Input C)
     (n from : ℕ) (r : ReplicaState S C) (more : List (Effect C O)) (sent : List (ℕ × Message C)) → IsGroup rules a told next → old.moment ≡ a → new.moment ≡ v →
     slice_get a.world.nodes n ≡ Some r → r.stopped ≡ false → MayTake a.world n input →

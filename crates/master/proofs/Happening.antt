@@ -28,8 +28,8 @@ use Rattle.std.proofs.lemmas.Bool.{and_parts, ltb-true}
 use Rattle.master.specs.declared.event.Event.{Event}
 use Rattle.master.specs.declared.event.Event.TheVariants.{Propose, Assign, Deliver, Tick, Cut, Crash}
 use Rattle.master.specs.Group.{GroupState}
-use Rattle.master.specs.Exact.{takes, hears, comes, comes_to, gives, turn, after, group_step}
-use Rattle.master.specs.Turns.{NodeTurn, EventOutcome, running, unless_stopped, can_take, taking, stopping, cut_turn, cutting}
+use Rattle.master.specs.Exact.{takes, hears, comes, comes_to, gives, outcome_of, after, group_step}
+use Rattle.master.specs.Turns.{NodeOutcome, EventOutcome, running, unless_stopped, can_take, taking, stopping, cut_turn, cutting}
 use Rattle.master.specs.Turns.EventOutcome.{by_node, by_cut, by_master, unheeded}
 use Rattle.master.specs.Steps.{Freezes, Happens, StepsBy}
 use Rattle.master.specs.Steps.Happens.{nothing_happens, node_goes, master_goes}
@@ -43,8 +43,8 @@ MayGo rules a b = MayHappen rules a.master a.world b.master b.world
 pub nothing_may : {S C O : Type 0} (rules : Rules S C O) (a : Moment S C O) → MayGo rules a a
 nothing_may rules a = assignment_lost (record { members = []; primary = 0 })
 
--- what the turn of a node is: it takes something in, or stops
-pub data IsTurn {S C O : Type 0} (rules : Rules S C O) (w : World S C O) (t : NodeTurn S C O) : Type 0 where
+-- what the outcome for a node is: it takes something in, or stops
+pub data IsTurn {S C O : Type 0} (rules : Rules S C O) (w : World S C O) (t : NodeOutcome S C O) : Type 0 where
   it_takes : (input : Input C) → slice_get w.nodes t.index ≡ Some t.before → t.before.stopped ≡ false → MayTake w t.index input →
       t.outcome ≡ replica_step rules t.before input → IsTurn rules w t
   it_stops : slice_get w.nodes t.index ≡ Some t.before → t.before.stopped ≡ false →
@@ -59,22 +59,22 @@ running_is {S = S} {C = C} (Some x) r e = by_stop x.stopped refl e
     by_stop true f g = cc
     by_stop false f g = let same : x ≡ r = cc in (g, ap (λ (y : ReplicaState S C). y.stopped) (sym same) ∙ f)
 
-taking_is : {S C O : Type 0} (rules : Rules S C O) (w : World S C O) (n : ℕ) (o : Option (ReplicaState S C)) (input : Input C) (t : NodeTurn S C O) →
+taking_is : {S C O : Type 0} (rules : Rules S C O) (w : World S C O) (n : ℕ) (o : Option (ReplicaState S C)) (input : Input C) (t : NodeOutcome S C O) →
     unless_stopped (slice_get w.nodes n) ≡ o → MayTake w n input → taking rules n o input ≡ Some (by_node t) → IsTurn rules w t
 taking_is rules w n None input t is may e = cc
 taking_is {S = S} {C = C} {O = O} rules w n (Some r) input t is may e = by_room (can_take r input) e
   where
-    now : NodeTurn S C O
+    now : NodeOutcome S C O
     now = record { index = n; before = r; outcome = replica_step rules r input }
 
     by_room : (b : Bool) → cond b (Some (by_node now)) None ≡ Some (by_node t) → IsTurn rules w t
     by_room true f =
         let same : now ≡ t = cc in
         let z = running_is (slice_get w.nodes n) r is in
-        subst (λ (x : NodeTurn S C O). IsTurn rules w x) same (it_takes input z.0 z.1 may refl)
+        subst (λ (x : NodeOutcome S C O). IsTurn rules w x) same (it_takes input z.0 z.1 may refl)
     by_room false f = cc
 
-takes_is : {S C O : Type 0} (rules : Rules S C O) (w : World S C O) (node : ℕ) (input : Input C) (t : NodeTurn S C O) →
+takes_is : {S C O : Type 0} (rules : Rules S C O) (w : World S C O) (node : ℕ) (input : Input C) (t : NodeOutcome S C O) →
     ((n : ℕ) → node ≡ suc n → MayTake w n input) → takes rules w node input ≡ Some (by_node t) → IsTurn rules w t
 takes_is rules w zero input t may e = cc
 takes_is {S = S} {C = C} {O = O} rules w (suc n) input t may e =
@@ -82,7 +82,7 @@ takes_is {S = S} {C = C} {O = O} rules w (suc n) input t may e =
     taking_is rules w n (running w.nodes (suc n)) input t refl (may n refl)
     (subst (λ k. taking rules k (running w.nodes (suc n)) input ≡ Some (by_node t)) same e)
 
-stopping_is : {S C O : Type 0} (rules : Rules S C O) (w : World S C O) (node : ℕ) (t : NodeTurn S C O) →
+stopping_is : {S C O : Type 0} (rules : Rules S C O) (w : World S C O) (node : ℕ) (t : NodeOutcome S C O) →
     stopping rules (node - 1) (running w.nodes node) ≡ Some (by_node t) → IsTurn rules w t
 stopping_is rules w zero t e = cc
 stopping_is {S = S} {C = C} {O = O} rules w (suc n) t e =
@@ -93,12 +93,12 @@ stopping_is {S = S} {C = C} {O = O} rules w (suc n) t e =
     by_node_there : (o : Option (ReplicaState S C)) → unless_stopped (slice_get w.nodes n) ≡ o → stopping rules n o ≡ Some (by_node t) → IsTurn rules w t
     by_node_there None f g = cc
     by_node_there (Some r) f g =
-        let now : NodeTurn S C O = record { index = n; before = r; outcome = record { state = halted rules r; effects = [] } } in
+        let now : NodeOutcome S C O = record { index = n; before = r; outcome = record { state = halted rules r; effects = [] } } in
         let is : now ≡ t = cc in
         let z = running_is (slice_get w.nodes n) r f in
-        subst (λ (x : NodeTurn S C O). IsTurn rules w x) is (it_stops z.0 z.1 refl)
+        subst (λ (x : NodeOutcome S C O). IsTurn rules w x) is (it_stops z.0 z.1 refl)
 
-hears_no_node : {S C O : Type 0} (rules : Rules S C O) (m : MasterState) (from : ℕ) (body : Body C) (t : NodeTurn S C O) →
+hears_no_node : {S C O : Type 0} (rules : Rules S C O) (m : MasterState) (from : ℕ) (body : Body C) (t : NodeOutcome S C O) →
     hears rules m from body ≡ by_node t → ⊥
 hears_no_node rules m from (NewBallot b members a old) t e = cc
 hears_no_node rules m from (Join b a) t e = cc
@@ -112,9 +112,9 @@ hears_no_node rules m from (Append b place command) t e = cc
 hears_no_node rules m from (Held b held) t e = cc
 hears_no_node rules m from (Commit b held) t e = cc
 
--- a turn of a node, whatever the event
-pub turn_is : {S C O : Type 0} (rules : Rules S C O) (a : Moment S C O) (e : Event C) (t : NodeTurn S C O) →
-    turn rules a e ≡ Some (by_node t) → IsTurn rules a.world t
+-- an outcome for a node, whatever the event
+pub turn_is : {S C O : Type 0} (rules : Rules S C O) (a : Moment S C O) (e : Event C) (t : NodeOutcome S C O) →
+    outcome_of rules a e ≡ Some (by_node t) → IsTurn rules a.world t
 turn_is rules a (Propose node command) t is = takes_is rules a.world node (Proposes command) t (λ n f. tt) is
 turn_is {S = S} {C = C} {O = O} rules a (Assign config) t is = by_refusal (refusal a.master config) is
   where
@@ -146,12 +146,12 @@ turn_is {S = S} {C = C} {O = O} rules a (Cut node) t is = absurd (no_turn (runni
 turn_is rules a (Crash node) t is = stopping_is rules a.world node t is
 
 -- what a cut is
-pub record IsCut {S C O : Type 0} (rules : Rules S C O) (w : World S C O) (t : NodeTurn S C O) : Type 0 where
+pub record IsCut {S C O : Type 0} (rules : Rules S C O) (w : World S C O) (t : NodeOutcome S C O) : Type 0 where
   pub stands : slice_get w.nodes t.index ≡ Some t.before
   pub can : can_cut t.before ≡ true
   pub is : t.outcome ≡ record { state = cut rules t.before; effects = [] }
 
-cutting_is : {S C O : Type 0} (rules : Rules S C O) (w : World S C O) (node : ℕ) (t : NodeTurn S C O) →
+cutting_is : {S C O : Type 0} (rules : Rules S C O) (w : World S C O) (node : ℕ) (t : NodeOutcome S C O) →
     cutting rules (node - 1) (running w.nodes node) ≡ Some (by_cut t) → IsCut rules w t
 cutting_is rules w zero t e = cc
 cutting_is {S = S} {C = C} {O = O} rules w (suc n) t e =
@@ -163,7 +163,7 @@ cutting_is {S = S} {C = C} {O = O} rules w (suc n) t e =
         cond b (Some (by_cut (cut_turn rules n r))) None ≡ Some (by_cut t) → IsCut rules w t
     by_need r true can stands f =
         let is : cut_turn rules n r ≡ t = cc in
-        subst (λ (x : NodeTurn S C O). IsCut rules w x) is (record { stands = stands; can = can; is = refl })
+        subst (λ (x : NodeOutcome S C O). IsCut rules w x) is (record { stands = stands; can = can; is = refl })
     by_need r false can stands f = cc
 
     by_node_there : (o : Option (ReplicaState S C)) → unless_stopped (slice_get w.nodes n) ≡ o → cutting rules n o ≡ Some (by_cut t) → IsCut rules w t
@@ -171,7 +171,7 @@ cutting_is {S = S} {C = C} {O = O} rules w (suc n) t e =
     by_node_there (Some r) f g = by_need r (can_cut r) refl (running_is (slice_get w.nodes n) r f).0 g
 
 -- no other event cuts a log
-no_cut_taking : {S C O : Type 0} (rules : Rules S C O) (n : ℕ) (o : Option (ReplicaState S C)) (input : Input C) (t : NodeTurn S C O) →
+no_cut_taking : {S C O : Type 0} (rules : Rules S C O) (n : ℕ) (o : Option (ReplicaState S C)) (input : Input C) (t : NodeOutcome S C O) →
     taking rules n o input ≡ Some (by_cut t) → ⊥
 no_cut_taking rules n None input t e = cc
 no_cut_taking {S = S} {C = C} {O = O} rules n (Some r) input t e = by_room (can_take r input) e
@@ -180,12 +180,12 @@ no_cut_taking {S = S} {C = C} {O = O} rules n (Some r) input t e = by_room (can_
     by_room true f = cc
     by_room false f = cc
 
-no_cut_stopping : {S C O : Type 0} (rules : Rules S C O) (n : ℕ) (o : Option (ReplicaState S C)) (t : NodeTurn S C O) →
+no_cut_stopping : {S C O : Type 0} (rules : Rules S C O) (n : ℕ) (o : Option (ReplicaState S C)) (t : NodeOutcome S C O) →
     stopping rules n o ≡ Some (by_cut t) → ⊥
 no_cut_stopping rules n None t e = cc
 no_cut_stopping rules n (Some r) t e = cc
 
-hears_no_cut : {S C O : Type 0} (rules : Rules S C O) (m : MasterState) (from : ℕ) (body : Body C) (t : NodeTurn S C O) →
+hears_no_cut : {S C O : Type 0} (rules : Rules S C O) (m : MasterState) (from : ℕ) (body : Body C) (t : NodeOutcome S C O) →
     hears rules m from body ≡ by_cut t → ⊥
 hears_no_cut rules m from (NewBallot b members a old) t e = cc
 hears_no_cut rules m from (Join b a) t e = cc
@@ -199,8 +199,8 @@ hears_no_cut rules m from (Append b place command) t e = cc
 hears_no_cut rules m from (Held b held) t e = cc
 hears_no_cut rules m from (Commit b held) t e = cc
 
-pub cut_is : {S C O : Type 0} (rules : Rules S C O) (a : Moment S C O) (e : Event C) (t : NodeTurn S C O) →
-    turn rules a e ≡ Some (by_cut t) → IsCut rules a.world t
+pub cut_is : {S C O : Type 0} (rules : Rules S C O) (a : Moment S C O) (e : Event C) (t : NodeOutcome S C O) →
+    outcome_of rules a e ≡ Some (by_cut t) → IsCut rules a.world t
 cut_is rules a (Propose node command) t is = absurd (no_cut_taking rules (node - 1) (running a.world.nodes node) (Proposes command) t is)
 cut_is {S = S} {C = C} {O = O} rules a (Assign config) t is = by_refusal (refusal a.master config) is
   where
@@ -221,7 +221,7 @@ cut_is rules a (Cut node) t is = cutting_is rules a.world node t is
 cut_is rules a (Crash node) t is = absurd (no_cut_stopping rules (node - 1) (running a.world.nodes node) t is)
 
 -- such a cut may happen if its snapshot can be read
-pub cut_may : {S C O : Type 0} (rules : Rules S C O) (m : MasterState) (w : World S C O) (t : NodeTurn S C O) → IsCut rules w t →
+pub cut_may : {S C O : Type 0} (rules : Rules S C O) (m : MasterState) (w : World S C O) (t : NodeOutcome S C O) → IsCut rules w t →
     Freezes rules (Some (by_cut t)) →
     MayHappen rules m w m (record (moved w t.index t.outcome.state t.outcome.effects) { archive = recorded w.archive t.before })
 cut_may {S = S} {C = C} {O = O} rules m w t c freezes =
@@ -241,13 +241,13 @@ cut_may {S = S} {C = C} {O = O} rules m w t c freezes =
     below : t.before.log.base < t.before.committed
     below = ltb-true t.before.log.base t.before.committed parts.1
 
--- whatever a turn of a node loses, it may happen
+-- whatever a step of a node loses, it may happen
 thinned_none : {C O : Type 0} {xs ys : List (Effect C O)} → ys ≡ [] → Thinned xs ys → xs ≡ []
 thinned_none e Thinned.none = refl
 thinned_none e (Thinned.keeps t) = cc
 thinned_none e (Thinned.loses t) = cc
 
-pub node_may : {S C O : Type 0} (rules : Rules S C O) (m : MasterState) (w : World S C O) (t : NodeTurn S C O) (new : ReplicaState S C) (given : List (Effect C O)) →
+pub node_may : {S C O : Type 0} (rules : Rules S C O) (m : MasterState) (w : World S C O) (t : NodeOutcome S C O) (new : ReplicaState S C) (given : List (Effect C O)) →
     IsTurn rules w t → Loses rules t.before t.outcome new given → MayHappen rules m w m (moved w t.index new given)
 node_may {S = S} {C = C} {O = O} rules m w t new given (it_takes input stands runs may is) loses =
     node_moves (goes.takes t.index t.before input stands runs may (subst (λ (o : Outcome S C O). Loses rules t.before o new given) is loses))
@@ -264,7 +264,7 @@ node_may {S = S} {C = C} {O = O} rules m w t new given (it_stops stands runs is)
     by_loss (inr (inl (e, f))) = node_moves (goes.takes t.index t.before Ticks stands runs tt (inr (inl (e, f))))
     by_loss (inr (inr (e, f))) = stops e f
 
--- what the turn of the master is: a ballot that is given, or an answer
+-- what the outcome for the master is: a ballot that is given, or an answer
 pub data IsMasterTurn {S C O : Type 0} (a : Moment S C O) (o : MasterOutcome C) : Type 0 where
   it_gives : (config : Config) → refusal a.master config ≡ None → o ≡ assigned C a.master config → IsMasterTurn a o
   it_answers : (from b : ℕ) → In (0, record { from = from; body = Activate b }) a.world.sent → o ≡ activated C a.master b from a.master.waiting → IsMasterTurn a o
@@ -297,9 +297,9 @@ no_stop : {S C O : Type 0} (rules : Rules S C O) (n : ℕ) (r : Option (ReplicaS
 no_stop rules n None o e = cc
 no_stop rules n (Some r) o e = cc
 
--- a turn of the master, whatever the event
+-- an outcome for the master, whatever the event
 pub master_turn_is : {S C O : Type 0} (rules : Rules S C O) (a : Moment S C O) (e : Event C) (o : MasterOutcome C) →
-    turn rules a e ≡ Some (by_master o) → IsMasterTurn a o
+    outcome_of rules a e ≡ Some (by_master o) → IsMasterTurn a o
 master_turn_is rules a (Propose node command) o is = absurd (no_master_turn rules (node - 1) (running a.world.nodes node) (Proposes command) o is)
 master_turn_is {S = S} {C = C} {O = O} rules a (Assign config) o is = by_refusal (refusal a.master config) refl is
   where
@@ -329,7 +329,7 @@ master_turn_is {S = S} {C = C} {O = O} rules a (Cut node) o is = absurd (no_mast
     no_master_turn_there (Some r) f = by_need r (can_cut r) f
 master_turn_is rules a (Crash node) o is = absurd (no_stop rules (node - 1) (running a.world.nodes node) o is)
 
--- such a turn may happen
+-- such an outcome may happen
 pub master_may : {S C O : Type 0} (rules : Rules S C O) (a : Moment S C O) (o : MasterOutcome C) → IsMasterTurn a o →
     MayHappen rules a.master a.world o.state (tells_from_master a.world o)
 master_may {S = S} {C = C} {O = O} rules a o (it_gives config granted is) =
@@ -356,7 +356,7 @@ happens_may rules {a = a} {e = e} (node_goes t {new = new} {given = given} is lo
 happens_may rules {a = a} {e = e} (master_goes o is) = master_turn_lost rules a o (master_turn_is rules a e o is)
 
 -- and what it comes to
-exactly_may : {S C O : Type 0} (rules : Rules S C O) (a : Moment S C O) (e : Event C) (t : Option (EventOutcome S C O)) → turn rules a e ≡ t →
+exactly_may : {S C O : Type 0} (rules : Rules S C O) (a : Moment S C O) (e : Event C) (t : Option (EventOutcome S C O)) → outcome_of rules a e ≡ t →
     Freezes rules t → MayGo rules a (after a t)
 exactly_may rules a e None is f = nothing_may rules a
 exactly_may rules a e (Some (by_node t)) is f =
@@ -370,11 +370,11 @@ pub step_may : {S C O : Type 0} (rules : Rules S C O) (old new : GroupState S C 
     MayGo rules old.moment new.moment
 step_may {S = S} {C = C} {O = O} rules old new e s = by_frozen s.freezes
   where
-    by_way : Freezes rules (turn rules old.moment e) → ((new.moment ≡ group_step rules e old.moment) × (new.losses ≡ old.losses))
+    by_way : Freezes rules (outcome_of rules old.moment e) → ((new.moment ≡ group_step rules e old.moment) × (new.losses ≡ old.losses))
         ⊎ (Happens rules old.moment e new.moment × (new.losses ≡ one_more old.losses)) → MayGo rules old.moment new.moment
-    by_way f (inl (a, b)) = subst (λ (v : Moment S C O). MayGo rules old.moment v) (sym a) (exactly_may rules old.moment e (turn rules old.moment e) refl f)
+    by_way f (inl (a, b)) = subst (λ (v : Moment S C O). MayGo rules old.moment v) (sym a) (exactly_may rules old.moment e (outcome_of rules old.moment e) refl f)
     by_way f (inr (a, b)) = happens_may rules a
 
-    by_frozen : Freezes rules (turn rules old.moment e) ⊎ (new.moment ≡ old.moment) → MayGo rules old.moment new.moment
+    by_frozen : Freezes rules (outcome_of rules old.moment e) ⊎ (new.moment ≡ old.moment) → MayGo rules old.moment new.moment
     by_frozen (inl f) = by_way f s.way
     by_frozen (inr same) = subst (λ (v : Moment S C O). MayGo rules old.moment v) (sym same) (nothing_may rules old.moment)

@@ -1,4 +1,4 @@
--- Turns.antt: a call of one replica is a turn of its group, and the messages are parted from it.
+-- Turns.antt: a call of one replica is a step of its group, and the messages are parted from it.
 use Rattle.std.proofs.Common.{◌≡◌, ℕ, zero, suc, ◌+◌, ◌-◌, ◌^◌, ◌<◌, ◌≤◌, ◌⊎◌, inl, inr, Bool, true, false, cond, min, List, [], ◌∷◌, ◌++◌, length, map, set, take, drop, get_or, Some, None, refl, ap, sym, ◌∙◌, subst, arith}
 use Rattle.std.specs.Prelude.{slice_get, ◌&&◌}
 use Rattle.std.proofs.lemmas.List.{map-append, map-set, append-nil, take-append-le, length-map}
@@ -18,7 +18,7 @@ use Rattle.ballot.specs.Status.{Status}
 use Rattle.snapshots.specs.World.{World, messages, outputs, moved, recorded}
 use Rattle.ballot.specs.Cutting.{cut}
 use Rattle.snapshots.specs.Past.{opening_nodes, opening_world}
-use Rattle.master.specs.Turns.{NodeTurn, cut_turn, running, unless_stopped}
+use Rattle.master.specs.Turns.{NodeOutcome, cut_turn, running, unless_stopped}
 use Rattle.master.specs.Group.{GroupState}
 use Rattle.master.proofs.Archived.{recorded_by}
 use Rattle.master.proofs.Calling.{thinned_nothing}
@@ -65,7 +65,7 @@ count_is true true losses counted e = inl (refl, refl, e)
 count_is true false losses counted e = inr e
 count_is false second losses counted e = inr e
 
--- a turn of a group
+-- a step of a group
 pub took_turn : {S C O : Type 0} {rules : Rules S C O} (archive : List C) (m : MasterState) (nodes : List (CountedReplica S C)) (sent more : List (ℕ × Message C)) (left after parted : List (Effect C O))
     (losses counted n from : ℕ) (old new : CountedReplica S C) (input : Input C) (r : ReplicaState S C) (whole kept : Bool) →
     n < length nodes → old ≡ get_or nodes n old → slice_get (map (λ (z : CountedReplica S C). z.state) nodes) n ≡ Some r → from ≡ length left →
@@ -254,7 +254,7 @@ cut_done {S = S} {C = C} {O = O} rules archive more m nodes sent left losses n o
     same = same_replica nodes n old r read stands
 
 pub cut_lost : {S C O : Type 0} (rules : Rules S C O) (archive more : List C) (m : MasterState) (nodes later : List (CountedReplica S C)) (sent : List (ℕ × Message C))
-    (left : List (Effect C O)) (losses counted : ℕ) (t : NodeTurn S C O) → more ≡ archive →
+    (left : List (Effect C O)) (losses counted : ℕ) (t : NodeOutcome S C O) → more ≡ archive →
     map (λ (z : CountedReplica S C). z.state) later ≡ map (λ (z : CountedReplica S C). z.state) nodes → counted ≡ one_more losses →
     TookCut rules (record { moment = moment_of archive m nodes sent left; losses = losses }) t
     (record { moment = moment_of more m later sent left; losses = counted })

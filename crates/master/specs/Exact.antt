@@ -47,14 +47,14 @@ gives rules m config (Some why) = None
 gives {C = C} rules m config None = Some (by_master (assigned C m config))
 
 -- what an event does; none if it is idle
-abbrev pub turn : {S C O : Type 0} →
+abbrev pub outcome_of : {S C O : Type 0} →
     Rules S C O → Moment S C O → Event C → Option (EventOutcome S C O)
-turn rules a (Propose node command) = takes rules a.world node (Proposes command)
-turn rules a (Assign config) = gives rules a.master config (refusal a.master config)
-turn rules a (Deliver number) = comes rules a (slice_get a.world.sent number)
-turn rules a (Tick node) = takes rules a.world node Ticks
-turn rules a (Cut node) = cutting rules (node - 1) (running a.world.nodes node)
-turn rules a (Crash node) = stopping rules (node - 1) (running a.world.nodes node)
+outcome_of rules a (Propose node command) = takes rules a.world node (Proposes command)
+outcome_of rules a (Assign config) = gives rules a.master config (refusal a.master config)
+outcome_of rules a (Deliver number) = comes rules a (slice_get a.world.sent number)
+outcome_of rules a (Tick node) = takes rules a.world node Ticks
+outcome_of rules a (Cut node) = cutting rules (node - 1) (running a.world.nodes node)
+outcome_of rules a (Crash node) = stopping rules (node - 1) (running a.world.nodes node)
 
 -- the step of a group if memory suffices, and its steps one after another
 abbrev pub after : {S C O : Type 0} → Moment S C O → Option (EventOutcome S C O) → Moment S C O
@@ -72,7 +72,7 @@ after a (Some unheeded) = a
 
 -- the moment after an event
 abbrev pub group_step : {S C O : Type 0} → Rules S C O → Event C → Moment S C O → Moment S C O
-group_step rules event a = after a (turn rules a event)
+group_step rules event a = after a (outcome_of rules a event)
 
 -- the moment after events
 abbrev pub group_run : {S C O : Type 0} →

@@ -22,17 +22,17 @@ abbrev pub running : {S C : Type 0} → List (ReplicaState S C) → ℕ → Opti
 running nodes zero = None
 running nodes (suc n) = unless_stopped (slice_get nodes n)
 
--- the turn of a node: its index, its state before, and the outcome of its step
-pub record NodeTurn (S C O : Type 0) : Type 0 where
+-- what an event does to a node: its index, its state before, and the outcome of its step
+pub record NodeOutcome (S C O : Type 0) : Type 0 where
   pub index : ℕ
   pub before : ReplicaState S C
   pub outcome : Outcome S C O
 
--- what an event does: the turn of a node, a cut of its log, the turn of the master, or a message
+-- what an event does: the step of a node, a cut of its log, the step of the master, or a message
 -- that the master ignores
 pub data EventOutcome (S C O : Type 0) : Type 0 where
-  by_node : NodeTurn S C O → EventOutcome S C O  -- a node takes its step
-  by_cut : NodeTurn S C O → EventOutcome S C O  -- a node cuts its log
+  by_node : NodeOutcome S C O → EventOutcome S C O  -- a node takes its step
+  by_cut : NodeOutcome S C O → EventOutcome S C O  -- a node cuts its log
   by_master : MasterOutcome C → EventOutcome S C O  -- the master answers
   unheeded : EventOutcome S C O  -- the master ignores a message
 
@@ -42,7 +42,7 @@ can_take r (Proposes command) = is_active r.role && nat_lt (places r.log) max_pl
 can_take r (Receives message) = true
 can_take r Ticks = true
 
--- the turn of a node that takes an input, unless it refuses
+-- the outcome for a node that takes an input, unless it refuses
 abbrev pub taking : {S C O : Type 0} →
     Rules S C O → ℕ → Option (ReplicaState S C) → Input C → Option (EventOutcome S C O)
 taking rules n None input = None
@@ -51,7 +51,7 @@ taking rules n (Some r) input =
     then Some (by_node (record { index = n; before = r; outcome = replica_step rules r input }))
     else None
 
--- the turn of a node that stops for good
+-- the outcome for a node that stops for good
 abbrev pub stopping : {S C O : Type 0} →
     Rules S C O → ℕ → Option (ReplicaState S C) → Option (EventOutcome S C O)
 stopping rules n None = None
@@ -63,7 +63,7 @@ stopping rules n (Some r) =
     }))
 
 -- a log is cut if there is something to cut; nothing is sent
-abbrev pub cut_turn : {S C O : Type 0} → Rules S C O → ℕ → ReplicaState S C → NodeTurn S C O
+abbrev pub cut_turn : {S C O : Type 0} → Rules S C O → ℕ → ReplicaState S C → NodeOutcome S C O
 cut_turn rules n r =
     record { index = n; before = r; outcome = record { state = cut rules r; effects = [] } }
 

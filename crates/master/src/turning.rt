@@ -1,4 +1,4 @@
-// The turn of one replica, and what happens to its effects.
+// The step of one replica, and what happens to its effects.
 
 ghost use Rattle.std.specs.Prelude.{◌≡◌, ◌≤◌, false, [], ◌∷◌, ◌++◌, length, take, drop};
 ghost use Rattle.std.specs.Prelude.{◌&&◌, if◌then◌else◌};

@@ -1,4 +1,4 @@
--- Steps and turns that may lose something when memory runs out, and count it.
+-- Steps of nodes and of groups that may lose something when memory runs out, and count it.
 use Rattle.std.specs.Prelude.{ℕ, Bool, true, false, ◌-◌, ◌^◌, ◌<◌, ◌≡◌, ◌⊎◌, List, [], ◌++◌, Some}
 use Rattle.ballot.specs.machine.Machine.{Rules}
 use Rattle.ballot.specs.Message.{Message}
@@ -16,7 +16,7 @@ use Rattle.master.specs.declared.turning.Taken.{Taken}
 use Rattle.master.specs.declared.turning.Taken.TheVariants.{Received, Proposed, Ticked}
 use Rattle.master.specs.Group.{GroupState}
 use Rattle.master.specs.Exact.{after}
-use Rattle.master.specs.Turns.{NodeTurn}
+use Rattle.master.specs.Turns.{NodeOutcome}
 use Rattle.master.specs.Turns.EventOutcome.{by_cut}
 use Rattle.master.specs.Steps.{Freezes}
 
@@ -73,10 +73,10 @@ pub record Parted {C O : Type 0} (given left parted : List (Effect C O))
   pub outputs_are : outputs parted ≡ outputs left ++ outputs kept
   pub messages_are : messages parted ≡ messages left
 
--- a group after a turn of one node, or one with losses that was counted; no loss is counted if the
+-- a group after a step of one node, or one with losses that was counted; no loss is counted if the
 -- node sends nothing, keeps its log and applies nothing
 pub record TookTurn {S C O : Type 0} (rules : Rules S C O) (old : GroupState S C O)
-    (t : NodeTurn S C O) (new : GroupState S C O) : Type 0 where
+    (t : NodeOutcome S C O) (new : GroupState S C O) : Type 0 where
   pub state : ReplicaState S C
   pub given : List (Effect C O)
   pub moment : new.moment
@@ -88,13 +88,13 @@ pub record TookTurn {S C O : Type 0} (rules : Rules S C O) (old : GroupState S C
 
 -- a group after a cut of one node's log, or one for which memory ran out, which was counted
 pub record TookCut {S C O : Type 0} (rules : Rules S C O) (old : GroupState S C O)
-    (t : NodeTurn S C O) (new : GroupState S C O) : Type 0 where
+    (t : NodeOutcome S C O) (new : GroupState S C O) : Type 0 where
   pub way : ((new.moment ≡ after old.moment (Some (by_cut t)))
       × (new.losses ≡ old.losses)
       × Freezes rules (Some (by_cut t)))
       ⊎ (new ≡ record old { losses = one_more old.losses })
 
--- a group after a turn of the master, or one whose message was lost, which was counted
+-- a group after a step of the master, or one whose message was lost, which was counted
 pub record MasterTook {S C O : Type 0} (old : GroupState S C O) (o : MasterOutcome C)
     (new : GroupState S C O) : Type 0 where
   pub way : ((new.moment

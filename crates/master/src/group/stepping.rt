@@ -8,7 +8,7 @@ ghost use Rattle.ballot.specs.Replica.{ReplicaState};
 ghost use Rattle.ballot.specs.lists.Lists.{In};
 ghost use Rattle.snapshots.specs.Masters.{activated, assigned};
 ghost use Rattle.snapshots.specs.agreement.MasterState.{refusal};
-ghost use Rattle.master.specs.Exact.{turn};
+ghost use Rattle.master.specs.Exact.{outcome_of};
 ghost use Rattle.master.specs.Turns.{cut_turn};
 ghost use Rattle.master.specs.Inside.Losing.{MasterTook, TookCut};
 ghost use Rattle.master.specs.Steps.{StepsBy, TakesNoMemory, done_exactly};
@@ -28,7 +28,7 @@ impl<M: Machine> Group<M> {
     pub(super) fn propose(&mut self, node: u8, command: &M::Command) -> Result<(), Idle>
         ensures step { StepsBy M.rules self.old (Event.Propose node command.now) self.new }
         ensures idle { IsErr result ↔
-            (turn M.rules self.old.moment (Event.Propose node command.now) ≡ None) }
+            (outcome_of M.rules self.old.moment (Event.Propose node command.now) ≡ None) }
         ensures same { OnErr result (self.new ≡ self.old) }
         ensures quiet { TakesNoMemory M.rules self.old.moment (Event.Propose node command.now) →
             self.new ≡ done_exactly M.rules self.old (Event.Propose node command.now) }
@@ -51,7 +51,7 @@ impl<M: Machine> Group<M> {
     pub(super) fn assign(&mut self, config: &Config) -> Result<(), Idle>
         ensures step { StepsBy M.rules self.old (Event.Assign config.now) self.new }
         ensures idle { IsErr result ↔
-            (turn M.rules self.old.moment (Event.Assign config.now) ≡ None) }
+            (outcome_of M.rules self.old.moment (Event.Assign config.now) ≡ None) }
         ensures same { OnErr result (self.new ≡ self.old) }
         ensures quiet { TakesNoMemory M.rules self.old.moment (Event.Assign config.now) →
             self.new ≡ done_exactly M.rules self.old (Event.Assign config.now) }
@@ -89,7 +89,8 @@ impl<M: Machine> Group<M> {
     /// that does not run.
     pub(super) fn deliver(&mut self, number: u64) -> Result<(), Idle>
         ensures step { StepsBy M.rules self.old (Event.Deliver number) self.new }
-        ensures idle { IsErr result ↔ (turn M.rules self.old.moment (Event.Deliver number) ≡ None) }
+        ensures idle { IsErr result ↔
+            (outcome_of M.rules self.old.moment (Event.Deliver number) ≡ None) }
         ensures same { OnErr result (self.new ≡ self.old) }
         ensures quiet { TakesNoMemory M.rules self.old.moment (Event.Deliver number) →
             self.new ≡ done_exactly M.rules self.old (Event.Deliver number) }
@@ -136,7 +137,8 @@ impl<M: Machine> Group<M> {
     /// Lets a node repeat what others may have missed; [`Idle`] comes if it does not run.
     pub(super) fn tick(&mut self, node: u8) -> Result<(), Idle>
         ensures step { StepsBy M.rules self.old (Event.Tick node) self.new }
-        ensures idle { IsErr result ↔ (turn M.rules self.old.moment (Event.Tick node) ≡ None) }
+        ensures idle { IsErr result ↔
+            (outcome_of M.rules self.old.moment (Event.Tick node) ≡ None) }
         ensures same { OnErr result (self.new ≡ self.old) }
         ensures quiet { TakesNoMemory M.rules self.old.moment (Event.Tick node) →
             self.new ≡ done_exactly M.rules self.old (Event.Tick node) }
@@ -154,7 +156,7 @@ impl<M: Machine> Group<M> {
     /// Lets a node cut its log; [`Idle`] comes if it does not run or has nothing to cut.
     pub(super) fn cut(&mut self, node: u8) -> Result<(), Idle>
         ensures step { StepsBy M.rules self.old (Event.Cut node) self.new }
-        ensures idle { IsErr result ↔ (turn M.rules self.old.moment (Event.Cut node) ≡ None) }
+        ensures idle { IsErr result ↔ (outcome_of M.rules self.old.moment (Event.Cut node) ≡ None) }
         ensures same { OnErr result (self.new ≡ self.old) }
         ensures quiet { TakesNoMemory M.rules self.old.moment (Event.Cut node) →
             self.new ≡ done_exactly M.rules self.old (Event.Cut node) }
@@ -205,7 +207,8 @@ impl<M: Machine> Group<M> {
     /// Stops a node for good; [`Idle`] comes if it does not run.
     pub(super) fn crash(&mut self, node: u8) -> Result<(), Idle>
         ensures step { StepsBy M.rules self.old (Event.Crash node) self.new }
-        ensures idle { IsErr result ↔ (turn M.rules self.old.moment (Event.Crash node) ≡ None) }
+        ensures idle { IsErr result ↔
+            (outcome_of M.rules self.old.moment (Event.Crash node) ≡ None) }
         ensures same { OnErr result (self.new ≡ self.old) }
         ensures quiet { TakesNoMemory M.rules self.old.moment (Event.Crash node) →
             self.new ≡ done_exactly M.rules self.old (Event.Crash node) }
