@@ -116,7 +116,7 @@ impl Publisher {
         let mut room = Vec::from_elem(self.alloc, 0u8, PIECE_BYTES)?;
         self.caller.open()?;
         for _ in 0..u64::MAX {
-            match self.turn(&mut stream, room.as_mut_slice())? {
+            match self.continue_once(&mut stream, room.as_mut_slice())? {
                 Progress::Waits => {}
                 Progress::Lost => return Ok(false),
                 Progress::Done => {
@@ -129,7 +129,7 @@ impl Publisher {
     }
 
     // Writes, reads once, and continues by what came.
-    fn turn<D: Read + Write>(
+    fn continue_once<D: Read + Write>(
         &mut self,
         stream: &mut Counted<D>,
         room: &mut [u8],

@@ -116,7 +116,7 @@ impl Subscriber {
         let mut room = Vec::from_elem(self.alloc, 0u8, PIECE_BYTES)?;
         self.caller.open()?;
         for _ in 0..u64::MAX {
-            let is_lost = self.turn(&mut stream, room.as_mut_slice(), output)?;
+            let is_lost = self.continue_once(&mut stream, room.as_mut_slice(), output)?;
             if self.left == 0 {
                 disconnect(self.alloc, &mut stream, &mut self.caller);
                 return Ok(true);
@@ -129,7 +129,7 @@ impl Subscriber {
     }
 
     // Writes, reads once, and continues by what came. Returns whether the connection is lost.
-    fn turn<D: Read + Write, W: Write>(
+    fn continue_once<D: Read + Write, W: Write>(
         &mut self,
         stream: &mut Counted<D>,
         room: &mut [u8],

@@ -5,23 +5,23 @@ use Rattle.user_client.proofs.Acknowledged.{stays_acknowledged, left_trace}
 use Rattle.user_client.proofs.publisher.Publisher.visit.Goals as goal
 
 pub returns-in-Lost-clause-trace : goal.returns-in-Lost-clause-trace
-returns-in-Lost-clause-trace g c = traces_follow c.loop.invariant.0 c.in_ok-turn.ensures.trace
+returns-in-Lost-clause-trace g c = traces_follow c.loop.invariant.0 c.in_ok-continue_once.ensures.trace
 
 pub returns-in-Done-clause-acknowledged : goal.returns-in-Done-clause-acknowledged
 returns-in-Done-clause-acknowledged g c =
     λ _. stays_acknowledged g.D.Write.contents c.self-in-loop.inside.caller c.disconnect.new.caller c.self-in-loop.inside.once c.self-in-loop.view_is
-    c.disconnect.ensures.kept (c.in_ok-turn.ensures.acknowledged c.in-Done.is)
+    c.disconnect.ensures.kept (c.in_ok-continue_once.ensures.acknowledged c.in-Done.is)
 
 pub returns-in-Done-clause-trace : goal.returns-in-Done-clause-trace
 returns-in-Done-clause-trace g c =
     left_trace c.self-in-loop.inside.caller c.disconnect.new.caller c.self-in-loop.inside.once c.self-in-loop.view_is
-    (traces_follow c.loop.invariant.0 c.in_ok-turn.ensures.trace) c.disconnect.ensures.trace
+    (traces_follow c.loop.invariant.0 c.in_ok-continue_once.ensures.trace) c.disconnect.ensures.trace
 
 pub loop-preserved : goal.loop-preserved
 loop-preserved g c =
-    (traces_follow c.loop.invariant.0 c.in_ok-turn.ensures.trace, c.in_ok-turn.ensures.same ∙ c.loop.invariant.1)
+    (traces_follow c.loop.invariant.0 c.in_ok-continue_once.ensures.trace, c.in_ok-continue_once.ensures.same ∙ c.loop.invariant.1)
 
-pub returns-in_err-turn-clause-lost : goal.returns-in_err-turn-clause-lost
-returns-in_err-turn-clause-lost g c =
-    passed_later c.turn.new.self.caller c.from_residual-in_err-turn.result c.in_err-turn.field-0.0
-    c.from_residual-in_err-turn.ensures.1 c.loop.invariant.0 c.in_err-turn.ensures.lost
+pub returns-in_err-continue_once-clause-lost : goal.returns-in_err-continue_once-clause-lost
+returns-in_err-continue_once-clause-lost g c =
+    passed_later c.continue_once.new.self.caller c.from_residual-in_err-continue_once.result c.in_err-continue_once.field-0.0
+    c.from_residual-in_err-continue_once.ensures.1 c.loop.invariant.0 c.in_err-continue_once.ensures.lost

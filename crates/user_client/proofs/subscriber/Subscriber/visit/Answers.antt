@@ -13,10 +13,10 @@ loop-init g c =
 pub returns-then-self-eq0-clause-printed : goal.returns-then-self-eq0-clause-printed
 returns-then-self-eq0-clause-printed g c =
     let old = g.W.Write.contents c.args.output.now in
-    let new = g.W.Write.contents c.turn.new.output in
-    hears_asks old new c.args.self.now c.turn.new.self
+    let new = g.W.Write.contents c.continue_once.new.output in
+    hears_asks old new c.args.self.now c.continue_once.new.self
     (made_of c.disconnect.new.caller c.self-in-loop.inside.count c.self-in-loop.inside.left)
-    (hears_join old (g.W.Write.contents c.loop.output) new c.args.self.now c.loop.self c.turn.new.self c.loop.invariant
+    (hears_join old (g.W.Write.contents c.loop.output) new c.args.self.now c.loop.self c.continue_once.new.self c.loop.invariant
     c.in_ok-is_lost.ensures.printed)
     (asks_made c.self-in-loop.inside.caller c.disconnect.new.caller c.self-in-loop.inside.count c.self-in-loop.inside.left
     c.self-in-loop.view_is c.disconnect.ensures.trace)
@@ -24,16 +24,16 @@ returns-then-self-eq0-clause-printed g c =
 pub returns-then-is_lost-clause-printed : goal.returns-then-is_lost-clause-printed
 returns-then-is_lost-clause-printed g c =
     hears_join (g.W.Write.contents c.args.output.now) (g.W.Write.contents c.loop.output)
-    (g.W.Write.contents c.turn.new.output) c.args.self.now c.loop.self c.turn.new.self c.loop.invariant
+    (g.W.Write.contents c.continue_once.new.output) c.args.self.now c.loop.self c.continue_once.new.self c.loop.invariant
     c.in_ok-is_lost.ensures.printed
 
 pub loop-preserved : goal.loop-preserved
 loop-preserved g c =
     hears_join (g.W.Write.contents c.args.output.now) (g.W.Write.contents c.loop.output)
-    (g.W.Write.contents c.turn.new.output) c.args.self.now c.loop.self c.turn.new.self c.loop.invariant
+    (g.W.Write.contents c.continue_once.new.output) c.args.self.now c.loop.self c.continue_once.new.self c.loop.invariant
     c.in_ok-is_lost.ensures.printed
 
 pub returns-in_err-is_lost-clause-lost : goal.returns-in_err-is_lost-clause-lost
 returns-in_err-is_lost-clause-lost g c =
-    passed_later c.turn.new.self.caller c.from_residual-in_err-is_lost.result c.in_err-is_lost.field-0.0
+    passed_later c.continue_once.new.self.caller c.from_residual-in_err-is_lost.result c.in_err-is_lost.field-0.0
     c.from_residual-in_err-is_lost.ensures.1 c.loop.invariant.1 c.in_err-is_lost.ensures.lost

@@ -2,7 +2,7 @@ use Rattle.std.proofs.Common.{[], OnOk, subst}
 use Rattle.user_client.specs.Tracing.{Trace}
 use Rattle.user_client.specs.Publishing.{Publishing}
 use Rattle.user_client.proofs.TracesJoin.{traces_follow_ok}
-use Rattle.user_client.proofs.publisher.Publisher.turn.Goals as goal
+use Rattle.user_client.proofs.publisher.Publisher.continue_once.Goals as goal
 
 pub returns-clause-trace : goal.returns-clause-trace
 returns-clause-trace g c =

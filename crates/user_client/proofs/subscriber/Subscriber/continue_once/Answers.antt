@@ -1,5 +1,5 @@
 use Rattle.user_client.proofs.PrintsJoin.{made_of, asks_made, asks_hears}
-use Rattle.user_client.proofs.subscriber.Subscriber.turn.Goals as goal
+use Rattle.user_client.proofs.subscriber.Subscriber.continue_once.Goals as goal
 
 pub returns-clause-printed : goal.returns-clause-printed
 returns-clause-printed g c =
