@@ -1,4 +1,4 @@
-// Stories: what a broker goes through. Each is made in one place, and lent from there.
+// Runs: what a broker goes through. Each is made in one place, and lent from there.
 
 use crate::row::{Row, other_answer};
 use crate::tests::forms::{Form, Step, is_built};
@@ -8,7 +8,7 @@ use broker::BrokerMachine;
 use broker::machine::Machine;
 use std::alloc::Global;
 
-/// The broker with which a story begins.
+/// The broker with which a run begins.
 #[derive(Clone, Copy)]
 pub(crate) enum Start<'a> {
     Fresh,
@@ -18,7 +18,7 @@ pub(crate) enum Start<'a> {
 
 /// What a broker goes through.
 #[derive(Clone, Copy)]
-pub(crate) enum Story<'a> {
+pub(crate) enum Run<'a> {
     /// It answers these rows.
     Rows(&'a [Row<'a>]),
     /// It is frozen to the bytes of this form.
@@ -43,7 +43,7 @@ fn thawed(alloc: Global, form: Form<'_>) -> Option<BrokerMachine> {
     }
 }
 
-// Returns the broker with which a story begins.
+// Returns the broker with which a run begins.
 fn started(alloc: Global, start: Start<'_>) -> Option<BrokerMachine> {
     match start {
         Start::Fresh => BrokerMachine::fresh(alloc).ok(),
@@ -51,27 +51,27 @@ fn started(alloc: Global, start: Start<'_>) -> Option<BrokerMachine> {
     }
 }
 
-// Returns a fault of a story that is one step.
+// Returns a fault of a run that is one step.
 fn fault_unless(is_right: bool) -> Option<usize> {
     if is_right { None } else { Some(0) }
 }
 
-// Finds the first step at which a broker goes through a story in another way.
-fn fault_of(alloc: Global, broker: &mut BrokerMachine, story: Story<'_>) -> Option<usize> {
-    match story {
-        Story::Rows(rows) => other_answer(alloc, broker, rows),
-        Story::HasBytes(form) => fault_unless(forms::has_bytes(alloc, broker, form)),
-        Story::HasForms(first, steps) => forms::other_form(alloc, broker, first, steps),
-        Story::Parts(parts) => other_part(alloc, broker, parts),
-        Story::SendsSeventeen => fault_unless(windows::sends_seventeen(alloc, broker)),
-        Story::FreesItsIdentifier => fault_unless(windows::frees_its_identifier(alloc, broker)),
+// Finds the first step at which a broker goes through a run in another way.
+fn fault_of(alloc: Global, broker: &mut BrokerMachine, run: Run<'_>) -> Option<usize> {
+    match run {
+        Run::Rows(rows) => other_answer(alloc, broker, rows),
+        Run::HasBytes(form) => fault_unless(forms::has_bytes(alloc, broker, form)),
+        Run::HasForms(first, steps) => forms::other_form(alloc, broker, first, steps),
+        Run::Parts(parts) => other_part(alloc, broker, parts),
+        Run::SendsSeventeen => fault_unless(windows::sends_seventeen(alloc, broker)),
+        Run::FreesItsIdentifier => fault_unless(windows::frees_its_identifier(alloc, broker)),
     }
 }
 
-/// Finds the first step at which a broker goes through a story in another way.
-pub(crate) fn first_fault(alloc: Global, start: Start<'_>, story: Story<'_>) -> Option<usize> {
+/// Finds the first step at which a broker goes through a run in another way.
+pub(crate) fn first_fault(alloc: Global, start: Start<'_>, run: Run<'_>) -> Option<usize> {
     match started(alloc, start) {
-        Some(mut broker) => fault_of(alloc, &mut broker, story),
+        Some(mut broker) => fault_of(alloc, &mut broker, run),
         None => Some(0),
     }
 }

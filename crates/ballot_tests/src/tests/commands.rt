@@ -1,7 +1,7 @@
 // Commands inside ballot 1, as worked examples with one, two and three members.
 
 use super::replicas::*;
-use super::stories::{Story, first_false, first_fault};
+use super::stories::{Run, first_false, first_fault};
 use master::ballot::machine::{Tally, TallyCommand};
 use master::ballot::{Body, Effect, ProposeError, Replica, Role};
 
@@ -45,7 +45,7 @@ pub fn answers_at_once(
 #[test]
 fn a_sole_member_answers_at_once(rt: HostRuntime) {
     assert_eq!(rt;
-        first_fault(rt.alloc(), 1, &[1], 1, Story::AnswersAtOnce),
+        first_fault(rt.alloc(), 1, &[1], 1, Run::AnswersAtOnce),
         None
     );
 }
@@ -77,7 +77,7 @@ pub fn leaves_once_held(
 #[test]
 fn append_held_commit(rt: HostRuntime) {
     assert_eq!(rt;
-        first_fault(rt.alloc(), 1, &[1, 2], 1, Story::LeavesOnceHeld),
+        first_fault(rt.alloc(), 1, &[1, 2], 1, Run::LeavesOnceHeld),
         None
     );
 }
@@ -110,7 +110,7 @@ pub fn hears_it_again(
 #[test]
 fn held_comes_twice(rt: HostRuntime) {
     assert_eq!(rt;
-        first_fault(rt.alloc(), 1, &[1, 2], 1, Story::HearsItAgain),
+        first_fault(rt.alloc(), 1, &[1, 2], 1, Run::HearsItAgain),
         None
     );
 }
@@ -145,7 +145,7 @@ pub fn waits_for_the_first(
 #[test]
 fn a_backup_takes_places_in_order(rt: HostRuntime) {
     assert_eq!(rt;
-        first_fault(rt.alloc(), 2, &[1, 2], 1, Story::WaitsForTheFirst),
+        first_fault(rt.alloc(), 2, &[1, 2], 1, Run::WaitsForTheFirst),
         None
     );
 }
@@ -183,10 +183,7 @@ pub fn is_silent(
 // A backup that gets a Commit sends nothing, also at a tick, and takes no proposal.
 #[test]
 fn a_backup_is_silent(rt: HostRuntime) {
-    assert_eq!(rt;
-        first_fault(rt.alloc(), 2, &[1, 2], 1, Story::IsSilent),
-        None
-    );
+    assert_eq!(rt; first_fault(rt.alloc(), 2, &[1, 2], 1, Run::IsSilent), None);
 }
 
 const TWO_NUMBERS: &[TallyCommand] = &[TallyCommand::Add(2), TallyCommand::Add(3)];
@@ -224,7 +221,7 @@ pub fn says_what_is_lacking(
 #[test]
 fn a_tick_sends_what_is_lacking(rt: HostRuntime) {
     assert_eq!(rt;
-        first_fault(rt.alloc(), 2, &[1, 2, 3], 2, Story::SaysWhatIsLacking),
+        first_fault(rt.alloc(), 2, &[1, 2, 3], 2, Run::SaysWhatIsLacking),
         None
     );
 }

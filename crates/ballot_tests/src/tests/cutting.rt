@@ -2,7 +2,7 @@
 
 use super::pairs::*;
 use super::replicas::*;
-use super::stories::{Change, Story, first_false, first_fault, first_fault_of_two};
+use super::stories::{Change, Run, first_false, first_fault, first_fault_of_two};
 use master::ballot::machine::{Tally, TallyCommand};
 use master::ballot::{Body, Effect, Log, Replica, Role};
 use std::alloc::Global;
@@ -47,7 +47,7 @@ fn goes_on(replica: &mut Replica<Tally>, out: &mut Vec<Effect<TallyCommand, u64>
 
 #[test]
 fn a_log_is_cut(rt: HostRuntime) {
-    assert_eq!(rt; first_fault(rt.alloc(), 1, &[1], 1, Story::IsCut), None);
+    assert_eq!(rt; first_fault(rt.alloc(), 1, &[1], 1, Run::IsCut), None);
 }
 
 /// Finds the first step that goes otherwise: a node that is no member takes a log that it can read,
@@ -91,7 +91,7 @@ fn installs(
 #[test]
 fn a_snapshot_is_read_or_lost(rt: HostRuntime) {
     assert_eq!(rt;
-        first_fault(rt.alloc(), 2, &[1], 1, Story::ReadsSnapshots),
+        first_fault(rt.alloc(), 2, &[1], 1, Run::ReadsSnapshots),
         None
     );
 }

@@ -1,5 +1,5 @@
 use super::replicas::{made, shows};
-use super::stories::{Story, first_false, first_fault};
+use super::stories::{Run, first_false, first_fault};
 use master::ballot::machine::Tally;
 use master::ballot::{OpeningError, Replica, Role};
 use std::alloc::Global;
@@ -48,7 +48,7 @@ pub fn is_no_member(replica: &Replica<Tally>) -> Option<usize> {
 fn no_member_is_a_backup(rt: HostRuntime) {
     let members = [1, 2, 3, 4, 5, 6, 15];
     assert_eq!(rt;
-        first_fault(rt.alloc(), 7, &members, 15, Story::IsNoMember),
+        first_fault(rt.alloc(), 7, &members, 15, Run::IsNoMember),
         None
     );
 }

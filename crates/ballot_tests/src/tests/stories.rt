@@ -9,7 +9,7 @@ use std::alloc::Global;
 
 /// What a replica is to go through.
 #[derive(Clone, Copy)]
-pub enum Story {
+pub enum Run {
     AnswersAtOnce,
     LeavesOnceHeld,
     HearsItAgain,
@@ -31,38 +31,38 @@ pub fn first_false(steps: &[bool]) -> Option<usize> {
     None
 }
 
-// Finds the first step at which a replica does not what a story says.
+// Finds the first step at which a replica does not what a run says.
 fn fault_of(
     replica: &mut Replica<Tally>,
     out: &mut Vec<Effect<TallyCommand, u64>>,
     alloc: Global,
-    story: Story,
+    run: Run,
 ) -> Option<usize> {
-    match story {
-        Story::AnswersAtOnce => commands::answers_at_once(replica, out),
-        Story::LeavesOnceHeld => commands::leaves_once_held(replica, out),
-        Story::HearsItAgain => commands::hears_it_again(replica, out),
-        Story::WaitsForTheFirst => commands::waits_for_the_first(replica, out),
-        Story::IsSilent => commands::is_silent(replica, out),
-        Story::SaysWhatIsLacking => commands::says_what_is_lacking(replica, out),
-        Story::IsNoMember => opening::is_no_member(replica),
-        Story::IsCut => cutting::is_cut_once(replica, out),
-        Story::ReadsSnapshots => cutting::reads_snapshots(replica, out, alloc),
+    match run {
+        Run::AnswersAtOnce => commands::answers_at_once(replica, out),
+        Run::LeavesOnceHeld => commands::leaves_once_held(replica, out),
+        Run::HearsItAgain => commands::hears_it_again(replica, out),
+        Run::WaitsForTheFirst => commands::waits_for_the_first(replica, out),
+        Run::IsSilent => commands::is_silent(replica, out),
+        Run::SaysWhatIsLacking => commands::says_what_is_lacking(replica, out),
+        Run::IsNoMember => opening::is_no_member(replica),
+        Run::IsCut => cutting::is_cut_once(replica, out),
+        Run::ReadsSnapshots => cutting::reads_snapshots(replica, out, alloc),
     }
 }
 
 /// Finds the first step at which a node that opens with these members and this primary goes through
-/// a story in another way; step 0 if it does not open.
+/// a run in another way; step 0 if it does not open.
 pub fn first_fault(
     alloc: Global,
     node: u8,
     members: &[u8],
     primary: u8,
-    story: Story,
+    run: Run,
 ) -> Option<usize> {
     let mut out = Vec::new(alloc);
     match made(alloc, node, members, primary) {
-        Ok(mut replica) => fault_of(&mut replica, &mut out, alloc, story),
+        Ok(mut replica) => fault_of(&mut replica, &mut out, alloc, run),
         Err(_) => Some(0),
     }
 }

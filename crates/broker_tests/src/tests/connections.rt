@@ -1,7 +1,7 @@
 // Connections: CONNECT, PINGREQ, UNSUBSCRIBE, and what a client may not send.
 
 use crate::row::{CLOSED, Event, NOTHING, Row};
-use crate::story::{Start, Story, first_fault};
+use crate::story::{Run, Start, first_fault};
 use std::test::*;
 
 const UNSUBSCRIBE: &[u8] = &[0xA2, 7, 0, 3, 0, 3, 0x74, 0x2F, 0x23];
@@ -27,7 +27,7 @@ fn a_second_connection_takes_over(rt: HostRuntime) {
         first_fault(
             rt.alloc(),
             Start::Fresh,
-            Story::Rows(A_SECOND_CONNECTION_TAKES_OVER)
+            Run::Rows(A_SECOND_CONNECTION_TAKES_OVER)
         ),
         None
     );
@@ -55,7 +55,7 @@ fn ping_unsubscribe_and_violations(rt: HostRuntime) {
         first_fault(
             rt.alloc(),
             Start::Fresh,
-            Story::Rows(PING_UNSUBSCRIBE_AND_VIOLATIONS)
+            Run::Rows(PING_UNSUBSCRIBE_AND_VIOLATIONS)
         ),
         None
     );
@@ -76,11 +76,7 @@ const SESSIONS_END_AND_GO_ON: &[Row<'static>] = &[
 #[test]
 fn sessions_end_and_go_on(rt: HostRuntime) {
     assert_eq!(rt;
-        first_fault(
-            rt.alloc(),
-            Start::Fresh,
-            Story::Rows(SESSIONS_END_AND_GO_ON)
-        ),
+        first_fault(rt.alloc(), Start::Fresh, Run::Rows(SESSIONS_END_AND_GO_ON)),
         None
     );
 }

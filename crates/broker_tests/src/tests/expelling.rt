@@ -1,7 +1,7 @@
 // A client is expelled: its session ends, and its connection is closed (MQTT 3.1.2.4, 4.1).
 
 use crate::row::{CLOSED, Event, NOTHING, Row, command_of};
-use crate::story::{Start, Story, first_fault};
+use crate::story::{Run, Start, first_fault};
 use crate::tests::handshakes::{AGAIN, BEGINS, PUBLISH, SUBSCRIBE};
 use std::test::*;
 
@@ -31,7 +31,7 @@ fn expelled_while_connected(rt: HostRuntime) {
         first_fault(
             rt.alloc(),
             Start::Fresh,
-            Story::Rows(EXPELLED_WHILE_CONNECTED)
+            Run::Rows(EXPELLED_WHILE_CONNECTED)
         ),
         None
     );
@@ -63,7 +63,7 @@ fn what_comes_meanwhile_is_for_nobody(rt: HostRuntime) {
         first_fault(
             rt.alloc(),
             Start::Fresh,
-            Story::Rows(WHAT_COMES_MEANWHILE_IS_FOR_NOBODY)
+            Run::Rows(WHAT_COMES_MEANWHILE_IS_FOR_NOBODY)
         ),
         None
     );
@@ -91,7 +91,7 @@ const EXPELLED_WHILE_AWAY: &[Row<'static>] = &[
 #[test]
 fn expelled_while_away(rt: HostRuntime) {
     assert_eq!(rt;
-        first_fault(rt.alloc(), Start::Fresh, Story::Rows(EXPELLED_WHILE_AWAY)),
+        first_fault(rt.alloc(), Start::Fresh, Run::Rows(EXPELLED_WHILE_AWAY)),
         None
     );
 }
@@ -122,7 +122,7 @@ fn what_was_received_is_forgotten(rt: HostRuntime) {
         first_fault(
             rt.alloc(),
             Start::Fresh,
-            Story::Rows(WHAT_WAS_RECEIVED_IS_FORGOTTEN)
+            Run::Rows(WHAT_WAS_RECEIVED_IS_FORGOTTEN)
         ),
         None
     );
@@ -150,7 +150,7 @@ const EXPELLED_NOBODY: &[Row<'static>] = &[
 #[test]
 fn an_expel_of_nobody_changes_nothing(rt: HostRuntime) {
     assert_eq!(rt;
-        first_fault(rt.alloc(), Start::Fresh, Story::Rows(EXPELLED_NOBODY)),
+        first_fault(rt.alloc(), Start::Fresh, Run::Rows(EXPELLED_NOBODY)),
         None
     );
 }
@@ -169,7 +169,7 @@ const EXPELLED_CLEAN: &[Row<'static>] = &[
 #[test]
 fn an_expelled_clean_session_ends(rt: HostRuntime) {
     assert_eq!(rt;
-        first_fault(rt.alloc(), Start::Fresh, Story::Rows(EXPELLED_CLEAN)),
+        first_fault(rt.alloc(), Start::Fresh, Run::Rows(EXPELLED_CLEAN)),
         None
     );
 }

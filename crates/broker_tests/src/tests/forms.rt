@@ -3,7 +3,7 @@
 
 use super::handshakes::{PUBLISH, SUBSCRIBE};
 use crate::row::{Answer, CLOSED, Event, NOTHING, Row, is_answered};
-use crate::story::{Start, Story, first_fault};
+use crate::story::{Run, Start, first_fault};
 use broker::BrokerMachine;
 use broker::machine::Machine;
 use std::alloc::Global;
@@ -237,7 +237,7 @@ pub(crate) fn other_form(
 // frozen to them again.
 fn other_again(alloc: Global, fields: &[&[u8]]) -> Option<usize> {
     let form = (WIDE, fields);
-    first_fault(alloc, Start::Thawed(form), Story::HasBytes(form))
+    first_fault(alloc, Start::Thawed(form), Run::HasBytes(form))
 }
 
 // A Start, after which a broker has no session.
@@ -257,7 +257,7 @@ fn other_before<'a>(alloc: Global, fields: &'a [&'a [u8]], steps: &'a [Step<'a>]
     first_fault(
         alloc,
         Start::Thawed((BEFORE, fields)),
-        Story::HasForms((NARROW, fields), steps),
+        Run::HasForms((NARROW, fields), steps),
     )
 }
 
@@ -271,7 +271,7 @@ fn form_1_is_read(rt: HostRuntime) {
         first_fault(
             rt.alloc(),
             Start::Thawed((BEFORE, FULL)),
-            Story::HasBytes((NARROW, FULL))
+            Run::HasBytes((NARROW, FULL))
         ),
         None
     );
@@ -283,7 +283,7 @@ fn brokers_have_their_frozen_bytes(rt: HostRuntime) {
         first_fault(
             rt.alloc(),
             Start::Fresh,
-            Story::HasForms((WIDE, FRESH), STEPS)
+            Run::HasForms((WIDE, FRESH), STEPS)
         ),
         None
     );
@@ -316,7 +316,7 @@ fn a_thawed_broker_goes_on(rt: HostRuntime) {
         first_fault(
             rt.alloc(),
             Start::Thawed((WIDE, ONE_ENTRY)),
-            Story::Rows(GOES_ON)
+            Run::Rows(GOES_ON)
         ),
         None
     );

@@ -1,7 +1,7 @@
 // A publication at QoS 2 from one client to another (MQTT 4.3.3).
 
 use crate::row::{Event, Row};
-use crate::story::{Start, Story, first_fault};
+use crate::story::{Run, Start, first_fault};
 use std::test::*;
 
 /// PUBLISH of `x` on `t/1` at QoS 2 with identifier 1.
@@ -37,7 +37,7 @@ fn publish_reaches_the_subscriber_once(rt: HostRuntime) {
         first_fault(
             rt.alloc(),
             Start::Fresh,
-            Story::Rows(PUBLISH_REACHES_THE_SUBSCRIBER_ONCE)
+            Run::Rows(PUBLISH_REACHES_THE_SUBSCRIBER_ONCE)
         ),
         None
     );

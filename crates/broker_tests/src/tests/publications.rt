@@ -2,7 +2,7 @@
 
 use super::handshakes::{BEGINS, PUBLISH, SUBSCRIBE};
 use crate::row::{Event, NOTHING, Row};
-use crate::story::{Start, Story, first_fault};
+use crate::story::{Run, Start, first_fault};
 use std::test::*;
 
 const RETAINED: &[u8] = &[0x35, 8, 0, 3, 0x74, 0x2F, 0x31, 0, 1, 0x78];
@@ -32,7 +32,7 @@ const RETAINED_AT_SUBSCRIBE: &[Row<'static>] = &[
 #[test]
 fn retained_at_subscribe(rt: HostRuntime) {
     assert_eq!(rt;
-        first_fault(rt.alloc(), Start::Fresh, Story::Rows(RETAINED_AT_SUBSCRIBE)),
+        first_fault(rt.alloc(), Start::Fresh, Run::Rows(RETAINED_AT_SUBSCRIBE)),
         None
     );
 }
@@ -55,7 +55,7 @@ fn two_filters_one_publication(rt: HostRuntime) {
         first_fault(
             rt.alloc(),
             Start::Fresh,
-            Story::Rows(TWO_FILTERS_ONE_PUBLICATION)
+            Run::Rows(TWO_FILTERS_ONE_PUBLICATION)
         ),
         None
     );

@@ -2,7 +2,7 @@
 
 use super::handshakes::{AGAIN, BEGINS, PUBLISH, SUBSCRIBE};
 use crate::row::{CLOSED, Event, NOTHING, Row, other_answer};
-use crate::story::{Start, Story, first_fault};
+use crate::story::{Run, Start, first_fault};
 use broker::BrokerMachine;
 use std::alloc::Global;
 use std::test::*;
@@ -190,7 +190,7 @@ pub(crate) fn other_part(
 #[test]
 fn a_full_queue_keeps_the_order(rt: HostRuntime) {
     assert_eq!(rt;
-        first_fault(rt.alloc(), Start::Fresh, Story::Parts(FULL)),
+        first_fault(rt.alloc(), Start::Fresh, Run::Parts(FULL)),
         None
     );
 }

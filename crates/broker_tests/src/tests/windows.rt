@@ -5,7 +5,7 @@ use super::forms::FRESH_BEFORE;
 use super::handshakes::BEGINS;
 use super::queues::{self, COMES_BACK, FINISHES, GOES_ON, Part, WAITS};
 use crate::row::{CLOSED, Event, NOTHING, Row, is_answered, other_answer};
-use crate::story::{Start, Story, first_fault};
+use crate::story::{Run, Start, first_fault};
 use broker::BrokerMachine;
 use std::alloc::Global;
 use std::test::*;
@@ -130,7 +130,7 @@ pub(crate) fn frees_its_identifier(alloc: Global, broker: &mut BrokerMachine) ->
 #[test]
 fn window_of_64(rt: HostRuntime) {
     assert_eq!(rt;
-        first_fault(rt.alloc(), Start::Fresh, Story::Parts(SEVENTY)),
+        first_fault(rt.alloc(), Start::Fresh, Run::Parts(SEVENTY)),
         None
     );
 }
@@ -139,7 +139,7 @@ fn window_of_64(rt: HostRuntime) {
 #[test]
 fn seventeen_are_in_flight(rt: HostRuntime) {
     assert_eq!(rt;
-        first_fault(rt.alloc(), Start::Fresh, Story::SendsSeventeen),
+        first_fault(rt.alloc(), Start::Fresh, Run::SendsSeventeen),
         None
     );
 }
@@ -153,7 +153,7 @@ fn puback_frees_its_identifier(rt: HostRuntime) {
         first_fault(
             rt.alloc(),
             Start::Thawed(FRESH_BEFORE),
-            Story::FreesItsIdentifier
+            Run::FreesItsIdentifier
         ),
         None
     );

@@ -24,12 +24,12 @@ const PORT: Port = Port(7);
 
 // A lane to which a connection is reported, which accepts it or not.
 #[derive(Drop)]
-struct LaneReporter<J: Naming> {
+struct OneLane<J: Naming> {
     lane: Lane<Item, J>,
     is_open: bool,
 }
 
-impl<J: Naming> Hearer for LaneReporter<J> {
+impl<J: Naming> Hearer for OneLane<J> {
     ghost heard = { λ hearer. hearer.lane.sent };
 
     ghost lets = { λ hearer answer. answer ≡ hearer.is_open };
@@ -121,13 +121,7 @@ fn ends<J: Naming, R: Wait + Clock>(
     match lane {
         Some(lane) => {
             let mut source = Counted::new(Source::new(CONNECT, 4, bad_call));
-            let ended = listen(
-                rt,
-                alloc,
-                PORT,
-                &mut source,
-                &mut LaneReporter { lane, is_open },
-            );
+            let ended = listen(rt, alloc, PORT, &mut source, &mut OneLane { lane, is_open });
             ended == ending && source.faults() == u64::from(ending == Ending::Fault)
         }
         None => false,

@@ -1,5 +1,5 @@
 use super::groups::*;
-use super::stories::{Story, first_fault};
+use super::stories::{Run, first_fault};
 use master::ballot::{Body, Message};
 use master::machine::{Tally, TallyCommand};
 use master::{Event, Group};
@@ -53,10 +53,7 @@ pub fn waits_for_all(group: &mut Group<Tally>) -> Option<usize> {
 // A command is appended, held, answered and committed; a message may come twice.
 #[test]
 fn an_answer_waits_for_all_members(rt: HostRuntime) {
-    assert_eq!(rt;
-        first_fault(rt.alloc(), 2, &[1, 2], Story::WaitsForAll),
-        None
-    );
+    assert_eq!(rt; first_fault(rt.alloc(), 2, &[1, 2], Run::WaitsForAll), None);
 }
 
 const ALONE: &[TallyCommand] = &[
@@ -88,5 +85,5 @@ pub fn counts_alone(group: &mut Group<Tally>) -> Option<usize> {
 // A sole member answers at once: 2, nothing at the start of a ballot, and 5.
 #[test]
 fn tally_counts(rt: HostRuntime) {
-    assert_eq!(rt; first_fault(rt.alloc(), 1, &[1], Story::CountsAlone), None);
+    assert_eq!(rt; first_fault(rt.alloc(), 1, &[1], Run::CountsAlone), None);
 }

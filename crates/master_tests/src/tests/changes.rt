@@ -1,5 +1,5 @@
 use super::groups::*;
-use super::stories::{Story, first_fault};
+use super::stories::{Run, first_fault};
 use master::ballot::{Body, Message};
 use master::machine::{Tally, TallyCommand};
 use master::{Event, Group};
@@ -35,7 +35,7 @@ pub fn is_changed(group: &mut Group<Tally>, alloc: Global) -> Option<usize> {
 // NewBallot, Join, State, Install, Installed, Activate, Activated, Append, Held, Commit.
 #[test]
 fn configuration_changes(rt: HostRuntime) {
-    assert_eq!(rt; first_fault(rt.alloc(), 2, &[1], Story::Changes), None);
+    assert_eq!(rt; first_fault(rt.alloc(), 2, &[1], Run::Changes), None);
 }
 
 const WAITING: &[Row] = &[
@@ -88,7 +88,7 @@ pub fn is_superseded(group: &mut Group<Tally>, alloc: Global) -> Option<usize> {
 // Superseded(2).
 #[test]
 fn a_ballot_is_superseded(rt: HostRuntime) {
-    assert_eq!(rt; first_fault(rt.alloc(), 3, &[1], Story::IsSuperseded), None);
+    assert_eq!(rt; first_fault(rt.alloc(), 3, &[1], Run::IsSuperseded), None);
 }
 
 // Says whether a node takes a number to add. All messages come.
@@ -129,7 +129,7 @@ pub fn takes_over(group: &mut Group<Tally>, alloc: Global) -> Option<usize> {
 // answers the next command from there on.
 #[test]
 fn a_new_primary_takes_over(rt: HostRuntime) {
-    assert_eq!(rt; first_fault(rt.alloc(), 3, &[1, 2], Story::TakesOver), None);
+    assert_eq!(rt; first_fault(rt.alloc(), 3, &[1, 2], Run::TakesOver), None);
 }
 
 const LEFT_BEHIND: &[Row] = &[
@@ -163,8 +163,5 @@ pub fn is_replaced(group: &mut Group<Tally>, alloc: Global) -> Option<usize> {
 // the result of them later changes nothing.
 #[test]
 fn a_stale_primary_has_a_longer_log(rt: HostRuntime) {
-    assert_eq!(rt;
-        first_fault(rt.alloc(), 2, &[1, 2], Story::IsReplaced),
-        None
-    );
+    assert_eq!(rt; first_fault(rt.alloc(), 2, &[1, 2], Run::IsReplaced), None);
 }

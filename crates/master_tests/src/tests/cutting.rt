@@ -1,7 +1,7 @@
 // Logs that are cut.
 
 use super::groups::*;
-use super::stories::{Story, first_fault};
+use super::stories::{Run, first_fault};
 use master::machine::{Tally, TallyCommand};
 use master::{Event, Group};
 use std::alloc::Global;
@@ -32,7 +32,7 @@ pub fn cuts_what_is_applied(group: &mut Group<Tally>) -> Option<usize> {
 // Cutting changes nothing that is seen of a group.
 #[test]
 fn a_cut_changes_nothing_that_is_seen(rt: HostRuntime) {
-    assert_eq!(rt; first_fault(rt.alloc(), 2, &[1, 2], Story::Cuts), None);
+    assert_eq!(rt; first_fault(rt.alloc(), 2, &[1, 2], Run::Cuts), None);
 }
 
 // The messages 0 to 9 of the change: NewBallot, Join, State, Install, Installed, Activate,
@@ -73,8 +73,5 @@ pub fn takes_over_from_a_snapshot(group: &mut Group<Tally>, alloc: Global) -> Op
 // A sole member cuts its log, and node 2 becomes the primary of both.
 #[test]
 fn a_snapshot_goes_over_to_a_new_primary(rt: HostRuntime) {
-    assert_eq!(rt;
-        first_fault(rt.alloc(), 2, &[1], Story::TakesASnapshot),
-        None
-    );
+    assert_eq!(rt; first_fault(rt.alloc(), 2, &[1], Run::TakesASnapshot), None);
 }

@@ -1,5 +1,5 @@
 use super::groups::*;
-use super::stories::{Story, first_fault};
+use super::stories::{Run, first_fault};
 use master::ballot::{Config, OpeningError};
 use master::machine::{Tally, TallyCommand};
 use master::{Event, Group, Idle};
@@ -50,7 +50,7 @@ pub fn is_idle_where_nothing_can_happen(group: &mut Group<Tally>) -> Option<usiz
 // continues after them.
 #[test]
 fn what_cannot_happen_is_idle(rt: HostRuntime) {
-    assert_eq!(rt; first_fault(rt.alloc(), 2, &[1, 2], Story::IsIdle), None);
+    assert_eq!(rt; first_fault(rt.alloc(), 2, &[1, 2], Run::IsIdle), None);
     assert_eq!(rt; Idle.number(), 24);
 }
 

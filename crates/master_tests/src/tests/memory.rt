@@ -2,7 +2,7 @@
 // step is counted, what was half done is undone, and the group continues to serve.
 
 use super::groups::*;
-use super::stories::{Story, first_fault_if_opened};
+use super::stories::{Run, first_fault_if_opened};
 use master::ballot::Effect;
 use master::machine::{Tally, TallyCommand};
 use master::{Event, Group};
@@ -65,7 +65,7 @@ pub fn serves_on(group: &mut Group<Tally>, alloc: Global) -> Option<usize> {
 #[test]
 fn a_refused_growth_is_counted(rt: HostRuntime) {
     assert_eq!(rt;
-        first_fault_if_opened(rt.alloc(), 3, &[1, 2, 3], Story::ServesOn),
+        first_fault_if_opened(rt.alloc(), 3, &[1, 2, 3], Run::ServesOn),
         None
     );
 }
@@ -144,7 +144,7 @@ pub fn cuts_on(group: &mut Group<Tally>, alloc: Global) -> Option<usize> {
 #[test]
 fn a_refused_cut_is_counted(rt: HostRuntime) {
     assert_eq!(rt;
-        first_fault_if_opened(rt.alloc(), 2, &[1], Story::CutsOn),
+        first_fault_if_opened(rt.alloc(), 2, &[1], Run::CutsOn),
         None
     );
 }

@@ -8,7 +8,7 @@ use std::alloc::Global;
 
 /// What a group is to go through.
 #[derive(Clone, Copy)]
-pub enum Story {
+pub enum Run {
     WaitsForAll,
     CountsAlone,
     Changes,
@@ -24,22 +24,22 @@ pub enum Story {
     LeavesLate,
 }
 
-// Finds the first step at which a group does not what a story says.
-fn fault_of(alloc: Global, group: &mut Group<Tally>, story: Story) -> Option<usize> {
-    match story {
-        Story::WaitsForAll => answers::waits_for_all(group),
-        Story::CountsAlone => answers::counts_alone(group),
-        Story::Changes => changes::is_changed(group, alloc),
-        Story::IsSuperseded => changes::is_superseded(group, alloc),
-        Story::TakesOver => changes::takes_over(group, alloc),
-        Story::IsReplaced => changes::is_replaced(group, alloc),
-        Story::Cuts => cutting::cuts_what_is_applied(group),
-        Story::TakesASnapshot => cutting::takes_over_from_a_snapshot(group, alloc),
-        Story::IsIdle => idle::is_idle_where_nothing_can_happen(group),
-        Story::ServesOn => memory::serves_on(group, alloc),
-        Story::CutsOn => memory::cuts_on(group, alloc),
-        Story::ServesInTurn => takeovers::serves_in_turn(group, alloc),
-        Story::LeavesLate => takeovers::leaves_late(group, alloc),
+// Finds the first step at which a group does not what a run says.
+fn fault_of(alloc: Global, group: &mut Group<Tally>, run: Run) -> Option<usize> {
+    match run {
+        Run::WaitsForAll => answers::waits_for_all(group),
+        Run::CountsAlone => answers::counts_alone(group),
+        Run::Changes => changes::is_changed(group, alloc),
+        Run::IsSuperseded => changes::is_superseded(group, alloc),
+        Run::TakesOver => changes::takes_over(group, alloc),
+        Run::IsReplaced => changes::is_replaced(group, alloc),
+        Run::Cuts => cutting::cuts_what_is_applied(group),
+        Run::TakesASnapshot => cutting::takes_over_from_a_snapshot(group, alloc),
+        Run::IsIdle => idle::is_idle_where_nothing_can_happen(group),
+        Run::ServesOn => memory::serves_on(group, alloc),
+        Run::CutsOn => memory::cuts_on(group, alloc),
+        Run::ServesInTurn => takeovers::serves_in_turn(group, alloc),
+        Run::LeavesLate => takeovers::leaves_late(group, alloc),
     }
 }
 
@@ -48,27 +48,22 @@ fn fault_from_the_opening(
     alloc: Global,
     nodes: u8,
     members: &[u8],
-    story: Story,
+    run: Run,
     unopened: Option<usize>,
 ) -> Option<usize> {
     match group(alloc, nodes, members) {
-        Ok(mut group) => fault_of(alloc, &mut group, story),
+        Ok(mut group) => fault_of(alloc, &mut group, run),
         Err(_) => unopened,
     }
 }
 
 /// Finds the first step at which this many nodes, these of them members and node 1 the primary, go
-/// through a story in another way; step 0 if they do not open.
-pub fn first_fault(alloc: Global, nodes: u8, members: &[u8], story: Story) -> Option<usize> {
-    fault_from_the_opening(alloc, nodes, members, story, Some(0))
+/// through a run in another way; step 0 if they do not open.
+pub fn first_fault(alloc: Global, nodes: u8, members: &[u8], run: Run) -> Option<usize> {
+    fault_from_the_opening(alloc, nodes, members, run, Some(0))
 }
 
 /// Finds the same if they open; none if memory runs out for them.
-pub fn first_fault_if_opened(
-    alloc: Global,
-    nodes: u8,
-    members: &[u8],
-    story: Story,
-) -> Option<usize> {
-    fault_from_the_opening(alloc, nodes, members, story, None)
+pub fn first_fault_if_opened(alloc: Global, nodes: u8, members: &[u8], run: Run) -> Option<usize> {
+    fault_from_the_opening(alloc, nodes, members, run, None)
 }

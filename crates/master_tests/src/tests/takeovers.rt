@@ -1,5 +1,5 @@
 use super::groups::*;
-use super::stories::{Story, first_fault};
+use super::stories::{Run, first_fault};
 use master::ballot::Effect;
 use master::machine::{Tally, TallyCommand};
 use master::{Event, Group};
@@ -112,7 +112,7 @@ pub fn serves_in_turn(group: &mut Group<Tally>, alloc: Global) -> Option<usize> 
 #[test]
 fn takeovers_lose_nothing(rt: HostRuntime) {
     assert_eq!(rt;
-        first_fault(rt.alloc(), 15, &[1, 2, 3], Story::ServesInTurn),
+        first_fault(rt.alloc(), 15, &[1, 2, 3], Run::ServesInTurn),
         None
     );
 }
@@ -166,8 +166,5 @@ pub fn leaves_late(group: &mut Group<Tally>, alloc: Global) -> Option<usize> {
 // has returned the output of place 2 by then.
 #[test]
 fn a_late_answer_leaves_after_later_ones(rt: HostRuntime) {
-    assert_eq!(rt;
-        first_fault(rt.alloc(), 3, &[1, 2], Story::LeavesLate),
-        None
-    );
+    assert_eq!(rt; first_fault(rt.alloc(), 3, &[1, 2], Run::LeavesLate), None);
 }

@@ -41,7 +41,7 @@ enum Act<'a> {
     HandOver(&'a [u8]),
 }
 
-// What goes otherwise than a story says.
+// What goes otherwise than a run says.
 #[derive(Clone, Copy, Debug, PartialEq, Eq)]
 enum Otherwise {
     // The act at this index.
@@ -54,7 +54,7 @@ enum Otherwise {
 
 // How many lanes a node has, what is done with it, how many items of each lane it took at the end,
 // and the lanes and times of the ticks that are left over.
-struct Story<'a> {
+struct Run<'a> {
     lanes: u8,
     acts: &'a [Act<'a>],
     taken: &'a [u64],
@@ -169,23 +169,23 @@ fn other_act<J: NodeNaming, R: Wait>(
         .position(|act| !is_right(rt, alloc, state, lanes, *act))
 }
 
-// Says whether a report is that of a story.
-fn tells(report: &Report, story: &Story<'_>) -> bool {
-    report.taken.as_slice() == story.taken
-        && report.left.len() == story.left.len()
-        && report.left.iter().zip(story.left).all(|((lane, item), (wanted, time))| {
+// Says whether a report is that of a run.
+fn tells(report: &Report, run: &Run<'_>) -> bool {
+    report.taken.as_slice() == run.taken
+        && report.left.len() == run.left.len()
+        && report.left.iter().zip(run.left).all(|((lane, item), (wanted, time))| {
             lane == wanted && matches!(item, Item::Tick(now) if now == time)
         })
 }
 
-// Says whether the node's report is that of the story, once its lanes send no more.
+// Says whether the node's report is that of the run, once its lanes send no more.
 fn closes<J: NodeNaming, R: Wait>(
     rt: &R,
     node: Node<'_, J, NodeState<J>, NoGate>,
     lanes: &mut [Lane<Item, J>],
-    story: &Story<'_>,
+    run: &Run<'_>,
 ) -> bool {
-    node.has_all(lanes) && tells(&node.close(rt, lanes), story)
+    node.has_all(lanes) && tells(&node.close(rt, lanes), run)
 }
 
 // Returns what went otherwise, by the first other act and by whether the report is right.
@@ -197,49 +197,49 @@ fn first_of(act: Option<usize>, is_told: bool) -> Option<Otherwise> {
     }
 }
 
-// Finds what goes otherwise with a node that is started for a story.
+// Finds what goes otherwise with a node that is started for a run.
 fn other_with<J: NodeNaming, R: Wait>(
     rt: &R,
     alloc: Global,
     state: NodeState<J>,
     lanes: &mut [Lane<Item, J>],
-    story: &Story<'_>,
+    run: &Run<'_>,
 ) -> Option<Otherwise> {
     match Node::start(alloc, state, None::<&NoGate>) {
         Ok(node) => {
-            let act = other_act(rt, alloc, &node, lanes, story.acts);
-            first_of(act, closes(rt, node, lanes, story))
+            let act = other_act(rt, alloc, &node, lanes, run.acts);
+            first_of(act, closes(rt, node, lanes, run))
         }
         Err(_) => Some(Otherwise::Start),
     }
 }
 
-// Finds what goes otherwise with node 1 than a story says.
+// Finds what goes otherwise with node 1 than a run says.
 fn first_other<J: NodeNaming, R: Wait>(
     rt: &R,
     alloc: Global,
     inbox: Inbox<Item>,
     core: NodeCore,
-    story: &Story<'_>,
+    run: &Run<'_>,
 ) -> Option<Otherwise>
     requires inbox { inbox ≡ J.inbox_of 1 }
     requires first { core ≡ J.first_of 1 }
-    requires lanes { (1 ≤ story.now.lanes) × (story.now.lanes ≤ 16) }
+    requires lanes { (1 ≤ run.now.lanes) × (run.now.lanes ≤ 16) }
 {
-    match inbox.named::<J>(1, story.lanes) {
+    match inbox.named::<J>(1, run.lanes) {
         Ok((receiver, mut lanes)) => other_with(
             rt,
             alloc,
             NodeState::new(receiver, core),
             lanes.as_mut_slice(),
-            story,
+            run,
         ),
         Err(_) => Some(Otherwise::Start),
     }
 }
 
 // What a lane sends is taken, one item at a time, and the answer is sent.
-const IN_ORDER: &Story<'static> = &Story {
+const IN_ORDER: &Run<'static> = &Run {
     lanes: 1,
     acts: &[
         Act::Open(0),
@@ -265,7 +265,7 @@ fn items_are_taken_in_their_order(rt: HostRuntime) -> Result<(), Fail> {
 
 // A lane sends three items while another thread has the node. Two of them are taken then, and the
 // third is left over.
-const BESIDE: &Story<'static> = &Story {
+const BESIDE: &Run<'static> = &Run {
     lanes: 1,
     acts: &[
         Act::Tick(0, 1),
@@ -290,7 +290,7 @@ fn send_waits_for_no_lock(rt: HostRuntime) -> Result<(), Fail> {
 }
 
 // Of two lanes' items two are taken, and the others left over.
-const LEFT: &Story<'static> = &Story {
+const LEFT: &Run<'static> = &Run {
     lanes: 2,
     acts: &[
         Act::Tick(0, 1),

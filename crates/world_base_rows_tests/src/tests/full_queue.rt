@@ -43,42 +43,48 @@ const TWO: &[u8] = &[0x40, 0x02, 0x00, 0x01, 0x40, 0x02, 0x00, 0x02];
 
 // How pieces come.
 #[derive(Clone, Copy)]
-struct Way {
+struct Cutting {
     alloc: Global,
     coming: Coming,
 }
 
 // Lets bytes come on a port: whether no message follows.
-fn brings(way: Way, node: &mut NodeCore, port: u64, bytes: &[u8]) -> bool {
-    comes(way.alloc, node, port, bytes, 0, way.coming)
+fn brings(cutting: Cutting, node: &mut NodeCore, port: u64, bytes: &[u8]) -> bool {
+    comes(cutting.alloc, node, port, bytes, 0, cutting.coming)
 }
 
 // Says whether bytes that come on a port are answered so.
 fn answers(
-    way: Way,
+    cutting: Cutting,
     node: &mut NodeCore,
     port: u64,
     bytes: &[u8],
     wanted: &[u8],
     open: bool,
 ) -> bool {
-    brings(way, node, port, bytes) && hands_over(way.alloc, node, port, wanted, open)
+    brings(cutting, node, port, bytes) && hands_over(cutting.alloc, node, port, wanted, open)
 }
 
 // Says whether a client connects on a port, and is answered so.
-fn connects(way: Way, node: &mut NodeCore, port: u64, connect: &[u8], wanted: &[u8]) -> bool {
-    take(way.alloc, node, Item::Opened(Port(port), 0));
-    answers(way, node, port, connect, wanted, true)
+fn connects(
+    cutting: Cutting,
+    node: &mut NodeCore,
+    port: u64,
+    connect: &[u8],
+    wanted: &[u8],
+) -> bool {
+    take(cutting.alloc, node, Item::Opened(Port(port), 0));
+    answers(cutting, node, port, connect, wanted, true)
 }
 
 // The subscriber's queue is filled while it is away.
-fn fills(way: Way, node: &mut NodeCore) -> bool {
-    let subscribed = connects(way, node, 1, CONNECT_B, ACCEPTED)
-        && answers(way, node, 1, SUBSCRIBE, SUBACK, true);
-    take(way.alloc, node, Item::Ended(Port(1)));
-    let away = hands_over(way.alloc, node, 1, NOTHING, false);
-    let filled = connects(way, node, 2, CONNECT_A, ACCEPTED)
-        && (0..ALL_BUT_ONE).all(|_| answers(way, node, 2, FILLING, FILLED, true));
+fn fills(cutting: Cutting, node: &mut NodeCore) -> bool {
+    let subscribed = connects(cutting, node, 1, CONNECT_B, ACCEPTED)
+        && answers(cutting, node, 1, SUBSCRIBE, SUBACK, true);
+    take(cutting.alloc, node, Item::Ended(Port(1)));
+    let away = hands_over(cutting.alloc, node, 1, NOTHING, false);
+    let filled = connects(cutting, node, 2, CONNECT_A, ACCEPTED)
+        && (0..ALL_BUT_ONE).all(|_| answers(cutting, node, 2, FILLING, FILLED, true));
     subscribed && away && filled
 }
 
@@ -153,12 +159,12 @@ impl Got {
     }
 
     // Answers all that came, until nothing comes any more.
-    fn finish(&mut self, way: Way, node: &mut NodeCore, port: u64) -> Option<()> {
+    fn finish(&mut self, cutting: Cutting, node: &mut NodeCore, port: u64) -> Option<()> {
         for _round in 0..ALL_BUT_ONE {
-            if !brings(way, node, port, self.answers.as_slice()) {
+            if !brings(cutting, node, port, self.answers.as_slice()) {
                 return None;
             }
-            if !self.look(way.alloc, node, port)? {
+            if !self.look(cutting.alloc, node, port)? {
                 return Some(());
             }
         }
@@ -176,20 +182,20 @@ fn ends_with_three(payloads: &[u8]) -> bool {
 }
 
 // Says whether the subscriber comes back, and is handed what waited for it.
-fn comes_back(way: Way, node: &mut NodeCore, got: &mut Got) -> bool {
-    take(way.alloc, node, Item::Opened(Port(3), 0));
-    brings(way, node, 3, CONNECT_B) && got.look(way.alloc, node, 3) == Some(true)
+fn comes_back(cutting: Cutting, node: &mut NodeCore, got: &mut Got) -> bool {
+    take(cutting.alloc, node, Item::Opened(Port(3), 0));
+    brings(cutting, node, 3, CONNECT_B) && got.look(cutting.alloc, node, 3) == Some(true)
 }
 
 // Says whether the subscriber answers the first two, the publisher sends its three again, and the
 // subscriber answers the others then.
-fn goes_on(way: Way, node: &mut NodeCore, got: &mut Got, rest: &[u8]) -> bool {
-    brings(way, node, 3, TWO)
-        && connects(way, node, 4, CONNECT_A, PRESENT)
-        && answers(way, node, 4, AGAIN, ALL, true)
-        && got.look(way.alloc, node, 3).is_some()
-        && brings(way, node, 3, rest)
-        && got.finish(way, node, 3).is_some()
+fn goes_on(cutting: Cutting, node: &mut NodeCore, got: &mut Got, rest: &[u8]) -> bool {
+    brings(cutting, node, 3, TWO)
+        && connects(cutting, node, 4, CONNECT_A, PRESENT)
+        && answers(cutting, node, 4, AGAIN, ALL, true)
+        && got.look(cutting.alloc, node, 3).is_some()
+        && brings(cutting, node, 3, rest)
+        && got.finish(cutting, node, 3).is_some()
 }
 
 // Its answers to what came but the first two.
@@ -199,19 +205,19 @@ fn rest_of(alloc: Global, got: &Got) -> Option<Vec<u8>> {
 }
 
 // Says whether the subscriber continues so with its answers but the first two.
-fn goes_on_with_the_rest(way: Way, node: &mut NodeCore, got: &mut Got) -> bool {
-    match rest_of(way.alloc, got) {
-        Some(rest) => goes_on(way, node, got, rest.as_slice()),
+fn goes_on_with_the_rest(cutting: Cutting, node: &mut NodeCore, got: &mut Got) -> bool {
+    match rest_of(cutting.alloc, got) {
+        Some(rest) => goes_on(cutting, node, got, rest.as_slice()),
         None => false,
     }
 }
 
 // Says whether the queue of this node keeps the order on its way to a client.
-fn keeps_the_order(way: Way, node: &mut NodeCore, got: &mut Got) -> bool {
-    fills(way, node)
-        && answers(way, node, 2, THREE, FIRST, false)
-        && comes_back(way, node, got)
-        && goes_on_with_the_rest(way, node, got)
+fn keeps_the_order(cutting: Cutting, node: &mut NodeCore, got: &mut Got) -> bool {
+    fills(cutting, node)
+        && answers(cutting, node, 2, THREE, FIRST, false)
+        && comes_back(cutting, node, got)
+        && goes_on_with_the_rest(cutting, node, got)
         && ends_with_three(got.payloads.as_slice())
         && node.losses() == 0
 }
@@ -219,7 +225,11 @@ fn keeps_the_order(way: Way, node: &mut NodeCore, got: &mut Got) -> bool {
 // Says whether a full queue keeps the order when pieces come so.
 fn is_kept(alloc: Global, coming: Coming) -> bool {
     match primary(alloc, &[1]) {
-        Some(mut node) => keeps_the_order(Way { alloc, coming }, &mut node, &mut Got::new(alloc)),
+        Some(mut node) => keeps_the_order(
+            Cutting { alloc, coming },
+            &mut node,
+            &mut Got::new(alloc),
+        ),
         None => false,
     }
 }
