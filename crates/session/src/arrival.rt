@@ -5,6 +5,6 @@
 pub enum Arrival {
     /// Its identifier is new, so the publication is new.
     First,
-    /// Its identifier came before and is not released: it is a repeat.
+    /// Its identifier came before, and no PUBREL with it since: it is a repeat.
     Again,
 }

@@ -1,4 +1,4 @@
-// The QoS 2 publications that arrived and are not released (MQTT 4.3.3).
+// The QoS 2 publications that arrived and whose PUBREL has not come (MQTT 4.3.3).
 
 ghost use Rattle.std.specs.Prelude.{◌≡◌, [], OnOk, OnErr};
 ghost use Rattle.session_base.specs.lists.Lists.{has_id};

@@ -55,7 +55,8 @@ pub fn answers_fit_the_qos()
 {}
 
 /// States that each filter of a session occurs once, in the order of their first granting, and
-/// received identifiers rise. This stays so whatever is granted, given up, received or released.
+/// received identifiers rise. This stays so whatever is granted, given up or received, and after
+/// each PUBREL.
 pub fn sessions_keep_their_form()
     ensures filters { FiltersStayApart }
     ensures order { FiltersKeepTheirOrder }
