@@ -3,6 +3,7 @@ use Rattle.std.specs.Prelude.{◌≡◌, ℕ, List, [], ◌∷◌, ◌++◌, Som
 use Rattle.broker_tables.specs.machine.Machine.{Rules}
 use Rattle.broker_tables.specs.broker_spec.Answers.{answers_of}
 use Rattle.broker_tables.specs.broker_spec.Commands.{past_of, limits_from, usual_limits}
+use Rattle.broker_tables.specs.broker_spec.Window.{narrow_window, wide_window}
 use Rattle.broker_tables.specs.broker_spec.declared.command.Command.{Command}
 use Rattle.broker_tables.specs.broker_spec.declared.command.Command.TheVariants.{Start}
 use Rattle.broker_tables.specs.broker_spec.declared.command.Output.{Output}
@@ -14,18 +15,18 @@ use Rattle.broker_form.specs.FormLaws.{IsUsualState}
 
 -- the state after a command, with the limits of this broker
 abbrev pub after : State → Command → State
-after state command = (step usual_limits 64 state command).0
+after state command = (step usual_limits wide_window state command).0
 
 -- the answers to a command, with the limits of this broker
 abbrev pub answers : State → Command → List Output
-answers state command = (step usual_limits 64 state command).1
+answers state command = (step usual_limits wide_window state command).1
 
--- the rules of the broker's machine: it begins with the window of 64, then goes step by step, and
+-- the rules of the broker's machine: it begins with the wide window, then goes step by step, and
 -- is frozen to form 2
 abbrev pub broker_rules : Rules State Command Output
 broker_rules =
     record {
-      opening = empty_state 64;
+      opening = empty_state wide_window;
       start_of = Start;
       after = after;
       gives = answers;
@@ -38,9 +39,9 @@ abbrev pub StandsFor : ℕ → State → List Command → Type 0
 StandsFor first state commands =
     state ≡ state_of (limits_from first) (past_of (limits_from first) commands)
 
--- a new broker's state is that of no command, with the window of 64
+-- a new broker's state is that of no command, with the wide window
 abbrev pub BeginsEmpty : Type 0
-BeginsEmpty = StandsFor 64 (empty_state 64) []
+BeginsEmpty = StandsFor wide_window (empty_state wide_window) []
 
 -- after one more command the state corresponds to the list with that command, and its answers are
 -- those that the list means
@@ -53,13 +54,16 @@ GoesOnStanding =
     ≡ answers_of (limits_from first) (past_of (limits_from first) commands) command)
 
 -- what such a state was frozen to in form 1, before any Start, is read as a state that corresponds
--- to the same list with the window of 16 at first
+-- to the same list with the narrow window at first
 abbrev pub GoesOnFromFormOne : Type 0
 GoesOnFromFormOne =
-    (state : State) → (commands : List Command) → IsUsualState state → state.window ≡ 16 →
-    StandsFor 16 state commands →
-    (read : State) × (thawed (frozen_before state) ≡ Some read) × StandsFor 16 read commands
+    (state : State) → (commands : List Command) → IsUsualState state →
+    state.window ≡ narrow_window →
+    StandsFor narrow_window state commands →
+    (read : State)
+    × (thawed (frozen_before state) ≡ Some read)
+    × StandsFor narrow_window read commands
 
--- with 64 at first, every window is 64
+-- with the wide window at first, every window is wide
 abbrev pub UsualIsWide : Type 0
-UsualIsWide = limits_from 64 ≡ usual_limits
+UsualIsWide = limits_from wide_window ≡ usual_limits

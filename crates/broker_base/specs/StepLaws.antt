@@ -7,6 +7,7 @@ use Rattle.broker_spec.specs.Retained.{retained_publications}
 use Rattle.broker_spec.specs.Times.{window_at}
 use Rattle.broker_spec.specs.Marks.{mark_of}
 use Rattle.broker_spec.specs.Commands.{place_of, past_of, limits_from, usual_limits}
+use Rattle.broker_spec.specs.Window.{wide_window}
 use Rattle.broker_spec.specs.Answers.{answers_of, answers_from}
 use Rattle.broker_base.specs.ClientSession.{ClientSession, client_session}
 use Rattle.broker_base.specs.SessionStep.{kept_after}
@@ -73,16 +74,17 @@ ListStandsFor =
 abbrev pub UsualListStandsFor : Type 0
 UsualListStandsFor =
     (commands : List Command) →
-    (state_from usual_limits 64 (empty_state 64) commands
+    (state_from usual_limits wide_window (empty_state wide_window) commands
     ≡ state_of usual_limits (past_of usual_limits commands))
-    × (steps_from usual_limits 64 (empty_state 64) commands ≡ answers_from usual_limits [] commands)
+    × (steps_from usual_limits wide_window (empty_state wide_window) commands
+    ≡ answers_from usual_limits [] commands)
 
 -- a list of commands gives a broker the state of the list, and its answers, whose window is this
--- one at first and 64 from the first Start on
+-- one at first and the wide one from the first Start on
 abbrev pub GrowingListStandsFor : Type 0
 GrowingListStandsFor =
     (first : ℕ) → (commands : List Command) →
-    (state_from usual_limits 64 (empty_state first) commands
+    (state_from usual_limits wide_window (empty_state first) commands
     ≡ state_of (limits_from first) (past_of (limits_from first) commands))
-    × (steps_from usual_limits 64 (empty_state first) commands
+    × (steps_from usual_limits wide_window (empty_state first) commands
     ≡ answers_from (limits_from first) [] commands)

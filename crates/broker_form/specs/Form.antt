@@ -13,7 +13,8 @@ use Rattle.session_base.specs.Counted.{keep, counted_at}
 use Rattle.session_base.specs.Form.{long_number_at, flag_at, qos_at, body_length, state_at}
 use Rattle.broker_spec.specs.Connection.{ConnectionName, is_connection_name}
 use Rattle.broker_spec.specs.Place.{Client}
-use Rattle.broker_spec.specs.Window.{is_window_size}
+use Rattle.broker_spec.specs.Commands.{max_sessions}
+use Rattle.broker_spec.specs.Window.{is_window_size, narrow_window}
 use Rattle.broker_base.specs.ClientSession.{ClientSession}
 use Rattle.broker_base.specs.State.{State}
 use Rattle.broker_form.specs.InRange.{as_publication}
@@ -78,23 +79,19 @@ retained_at bytes = do
 
 -- ---- the broker
 
--- form 2 names its window, 16 or 64
+-- form 2 names its window, one of the two
 unfoldable pub size_at : List ℕ → Result (ℕ × List ℕ) Stop
 size_at bytes = do
   size ← byte_at bytes
   keep (is_window_size size.0)
   Ok size
 
--- the number of the form, and the window: 16 in form 1
+-- the number of the form, and the window: the narrow one in form 1
 unfoldable pub head_at : List ℕ → Result (ℕ × List ℕ) Stop
 head_at bytes = do
   form ← byte_at bytes
   keep ((form.0 == 1) || (form.0 == 2))
-  if form.0 == 1 then Ok (16, form.1) else size_at form.1
-
--- how many sessions a broker has at most
-abbrev pub max_sessions : ℕ
-max_sessions = 4096
+  if form.0 == 1 then Ok (narrow_window, form.1) else size_at form.1
 
 -- so many sessions and topics at most, and nothing after them
 abbrev pub content_at : ℕ → List ℕ → Result State Stop

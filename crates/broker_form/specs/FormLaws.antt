@@ -3,7 +3,7 @@
 use Rattle.std.specs.Prelude.{◌≡◌, ℕ, ◌⊎◌, List, Some, IfOk}
 use Rattle.session_base.specs.FormLaws.{AreBytes}
 use Rattle.broker_spec.specs.Commands.{usual_limits}
-use Rattle.broker_spec.specs.Window.{IsWindowSize}
+use Rattle.broker_spec.specs.Window.{IsWindowSize, narrow_window}
 use Rattle.broker_base.specs.State.{State}
 use Rattle.broker_base.specs.StateLaws.{AllInWindow}
 use Rattle.broker_form.specs.InRange.{IsBrokerState}
@@ -21,10 +21,10 @@ IsUsualState state =
 abbrev pub FrozenIsThawed : Type 0
 FrozenIsThawed = (state : State) → IsUsualState state → thawed (frozen state) ≡ Some state
 
--- what is frozen to form 1 is thawed, if the window is 16
+-- what is frozen to form 1 is thawed, if the window is the narrow one
 abbrev pub FrozenBeforeIsThawed : Type 0
 FrozenBeforeIsThawed =
-    (state : State) → IsUsualState state → state.window ≡ 16
+    (state : State) → IsUsualState state → state.window ≡ narrow_window
     → thawed (frozen_before state) ≡ Some state
 
 -- what is thawed is a state of this broker
@@ -32,8 +32,8 @@ abbrev pub ThawedIsInRange : Type 0
 ThawedIsInRange = (bytes : List ℕ) → AreBytes bytes → IfOk (broker_at bytes) IsUsualState
 
 -- bytes from which a broker is thawed are those to which it is frozen, in form 2, or in form 1 with
--- the window of 16
+-- the narrow window
 abbrev pub ThawedIsFrozen : Type 0
 ThawedIsFrozen =
     (bytes : List ℕ) → (state : State) → AreBytes bytes → thawed bytes ≡ Some state →
-    (frozen state ≡ bytes) ⊎ ((state.window ≡ 16) × (frozen_before state ≡ bytes))
+    (frozen state ≡ bytes) ⊎ ((state.window ≡ narrow_window) × (frozen_before state ≡ bytes))

@@ -5,6 +5,7 @@ use Rattle.std.specs.List.{AllByRecursion}
 use Rattle.packet.specs.Spelling.{IsPacket}
 use Rattle.broker_spec.specs.Place.{Limits}
 use Rattle.broker_spec.specs.Commands.{usual_limits}
+use Rattle.broker_spec.specs.Window.{wide_window}
 use Rattle.broker_spec.specs.Logged.{IsBrokerCommand}
 use Rattle.broker_spec.specs.declared.command.Command.{Command}
 use Rattle.broker_spec.specs.declared.command.Output.{Output}
@@ -36,6 +37,6 @@ AnswersAreSpelled =
 abbrev pub ListsAreInRange : Type 0
 ListsAreInRange =
     (window : ℕ) → (commands : List Command) → AllByRecursion IsBrokerCommand commands →
-    IsBrokerState usual_limits (state_from usual_limits 64 (empty_state window) commands)
+    IsBrokerState usual_limits (state_from usual_limits wide_window (empty_state window) commands)
     × AllByRecursion (AllByRecursion CanBeSpelled)
-    (steps_from usual_limits 64 (empty_state window) commands)
+    (steps_from usual_limits wide_window (empty_state window) commands)

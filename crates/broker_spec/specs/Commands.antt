@@ -1,6 +1,8 @@
 -- The past of a list of commands, and the limits of this broker.
 use Rattle.std.specs.Prelude.{ℕ, if◌then◌else◌, Bool, true, false, List, [], ◌∷◌}
+use Rattle.retained.specs.Retained.{max_topics}
 use Rattle.broker_spec.specs.Place.{Place, Past, Limits}
+use Rattle.broker_spec.specs.Window.{wide_window}
 use Rattle.broker_spec.specs.Marks.{mark_of}
 use Rattle.broker_spec.specs.declared.command.Command.{Command}
 use Rattle.broker_spec.specs.declared.command.Command.TheVariants as commands
@@ -25,27 +27,32 @@ abbrev pub is_start : Command → Bool
 is_start (commands.Start ballot) = true
 is_start _ = false
 
+-- how many sessions a broker has at most
+abbrev pub max_sessions : ℕ
+max_sessions = 4096
+
 -- the limits of this broker, with any window
 abbrev pub limits_with : (Past → ℕ) → Limits
 limits_with window =
     record {
-      sessions = 4096;
+      sessions = max_sessions;
       subscriptions = 64;
       entries = 4096;
-      retained = 16384;
+      retained = max_topics;
       window = window;
     }
 
--- the limits of this broker: at most 64 entries of a session are in flight
+-- the limits of this broker: no more entries of a session are in flight than the wide window
 abbrev pub usual_limits : Limits
-usual_limits = limits_with (λ past. 64)
+usual_limits = limits_with (λ past. wide_window)
 
--- a window that was this one at first, and is 64 from the first Start on
+-- a window that was this one at first, and is the wide one from the first Start on
 abbrev pub window_from : ℕ → Past → ℕ
-window_from first (place ∷ past) = if is_start place.command then 64 else window_from first past
+window_from first (place ∷ past) =
+    if is_start place.command then wide_window else window_from first past
 window_from first [] = first
 
--- the limits of a broker with such a window: its first window is 64 in a new broker, 16 in one that
--- was read from form 1
+-- the limits of a broker with such a window: its first window is the wide one in a new broker, the
+-- narrow one in one that was read from form 1
 abbrev pub limits_from : ℕ → Limits
 limits_from first = limits_with (window_from first)

@@ -6,6 +6,7 @@ use Rattle.broker_spec.specs.Entries.{Entry}
 use Rattle.broker_spec.specs.Readings.{busy_ids}
 use Rattle.broker_spec.specs.Times.{entries_of, window_at}
 use Rattle.broker_spec.specs.Commands.{usual_limits}
+use Rattle.broker_spec.specs.Window.{wide_window}
 use Rattle.retained.specs.lists.Lists.{IsDistinct}
 
 -- no two entries of a session that are in flight have the same identifier (MQTT 2.3.1)
@@ -32,7 +33,7 @@ IdentifiersAreInTheWindow =
 abbrev pub IdentifiersAreTo64 : Type 0
 IdentifiersAreTo64 =
     (past : Past) (c : Client)
-    → AllByRecursion (IsInWindow 64) (busy_ids (entries_of usual_limits past c))
+    → AllByRecursion (IsInWindow wide_window) (busy_ids (entries_of usual_limits past c))
 
 -- an entry that waits
 abbrev pub IsWaiting : Entry → Type 0

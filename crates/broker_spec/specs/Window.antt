@@ -1,9 +1,17 @@
 -- The possible windows: how many entries of a session are in flight at most (MQTT 4.6).
 use Rattle.std.specs.Prelude.{ℕ, ◌==◌, ◌||◌, Bool, IsTrue, if◌then◌else◌, Option, Some, None}
 
--- 16 as in form 1, or 64
+-- the window of a new broker, and of each from a Start on
+abbrev pub wide_window : ℕ
+wide_window = 64
+
+-- that of a broker that was read from form 1, until a Start
+abbrev pub narrow_window : ℕ
+narrow_window = 16
+
+-- one of the two
 abbrev pub is_window_size : ℕ → Bool
-is_window_size n = (n == 16) || (n == 64)
+is_window_size n = (n == narrow_window) || (n == wide_window)
 
 -- the number is one of these
 abbrev pub IsWindowSize : ℕ → Type 0

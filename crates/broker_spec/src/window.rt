@@ -1,7 +1,7 @@
 // How many entries of a session are in flight at most.
 
 ghost use Rattle.std.specs.Prelude.{◌≡◌, ◌≤◌};
-ghost use Rattle.broker_spec.specs.Window.{IsWindowSize, window_of};
+ghost use Rattle.broker_spec.specs.Window.{IsWindowSize, narrow_window, wide_window, window_of};
 
 /// How many entries of a session are in flight at most (MQTT 4.6): 64, or 16 in a broker that was
 /// read from form 1, until a ballot begins.
@@ -26,14 +26,14 @@ impl std::marker::Model for Window {
 impl Window {
     /// Returns the window of a fresh broker, and of every broker from a `Start` on.
     pub fn wide() -> Window
-        ensures { result ≡ 64 }
+        ensures { result ≡ wide_window }
     {
         Window { size: 64 }
     }
 
     /// Returns the window of a broker that was read from form 1, until a `Start`.
     pub fn narrow() -> Window
-        ensures { result ≡ 16 }
+        ensures { result ≡ narrow_window }
     {
         Window { size: 16 }
     }
@@ -52,7 +52,7 @@ impl Window {
     pub fn size(self) -> usize
         ensures value { result ≡ self }
         ensures known { IsWindowSize self }
-        ensures small { result ≤ 64 }
+        ensures small { result ≤ wide_window }
     {
         usize::from(self.size)
     }

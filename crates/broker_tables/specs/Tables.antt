@@ -8,6 +8,7 @@ use Rattle.broker_rows.specs.subs_base.ListIndex.{content_of}
 use Rattle.broker_rows.specs.broker_spec.Connection.{ConnectionName}
 use Rattle.broker_rows.specs.broker_spec.Place.{Client}
 use Rattle.broker_rows.specs.broker_spec.Commands.{usual_limits}
+use Rattle.broker_rows.specs.broker_spec.Window.{wide_window}
 use Rattle.broker_rows.specs.broker_spec.declared.command.Command.{Command}
 use Rattle.broker_rows.specs.broker_spec.declared.command.Output.{Output}
 use Rattle.broker_rows.specs.broker_base.State.{State}
@@ -48,4 +49,4 @@ pub record IsConsistent (tables : Tables) : Type 0 where
 
 -- the state after a command, and its answers
 unfoldable pub stepped : Tables → Command → State × List Output
-stepped tables command = step usual_limits 64 (state_in tables) command
+stepped tables command = step usual_limits wide_window (state_in tables) command

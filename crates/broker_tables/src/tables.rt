@@ -2,6 +2,7 @@
 
 ghost use Rattle.std.specs.Prelude.{◌≡◌};
 ghost use Rattle.broker_rows.specs.broker_base.State.{empty_state};
+ghost use Rattle.broker_rows.specs.broker_spec.Window.{wide_window};
 ghost use Rattle.broker_tables.specs.Tables.{IsTied, state_in};
 
 use crate::client_row::ClientRow;
@@ -33,7 +34,7 @@ pub struct Tables {
 impl Tables {
     /// Returns empty tables.
     pub fn new(alloc: Global) -> Tables
-        ensures state { state_in result ≡ empty_state 64 }
+        ensures state { state_in result ≡ empty_state wide_window }
         ensures tied { IsTied result }
     {
         Tables {

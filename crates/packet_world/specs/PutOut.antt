@@ -10,6 +10,7 @@ use Rattle.snapshots.specs.agreement.World.{outputs}
 use Rattle.exactly_once.specs.broker_spec.Connection.{ConnectionName}
 use Rattle.exactly_once.specs.broker_spec.Place.{Client}
 use Rattle.exactly_once.specs.broker_spec.Commands.{usual_limits}
+use Rattle.exactly_once.specs.broker_spec.Window.{wide_window}
 use Rattle.exactly_once.specs.broker_spec.declared.command.Command.{Command}
 use Rattle.exactly_once.specs.broker_spec.declared.command.Command.TheVariants as commands
 use Rattle.exactly_once.specs.broker_spec.declared.command.Output.{Output}
@@ -22,14 +23,14 @@ use Rattle.exactly_once.specs.Sides.{Connection}
 use Rattle.packet_world.specs.World.{End, ClientEnds, World, with_client}
 use Rattle.packet_world.specs.Goes.{HasPipe, Reached}
 
--- the broker's machine, with a window of 64, frozen to form 2
+-- the broker's machine, with the wide window, frozen to form 2
 abbrev pub broker_rules : Rules State Command Output
 broker_rules =
     record {
-      opening = empty_state 64;
+      opening = empty_state wide_window;
       start_of = commands.Start;
-      after = λ state command. (step usual_limits 64 state command).0;
-      gives = λ state command. (step usual_limits 64 state command).1;
+      after = λ state command. (step usual_limits wide_window state command).0;
+      gives = λ state command. (step usual_limits wide_window state command).1;
       frozen = frozen;
       thawed = thawed;
     }
