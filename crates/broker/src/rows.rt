@@ -34,7 +34,7 @@ impl Rows {
     #[tactic(auto, unfolding(session_base::specs::Counted::counted_at))]
     pub(crate) fn read(alloc: Global, window: Window, reader: &mut Reader) -> Result<Rows, Stop>
         ensures exact { Reads (λ rows. rows.sessions.entries) result reader.new
-            (counted_at number_at row_follows (row_at window) 4096 reader.old) }
+            (counted_at number_at row_follows (row_at window) MAX_SESSIONS reader.old) }
         ensures owned { IfOk result AreOwned }
     {
         let count = reader.number()?;

@@ -69,7 +69,7 @@ fn read_broker(alloc: Global, bytes: &[u8]) -> Result<(Window, Rows, RetainedSto
 #[tactic(auto, unfolding(session_base::specs::Counted::counted_at))]
 fn read_retained(alloc: Global, reader: &mut Reader) -> Result<RetainedStore, Stop>
     ensures { Reads (λ x. x) result reader.new
-        (counted_at number_at topic_follows retained_at 16384 reader.old) }
+        (counted_at number_at topic_follows retained_at MAX_TOPICS reader.old) }
 {
     let count = reader.number()?;
     keep(usize::from(count) <= MAX_TOPICS)?;
@@ -78,7 +78,7 @@ fn read_retained(alloc: Global, reader: &mut Reader) -> Result<RetainedStore, St
 
 // Reads this many topics.
 fn read_topics(alloc: Global, count: u16, reader: &mut Reader) -> Result<RetainedStore, Stop>
-    requires { count ≤ 16384 }
+    requires { count ≤ MAX_TOPICS }
     ensures { Reads (λ x. x) result reader.new
         (items_after topic_follows retained_at count [] reader.old) }
 {
@@ -96,7 +96,7 @@ fn add_topic(
     topic: TopicName,
     kept: RetainedPublication,
 ) -> Result<(), Stop>
-    requires { length retained.old < 16384 }
+    requires { length retained.old < MAX_TOPICS }
     ensures { Adds topic_follows retained.old (topic, kept) result retained.new }
 {
     keep(is_after(retained, &topic))?;

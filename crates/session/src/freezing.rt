@@ -10,7 +10,7 @@ ghost use Rattle.session_base.specs.FormLaws.{HasForm};
 ghost use Rattle.session.specs.Inside.{AreWritable};
 
 use crate::received::Received;
-use crate::session::Session;
+use crate::session::{MAX_ENTRIES, MAX_SUBSCRIPTIONS, Session};
 use crate::session_queue::SessionQueue;
 use crate::subscriptions::Subscriptions;
 use session_base::packet::PacketId;
@@ -36,7 +36,7 @@ impl Session {
 impl Subscriptions {
     /// Appends their count, and each of them.
     pub(crate) fn write(&self, bytes: &mut Vec<u8>) -> Result<(), AllocError>
-        requires { length self.now ≤ 64 }
+        requires { length self.now ≤ MAX_SUBSCRIPTIONS }
         ensures { OnOk result
             (bytes.new.items ≡ bytes.old.items ++ counted one_byte held_bytes self.now) }
     {
@@ -80,8 +80,8 @@ impl Received {
 impl SessionQueue {
     /// Appends what is in flight and what waits, each after its count.
     pub(crate) fn write(&self, bytes: &mut Vec<u8>) -> Result<(), AllocError>
-        requires few { length self.now.in_flight ≤ 4096 }
-        requires fewer { length self.now.waiting ≤ 4096 }
+        requires few { length self.now.in_flight ≤ MAX_ENTRIES }
+        requires fewer { length self.now.waiting ≤ MAX_ENTRIES }
         requires flights { AllByRecursion AreWritable self.now.in_flight }
         requires waiting { AllByRecursion HasLength self.now.waiting }
         ensures { OnOk result

@@ -33,7 +33,7 @@ impl Subscriptions {
     #[tactic(auto, unfolding(session_base::specs::Counted::counted_at))]
     pub(crate) fn read(alloc: Global, reader: &mut Reader) -> Result<Subscriptions, Stop>
         ensures { Reads (λ x. x) result reader.new
-            (counted_at byte_at is_new_filter held_at 64 reader.old) }
+            (counted_at byte_at is_new_filter held_at MAX_SUBSCRIPTIONS reader.old) }
     {
         let count = reader.byte()?;
         keep(usize::from(count) <= MAX_SUBSCRIPTIONS)?;
@@ -121,7 +121,7 @@ impl Session {
     /// runs out.
     #[tactic(auto, unfolding(session_base::specs::Form::state_at))]
     pub fn read(alloc: Global, window: usize, reader: &mut Reader) -> Result<Session, Stop>
-        requires { window ≤ 4096 }
+        requires { window ≤ MAX_ENTRIES }
         ensures { Reads (λ x. x) result reader.new (state_at window reader.old) }
     {
         let subscriptions = Subscriptions::read(alloc, reader)?;
