@@ -6,6 +6,14 @@ use Rattle.mailbox.specs.declared.lane.TheConstants.{MAX_SENT}
 use Rattle.mailbox.specs.declared.view.Bounds.{Bounds}
 use Rattle.mailbox.specs.Delivery.{items_of, lane_view, taker_view, Moment}
 
+-- how many items an inbox holds at most
+abbrev pub max_items : ℕ
+max_items = 1024
+
+-- how many lanes an inbox has at most
+abbrev pub max_lanes : ℕ
+max_lanes = 64
+
 -- a lane: the number of its inbox, its own, and how many of its items it knows to be taken
 pub record Sender (T : Type 0) : Type 0 where
   pub inbox : ℕ

@@ -5,7 +5,7 @@ use Rattle.crossbeam_queue.specs.Passes.{Pass, view}
 use Rattle.mailbox.specs.declared.inbox.TheConstants.{MAX_ITEMS}
 use Rattle.mailbox.specs.declared.view.View.{View}
 use Rattle.mailbox.specs.Delivery.{items_of, lane_view, nothing, receiver_view, taker_view}
-use Rattle.mailbox.specs.Ends.{Sender, Taker}
+use Rattle.mailbox.specs.Ends.{Sender, Taker, max_lanes}
 use Rattle.mailbox.specs.Inside.{nobody}
 
 -- what a lane keeps: its pass, for the inbox that its number names, knows what the lane shows
@@ -54,7 +54,7 @@ pub record DealerKept {T : Type 0}
   pub role :
       view pass
       ≡ receiver_view (length counts) [] (2 ^ 64 - length counts * 2 ^ 55) (2 ^ 64) nothing
-  pub few : length counts ≤ 64
+  pub few : length counts ≤ max_lanes
   pub counted : (lane : ℕ) → slice_index counts lane ≡ 0
 
 -- what an inbox without lanes keeps

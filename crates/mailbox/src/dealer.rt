@@ -2,6 +2,7 @@
 
 ghost use Rattle.std.specs.Prelude.{◌≡◌, ◌+◌, ◌<◌, [], IfOk, OnOk};
 
+use crate::inbox::MAX_LANES;
 use crate::lane::Lane;
 use crate::moves::{Deals, Knowledge, Queue, Seals};
 use crate::naming::Naming;
@@ -45,7 +46,7 @@ impl<T: Drop, J: Naming> Dealer<T, J> {
     /// Makes the lane of the next number, which has sent nothing. The only error is that memory ran
     /// out.
     pub(crate) fn deal(&mut self) -> Result<Lane<T, J>, AllocError>
-        requires few { self.old.lanes < 64 }
+        requires few { self.old.lanes < MAX_LANES }
         ensures lane { IfOk result (λ l.
             l ≡ record { inbox = self.old.inbox; lane = self.old.lanes; met = 0; sent = [] }) }
         ensures more { OnOk result (self.new ≡ record self.old { lanes = self.old.lanes + 1 }) }

@@ -1,7 +1,7 @@
 // An inbox before it has lanes, and how it gets them.
 
 ghost use Rattle.std.specs.Prelude.{◌≡◌, ◌<◌, ◌≤◌, [], IfOk};
-ghost use Rattle.mailbox.specs.Ends.{fresh_lanes};
+ghost use Rattle.mailbox.specs.Ends.{fresh_lanes, max_items};
 
 use crate::dealer::Dealer;
 use crate::lane::Lane;
@@ -49,7 +49,7 @@ impl<T: Drop> Model for Inbox<T> {
 impl<T: Drop> Inbox<T> {
     /// Returns an empty inbox with capacity for 1,024 items.
     pub fn new(alloc: Global) -> Result<Self, AllocError>
-        ensures { IfOk result (λ n. n.slots ≡ 1024) }
+        ensures { IfOk result (λ n. n.slots ≡ max_items) }
     {
         let (queue, pass) = Queue::ruled(alloc, MAX_ITEMS)?;
         let queue = Arc::new(alloc, queue)?;
@@ -64,7 +64,7 @@ impl<T: Drop> Inbox<T> {
         lanes: u8,
     ) -> Result<(Receiver<T, J>, Vec<Lane<T, J>>), AllocError>
         requires named { self ≡ J.inbox_of number }
-        requires lanes { (1 ≤ lanes) × (lanes ≤ 64) }
+        requires lanes { (1 ≤ lanes) × (lanes ≤ MAX_LANES) }
         ensures receiver { IfOk result (λ r.
             r.0 ≡ record { inbox = number; lanes = lanes; taken = [] }) }
         ensures lanes { IfOk result (λ r. r.1.items ≡ fresh_lanes number lanes) }

@@ -151,7 +151,7 @@ impl<T: Drop, J: Naming> Receiver<T, J> {
         requires lanes { AreAllLanes self.old lanes.old }
         requires counts { length counts.old ≡ self.old.lanes }
         requires empty { left.old.items ≡ [] }
-        requires room { 1024 ≤ vec_capacity left.old }
+        requires room { MAX_ITEMS ≤ vec_capacity left.old }
 
         // Those counted and those left over are, lane by lane and in order, all that was sent.
         ensures whole { All (ArrivesWhole counts.new left.new.items) lanes.new }

@@ -54,14 +54,19 @@ can_drop core =
     not core.replica.state.stopped
     && nat_lt core.replica.state.log.base core.replica.state.committed
 
+-- how many bytes a command to drop counts, in addition to those that were taken
+abbrev pub command_bytes : ℕ
+command_bytes = 128
+
 -- Whether the log of a node that took these items is to be cut because of its size. It is if there
 -- are commands to drop, and what was taken since the last cut counts more than 16 MiB and more than
--- the snapshot has bytes. Each command to drop counts another 128 bytes.
+-- the snapshot has bytes. Each command to drop counts that many more.
 abbrev pub wants_cut : List (ℕ × Item) → CoreState → Bool
 wants_cut taken core =
     can_drop core
     && nat_lt (max 16777216 (length core.replica.state.log.snapshot))
-    (bytes_since_cut taken + 128 * (core.replica.state.committed - core.replica.state.log.base))
+    (bytes_since_cut taken
+    + command_bytes * (core.replica.state.committed - core.replica.state.log.base))
 
 -- a count of bytes that saturates at 2^64 - 1
 abbrev pub counted : ℕ → ℕ

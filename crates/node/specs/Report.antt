@@ -1,7 +1,7 @@
 -- The capacity that a node's report needs, and what it says about a lane.
 use Rattle.std.specs.Prelude.{◌≡◌, ℕ, ◌≤◌, List, [], ◌++◌, length, vec_capacity}
 use Rattle.mailbox.specs.Delivery.{items_of}
-use Rattle.mailbox.specs.Ends.{Sender}
+use Rattle.mailbox.specs.Ends.{Sender, max_items}
 use Rattle.world_base.specs.declared.item.Item.{Item}
 use Rattle.node.specs.declared.report.Report.{Report}
 
@@ -10,7 +10,7 @@ abbrev pub HasRoom : ℕ → Report → Type 0
 HasRoom lanes report =
     (length report.taken.items ≡ lanes)
     × (report.left.items ≡ [])
-    × (1024 ≤ vec_capacity report.left)
+    × (max_items ≤ vec_capacity report.left)
 
 -- what was taken from a lane followed by what is left over of it is, in order, all that it sent
 abbrev pub TellsAll : List (ℕ × Item) → List (ℕ × Item) → Sender Item → Type 0

@@ -3,6 +3,7 @@
 ghost use Rattle.std.specs.Prelude.{◌≡◌, ◌+◌, ◌≤◌, None, false, true};
 ghost use Rattle.node.specs.Crowding.{admits, is_agreed, open_places, shown, took};
 
+use node_base::PIECE_BYTES;
 use std::marker::Model;
 use world_base::Status;
 
@@ -74,7 +75,7 @@ impl Intake {
 
     /// Counts bytes as in transit to the node, if it takes more.
     pub fn admit(&mut self, bytes: u64) -> bool
-        requires { bytes ≤ 65536 }
+        requires { bytes ≤ PIECE_BYTES }
         ensures admits { result ≡ admits self.old }
         ensures counted { result ≡ true →
             self.new ≡ record self.old { entering = self.old.entering + bytes } }

@@ -64,7 +64,7 @@ impl<'e, 'a, J: NodeNaming, S: Stated<J>, G: Gate> Hearer for LaneReporter<'e, '
 
 // Returns how many bytes of a client an item carries, at most as many as a read returns.
 fn size_of(item: &Item) -> u64
-    ensures { result ≤ 65536 }
+    ensures { result ≤ PIECE_BYTES }
 {
     match item {
         Item::Bytes(_, piece, _) => piece.as_slice().len().min(PIECE_BYTES) as u64,

@@ -3,7 +3,7 @@
 ghost use Rattle.std.specs.Prelude.{◌≤◌};
 
 use crate::shared::Shared;
-use post::node::{Gate, NodeNaming, Port, Standing, Stated};
+use post::node::{Gate, NodeNaming, PIECE_BYTES, Port, Standing, Stated};
 use std::sync::Wait;
 use std::thread;
 use std::time::{Clock, Duration};
@@ -16,7 +16,7 @@ impl<'a, J: NodeNaming, S: Stated<J>, G: Gate> Shared<'a, J, S, G> {
     /// in transit. None do if there is only one node, nor on a connection that the node has closed,
     /// whose bytes have no effect.
     pub(crate) fn await_room<R: Wait + Clock>(&self, rt: &R, port: Port, bytes: u64) -> u64
-        requires { bytes ≤ 65536 }
+        requires { bytes ≤ PIECE_BYTES }
     {
         if bytes == 0 || !self.context.cluster.are_several() {
             return 0;

@@ -1,5 +1,5 @@
 -- Which items wake the node for which they are queued.
-use Rattle.std.specs.Prelude.{Bool, true, false, not, nat_lt, List, length}
+use Rattle.std.specs.Prelude.{ℕ, Bool, true, false, not, nat_lt, List, length}
 use Rattle.node.specs.Command.{Command}
 use Rattle.node.specs.declared.Body.{Body}
 use Rattle.node.specs.declared.Body.TheVariants.{Commit}
@@ -16,6 +16,10 @@ abbrev pub wakes : Item → Bool
 wakes (Peer message) = not (is_commit message.body)
 wakes _ = true
 
+-- how many items a thread that queued one of them takes, in place of the node's own thread
+abbrev pub max_helped : ℕ
+max_helped = 16
+
 -- more items than a thread that queued one of them takes in place of the node's own thread
 abbrev pub is_long : List Item → Bool
-is_long items = nat_lt 16 (length items)
+is_long items = nat_lt max_helped (length items)

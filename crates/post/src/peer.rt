@@ -11,7 +11,7 @@ use crate::outgoing::Outgoing;
 use crate::waker::Waker;
 use crate::waking::is_urgent;
 use node::packet::ClientId;
-use node::{Config, Intake, Item, Memory, Status};
+use node::{Config, Intake, Item, Memory, PIECE_BYTES, Status};
 use std::alloc::Global;
 use std::sync::{Mutex, Wait};
 use std::time::Duration;
@@ -242,7 +242,7 @@ impl Peer {
     /// transit to it. It takes none while too much of what it took is not agreed, so that what
     /// waits for a member that lags is bounded.
     pub fn admit<R: Wait>(&self, rt: &R, bytes: u64) -> bool
-        requires { bytes ≤ 65536 }
+        requires { bytes ≤ PIECE_BYTES }
     {
         self.intake.lock(rt).admit(bytes)
     }
