@@ -3,7 +3,7 @@ use Rattle.std.specs.Prelude.{Option, Some, None, ℕ, zero, suc, Bool, ◌+◌,
 use Rattle.std.specs.Prelude.{slice_set, ◌&&◌, nat_le}
 use Rattle.std.specs.List.{list_all}
 use Rattle.whole.specs.machine.Machine.{Rules}
-use Rattle.whole.specs.LawfulConfig.{is_lawful}
+use Rattle.whole.specs.LawfulConfig.{is_lawful, max_node}
 use Rattle.whole.specs.Config.{Config}
 use Rattle.whole.specs.Messages.{Message, Effect}
 use Rattle.whole.specs.Messages.Effect.{To, Out}
@@ -16,10 +16,11 @@ pub record World (S C O : Type 0) : Type 0 where
   pub sent : List (ℕ × Message C)
   pub left : List (ℕ × O)
 
--- up to 15 nodes open in a lawful configuration whose members are among them
+-- nodes open, no more than there are numbers, in a lawful configuration whose members are among
+-- them
 abbrev pub can_open : ℕ → Config → Bool
 can_open nodes config =
-    nat_le nodes 15
+    nat_le nodes max_node
     && (is_lawful config.members config.primary
     && list_all (λ member. nat_le member nodes) config.members)
 

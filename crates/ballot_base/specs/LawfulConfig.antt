@@ -2,13 +2,17 @@
 use Rattle.std.specs.Prelude.{ℕ, Bool, true, List, [], ◌∷◌, length, ◌&&◌, ◌==◌, nat_lt, nat_le}
 use Rattle.std.specs.List.{list_any}
 
--- the numbers rise strictly from above `last`, up to 15
+-- the greatest number that a node may have
+abbrev pub max_node : ℕ
+max_node = 15
+
+-- the numbers rise strictly from above `last`, up to the greatest
 abbrev pub are_rising : ℕ → List ℕ → Bool
 are_rising last [] = true
 are_rising last (member ∷ members) =
-    (nat_lt last member && nat_le member 15) && are_rising member members
+    (nat_lt last member && nat_le member max_node) && are_rising member members
 
--- 1 to 7 members, strictly rising, each from 1 to 15, and the primary is one of them
+-- 1 to 7 members, strictly rising, each from 1 to the greatest, and the primary is one of them
 abbrev pub is_lawful : List ℕ → ℕ → Bool
 is_lawful members primary =
     are_rising 0 members
