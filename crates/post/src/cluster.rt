@@ -7,11 +7,12 @@ ghost use Rattle.post.specs.Numbers.{numbers_of};
 
 use crate::carrier::{Carrier, Given, carry_all};
 use crate::choosing::{Shown, primary_of};
-use crate::messaging_master::{Answer, MASTER, MessagingMaster};
+use crate::messaging_master::{Answer, MessagingMaster};
 use crate::order_error::OrderError;
 use crate::outgoing::Outgoing;
 use crate::peer::Peer;
 use master::AssignError;
+use master::ballot::MASTER;
 use node::packet::ClientId;
 use node::{Config, Members, Memory, OpeningError, Status};
 use std::alloc::Global;

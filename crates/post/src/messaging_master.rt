@@ -14,13 +14,11 @@ ghost use Rattle.post.specs.Mastering.{answer_to, body_of, master_after, message
 use crate::cluster::Cluster;
 use crate::order_error::OrderError;
 use crate::outbox::Outbox;
+use master::ballot::MASTER;
 use master::{Activation, AssignError, Master};
 use node::{Body, Command, Config, Members, Message};
 use std::alloc::Global;
 use std::marker::Model;
-
-/// The number of the master as a node.
-pub(crate) const MASTER: u8 = 0;
 
 /// A message of the master with the number of its receiver. Only a [`MessagingMaster`] makes one.
 /// It cannot be dropped: it ends in an outbox of its receiver, or is lost if no node has that

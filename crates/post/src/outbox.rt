@@ -14,11 +14,12 @@ ghost use Rattle.post.specs.Superseding.{newest, still_waiting, supersedes_one};
 ghost use Rattle.post.specs.Waiting.{has_room, is_of_node};
 ghost use Rattle.post.specs.Waking.{is_long, wakes};
 
-use crate::messaging_master::{Answer, MASTER, MessagingMaster};
+use crate::messaging_master::{Answer, MessagingMaster};
 use crate::order_error::OrderError;
 use crate::superseding::supersedes;
 use crate::waking::is_any_urgent;
 use master::AssignError;
+use master::ballot::MASTER;
 use node::{Config, Item};
 use std::alloc::Global;
 use std::marker::Model;
