@@ -1,6 +1,6 @@
 // A node that serves, with the lanes of its threads.
 
-ghost use Rattle.std.specs.Prelude.{◌≡◌, [], IfOk};
+ghost use Rattle.std.specs.Prelude.{◌≡◌, [], IfOk, map};
 ghost use Rattle.post.specs.node.Lists.{Each};
 ghost use Rattle.post.specs.Queued.{EachOpensAs};
 ghost use Rattle.node_threads.specs.Named.{AreNamed};
@@ -150,6 +150,8 @@ pub fn start_all<'a, J: NodeNaming, R: Wait, G: Gate>(
 ) -> Result<Vec<ServedNode<'a, J, NodeState<J>, G>>, Memory>
     requires named { AreNamed J.inbox_of J.first_of opened.items }
     requires opens { EachOpensAs config.now J.first_of }
+    ensures { IfOk result (λ nodes.
+        map (λ node. node.number) nodes.items ≡ map (λ one. one.number) opened.items) }
 {
     let mut nodes = Vec::with_capacity(alloc, opened.len())?;
     for one in opened {

@@ -2,6 +2,7 @@
 //! served while a function of the caller runs, and closed.
 #![tactic(auto)]
 
+mod closing;
 mod listening;
 mod opening;
 mod outcome;

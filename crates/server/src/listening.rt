@@ -1,16 +1,18 @@
 // The nodes that serve, while an order of the caller runs.
 
-ghost use Rattle.std.specs.Prelude.{◌≡◌};
+ghost use Rattle.std.specs.Prelude.{◌≡◌, ◌≤◌, [], IfOk, length, map, vec_capacity};
+ghost use Rattle.std.specs.Fn.{FnOnceReturnsAt};
 ghost use Rattle.node_threads.specs.post.Queued.{EachOpensAs};
 ghost use Rattle.node_threads.specs.Named.{AreNamed};
 
+use crate::closing::{close_all, end_all};
 use crate::opening::open_all;
 use crate::outcome::Outcome;
 use crate::serve_error::ServeError;
 use crate::starting::can_start;
 use node_threads::post::Cluster;
 use node_threads::post::node::{Config, Gate, NoGate, NodeNaming, NodeState, OpeningError, Stated};
-use node_threads::streams::Listener;
+use node_threads::streams::{Closed, Listener};
 use node_threads::{NodeContexts, NodeReport, Opened, ServedNode, THREADS, start_all};
 use std::alloc::Global;
 use std::marker::Brand;
@@ -39,6 +41,10 @@ where
     T: Drop,
     F: FnOnce(&Cluster) -> T,
     requires { F.IsAlwaysCallable attend }
+
+    // It ran with the nodes of all these listeners, and with no others.
+    ensures { IfOk result (λ answer. FnOnceReturnsAt F.FnOnce attend
+        (map (λ listener. listener.number) listeners.now) answer) }
 {
     let (answer, _reports) = serve_all(rt, alloc, listeners, config, None::<&NoGate>, attend)?;
     Ok(answer)
@@ -64,6 +70,8 @@ where
     T: Drop,
     F: FnOnce(&Cluster) -> T,
     requires { F.IsAlwaysCallable attend }
+    ensures { IfOk result (λ served. FnOnceReturnsAt F.FnOnce attend
+        (map (λ listener. listener.number) listeners.now) served.0) }
 {
     serve_all(rt, alloc, listeners, config, Some(gate), attend)
 }
@@ -83,6 +91,8 @@ where
     T: Drop,
     F: FnOnce(&Cluster) -> T,
     requires { F.IsAlwaysCallable attend }
+    ensures { IfOk result (λ served. FnOnceReturnsAt F.FnOnce attend
+        (map (λ listener. listener.number) listeners.now) served.0) }
 {
     let cluster = open_cluster(alloc, listeners, config)?;
     if !can_start(rt, listeners.len().saturating_mul(THREADS)) {
@@ -105,7 +115,10 @@ fn open_cluster(
     alloc: Global,
     listeners: &[Listener],
     config: &Config,
-) -> Result<Cluster, OpeningError> {
+) -> Result<Cluster, OpeningError>
+    ensures { IfOk result (λ cluster.
+        cluster ≡ map (λ listener. listener.number) listeners.now) }
+{
     let numbers: Vec<u8> = listeners
         .iter()
         .map(|listener| listener.number)
@@ -133,21 +146,33 @@ where
     requires callable { F.IsAlwaysCallable attend }
     requires named { AreNamed J.inbox_of J.first_of opened.items }
     requires opens { EachOpensAs config.now J.first_of }
+    ensures { IfOk result (λ served.
+        FnOnceReturnsAt F.FnOnce attend contexts.entry.cluster.now served.0) }
 {
-    let Ok(mut outcome) = Outcome::new(alloc, opened.len()) else {
+    let nodes = start_all::<J, R, G>(rt, alloc, contexts, config, opened, gate)?;
+    let Ok(mut outcome) = Outcome::new(alloc, nodes.len()) else {
         return Err(ServeError::Memory);
     };
-    let nodes = start_all::<J, R, G>(rt, alloc, contexts, config, opened, gate)?;
-    let (answer, all_started) = serve_states(rt, contexts.cluster, nodes.as_slice(), attend);
-    if !all_started {
+    let Ok(room) = Vec::with_capacity(alloc, nodes.len()) else {
+        return Err(ServeError::Memory);
+    };
+    let served = serve_states(rt, contexts.cluster, nodes.as_slice(), room, attend);
+    if !served.all_started {
         outcome.fail(ServeError::Threads);
     }
-    for node in nodes {
-        // Its listener is closed already: this only returns the witness.
-        let closed = node.close_listener(rt);
-        outcome.keep(node.close(rt, closed));
-    }
-    Ok((answer, outcome.into_reports()?))
+    end_all(rt, nodes, served.closings, &mut outcome);
+    Ok((served.answer, outcome.into_reports()?))
+}
+
+/// How a run of nodes ended.
+#[derive(Drop)]
+struct Served<T: Drop> {
+    /// What the caller's function returned.
+    answer: T,
+    /// Whether each node's threads could be started.
+    all_started: bool,
+    /// The witnesses that the nodes' listeners were closed, in the order of the nodes.
+    closings: Vec<Closed>,
 }
 
 // Serves with the type that a node's state has. That threads may share it is proved only here.
@@ -155,27 +180,33 @@ fn serve_states<J, R, G, T, F>(
     rt: &R,
     cluster: &Cluster,
     nodes: &[ServedNode<'_, J, NodeState<J>, G>],
+    room: Vec<Closed>,
     attend: F,
-) -> (T, bool)
+) -> Served<T>
 where
     J: NodeNaming + Send + Sync,
     R: Threads + Wait + Clock + Sync + Net<Stream = TcpStream>,
     G: Gate + Sync,
     T: Drop,
     F: FnOnce(&Cluster) -> T,
-    requires { F.IsAlwaysCallable attend }
+    requires callable { F.IsAlwaysCallable attend }
+    requires empty { room.items ≡ [] }
+    requires room { length nodes.now ≤ vec_capacity room }
+    ensures attended { FnOnceReturnsAt F.FnOnce attend cluster.now result.answer }
+    ensures closed { result.closings.items ≡ map (λ node. node.number) nodes.now }
 {
-    serve_by::<J, NodeState<J>, R, G, T, F>(rt, cluster, nodes, attend)
+    serve_by::<J, NodeState<J>, R, G, T, F>(rt, cluster, nodes, room, attend)
 }
 
-// Serves with these nodes while `attend` runs. Returns what that returned, and whether each node's
-// threads could be started.
+// Serves with these nodes while `attend` runs, and then closes their listeners. There is room for
+// the witnesses.
 fn serve_by<J, S, R, G, T, F>(
     rt: &R,
     cluster: &Cluster,
     nodes: &[ServedNode<'_, J, S, G>],
+    room: Vec<Closed>,
     attend: F,
-) -> (T, bool)
+) -> Served<T>
 where
     J: NodeNaming + Send + Sync,
     S: Stated<J> + Send,
@@ -183,13 +214,21 @@ where
     G: Gate + Sync,
     T: Drop,
     F: FnOnce(&Cluster) -> T,
-    requires { F.IsAlwaysCallable attend }
+    requires callable { F.IsAlwaysCallable attend }
+    requires empty { room.items ≡ [] }
+    requires room { length nodes.now ≤ vec_capacity room }
+    ensures attended { FnOnceReturnsAt F.FnOnce attend cluster.now result.answer }
+    ensures closed { result.closings.items ≡ map (λ node. node.number) nodes.now }
 {
     thread::scope(
         thread::scope_env(),
         rt,
         move |scope|
             requires callable { F.IsAlwaysCallable attend }
+            requires empty { room.items ≡ [] }
+            requires room { length nodes.now ≤ vec_capacity room }
+            ensures attended { FnOnceReturnsAt F.FnOnce attend cluster.entry.now result.answer }
+            ensures closed { result.closings.items ≡ map (λ node. node.number) nodes.entry.now }
         {
             let mut all_started = true;
             for node in nodes {
@@ -198,10 +237,12 @@ where
                 }
             }
             let answer = attend(cluster);
-            for node in nodes {
-                let _closed = node.close_listener(rt);
+            let closings = close_all(rt, nodes, room);
+            Served {
+                answer,
+                all_started,
+                closings,
             }
-            (answer, all_started)
         },
     )
 }

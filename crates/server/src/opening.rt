@@ -1,6 +1,6 @@
 // Nodes that are about to serve.
 
-ghost use Rattle.std.specs.Prelude.{◌≡◌, ◌≤◌, IfOk};
+ghost use Rattle.std.specs.Prelude.{◌≡◌, ◌≤◌, IfOk, length};
 ghost use Rattle.node_threads.specs.Named.{AreNamed};
 ghost use Rattle.server.specs.Opening.{first_in, inbox_among};
 
@@ -20,8 +20,10 @@ pub(crate) fn open_all(
     contexts: NodeContexts<'_>,
     config: &Config,
 ) -> Result<Vec<Opened>, OpeningError>
-    ensures { IfOk result (λ opened.
+    ensures named { IfOk result (λ opened.
         AreNamed (inbox_among opened.items) (first_in config.now) opened.items) }
+    ensures all { IfOk result (λ opened.
+        length opened.items ≡ length contexts.entry.listeners.now) }
 {
     let mut opened = Vec::with_capacity(alloc, contexts.listeners.len())?;
     for number in 1..NUMBERS_END {

@@ -1,0 +1,57 @@
+// The end of nodes that serve: their listeners are closed, and each node reports.
+
+ghost use Rattle.std.specs.Prelude.{◌≡◌, ◌≤◌, [], length, map, vec_capacity};
+
+use crate::outcome::Outcome;
+use node_threads::ServedNode;
+use node_threads::post::node::{Gate, NodeNaming, NodeState, Stated};
+use node_threads::streams::Closed;
+use std::net::{Net, TcpStream};
+use std::sync::Wait;
+use std::time::Clock;
+
+/// Closes the listeners of all nodes. Returns the witnesses, in the order of the nodes; there is
+/// room for them.
+pub(crate) fn close_all<J, S, G, R>(
+    rt: &R,
+    nodes: &[ServedNode<'_, J, S, G>],
+    room: Vec<Closed>,
+) -> Vec<Closed>
+where
+    J: NodeNaming,
+    S: Stated<J>,
+    G: Gate,
+    R: Wait + Clock + Net<Stream = TcpStream>,
+    requires empty { room.items ≡ [] }
+    requires room { length nodes.now ≤ vec_capacity room }
+    ensures { result.items ≡ map (λ node. node.number) nodes.now }
+{
+    let mut closings = room;
+    for node in nodes {
+        closings.push_reserved(node.close_listener(rt));
+    }
+    closings
+}
+
+/// Ends the nodes, whose listeners are closed and whose threads have returned, and keeps what each
+/// reports.
+pub(crate) fn end_all<J, G, R>(
+    rt: &R,
+    nodes: Vec<ServedNode<'_, J, NodeState<J>, G>>,
+    closings: Vec<Closed>,
+    outcome: &mut Outcome,
+)
+where
+    J: NodeNaming,
+    G: Gate,
+    R: Wait,
+    requires { closings.items ≡ map (λ node. node.number) nodes.items }
+{
+    let mut closings = closings.into_iter();
+    for node in nodes {
+        match closings.next() {
+            Some(closed) => outcome.keep(node.close(rt, closed)),
+            None => unreachable!(),
+        }
+    }
+}
