@@ -21,7 +21,7 @@ pub trait Hearer {
     fn now<R: Clock>(&self, rt: &R) -> u64;
 
     /// Takes the report of an item.
-    fn tell<R: Wait + Clock>(&mut self, rt: &R, item: Item)
+    fn report<R: Wait + Clock>(&mut self, rt: &R, item: Item)
         ensures { heard self.new ≡ heard self.old ++ item ∷ [] };
 
     /// Says whether the connection that was opened may be read.

@@ -33,9 +33,9 @@ pub fn listen<R: Wait + Clock, H: Hearer, D: Read>(
     ensures faults { device.new.faults ≡ faults_after result device.old.faults }
 {
     let opened = hearer.now(rt);
-    hearer.tell(rt, Item::Opened(port, opened));
+    hearer.report(rt, Item::Opened(port, opened));
     let ending = hear_on(rt, alloc, port, opened, device, hearer);
-    hearer.tell(rt, Item::Ended(port));
+    hearer.report(rt, Item::Ended(port));
     ending
 }
 
@@ -98,6 +98,6 @@ fn hear_piece<R: Wait + Clock, H: Hearer, D: Read>(
     };
     let shown = hearer.now(rt);
     let now = shown.max(last);
-    hearer.tell(rt, Item::Bytes(port, piece, now));
+    hearer.report(rt, Item::Bytes(port, piece, now));
     Ok(now)
 }

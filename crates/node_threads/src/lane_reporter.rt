@@ -34,7 +34,7 @@ impl<'e, 'a, J: NodeNaming, S: Stated<J>, G: Gate> Hearer for LaneReporter<'e, '
     // Bytes are reported once the node takes more of them, and count as in transit until it has
     // taken them. Then nodes for which something was queued have their turns. After that, what this
     // node queued is written, to this connection first.
-    fn tell<R: Wait + Clock>(&mut self, rt: &R, item: Item) {
+    fn report<R: Wait + Clock>(&mut self, rt: &R, item: Item) {
         let node = self.node;
         let all = self.all;
         let shared = &node.shared;

@@ -38,7 +38,7 @@ impl<J: Naming> Hearer for OneLane<J> {
         5
     }
 
-    fn tell<R: Wait + Clock>(&mut self, rt: &R, item: Item) {
+    fn report<R: Wait + Clock>(&mut self, rt: &R, item: Item) {
         let mut unsent = item;
         for _ in rt.forever() {
             let receipt = self.lane.receipt();

@@ -8,7 +8,7 @@ pub returns-clause-hears : goal.returns-clause-hears
 returns-clause-hears g c =
     let piece = take c.in-Bytes.count c.read_piece.new.room in
     let is : c.in-Ok.piece ≡ piece = c.in-Ok.ensures in
-    let reported = c.tell.ensures ∙ ap (λ p. g.H.Hearer.heard c.args.hearer.now ++ Bytes c.args.port p c.max-now.result ∷ []) is in (
+    let reported = c.report.ensures ∙ ap (λ p. g.H.Hearer.heard c.args.hearer.now ++ Bytes c.args.port p c.max-now.result ∷ []) is in (
       omega arith,
       (piece, record { reported = reported; gave = rw (append-nil (piece ++ []), append-nil piece) c.in-Bytes.ensures.piece.2 }),
     )

@@ -1,5 +1,5 @@
 use Rattle.std.proofs.Common.{◌≡◌}
-use Rattle.connection_tests.proofs.tests.connections.OneLaneHearer.tell.Given as goal
+use Rattle.connection_tests.proofs.tests.connections.OneLaneHearer.report.Given as goal
 
 abbrev pub invariant-loop : goal.invariant-loop
 invariant-loop g l = record {
