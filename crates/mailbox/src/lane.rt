@@ -4,7 +4,7 @@ ghost use Rattle.std.specs.Prelude.{◌≡◌, ◌⊎◌, ◌-◌, ◌^◌, ◌+
 ghost use Rattle.mailbox.specs.Ends.{Sender, WasFull, IsFullByReceipt, IsSpent};
 ghost use Rattle.mailbox.specs.Delivery.{nothing};
 
-use crate::moves::{Ends, Hears, Knowledge, LaneTells, Queue, Sends};
+use crate::moves::{Ends, Hears, Knowledge, LaneKnows, Queue, Sends};
 use crate::naming::Naming;
 use crate::receipt::Receipt;
 use std::alloc::Global;
@@ -81,7 +81,7 @@ impl<T: Drop, J: Naming> Lane<T, J> {
         ensures same { self.new ≡ self.old }
     {
         Receipt {
-            pass: self.queue.another::<LaneTells>(&mut self.pass),
+            pass: self.queue.another::<LaneKnows>(&mut self.pass),
             inbox: self.inbox,
             naming: PhantomData,
         }

@@ -88,9 +88,9 @@ impl<T> Split<View<T>> for Lends {
 }
 
 /// A lane says what it has sent, by a pass of its own.
-pub struct LaneTells;
+pub struct LaneKnows;
 
-impl<T> Split<View<T>> for LaneTells {
+impl<T> Split<View<T>> for LaneKnows {
     ghost use Rattle.mailbox.specs.Inside.{lane_tells};
 
     ghost left = { λ v. v };

@@ -13,5 +13,5 @@ HasRoom lanes report =
     × (max_items ≤ vec_capacity report.left)
 
 -- what was taken from a lane followed by what is left over of it is, in order, all that it sent
-abbrev pub TellsAll : List (ℕ × Item) → List (ℕ × Item) → Sender Item → Type 0
-TellsAll taken left lane = items_of lane.lane taken ++ items_of lane.lane left ≡ lane.sent
+abbrev pub ReportsAll : List (ℕ × Item) → List (ℕ × Item) → Sender Item → Type 0
+ReportsAll taken left lane = items_of lane.lane taken ++ items_of lane.lane left ≡ lane.sent

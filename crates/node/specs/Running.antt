@@ -4,7 +4,7 @@ use Rattle.mailbox.specs.Delivery.{items_of}
 use Rattle.mailbox.specs.Ends.{Sender}
 use Rattle.world_base.specs.Core.{CountedCore}
 use Rattle.world_base.specs.declared.item.Item.{Item}
-use Rattle.node.specs.Report.{TellsAll}
+use Rattle.node.specs.Report.{ReportsAll}
 use Rattle.node.specs.State.{Replays, Seen, next_taking}
 use Rattle.node.specs.declared.report.Report.{Report}
 
@@ -54,7 +54,7 @@ pub record ReportsOn (first : CountedCore) (lanes : List (Sender Item)) (report 
   pub taken : List (ℕ × Item)
   pub node : CountedCore
   pub replays : Replays first taken node
-  pub whole : All (TellsAll taken report.left.items) lanes
+  pub whole : All (ReportsAll taken report.left.items) lanes
   pub counted : EachIndex report.taken.items (λ lane.
       slice_index report.taken.items lane ≡ length (items_of lane taken))
   pub base : report.base ≡ node.core.replica.state.log.base

@@ -8,7 +8,7 @@ ghost use Rattle.world_base.specs.lists.Lists.{IsPrefixOf};
 ghost use Rattle.world_base.specs.Stands.{standing_of};
 ghost use Rattle.world_base.specs.Handing.{answer_of, bytes_of, hands_over, idle_ports, listed_at};
 ghost use Rattle.node.specs.Growth.{wants_cut};
-ghost use Rattle.node.specs.Report.{HasRoom, TellsAll};
+ghost use Rattle.node.specs.Report.{HasRoom, ReportsAll};
 ghost use Rattle.node.specs.State.{Replays, TakesOne, next_taking};
 
 use crate::growth::{grown, is_large};
@@ -249,7 +249,7 @@ impl<J: NodeNaming> NodeState<J> {
 
         // What the node replayed and what is left over are, lane by lane and in order, all that was
         // sent.
-        ensures all { All (TellsAll self.taker.taken result.left.items) lanes.new }
+        ensures all { All (ReportsAll self.taker.taken result.left.items) lanes.new }
 
         // For each lane, the count of taken items is that of the replay.
         ensures counted { EachIndex result.taken.items (λ lane.

@@ -20,32 +20,32 @@ port_of lane count = record { 0 = 256 * count + lane }
 
 -- A lane that had sent these items sent the whole report of one connection, or nothing if that was
 -- closed at once.
-pub data TellsOne (port : Port) (before : List Item) : List Item → Type 0 where
+pub data ReportsOne (port : Port) (before : List Item) : List Item → Type 0 where
   -- it was closed at once
-  closed_at_once : TellsOne port before before
+  closed_at_once : ReportsOne port before before
   -- it was served
-  served : {after : List Item} → SendsWhole port before after → TellsOne port before after
+  served : {after : List Item} → SendsWhole port before after → ReportsOne port before after
 
 -- A lane that had sent these items sent for this many connections, one after another, the report of
 -- each, and nothing else.
-pub data TellsEach (lane : ℕ) (before : List Item) : ℕ → List Item → Type 0 where
+pub data ReportsEach (lane : ℕ) (before : List Item) : ℕ → List Item → Type 0 where
   -- no connection yet
-  begins : TellsEach lane before 0 before
+  begins : ReportsEach lane before 0 before
   -- one more connection
   goes_on : {count : ℕ} {sent : List Item} (after : List Item)
-      → TellsEach lane before count sent → TellsOne (port_of lane count) sent after
-      → TellsEach lane before (count + 1) after
+      → ReportsEach lane before count sent → ReportsOne (port_of lane count) sent after
+      → ReportsEach lane before (count + 1) after
 
 -- a lane sent what any number of its connections bring
 pub record SendsRow (lane : ℕ) (before after : List Item) : Type 0 where
   pub count : ℕ
-  pub tells : TellsEach lane before count after
+  pub tells : ReportsEach lane before count after
 
 -- Why a lane of a node's connections serves no more: the witness is of this node's listener, or
 -- there is none, and the lane served one connection at each of its ports.
 abbrev pub EndsBy : (node lane : ℕ) → Option ℕ → (before after : List Item) → Type 0
 EndsBy node lane (Some closed) before after = closed ≡ node
-EndsBy node lane None before after = TellsEach lane before (2 ^ 56) after
+EndsBy node lane None before after = ReportsEach lane before (2 ^ 56) after
 
 -- a node's own lane, by which everything is sent to it that does not come from its clients, and the
 -- node's number

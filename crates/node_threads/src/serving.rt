@@ -2,7 +2,7 @@
 
 ghost use Rattle.std.specs.Prelude.{◌≡◌, ◌<◌, ◌^◌, IfSome};
 ghost use Rattle.std.specs.Arc.{arc_value};
-ghost use Rattle.node_threads.specs.Serving.{EndsBy, SendsRow, SendsWhole, TellsOne, port_of};
+ghost use Rattle.node_threads.specs.Serving.{EndsBy, ReportsOne, SendsRow, SendsWhole, port_of};
 
 use crate::lane_reporter::LaneReporter;
 use crate::served_node::ServedNode;
@@ -60,7 +60,7 @@ impl<'a, J: NodeNaming, S: Stated<J>, G: Gate> ServedNode<'a, J, S, G> {
         stream: TcpStream,
         port: Port,
     ) -> Lane<Item, J>
-        ensures { TellsOne port lane.sent result.sent }
+        ensures { ReportsOne port lane.sent result.sent }
     {
         let listener = self.shared.context.listener;
         let Some(index) = listener.take_index(rt) else {

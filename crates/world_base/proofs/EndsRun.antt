@@ -11,7 +11,7 @@ use Rattle.node_connections.specs.declared.connection.Connection.{Connection}
 use Rattle.node_connections.specs.Connections.{closed, failing, has_failed, holding, is_proposed}
 use Rattle.world_base.specs.Core.{CoreState}
 use Rattle.world_base.specs.Failing.{closes_failed}
-use Rattle.world_base.specs.Inside.{ProposedBy, Ran, Running, TellsLost}
+use Rattle.world_base.specs.Inside.{ProposedBy, Ran, ReportsLost, Running}
 use Rattle.world_base.specs.KeepAlive.{lowest_silent}
 use Rattle.world_base.specs.Lossy.{Account, Then, quietly}
 use Rattle.world_base.specs.LossyProposals.{Declines, Proposes}
@@ -47,10 +47,10 @@ ran_told port c a b r taken x y found heard shut ran =
 
 -- it is reported to the broker if its CONNECT was proposed
 pub ran_tells : (heard taken : Bool) (name : ConnectionName) (a b : CoreState) (x y : List (Effect Command Output)) → heard ≡ true →
-    Ran (ProposedBy taken (commands.Lost name)) a b x y → Ran (TellsLost heard name) a b x y
+    Ran (ProposedBy taken (commands.Lost name)) a b x y → Ran (ReportsLost heard name) a b x y
 ran_tells heard taken name a b x y is ran =
-    subst (λ (t : Bool). Ran (TellsLost t name) a b x y) (sym is)
-    (ran_as (ProposedBy taken (commands.Lost name)) (TellsLost true name) a a b x y (as_proposes taken (commands.Lost name) a) ran)
+    subst (λ (t : Bool). Ran (ReportsLost t name) a b x y) (sym is)
+    (ran_as (ProposedBy taken (commands.Lost name)) (ReportsLost true name) a a b x y (as_proposes taken (commands.Lost name) a) ran)
 
 -- whether a proposal was taken or not, it was put to the replica
 pub ran_proposes : (command : Command) (taken : Bool) (a b : CoreState) (x y : List (Effect Command Output)) → Ran (ProposedBy taken command) a b x y →
@@ -58,20 +58,20 @@ pub ran_proposes : (command : Command) (taken : Bool) (a b : CoreState) (x y : L
 ran_proposes command taken a b x y ran = ran_as (ProposedBy taken command) (Proposes command) a a b x y (as_proposes taken command a) ran
 
 pub ran_tells_not : (heard : Bool) (name : ConnectionName) (a : CoreState) (x : List (Effect Command Output)) → heard ≡ false →
-    Ran (TellsLost heard name) a a x x
+    Ran (ReportsLost heard name) a a x x
 ran_tells_not heard name a x is =
-    subst (λ (t : Bool). Ran (TellsLost t name) a a x x) (sym is) (ran_quietly (TellsLost false name) a a x refl)
+    subst (λ (t : Bool). Ran (ReportsLost t name) a a x x) (sym is) (ran_quietly (ReportsLost false name) a a x refl)
 
 pub ran_lost : (port : Port) (c : Connection) (a b r : CoreState) (x y : List (Effect Command Output)) → open_at port a ≡ Some c →
-    b ≡ changes port closed a → Ran (TellsLost (is_proposed c.stage) c.name) b r x y → Ran (Ends port) a r x y
+    b ≡ changes port closed a → Ran (ReportsLost (is_proposed c.stage) c.name) b r x y → Ran (Ends port) a r x y
 ran_lost port c a b r x y found shut ran = by (is_proposed c.stage) refl ran
   where
-    by : (p : Bool) → is_proposed c.stage ≡ p → Ran (TellsLost p c.name) b r x y → Ran (Ends port) a r x y
+    by : (p : Bool) → is_proposed c.stage ≡ p → Ran (ReportsLost p c.name) b r x y → Ran (Ends port) a r x y
     by true e tells =
-        ran_as (TellsLost true c.name) (Ends port) a b r x y
-        (λ did runs. told c found e (subst (λ (k : CoreState). TellsLost true c.name k did) shut runs)) tells
+        ran_as (ReportsLost true c.name) (Ends port) a b r x y
+        (λ did runs. told c found e (subst (λ (k : CoreState). ReportsLost true c.name k did) shut runs)) tells
     by false e tells =
-        ran_as (TellsLost false c.name) (Ends port) a b r x y (λ did runs. untold c found e (runs ∙ ap quietly shut)) tells
+        ran_as (ReportsLost false c.name) (Ends port) a b r x y (λ did runs. untold c found e (runs ∙ ap quietly shut)) tells
 
 -- ---- silent and failed ones
 

@@ -18,7 +18,7 @@ use Rattle.node_connections.specs.declared.connection.Connection.{Connection}
 use Rattle.node_connections.specs.Connections.{asked, closed, is_first, is_proposed, left_with}
 use Rattle.world_base.specs.Core.{CoreState}
 use Rattle.node_connections.specs.Inside.{TakesFront}
-use Rattle.world_base.specs.Inside.{BeginsOrSays, Ran, TellsLost}
+use Rattle.world_base.specs.Inside.{BeginsOrSays, Ran, ReportsLost}
 use Rattle.world_base.specs.Lossy.{quietly}
 use Rattle.world_base.specs.LossyReading.{Begins, Connects, Ends, ReadsNext, Says}
 use Rattle.world_base.specs.LossyReading.Ends.{none_open}
@@ -94,7 +94,7 @@ ran_other awaits port name packet a b x is other shut =
 
 closed_there : (now : ℕ) (port : Port) (c new : Connection) (a b r : CoreState) (x y : List (Effect Command Output)) →
     open_at port a ≡ Some c → new ≡ closed c → b ≡ changes port (λ _. new) a →
-    Ran (TellsLost (is_proposed c.stage) c.name) b r x y → Ran (ReadsNext now port) a r x y
+    Ran (ReportsLost (is_proposed c.stage) c.name) b r x y → Ran (ReadsNext now port) a r x y
 closed_there now port c new a b r x y found shut is ran =
     ends_there now port a r x y (ran_lost port c a b r x y found (is ∙ becomes_same port a c new closed found shut) ran)
 
@@ -106,20 +106,20 @@ first_not_proposed Failed e = absurd cc
 
 refused_there : (now : ℕ) (port : Port) (c new : Connection) (code : RefusalCode) (a b r : CoreState) (x y : List (Effect Command Output)) →
     open_at port a ≡ Some c → TakesFront now c (fronts.Refused code) new → b ≡ changes port (λ _. new) a →
-    Ran (TellsLost (is_proposed c.stage) c.name) b r x y → Ran (ReadsNext now port) a r x y
+    Ran (ReportsLost (is_proposed c.stage) c.name) b r x y → Ran (ReadsNext now port) a r x y
 refused_there now port c new code a b r x y found did is ran = by (is_first c.stage) refl did.1
   where
     by : (f : Bool) → is_first c.stage ≡ f → new ≡ (if f then refused code c else closed c) → Ran (ReadsNext now port) a r x y
     by true e answered =
-        ran_as (TellsLost false c.name) (ReadsNext now port) a b r x y
+        ran_as (ReportsLost false c.name) (ReadsNext now port) a b r x y
         (λ done runs. refuses c code found e did.0 (runs ∙ ap quietly (is ∙ becomes_same port a c new (refused code) found answered)))
-        (subst (λ (p : Bool). Ran (TellsLost p c.name) b r x y) (first_not_proposed c.stage e) ran)
+        (subst (λ (p : Bool). Ran (ReportsLost p c.name) b r x y) (first_not_proposed c.stage e) ran)
     by false e shut = closed_there now port c new a b r x y found shut is ran
 
 pub ran_gone : (now : ℕ) (port : Port) (c new : Connection) (front : Front) (a b r : CoreState) (x y : List (Effect Command Output)) →
     open_at port a ≡ Some c → TakesFront now c front new →
     ((code : RefusalCode) × (front ≡ fronts.Refused code)) ⊎ (front ≡ fronts.Fault) → b ≡ changes port (λ _. new) a →
-    Ran (TellsLost (is_proposed c.stage) c.name) b r x y → Ran (ReadsNext now port) a r x y
+    Ran (ReportsLost (is_proposed c.stage) c.name) b r x y → Ran (ReadsNext now port) a r x y
 ran_gone now port c new front a b r x y found did (inl (code, e)) is ran =
     refused_there now port c new code a b r x y found (subst (λ (f : Front). TakesFront now c f new) e did) is ran
 ran_gone now port c new front a b r x y found did (inr e) is ran =
@@ -127,7 +127,7 @@ ran_gone now port c new front a b r x y found did (inr e) is ran =
 
 pub ran_out_of_memory : (now : ℕ) (port : Port) (c new : Connection) (a b r : CoreState) (x y : List (Effect Command Output)) →
     open_at port a ≡ Some c → TakesFront now c fronts.OutOfMemory new → b ≡ changes port (λ _. new) a →
-    Ran (TellsLost (is_proposed c.stage) c.name) b r x y → Ran (ReadsNext now port) a r x y
+    Ran (ReportsLost (is_proposed c.stage) c.name) b r x y → Ran (ReadsNext now port) a r x y
 ran_out_of_memory now port c new a b r x y found did is ran = closed_there now port c new a b r x y found did is ran
 
 -- if no whole packet is at the front, the next time nothing is done either

@@ -101,6 +101,6 @@ BeginsOrSays true port name packet core did = Begins port name packet core did
 BeginsOrSays false port name packet core did = Says port name packet core did
 
 -- a connection that was closed; it is reported to the broker if its CONNECT was proposed
-abbrev pub TellsLost : Bool → ConnectionName → CoreState → Account → Type 0
-TellsLost true name core did = Proposes (commands.Lost name) core did
-TellsLost false name core did = did ≡ quietly core
+abbrev pub ReportsLost : Bool → ConnectionName → CoreState → Account → Type 0
+ReportsLost true name core did = Proposes (commands.Lost name) core did
+ReportsLost false name core did = did ≡ quietly core

@@ -5,7 +5,7 @@ ghost use Rattle.std.specs.List.{find};
 ghost use Rattle.node_connections.specs.broker_spec.declared.command.Command.TheVariants as commands;
 ghost use Rattle.node_connections.specs.broker_spec.Sized.{IsSized};
 ghost use Rattle.node_connections.specs.Connections.{closed, has_failed, holding, is_first, is_proposed};
-ghost use Rattle.world_base.specs.Inside.{BeginsOrSays, DoesTurn, IsCalm, Ran, TellsLost};
+ghost use Rattle.world_base.specs.Inside.{BeginsOrSays, DoesTurn, IsCalm, Ran, ReportsLost};
 ghost use Rattle.world_base.specs.declared.item.Item.TheVariants as items;
 ghost use Rattle.world_base.specs.Losses.{DoesNothing, IsHeardQuietly, ReadsNone, TakesNoMemory, was_proposed};
 ghost use Rattle.world_base.specs.Lossy.{quietly};
@@ -253,7 +253,7 @@ impl SteppingNode {
             (if is_proposed stage
             then proposes (commands.Lost name) self.old.core
             else quiet self.old.core) }
-        ensures run { Ran (TellsLost (is_proposed stage) name) self.old.core self.new.core
+        ensures run { Ran (ReportsLost (is_proposed stage) name) self.old.core self.new.core
             effects.old.items effects.new.items }
     {
         if stage.is_proposed() {

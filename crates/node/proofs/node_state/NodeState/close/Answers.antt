@@ -4,7 +4,7 @@ use Rattle.mailbox.specs.Delivery.{items_of}
 use Rattle.mailbox.specs.Ends.{ArrivesWhole, Taker}
 use Rattle.mailbox.proofs.ItemsOfALane.{items_of-append}
 use Rattle.world_base.specs.declared.item.Item.{Item}
-use Rattle.node.specs.Report.{TellsAll}
+use Rattle.node.specs.Report.{ReportsAll}
 use Rattle.node.specs.State.{Seen}
 use Rattle.node.proofs.WrittenBack.{written_back}
 use Rattle.node.proofs.node_state.NodeState.close.Goals as goal
@@ -24,7 +24,7 @@ returns-clause-counted g c =
 
 pub returns-clause-all : goal.returns-clause-all
 returns-clause-all g c =
-    subst (λ (s : Seen). All (TellsAll s.taker.taken c.settle.new.left.items) c.settle.new.lanes)
+    subst (λ (s : Seen). All (ReportsAll s.taker.taken c.settle.new.left.items) c.settle.new.lanes)
     c.self.view_is
     (λ place other within.
     let lane : ℕ = (slice_index_or c.settle.new.lanes place other).lane in

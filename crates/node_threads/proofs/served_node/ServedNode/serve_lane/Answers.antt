@@ -1,7 +1,7 @@
 use Rattle.std.proofs.Common.{ℕ, ◌∙◌, ap, subst}
 use Rattle.post.specs.node.declared.Port.{Port}
-use Rattle.node_threads.specs.Serving.{TellsOne, port_of}
-use Rattle.node_threads.specs.Serving.TellsEach.{begins, goes_on}
+use Rattle.node_threads.specs.Serving.{ReportsOne, port_of}
+use Rattle.node_threads.specs.Serving.ReportsEach.{begins, goes_on}
 use Rattle.node_threads.proofs.served_node.ServedNode.serve_lane.Goals as goal
 
 pub loop-count-init : goal.loop-count-init
@@ -9,6 +9,6 @@ loop-count-init g c = begins
 
 pub loop-count-preserved : goal.loop-count-preserved
 loop-count-preserved g c = goes_on _ c.loop-count.invariant
-    (subst (λ (port : Port). TellsOne port c.loop-count.lane.sent c.serve_stream-lane.result.sent)
+    (subst (λ (port : Port). ReportsOne port c.loop-count.lane.sent c.serve_stream-lane.result.sent)
     (c.port_of.ensures ∙ ap (λ (lane : ℕ). port_of lane c.loop-count.count) c.lane-number.ensures)
     c.serve_stream-lane.ensures)

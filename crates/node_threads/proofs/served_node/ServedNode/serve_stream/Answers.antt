@@ -2,8 +2,8 @@ use Rattle.std.proofs.Common.{sym, subst}
 use Rattle.post.specs.mailbox.Ends.{Sender}
 use Rattle.post.specs.node.declared.Item.{Item}
 use Rattle.post.specs.node.declared.Port.{Port}
-use Rattle.node_threads.specs.Serving.{SendsWhole, TellsOne}
-use Rattle.node_threads.specs.Serving.TellsOne.{closed_at_once, served}
+use Rattle.node_threads.specs.Serving.{ReportsOne, SendsWhole}
+use Rattle.node_threads.specs.Serving.ReportsOne.{closed_at_once, served}
 use Rattle.node_threads.proofs.served_node.ServedNode.serve_stream.Goals as goal
 use Rattle.node_threads.proofs.served_node.ServedNode.serve_stream.Goals.{in-Some-link, in-None}
 
@@ -13,8 +13,8 @@ returns-in_default g c = closed_at_once
 pub returns : goal.returns
 returns g c = elim c.match-link.branch [
   | in-Some-link w ↦
-      subst (λ (lane : Sender Item). TellsOne c.args.port c.args.lane.sent lane.sent) (sym w.lane-is)
+      subst (λ (lane : Sender Item). ReportsOne c.args.port c.args.lane.sent lane.sent) (sym w.lane-is)
       (served
       (subst (λ (port : Port). SendsWhole port c.args.lane.sent w.serve_link-lane.result.sent) w.in-Some-link.ensures w.serve_link-lane.ensures))
-  | in-None w ↦ subst (λ (lane : Sender Item). TellsOne c.args.port c.args.lane.sent lane.sent) (sym w.lane-is) closed_at_once
+  | in-None w ↦ subst (λ (lane : Sender Item). ReportsOne c.args.port c.args.lane.sent lane.sent) (sym w.lane-is) closed_at_once
 ]
