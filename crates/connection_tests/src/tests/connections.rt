@@ -185,7 +185,7 @@ fn tells<J: Naming, R: Wait>(
 }
 
 #[test]
-fn a_connection_is_told_whole(rt: HostRuntime) -> Result<(), Fail> {
+fn a_connection_is_reported_whole(rt: HostRuntime) -> Result<(), Fail> {
     for row in ROWS {
         let inbox = Inbox::new(rt.alloc())?;
         let reported = hears::<Brand, HostRuntime>(&rt, rt.alloc(), inbox, row);

@@ -22,7 +22,7 @@ fn is_served<R, I>(
     input: &mut I,
     status: u8,
     printed: &str,
-    told: &str,
+    reported: &str,
 ) -> bool
 where
     R: Threads + Wait + Clock + Sync + AllocGlobal,
@@ -37,7 +37,7 @@ where
     };
     ended == status
         && output.as_slice() == printed.as_bytes()
-        && str::from_utf8(faults.as_slice()).is_ok_and(|text| text.contains(told))
+        && str::from_utf8(faults.as_slice()).is_ok_and(|text| text.contains(reported))
 }
 
 // What is printed of an input that comes whole.
@@ -72,9 +72,9 @@ fn the_end_of_input_prints_bye(rt: HostRuntime) {
 
 // Other machines may reach the node, which is reported.
 #[test]
-fn an_open_address_is_told(rt: HostRuntime) {
-    let told = "node 1 is not on a loopback address: whoever reaches it can publish\n";
-    assert!(rt; is_served(&rt, OPEN, &mut b"".as_slice(), 0, "bye\n", told));
+fn an_open_address_is_printed(rt: HostRuntime) {
+    let reported = "node 1 is not on a loopback address: whoever reaches it can publish\n";
+    assert!(rt; is_served(&rt, OPEN, &mut b"".as_slice(), 0, "bye\n", reported));
 }
 
 // An input whose first read fails.
@@ -106,7 +106,7 @@ fn ends_so<R>(
     rest: &'static [u8],
     status: u8,
     printed: &str,
-    told: &str,
+    reported: &str,
 ) -> bool
 where
     R: Threads + Wait + Clock + Sync + AllocGlobal,
@@ -118,15 +118,15 @@ where
         rest,
     };
     match BufReader::new(rt.alloc(), failing) {
-        Ok(mut input) => is_served(rt, ONE, &mut input, status, printed, told),
+        Ok(mut input) => is_served(rt, ONE, &mut input, status, printed, reported),
         Err(_) => false,
     }
 }
 
 #[test]
 fn an_input_that_cannot_be_read_ends_the_server(rt: HostRuntime) {
-    let told = "vbroker: standard input could not be read\n";
-    assert!(rt; ends_so(&rt, ErrorKind::Other, b"status\n", 1, "", told));
+    let reported = "vbroker: standard input could not be read\n";
+    assert!(rt; ends_so(&rt, ErrorKind::Other, b"status\n", 1, "", reported));
 }
 
 // The server continues after a line for which memory ran out.

@@ -83,10 +83,10 @@ const ESCAPED: &[(&[&str], &str, End<'static>)] = &[
 ];
 
 #[test]
-fn ways_out_are_told(rt: HostRuntime) {
+fn ways_out_are_printed(rt: HostRuntime) {
     for (words, script, end) in ESCAPED {
-        let is_told = ends(&rt, words, script.as_bytes(), *end);
-        assert!(rt; is_told, "{script}");
+        let is_printed = ends(&rt, words, script.as_bytes(), *end);
+        assert!(rt; is_printed, "{script}");
     }
 }
 

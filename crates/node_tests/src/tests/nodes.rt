@@ -189,10 +189,10 @@ fn closes<J: NodeNaming, R: Wait>(
 }
 
 // Returns what went otherwise, by the first other act and by whether the report is right.
-fn first_of(act: Option<usize>, is_told: bool) -> Option<Otherwise> {
+fn first_of(act: Option<usize>, is_reported: bool) -> Option<Otherwise> {
     match act {
         Some(index) => Some(Otherwise::Act(index)),
-        None if is_told => None,
+        None if is_reported => None,
         None => Some(Otherwise::Report),
     }
 }

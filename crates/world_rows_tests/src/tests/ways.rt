@@ -170,7 +170,7 @@ fn is_idle(alloc: Global, actions: &[Action], members: &[u8], client: &str) -> O
 
 // Says whether an allocation that fails is reported: no way is returned because memory ran out, or
 // a way that leads to its end, or a loss is counted on it.
-fn is_told_or_counted(alloc: Global) -> bool {
+fn is_reported_or_counted(alloc: Global) -> bool {
     let Some(mut world) = answered(alloc, &[]) else {
         return true;
     };
@@ -189,7 +189,7 @@ fn is_told_or_counted(alloc: Global) -> bool {
 // Runs with each allocation failing in turn.
 #[test]
 fn a_way_out_without_memory(rt: HostRuntime) {
-    assert!(rt; is_told_or_counted(rt.alloc()));
+    assert!(rt; is_reported_or_counted(rt.alloc()));
 }
 
 #[test]
