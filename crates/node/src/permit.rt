@@ -9,7 +9,7 @@ use std::marker::Model;
 use std::sync::MutexGuard;
 
 /// How many items may be taken at once if there is no gate.
-const AT_ONCE: u32 = 16;
+const MAX_AT_ONCE: u32 = 16;
 
 /// The permit to take items of a node. Only a node's `pass` gives it: with a gate after asking it,
 /// for one item.
@@ -20,7 +20,7 @@ pub struct Permit<'n> {
     most: u32,
     /// The gate opened for it, or there is none.
     is_open: bool,
-    /// Until this is dropped no other turn begins.
+    /// Until this is dropped no other taking begins.
     turn: Option<MutexGuard<'n, ()>>,
 }
 
@@ -46,13 +46,13 @@ impl<'n> Permit<'n> {
     {
         Permit {
             taking: None,
-            most: AT_ONCE,
+            most: MAX_AT_ONCE,
             is_open: true,
             turn: None,
         }
     }
 
-    /// Returns a permit for the taking of this number, which keeps other turns from beginning.
+    /// Returns a permit for the taking of this number, which keeps others from beginning.
     pub(crate) fn after(taking: u64, is_open: bool, turn: MutexGuard<'n, ()>) -> Permit<'n>
         ensures { result ≡ record { taking = Some taking; most = 1; is_open = is_open } }
     {
