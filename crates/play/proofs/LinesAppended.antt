@@ -1,10 +1,10 @@
--- LinesAppended.antt: what clients newly accepted, line by line, and the lines of one order.
+-- LinesAppended.antt: what clients newly accepted, line by line, and the lines for one line of a script.
 use Rattle.std.proofs.Common.{◌≡◌, ◌<◌, ◌+◌, ℕ, zero, suc, List, [], ◌∷◌, Option, Some, None, Result, Ok, Err, OnOk, ◌++◌, length, take, drop, get_or, map, ap, refl, sym, ◌∙◌, subst, arith}
 use Rattle.std.specs.List.{position}
 use Rattle.std.proofs.lemmas.List.{append-nil, append_assoc, take_more}
 use Rattle.user_client.specs.client_base.declared.accepted.Accepted.{Accepted}
 use Rattle.script.specs.session_base.declared.publication.Publication.{Publication}
-use Rattle.script.specs.declared.order.ScriptLine.{ScriptLine}
+use Rattle.script.specs.declared.script_line.ScriptLine.{ScriptLine}
 use Rattle.play.specs.Lines.{accepted_line}
 use Rattle.world.specs.world_events.declared.event.Event.{Event}
 use Rattle.world.specs.declared.world.WorldClient.{WorldClient}
@@ -98,10 +98,10 @@ none_written all (c ∷ cs) w is = (sym (ap length none), none_written all cs w 
         ap (λ (k : List WorldClient). accepted_by (core_at (position (is_named c) k) k)) is
         ∙ none_of all (position (is_named c) (map new_world_client all))
 
--- ---- orders
+-- ---- lines of a script
 
-pub no_event : (order : ScriptLine) (world : WorldState) (idle : Idle) → asked_in world order ≡ None → Comes order world (Err idle) world
-no_event order world idle none =
+pub no_event : (script_line : ScriptLine) (world : WorldState) (idle : Idle) → asked_in world script_line ≡ None → Comes script_line world (Err idle) world
+no_event script_line world idle none =
     record {
       comes = subst (λ (o : Option Event). ComesTo o world (Err idle) world) (sym none) (refl, refl);
       goes = record { rises = omega arith; goes = λ g s. record { after = g; goes = rests; stands = s } };
@@ -111,9 +111,9 @@ no_event order world idle none =
       exact = λ nodes config cs r. (r, sym (append-nil (asked_on r)));
     }
 
-pub happened : (order : ScriptLine) (old : WorldState) (event : Event) (result : Result (Unit {0}) Idle) (new : WorldState) → asked_in old order ≡ Some event → Happens event old result new
-    → WorldGoesOn old new → StaysReached old.nodes new.nodes → (asked : List (ℕ × Publication)) × IsAsked event old result asked new × WorldGoesBy asked old new × KeepsReached asked old new → Comes order old result new
-happened order old event result new is happens goes reached asks =
+pub happened : (script_line : ScriptLine) (old : WorldState) (event : Event) (result : Result (Unit {0}) Idle) (new : WorldState) → asked_in old script_line ≡ Some event → Happens event old result new
+    → WorldGoesOn old new → StaysReached old.nodes new.nodes → (asked : List (ℕ × Publication)) × IsAsked event old result asked new × WorldGoesBy asked old new × KeepsReached asked old new → Comes script_line old result new
+happened script_line old event result new is happens goes reached asks =
     record {
       comes = subst (λ (o : Option Event). ComesTo o old result new) (sym is) happens;
       goes = goes;
@@ -123,12 +123,12 @@ happened order old event result new is happens goes reached asks =
       exact = asks.3;
     }
 
--- an order, its line, and if the last call succeeds, what clients accepted
-pub appends : {E : Type 0} (end : Result (Unit {0}) E) (clients : List (List ℕ)) (index : ℕ) (order : ScriptLine) (result : Result (Unit {0}) Idle) (before after : WorldState) (ls : List Recipient)
-    (a b c : List ℕ) → Comes order before result after → Written index result after a b → names_of ls ≡ clients → AreWritten ls before → OnOk end (c ≡ b ++ lines_unwritten ls after)
-    → OnOk end (Appends clients index order before after a c)
-appends (Err error) clients index order result before after ls a b c comes line named written tells = tells
-appends (Ok done) clients index order result before after ls a b c comes line named written tells =
+-- a line, the line of its event, and if the last call succeeds, what clients accepted
+pub appends : {E : Type 0} (end : Result (Unit {0}) E) (clients : List (List ℕ)) (index : ℕ) (script_line : ScriptLine) (result : Result (Unit {0}) Idle) (before after : WorldState) (ls : List Recipient)
+    (a b c : List ℕ) → Comes script_line before result after → Written index result after a b → names_of ls ≡ clients → AreWritten ls before → OnOk end (c ≡ b ++ lines_unwritten ls after)
+    → OnOk end (Appends clients index script_line before after a c)
+appends (Err error) clients index script_line result before after ls a b c comes line named written tells = tells
+appends (Ok done) clients index script_line result before after ls a b c comes line named written tells =
     record {
       lines = line.line ++ new_lines clients before after;
       step = record {

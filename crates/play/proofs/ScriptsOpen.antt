@@ -29,7 +29,7 @@ opens_so opening is =
 pub script_opens : (lines : List Text) (script : Script) → IsScript lines script
     → can_open script.opening.nodes script.opening.config ≡ false → ⊥
 script_opens [] script is bad = absurd is
-script_opens (first ∷ lines) script (opening, orders) bad =
+script_opens (first ∷ lines) script (opening, script_lines) bad =
     false≢true (sym bad ∙ opens_so script.opening (lawful (fields_of first) script.opening (opening.1)))
 
 -- ---- its clients are apart
@@ -58,7 +58,7 @@ clients_apart _ opening (world nodes members primary clients is distinct) = are_
 
 pub script_apart : (lines : List Text) (script : Script) → IsScript lines script → AreApart script.opening.clients.items
 script_apart [] script is = absurd is
-script_apart (first ∷ lines) script (opening, orders) = clients_apart (fields_of first) script.opening (opening.1)
+script_apart (first ∷ lines) script (opening, script_lines) = clients_apart (fields_of first) script.opening (opening.1)
 
 -- ---- an error is the same, whatever there might have been in its place
 

@@ -4,7 +4,7 @@ use Rattle.std.proofs.Common.{◌≡◌, ◌<◌, ◌+◌, ℕ, List, [], ◌∷
 use Rattle.std.specs.Result.{IsErrAnd}
 use Rattle.std.proofs.lemmas.List.{append-nil, append_assoc, take_more}
 use Rattle.script.specs.Scripts.{IsScript, lines_of}
-use Rattle.script.specs.declared.order.ScriptLine.{ScriptLine}
+use Rattle.script.specs.declared.script_line.ScriptLine.{ScriptLine}
 use Rattle.script.specs.declared.reading.Script.{Script}
 use Rattle.world.specs.world_events.declared.event.Event.{Event}
 use Rattle.world.specs.world_events.declared.escape_error.EscapeError.{EscapeError}
@@ -48,13 +48,13 @@ one_more_member xs i d old mid new below before one =
 
 -- ---- the world in which a script ends
 
-pub ends_in : (text old new : List ℕ) (script : Script) (first last : WorldState) (clients : List (List ℕ)) (orders : List ScriptLine) → IsScript (lines_of text) script
+pub ends_in : (text old new : List ℕ) (script : Script) (first last : WorldState) (clients : List (List ℕ)) (script_lines : List ScriptLine) → IsScript (lines_of text) script
     → AreReached script.opening.nodes script.opening.config first.nodes
     → (reached : IsReached script.opening.nodes script.opening.config script.opening.clients.items first) × (asked_on reached ≡ [])
-    → clients ≡ script.opening.clients.items → orders ≡ script.orders.items → AppendsAll clients orders first last old new → last.losses ≡ 0 → EndsIn text last
-ends_in text old new script first last clients orders is opened exact named all on none =
-    let whole : AppendsAll script.opening.clients.items script.orders.items first last old new =
-    subst (λ (o : List ScriptLine). AppendsAll script.opening.clients.items o first last old new) all (subst (λ (n : List (List ℕ)). AppendsAll n orders first last old new) named on) in
+    → clients ≡ script.opening.clients.items → script_lines ≡ script.lines.items → AppendsAll clients script_lines first last old new → last.losses ≡ 0 → EndsIn text last
+ends_in text old new script first last clients script_lines is opened exact named all on none =
+    let whole : AppendsAll script.opening.clients.items script.lines.items first last old new =
+    subst (λ (o : List ScriptLine). AppendsAll script.opening.clients.items o first last old new) all (subst (λ (n : List (List ℕ)). AppendsAll n script_lines first last old new) named on) in
     record {
       script = script;
       is_script = is;

@@ -1,10 +1,10 @@
--- The event that an order asks for.
+-- The event that a line asks for.
 use Rattle.std.specs.Prelude.{ℕ, Bool, nat_le, if◌then◌else◌, ◌&&◌, List, Option, Some, None, length, option_map}
 use Rattle.std.specs.List.{list_all}
-use Rattle.script.specs.declared.order.Amount.{Amount}
-use Rattle.script.specs.declared.order.Amount.TheVariants as amounts
-use Rattle.script.specs.declared.order.ScriptLine.{ScriptLine}
-use Rattle.script.specs.declared.order.ScriptLine.TheVariants as orders
+use Rattle.script.specs.declared.script_line.Amount.{Amount}
+use Rattle.script.specs.declared.script_line.Amount.TheVariants as amounts
+use Rattle.script.specs.declared.script_line.ScriptLine.{ScriptLine}
+use Rattle.script.specs.declared.script_line.ScriptLine.TheVariants as lines
 use Rattle.world.specs.world_events.declared.event.Event.{Event}
 use Rattle.world.specs.world_events.declared.event.Event.TheVariants as events
 use Rattle.world.specs.Found.{way_of}
@@ -15,7 +15,7 @@ use Rattle.world.specs.World.{WorldState}
 abbrev pub is_small : ℕ → Bool
 is_small number = nat_le number 255
 
--- the number of the node that an order names, if a node can have it
+-- the number of the node that a line names, if a node can have it
 abbrev pub node_of : ℕ → Option ℕ
 node_of number = if is_small number then Some number else None
 
@@ -30,32 +30,32 @@ abbrev pub count_of : ℕ → Amount → ℕ
 count_of waiting amounts.All = waiting
 count_of waiting (amounts.Bytes count) = count
 
--- the event of an order, when this many bytes wait on the connection that it names
+-- the event of a line, when this many bytes wait on the connection that it names
 abbrev pub event_of : ℕ → ScriptLine → Option Event
-event_of waiting (orders.Assign members primary) = assign_of members primary
-event_of waiting (orders.Deliver message) = Some (events.Deliver message)
-event_of waiting (orders.Tick node) = option_map events.Tick (node_of node)
-event_of waiting (orders.Cut node) = option_map events.Cut (node_of node)
-event_of waiting (orders.Crash node) = option_map events.Crash (node_of node)
-event_of waiting (orders.Expel client node) = option_map (events.Expel client) (node_of node)
-event_of waiting (orders.Open client node) = option_map (events.Open client) (node_of node)
-event_of waiting (orders.CarryUp connection amount) =
+event_of waiting (lines.Assign members primary) = assign_of members primary
+event_of waiting (lines.Deliver message) = Some (events.Deliver message)
+event_of waiting (lines.Tick node) = option_map events.Tick (node_of node)
+event_of waiting (lines.Cut node) = option_map events.Cut (node_of node)
+event_of waiting (lines.Crash node) = option_map events.Crash (node_of node)
+event_of waiting (lines.Expel client node) = option_map (events.Expel client) (node_of node)
+event_of waiting (lines.Open client node) = option_map (events.Open client) (node_of node)
+event_of waiting (lines.CarryUp connection amount) =
     Some (events.CarryUp connection (count_of waiting amount))
-event_of waiting (orders.CarryDown connection amount) =
+event_of waiting (lines.CarryDown connection amount) =
     Some (events.CarryDown connection (count_of waiting amount))
-event_of waiting (orders.Abandon client) = Some (events.Abandon client)
-event_of waiting (orders.Disconnect client) = Some (events.Disconnect client)
-event_of waiting (orders.Notice connection) = Some (events.Notice connection)
-event_of waiting (orders.Publish client publication) = Some (events.Publish client publication)
-event_of waiting (orders.Subscribe client filter qos) = Some (events.Subscribe client filter qos)
-event_of waiting (orders.Unsubscribe client filter) = Some (events.Unsubscribe client filter)
+event_of waiting (lines.Abandon client) = Some (events.Abandon client)
+event_of waiting (lines.Disconnect client) = Some (events.Disconnect client)
+event_of waiting (lines.Notice connection) = Some (events.Notice connection)
+event_of waiting (lines.Publish client publication) = Some (events.Publish client publication)
+event_of waiting (lines.Subscribe client filter qos) = Some (events.Subscribe client filter qos)
+event_of waiting (lines.Unsubscribe client filter) = Some (events.Unsubscribe client filter)
 
--- how many bytes wait on the connection that an order names, the way that they are carried
+-- how many bytes wait on the connection that a line names, the way that they are carried
 abbrev pub waiting_for : ScriptLine → WorldState → ℕ
-waiting_for (orders.CarryUp connection amount) w = length (up_of (way_of connection w))
-waiting_for (orders.CarryDown connection amount) w = length (down_of (way_of connection w))
+waiting_for (lines.CarryUp connection amount) w = length (up_of (way_of connection w))
+waiting_for (lines.CarryDown connection amount) w = length (down_of (way_of connection w))
 waiting_for _ w = 0
 
--- the event that an order asks for in a world
+-- the event that a line asks for in a world
 abbrev pub asked_in : WorldState → ScriptLine → Option Event
-asked_in w order = event_of (waiting_for order w) order
+asked_in w line = event_of (waiting_for line w) line

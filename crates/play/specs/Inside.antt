@@ -2,7 +2,7 @@
 use Rattle.std.specs.Prelude.{◌≡◌, ℕ, List, [], ◌∷◌, ◌++◌, Some, Result, length, map}
 use Rattle.world.specs.master.declared.event.Idle.{Idle}
 use Rattle.script.specs.session_base.declared.publication.Publication.{Publication}
-use Rattle.script.specs.declared.order.ScriptLine.{ScriptLine}
+use Rattle.script.specs.declared.script_line.ScriptLine.{ScriptLine}
 use Rattle.play.specs.Lines.{end_line}
 use Rattle.world.specs.world_events.declared.event.Event.{Event}
 use Rattle.world.specs.Goes.{StaysReached, WorldGoesOn}
@@ -13,18 +13,18 @@ use Rattle.play.specs.declared.played_world.Recipient.{Recipient}
 use Rattle.play.specs.Events.{asked_in, event_of}
 use Rattle.play.specs.Transcripts.{ComesTo, IsAskedIn, IsLine, Played, Step, accepted_in, lines_after}
 
--- what an order asks of a client, whatever waits on connections
+-- what a line asks of a client, whatever waits on connections
 abbrev pub IsCallOf : ScriptLine → Event → Type 0
-IsCallOf order event = (waiting : ℕ) → event_of waiting order ≡ Some event
+IsCallOf line event = (waiting : ℕ) → event_of waiting line ≡ Some event
 
--- what an order asks for had this result
-pub record Comes (order : ScriptLine) (old : WorldState) (result : Result (Unit {0}) Idle)
+-- what a line asks for had this result
+pub record Comes (line : ScriptLine) (old : WorldState) (result : Result (Unit {0}) Idle)
     (new : WorldState) : Type 0 where
-  pub comes : ComesTo (asked_in old order) old result new
+  pub comes : ComesTo (asked_in old line) old result new
   pub goes : WorldGoesOn old new
   pub reached : StaysReached old.nodes new.nodes
   pub asked : List (ℕ × Publication)
-  pub asks : IsAskedIn (asked_in old order) old result asked new
+  pub asks : IsAskedIn (asked_in old line) old result asked new
   pub exact : KeepsReached asked old new
 
 -- its line was appended
@@ -64,27 +64,27 @@ written_at w recipient = record recipient { written = length (accepted_in recipi
 abbrev pub new_recipient : List ℕ → Recipient
 new_recipient name = record { client = name; written = 0 }
 
--- ---- orders
+-- ---- lines of a script
 
--- the lines of one order were appended
-pub record Appends (clients : List (List ℕ)) (index : ℕ) (order : ScriptLine)
+-- the lines for one line of a script were appended
+pub record Appends (clients : List (List ℕ)) (index : ℕ) (script_line : ScriptLine)
     (before after : WorldState) (old new : List ℕ) : Type 0 where
   pub lines : List ℕ
-  pub step : Step clients index order before after lines
+  pub step : Step clients index script_line before after lines
   pub is : new ≡ old ++ lines
 
--- the lines of these orders were appended
-pub record AppendsAll (clients : List (List ℕ)) (orders : List ScriptLine)
+-- the lines for these lines of a script were appended
+pub record AppendsAll (clients : List (List ℕ)) (script_lines : List ScriptLine)
     (first last : WorldState) (old new : List ℕ) : Type 0 where
   pub lines : List ℕ
-  pub played : Played clients first orders lines last
+  pub played : Played clients first script_lines lines last
   pub is : new ≡ old ++ lines
 
--- the lines of these orders were appended, and the last line after them, with this count of losses
-pub record PlaysOn (clients : List (List ℕ)) (orders : List ScriptLine) (first : WorldState)
+-- and the last line after them, with this count of losses
+pub record PlaysOn (clients : List (List ℕ)) (script_lines : List ScriptLine) (first : WorldState)
     (old new : List ℕ) (losses : ℕ) : Type 0 where
   pub last : WorldState
   pub mid : List ℕ
-  pub all : AppendsAll clients orders first last old mid
+  pub all : AppendsAll clients script_lines first last old mid
   pub ends : Ends last mid new
   pub are : last.losses ≡ losses

@@ -1,4 +1,4 @@
--- The transcript of a script: the worlds that its orders lead through, and what is written for
+-- The transcript of a script: the worlds that its lines lead through, and what is written for
 -- each.
 use Rattle.std.specs.Prelude.{◌≡◌, ℕ, List, [], ◌∷◌, ◌++◌, Option, Some, None, Result, Ok, Err, IsErr, drop, length}
 use Rattle.user_client.specs.client.Core.{Core}
@@ -6,7 +6,7 @@ use Rattle.user_client.specs.client_base.declared.accepted.Accepted.{Accepted}
 use Rattle.script.specs.session_base.declared.publication.Publication.{Publication}
 use Rattle.world.specs.master.declared.event.Idle.{Idle}
 use Rattle.script.specs.Scripts.{IsScript, lines_of}
-use Rattle.script.specs.declared.order.ScriptLine.{ScriptLine}
+use Rattle.script.specs.declared.script_line.ScriptLine.{ScriptLine}
 use Rattle.script.specs.declared.reading.Script.{Script}
 use Rattle.play.specs.Lines.{accepted_line, done_line, end_line, idle_line}
 use Rattle.world.specs.world_events.declared.event.Event.{Event}
@@ -43,9 +43,9 @@ new_lines [] old new = []
 new_lines (name ∷ names) old new =
     lines_after (length (accepted_in name old)) name new ++ new_lines names old new
 
--- ---- one order
+-- ---- one line of a script
 
--- its event had this result, as `World::step` says; an order that names no event is idle
+-- its event had this result, as `World::step` says; a line that names no event is idle
 abbrev pub ComesTo : Option Event → WorldState → Result (Unit {0}) Idle → WorldState → Type 0
 ComesTo None old result new = IsErr result × (new ≡ old)
 ComesTo (Some event) old result new = Happens event old result new
@@ -64,33 +64,33 @@ IsLine index (Ok done) new line =
     (agreed : ℕ) × AgreeOnSoMany new.nodes agreed
     × (line ≡ done_line index (length new.nodes.sent) agreed)
 
--- One order: its line, and a line for each publication that a client newly accepted. Even if memory
--- ran out in it, the nodes did what they may do, and agree as before, and each client stays exact,
--- by what it was asked to publish.
-pub record Step (clients : List (List ℕ)) (index : ℕ) (order : ScriptLine) (old new : WorldState)
-    (lines : List ℕ) : Type 0 where
+-- One line of a script: the line of its event, and a line for each publication that a client newly
+-- accepted. Even if memory ran out in it, the nodes did what they may do, and agree as before, and
+-- each client stays exact, by what it was asked to publish.
+pub record Step (clients : List (List ℕ)) (index : ℕ) (script_line : ScriptLine)
+    (old new : WorldState) (lines : List ℕ) : Type 0 where
   pub result : Result (Unit {0}) Idle
-  pub comes : ComesTo (asked_in old order) old result new
+  pub comes : ComesTo (asked_in old script_line) old result new
   pub line : List ℕ
   pub is_line : IsLine index result new line
   pub whole : lines ≡ line ++ new_lines clients old new
   pub goes : WorldGoesOn old new
   pub reached : StaysReached old.nodes new.nodes
   pub asked : List (ℕ × Publication)
-  pub asks : IsAskedIn (asked_in old order) old result asked new
+  pub asks : IsAskedIn (asked_in old script_line) old result asked new
   pub exact : KeepsReached asked old new
 
--- the lines of these orders, from the opening on
+-- the lines for these lines of a script, from the opening on
 pub data Played (clients : List (List ℕ)) (first : WorldState)
     : List ScriptLine → List ℕ → WorldState → Type 0 where
-  opens : Played clients first [] [] first  -- no order yet
-  -- one more order, with its lines
-  goes_on : {orders : List ScriptLine} {lines more : List ℕ} {old new : WorldState}
-      → Played clients first orders lines old → (order : ScriptLine)
-      → Step clients (length orders) order old new more
-      → Played clients first (orders ++ order ∷ []) (lines ++ more) new
+  opens : Played clients first [] [] first  -- no line yet
+  -- one more line, with the lines of its event
+  goes_on : {script_lines : List ScriptLine} {lines more : List ℕ} {old new : WorldState}
+      → Played clients first script_lines lines old → (script_line : ScriptLine)
+      → Step clients (length script_lines) script_line old new more
+      → Played clients first (script_lines ++ script_line ∷ []) (lines ++ more) new
 
--- each order of a script has its event, these are the lines of its transcript, and the last line
+-- each line of a script has its event, these are the lines of its transcript, and the last line
 -- says how many commands are agreed
 pub record IsTranscript (script : Script) (last : WorldState) (transcript : List ℕ) : Type 0 where
   pub first : WorldState
@@ -100,7 +100,7 @@ pub record IsTranscript (script : Script) (last : WorldState) (transcript : List
   pub unasked : asked_on exact ≡ []
   pub whole : first.losses ≡ 0
   pub lines : List ℕ
-  pub played : Played script.opening.clients.items first script.orders.items lines last
+  pub played : Played script.opening.clients.items first script.lines.items lines last
   pub agreed : ℕ
   pub are_agreed : AgreeOnSoMany last.nodes agreed
   pub is : transcript ≡ lines ++ end_line agreed last.nodes.master.active

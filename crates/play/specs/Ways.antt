@@ -51,7 +51,7 @@ event_lines (event ∷ more) = event_line event ++ event_lines more
 
 -- ---- the world in which a script ends
 
--- a text is a script, whose orders lead from the world that it opens to this one, and memory ran
+-- a text is a script, whose lines lead from the world that it opens to this one, and memory ran
 -- out in none of them
 pub record EndsIn (text : List ℕ) (last : WorldState) : Type 0 where
   pub script : Script
@@ -61,7 +61,7 @@ pub record EndsIn (text : List ℕ) (last : WorldState) : Type 0 where
   pub exact :
       IsReached script.opening.nodes script.opening.config script.opening.clients.items first
   pub lines : List ℕ
-  pub played : Played script.opening.clients.items first script.orders.items lines last
+  pub played : Played script.opening.clients.items first script.lines.items lines last
   pub whole : last.losses ≡ 0
 
 -- the lines of events that lead out of that world were appended

@@ -1,4 +1,4 @@
-// The event that an order asks for.
+// The event that a line asks for.
 
 ghost use Rattle.std.specs.Prelude.{◌≡◌, true, Some, length, option_map, IfOk, IsErrOf, OnErr};
 ghost use Rattle.std.specs.List.{list_all};
@@ -15,17 +15,17 @@ use script::{Amount, Numbers, ScriptLine};
 use std::alloc::Global;
 use world::{Event, World};
 
-/// Returns the event that an order asks for in a world; none if it names a number that no node can
+/// Returns the event that a line asks for in a world; none if it names a number that no node can
 /// have. The only error is that memory ran out.
 pub(crate) fn event_of(
     alloc: Global,
     world: &World,
-    order: &ScriptLine,
+    line: &ScriptLine,
 ) -> Result<Option<Event>, PlayError>
-    ensures event { IfOk result (λ event. event ≡ asked_in world.now order.now) }
+    ensures event { IfOk result (λ event. event ≡ asked_in world.now line.now) }
     ensures memory { OnErr result (IsErrOf result PlayError.Memory) }
 {
-    match order {
+    match line {
         ScriptLine::Assign(members, primary) => assign(alloc, members, *primary),
         ScriptLine::Deliver(message) => Ok(Some(Event::Deliver(*message))),
         ScriptLine::Tick(node) => Ok(tick(*node)),
@@ -42,16 +42,16 @@ pub(crate) fn event_of(
             Ok(Some(Event::CarryDown(*connection, count)))
         }
         ScriptLine::Notice(connection) => Ok(Some(Event::Notice(*connection))),
-        _ => Ok(Some(call(order)?)),
+        _ => Ok(Some(call(line)?)),
     }
 }
 
 // Returns what a client has to do.
-fn call(order: &ScriptLine) -> Result<Event, PlayError>
-    ensures event { IfOk result (λ event. IsCallOf order.now event) }
+fn call(line: &ScriptLine) -> Result<Event, PlayError>
+    ensures event { IfOk result (λ event. IsCallOf line.now event) }
     ensures memory { OnErr result (IsErrOf result PlayError.Memory) }
 {
-    match order {
+    match line {
         ScriptLine::Abandon(client) => Ok(Event::Abandon(client.clone()?)),
         ScriptLine::Disconnect(client) => Ok(Event::Disconnect(client.clone()?)),
         ScriptLine::Publish(client, publication) => {
@@ -121,7 +121,7 @@ fn crash(node: u64) -> Option<Event>
     Some(Event::Crash(node_of(node)?))
 }
 
-// Returns the end of a client's session, ordered at a node.
+// Returns the end of a client's session, proposed by a node.
 fn expel(client: &ClientId, node: u64) -> Result<Option<Event>, PlayError>
     ensures event { IfOk result (λ event.
         event ≡ option_map (events.Expel client.now) (node_of node)) }

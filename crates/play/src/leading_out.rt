@@ -31,13 +31,13 @@ pub fn escape(
     ensures refused { (number : ℕ) → IsErrOf result (PlayError.Line number)
         → Refuses (lines_of text.now) (Line number) }
 {
-    let Script { opening, orders } = read(alloc, text)?;
+    let Script { opening, lines } = read(alloc, text)?;
     let mut played = match PlayedWorld::new(alloc, opening) {
         Ok(played) => played,
         Err(error) => return Err(error),
     };
     let mut transcript = Vec::new(alloc);
-    play_all(&mut played, orders.as_slice(), &mut transcript)?;
+    play_all(&mut played, lines.as_slice(), &mut transcript)?;
     if played.world.losses() > 0 {
         return Err(PlayError::Losses);
     }

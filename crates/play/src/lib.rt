@@ -1,4 +1,5 @@
-//! Plays a script: its orders happen in a world, and a transcript says the result of each.
+//! Plays a script: the events of its lines happen in a world, and a transcript says the result of
+//! each.
 #![tactic(auto)]
 
 mod error;

@@ -63,22 +63,22 @@ impl PlayedWorld {
         })
     }
 
-    /// Does what an order asks for, and appends the result.
+    /// Does what a line asks for, and appends the result.
     pub(crate) fn play(
         &mut self,
         index: u64,
-        order: &ScriptLine,
+        line: &ScriptLine,
         transcript: &mut Vec<u8>,
     ) -> Result<(), PlayError>
         requires written { AreWritten self.old.recipients.items self.old.world }
-        ensures lines { OnOk result (Appends (names_of self.old.recipients.items) index order.now
+        ensures lines { OnOk result (Appends (names_of self.old.recipients.items) index line.now
             self.old.world self.new.world transcript.old.items transcript.new.items) }
         ensures written { OnOk result (AreWritten self.new.recipients.items self.new.world) }
         ensures named { OnOk result
             (names_of self.new.recipients.items ≡ names_of self.old.recipients.items) }
         ensures memory { OnErr result (IsErrOf result PlayError.Memory) }
     {
-        let came = self.happens(order)?;
+        let came = self.happens(line)?;
         self.write_line(index, came, transcript)?;
         write_all_new(
             self.alloc,
@@ -88,14 +88,14 @@ impl PlayedWorld {
         )
     }
 
-    // Does what an order asks for, if it can happen.
-    fn happens(&mut self, order: &ScriptLine) -> Result<Result<(), Idle>, PlayError>
+    // Does what a line asks for, if it can happen.
+    fn happens(&mut self, line: &ScriptLine) -> Result<Result<(), Idle>, PlayError>
         ensures comes { IfOk result (λ result.
-            Comes order.now self.old.world result self.new.world) }
+            Comes line.now self.old.world result self.new.world) }
         ensures recipients { self.new.recipients.items ≡ self.old.recipients.items }
         ensures memory { OnErr result (IsErrOf result PlayError.Memory) }
     {
-        match event_of(self.alloc, &self.world, order)? {
+        match event_of(self.alloc, &self.world, line)? {
             Some(event) => Ok(self.world.step(&event)),
             None => Ok(Err(Idle)),
         }

@@ -26,45 +26,45 @@ pub fn play(alloc: Global, text: &[u8], transcript: &mut Vec<u8>) -> Result<(), 
     ensures out_of_memory { IsErrOf result PlayError.Losses → (losses : ℕ) × ((0 < losses)
         × Plays text.now transcript.old.items transcript.new.items losses) }
 {
-    let Script { opening, orders } = read(alloc, text)?;
+    let Script { opening, lines } = read(alloc, text)?;
     let mut played = match PlayedWorld::new(alloc, opening) {
         Ok(played) => played,
         Err(error) => return Err(error),
     };
-    play_whole(&mut played, orders.as_slice(), transcript)
+    play_whole(&mut played, lines.as_slice(), transcript)
 }
 
-// Does what the orders ask for, and appends the results, up to the last line.
+// Does what the lines ask for, and appends the results, up to the last line.
 fn play_whole(
     played: &mut PlayedWorld,
-    orders: &[ScriptLine],
+    lines: &[ScriptLine],
     transcript: &mut Vec<u8>,
 ) -> Result<(), PlayError>
     requires written { AreWritten played.old.recipients.items played.old.world }
-    ensures played { OnOk result (PlaysOn (names_of played.old.recipients.items) orders.now
+    ensures played { OnOk result (PlaysOn (names_of played.old.recipients.items) lines.now
         played.old.world transcript.old.items transcript.new.items 0) }
     ensures form { (number : ℕ) → IsErrOf result (PlayError.Line number) → ⊥ }
     ensures out_of_memory { IsErrOf result PlayError.Losses → (losses : ℕ) × ((0 < losses)
-        × PlaysOn (names_of played.old.recipients.items) orders.now played.old.world
+        × PlaysOn (names_of played.old.recipients.items) lines.now played.old.world
         transcript.old.items transcript.new.items losses) }
 {
-    play_all(played, orders, transcript)?;
+    play_all(played, lines, transcript)?;
     played.end(transcript)
 }
 
-/// Does what the orders ask for, one after another, and appends the results.
+/// Does what the lines ask for, one after another, and appends the results.
 pub(crate) fn play_all(
     played: &mut PlayedWorld,
-    orders: &[ScriptLine],
+    lines: &[ScriptLine],
     transcript: &mut Vec<u8>,
 ) -> Result<(), PlayError>
     requires written { AreWritten played.old.recipients.items played.old.world }
-    ensures lines { OnOk result (AppendsAll (names_of played.old.recipients.items) orders.now
+    ensures lines { OnOk result (AppendsAll (names_of played.old.recipients.items) lines.now
         played.old.world played.new.world transcript.old.items transcript.new.items) }
     ensures memory { OnErr result (IsErrOf result PlayError.Memory) }
 {
-    for (index, order) in orders.iter().enumerate() {
-        played.play(index as u64, order, transcript)?;
+    for (index, line) in lines.iter().enumerate() {
+        played.play(index as u64, line, transcript)?;
     }
     Ok(())
 }

@@ -1,83 +1,83 @@
--- ByWord.antt: what fields order, by the word before them.
+-- ByWord.antt: what fields say, by the word before them.
 use Rattle.std.proofs.Common.{◌≡◌, List, codes, bytes_eq, false, Option, Some, None, Result, Ok, Err, ap, refl, ◌∙◌, inl, inr}
 use Rattle.std.specs.Result.{IfOk}
 use Rattle.std.proofs.lemmas.Bool.{cases_Bool}
 use Rattle.std.proofs.lemmas.Slice.Eq.{bytes_eq-Decides}
 use Rattle.script.specs.declared.error.FieldFault.{FieldFault}
-use Rattle.script.specs.declared.order.ScriptLine.{ScriptLine}
-use Rattle.script.specs.declared.order.ScriptLine.TheVariants as orders
+use Rattle.script.specs.declared.script_line.ScriptLine.{ScriptLine}
+use Rattle.script.specs.declared.script_line.ScriptLine.TheVariants as lines
 use Rattle.script.specs.Fields.{Text, amount_of, client_of, filter_of, number_of, numbers_of}
-use Rattle.script.specs.Inside.Ordering.{one, order_by, publish_of, subscribe_of, two}
+use Rattle.script.specs.Inside.LineReading.{line_by, one, publish_of, subscribe_of, two}
 
--- what was read of the fields is what the line orders
+-- what was read of the fields is what the line says
 pub value_by : (word w : Text) (fields : List Text) (o : Option ScriptLine) (r : Result ScriptLine FieldFault) → word ≡ w
-    → order_by w fields ≡ o → IfOk r (λ x. o ≡ Some x) → IfOk r (λ x. order_by word fields ≡ Some x)
-value_by word w fields o (Ok x) is by_form h = ap (λ v. order_by v fields) is ∙ by_form ∙ h
+    → line_by w fields ≡ o → IfOk r (λ x. o ≡ Some x) → IfOk r (λ x. line_by word fields ≡ Some x)
+value_by word w fields o (Ok x) is by_form h = ap (λ v. line_by v fields) is ∙ by_form ∙ h
 value_by word w fields o (Err e) is by_form h = tt
 
 -- fields without their form have no line
 pub form_by : (word w : Text) (fields : List Text) (o : Option ScriptLine) → word ≡ w
-    → order_by w fields ≡ o → o ≡ None → order_by word fields ≡ None
-form_by word w fields o is by_form h = ap (λ v. order_by v fields) is ∙ by_form ∙ h
+    → line_by w fields ≡ o → o ≡ None → line_by word fields ≡ None
+form_by word w fields o is by_form h = ap (λ v. line_by v fields) is ∙ by_form ∙ h
 
-pub by_assign : (fields : List Text) → order_by (codes "assign") fields ≡ two orders.Assign numbers_of number_of fields
-unfolding order_by
+pub by_assign : (fields : List Text) → line_by (codes "assign") fields ≡ two lines.Assign numbers_of number_of fields
+unfolding line_by
 by_assign fields = refl
 
-pub by_deliver : (fields : List Text) → order_by (codes "deliver") fields ≡ one orders.Deliver number_of fields
-unfolding order_by
+pub by_deliver : (fields : List Text) → line_by (codes "deliver") fields ≡ one lines.Deliver number_of fields
+unfolding line_by
 by_deliver fields = refl
 
-pub by_tick : (fields : List Text) → order_by (codes "tick") fields ≡ one orders.Tick number_of fields
-unfolding order_by
+pub by_tick : (fields : List Text) → line_by (codes "tick") fields ≡ one lines.Tick number_of fields
+unfolding line_by
 by_tick fields = refl
 
-pub by_cut : (fields : List Text) → order_by (codes "cut") fields ≡ one orders.Cut number_of fields
-unfolding order_by
+pub by_cut : (fields : List Text) → line_by (codes "cut") fields ≡ one lines.Cut number_of fields
+unfolding line_by
 by_cut fields = refl
 
-pub by_crash : (fields : List Text) → order_by (codes "crash") fields ≡ one orders.Crash number_of fields
-unfolding order_by
+pub by_crash : (fields : List Text) → line_by (codes "crash") fields ≡ one lines.Crash number_of fields
+unfolding line_by
 by_crash fields = refl
 
-pub by_open : (fields : List Text) → order_by (codes "open") fields ≡ two orders.Open client_of number_of fields
-unfolding order_by
+pub by_open : (fields : List Text) → line_by (codes "open") fields ≡ two lines.Open client_of number_of fields
+unfolding line_by
 by_open fields = refl
 
-pub by_up : (fields : List Text) → order_by (codes "up") fields ≡ two orders.CarryUp number_of amount_of fields
-unfolding order_by
+pub by_up : (fields : List Text) → line_by (codes "up") fields ≡ two lines.CarryUp number_of amount_of fields
+unfolding line_by
 by_up fields = refl
 
-pub by_down : (fields : List Text) → order_by (codes "down") fields ≡ two orders.CarryDown number_of amount_of fields
-unfolding order_by
+pub by_down : (fields : List Text) → line_by (codes "down") fields ≡ two lines.CarryDown number_of amount_of fields
+unfolding line_by
 by_down fields = refl
 
-pub by_abandon : (fields : List Text) → order_by (codes "abandon") fields ≡ one orders.Abandon client_of fields
-unfolding order_by
+pub by_abandon : (fields : List Text) → line_by (codes "abandon") fields ≡ one lines.Abandon client_of fields
+unfolding line_by
 by_abandon fields = refl
 
-pub by_disconnect : (fields : List Text) → order_by (codes "disconnect") fields ≡ one orders.Disconnect client_of fields
-unfolding order_by
+pub by_disconnect : (fields : List Text) → line_by (codes "disconnect") fields ≡ one lines.Disconnect client_of fields
+unfolding line_by
 by_disconnect fields = refl
 
-pub by_notice : (fields : List Text) → order_by (codes "notice") fields ≡ one orders.Notice number_of fields
-unfolding order_by
+pub by_notice : (fields : List Text) → line_by (codes "notice") fields ≡ one lines.Notice number_of fields
+unfolding line_by
 by_notice fields = refl
 
-pub by_publish : (fields : List Text) → order_by (codes "publish") fields ≡ publish_of fields
-unfolding order_by
+pub by_publish : (fields : List Text) → line_by (codes "publish") fields ≡ publish_of fields
+unfolding line_by
 by_publish fields = refl
 
-pub by_subscribe : (fields : List Text) → order_by (codes "subscribe") fields ≡ subscribe_of fields
-unfolding order_by
+pub by_subscribe : (fields : List Text) → line_by (codes "subscribe") fields ≡ subscribe_of fields
+unfolding line_by
 by_subscribe fields = refl
 
-pub by_unsubscribe : (fields : List Text) → order_by (codes "unsubscribe") fields ≡ two orders.Unsubscribe client_of filter_of fields
-unfolding order_by
+pub by_unsubscribe : (fields : List Text) → line_by (codes "unsubscribe") fields ≡ two lines.Unsubscribe client_of filter_of fields
+unfolding line_by
 by_unsubscribe fields = refl
 
-pub by_expel : (fields : List Text) → order_by (codes "expel") fields ≡ two orders.Expel client_of number_of fields
-unfolding order_by
+pub by_expel : (fields : List Text) → line_by (codes "expel") fields ≡ two lines.Expel client_of number_of fields
+unfolding line_by
 by_expel fields = refl
 
 -- another word
@@ -104,7 +104,7 @@ pub by_none : (word : Text) (fields : List Text)
     → (word ≡ codes "subscribe" → ⊥)
     → (word ≡ codes "unsubscribe" → ⊥)
     → (word ≡ codes "expel" → ⊥)
-    → order_by word fields ≡ None
-unfolding order_by
+    → line_by word fields ≡ None
+unfolding line_by
 by_none word fields n0 n1 n2 n3 n4 n5 n6 n7 n8 n9 n10 n11 n12 n13 n14 =
     rw (other word (codes "assign") n0, other word (codes "deliver") n1, other word (codes "tick") n2, other word (codes "cut") n3, other word (codes "crash") n4, other word (codes "open") n5, other word (codes "up") n6, other word (codes "down") n7, other word (codes "abandon") n8, other word (codes "disconnect") n9, other word (codes "notice") n10, other word (codes "publish") n11, other word (codes "subscribe") n12, other word (codes "unsubscribe") n13, other word (codes "expel") n14) refl

@@ -6,38 +6,38 @@ use Rattle.std.specs.Result.{IsErrOf}
 use Rattle.script.specs.declared.error.ScriptError.{ScriptError}
 use Rattle.script.specs.declared.error.ScriptError.TheVariants as errors
 use Rattle.script.specs.declared.opening.Opening.{Opening}
-use Rattle.script.specs.declared.order.ScriptLine.{ScriptLine}
+use Rattle.script.specs.declared.script_line.ScriptLine.{ScriptLine}
 use Rattle.script.specs.Fields.{Text, texts}
-use Rattle.script.specs.Scripts.{AreOrders, HasOrder, IsFirstBad, IsOpeningLine, IsOrderLine, Refuses}
+use Rattle.script.specs.Scripts.{AreLines, HasForm, IsFirstBad, IsOpeningLine, IsOtherLine, Refuses}
 
-push_order : (ts : List Text) (os : List ScriptLine) (t : Text) (o : ScriptLine) → AreOrders ts os → IsOrderLine t o
-    → AreOrders (ts ++ t ∷ []) (os ++ o ∷ [])
-push_order [] [] t o before is = (is, tt)
-push_order [] (p ∷ os) t o before is = absurd before
-push_order (s ∷ ts) [] t o before is = absurd before
-push_order (s ∷ ts) (p ∷ os) t o before is = (before.0, push_order ts os t o before.1 is)
+push_line : (ts : List Text) (os : List ScriptLine) (t : Text) (o : ScriptLine) → AreLines ts os → IsOtherLine t o
+    → AreLines (ts ++ t ∷ []) (os ++ o ∷ [])
+push_line [] [] t o before is = (is, tt)
+push_line [] (p ∷ os) t o before is = absurd before
+push_line (s ∷ ts) [] t o before is = absurd before
+push_line (s ∷ ts) (p ∷ os) t o before is = (before.0, push_line ts os t o before.1 is)
 
 -- one line more is read
-pub orders_more : (lines : List (Bor Text)) (i : ℕ) (d : Bor Text) (os ps : List ScriptLine) (o : ScriptLine)
-    → i < length lines → AreOrders (take i (texts lines)) os → IsOrderLine (get_or lines i d).now o
-    → ps ≡ os ++ o ∷ [] → AreOrders (take (i + 1) (texts lines)) ps
-orders_more lines i d os ps o within before is more =
+pub lines_more : (lines : List (Bor Text)) (i : ℕ) (d : Bor Text) (os ps : List ScriptLine) (o : ScriptLine)
+    → i < length lines → AreLines (take i (texts lines)) os → IsOtherLine (get_or lines i d).now o
+    → ps ≡ os ++ o ∷ [] → AreLines (take (i + 1) (texts lines)) ps
+lines_more lines i d os ps o within before is more =
     let here : get_or (texts lines) i d.now ≡ (get_or lines i d).now = get_or-map (λ (b : Bor Text). b.now) lines i d in
-    let pushed = push_order (take i (texts lines)) os (get_or lines i d).now o before is in
+    let pushed = push_line (take i (texts lines)) os (get_or lines i d).now o before is in
     let front : take (i + 1) (texts lines) ≡ take i (texts lines) ++ (get_or lines i d).now ∷ [] =
     take_more (texts lines) i d.now (omega (arith, length-map lines (λ (b : Bor Text). b.now)))
     ∙ ap (λ t. take i (texts lines) ++ t ∷ []) here in
-    subst (λ qs. AreOrders (take (i + 1) (texts lines)) qs) (sym more)
-    (subst (λ ts. AreOrders ts (os ++ o ∷ [])) (sym front) pushed)
+    subst (λ qs. AreLines (take (i + 1) (texts lines)) qs) (sym more)
+    (subst (λ ts. AreLines ts (os ++ o ∷ [])) (sym front) pushed)
 
 -- all lines are read
-pub orders_all : (lines : List (Bor Text)) (i : ℕ) (os : List ScriptLine) → length lines ≤ i
-    → AreOrders (take i (texts lines)) os → AreOrders (texts lines) os
-orders_all lines i os end before =
-    subst (λ ts. AreOrders ts os) (take_all i (texts lines) (omega (arith, length-map lines (λ (b : Bor Text). b.now)))) before
+pub lines_all : (lines : List (Bor Text)) (i : ℕ) (os : List ScriptLine) → length lines ≤ i
+    → AreLines (take i (texts lines)) os → AreLines (texts lines) os
+lines_all lines i os end before =
+    subst (λ ts. AreLines ts os) (take_all i (texts lines) (omega (arith, length-map lines (λ (b : Bor Text). b.now)))) before
 
-first_bad_at : (ts : List Text) (i : ℕ) (d : Text) (os : List ScriptLine) → i < length ts → AreOrders (take i ts) os
-    → (HasOrder (get_or ts i d) → ⊥) → IsFirstBad ts i
+first_bad_at : (ts : List Text) (i : ℕ) (d : Text) (os : List ScriptLine) → i < length ts → AreLines (take i ts) os
+    → (HasForm (get_or ts i d) → ⊥) → IsFirstBad ts i
 first_bad_at [] i d os within before bad = absurd (omega arith)
 first_bad_at (t ∷ ts) zero d os within before bad = bad
 first_bad_at (t ∷ ts) (suc i) d [] within before bad = absurd before
@@ -54,13 +54,13 @@ pub one_number : {T : Type 0} (x : Result T ScriptError) (a b : ℕ) → x ≡ E
 unfolding number_in
 one_number x a b one other = sym (ap number_in other) ∙ ap number_in one
 
--- the first line that orders nothing
+-- the first line without its form
 pub first_bad : (lines : List (Bor Text)) (i : ℕ) (d : Bor Text) (os : List ScriptLine) → i < length lines
-    → AreOrders (take i (texts lines)) os → (HasOrder (get_or lines i d).now → ⊥) → IsFirstBad (texts lines) i
+    → AreLines (take i (texts lines)) os → (HasForm (get_or lines i d).now → ⊥) → IsFirstBad (texts lines) i
 first_bad lines i d os within before bad =
     let here : get_or (texts lines) i d.now ≡ (get_or lines i d).now = get_or-map (λ (b : Bor Text). b.now) lines i d in
     first_bad_at (texts lines) i d.now os (omega (arith, length-map lines (λ (b : Bor Text). b.now))) before
-    (λ has. bad (subst HasOrder here has))
+    (λ has. bad (subst HasForm here has))
 
 -- a line after the first is refused by its number
 pub bad_after : {T : Type 0} (first : Text) (rest : List Text) (error : ScriptError) (o : Opening) → IsOpeningLine first o

@@ -1,14 +1,14 @@
--- OneForm.antt: the fields of a line order what their form says, and nothing else.
+-- OneForm.antt: the fields of a line mean what their form says, and nothing else.
 use Rattle.std.proofs.Common.{◌≡◌, List, [], ◌∷◌, codes, bytes_eq, Option, Some, None, is_some, ap, refl, sym, subst, ◌∙◌, inl, inr}
 use Rattle.std.proofs.lemmas.Bool.{cases_Bool, false≢true}
 use Rattle.std.proofs.lemmas.Option.{same_Some}
 use Rattle.std.proofs.lemmas.Slice.Eq.{bytes_eq-Decides}
-use Rattle.script.specs.declared.order.ScriptLine.{ScriptLine}
-use Rattle.script.specs.declared.order.ScriptLine.TheVariants as orders
+use Rattle.script.specs.declared.script_line.ScriptLine.{ScriptLine}
+use Rattle.script.specs.declared.script_line.ScriptLine.TheVariants as script_lines
 use Rattle.script.specs.Fields.{Text, amount_of, client_of, filter_of, number_of, numbers_of, payload_of, qos_of, retain_of, topic_of}
-use Rattle.script.specs.Orders as lines
-use Rattle.script.specs.Orders.{IsOrder}
-use Rattle.script.specs.Inside.Ordering.{publication_order, one, order_by, order_of, publication, publication_of, publish_of, subscribe_of, subscription_order, two, with}
+use Rattle.script.specs.Lines as lines
+use Rattle.script.specs.Lines.{IsLine}
+use Rattle.script.specs.Inside.LineReading.{line_by, line_of, one, publication, publication_line, publication_of, publish_of, subscribe_of, subscription_line, two, with}
 use Rattle.script.proofs.ByWord.{by_assign, by_deliver, by_tick, by_cut, by_crash, by_open, by_up, by_down, by_abandon, by_disconnect, by_notice, by_publish, by_subscribe, by_unsubscribe, by_expel, by_none}
 
 -- the parts of what was made
@@ -68,64 +68,64 @@ has_two make reads next (a ∷ b ∷ []) o h =
     }
 has_two make reads next (a ∷ b ∷ c ∷ more) o h = absurd (false≢true (ap is_some h))
 
-moved : (word : Text) (fields there : List Text) (o p : ScriptLine) → fields ≡ there → o ≡ p → IsOrder (word ∷ there) p
-    → IsOrder (word ∷ fields) o
+moved : (word : Text) (fields there : List Text) (o p : ScriptLine) → fields ≡ there → o ≡ p → IsLine (word ∷ there) p
+    → IsLine (word ∷ fields) o
 moved word fields there o p are is line =
-    subst (λ fs. IsOrder (word ∷ fs) o) (sym are) (subst (λ q. IsOrder (word ∷ there) q) (sym is) line)
+    subst (λ fs. IsLine (word ∷ fs) o) (sym are) (subst (λ q. IsLine (word ∷ there) q) (sym is) line)
 
-assign_line : (fields : List Text) (o : ScriptLine) → two orders.Assign numbers_of number_of fields ≡ Some o → IsOrder (codes "assign" ∷ fields) o
-assign_line fields o h = let p = has_two orders.Assign numbers_of number_of fields o h in moved _ _ _ _ _ p.are p.is (lines.assign p.a_is p.b_is)
+assign_line : (fields : List Text) (o : ScriptLine) → two script_lines.Assign numbers_of number_of fields ≡ Some o → IsLine (codes "assign" ∷ fields) o
+assign_line fields o h = let p = has_two script_lines.Assign numbers_of number_of fields o h in moved _ _ _ _ _ p.are p.is (lines.assign p.a_is p.b_is)
 
-deliver_line : (fields : List Text) (o : ScriptLine) → one orders.Deliver number_of fields ≡ Some o → IsOrder (codes "deliver" ∷ fields) o
-deliver_line fields o h = let p = has_one orders.Deliver number_of fields o h in moved _ _ _ _ _ p.are p.is (lines.deliver p.a_is)
+deliver_line : (fields : List Text) (o : ScriptLine) → one script_lines.Deliver number_of fields ≡ Some o → IsLine (codes "deliver" ∷ fields) o
+deliver_line fields o h = let p = has_one script_lines.Deliver number_of fields o h in moved _ _ _ _ _ p.are p.is (lines.deliver p.a_is)
 
-tick_line : (fields : List Text) (o : ScriptLine) → one orders.Tick number_of fields ≡ Some o → IsOrder (codes "tick" ∷ fields) o
-tick_line fields o h = let p = has_one orders.Tick number_of fields o h in moved _ _ _ _ _ p.are p.is (lines.tick p.a_is)
+tick_line : (fields : List Text) (o : ScriptLine) → one script_lines.Tick number_of fields ≡ Some o → IsLine (codes "tick" ∷ fields) o
+tick_line fields o h = let p = has_one script_lines.Tick number_of fields o h in moved _ _ _ _ _ p.are p.is (lines.tick p.a_is)
 
-cut_line : (fields : List Text) (o : ScriptLine) → one orders.Cut number_of fields ≡ Some o → IsOrder (codes "cut" ∷ fields) o
-cut_line fields o h = let p = has_one orders.Cut number_of fields o h in moved _ _ _ _ _ p.are p.is (lines.cut p.a_is)
+cut_line : (fields : List Text) (o : ScriptLine) → one script_lines.Cut number_of fields ≡ Some o → IsLine (codes "cut" ∷ fields) o
+cut_line fields o h = let p = has_one script_lines.Cut number_of fields o h in moved _ _ _ _ _ p.are p.is (lines.cut p.a_is)
 
-crash_line : (fields : List Text) (o : ScriptLine) → one orders.Crash number_of fields ≡ Some o → IsOrder (codes "crash" ∷ fields) o
-crash_line fields o h = let p = has_one orders.Crash number_of fields o h in moved _ _ _ _ _ p.are p.is (lines.crash p.a_is)
+crash_line : (fields : List Text) (o : ScriptLine) → one script_lines.Crash number_of fields ≡ Some o → IsLine (codes "crash" ∷ fields) o
+crash_line fields o h = let p = has_one script_lines.Crash number_of fields o h in moved _ _ _ _ _ p.are p.is (lines.crash p.a_is)
 
-open_line : (fields : List Text) (o : ScriptLine) → two orders.Open client_of number_of fields ≡ Some o → IsOrder (codes "open" ∷ fields) o
-open_line fields o h = let p = has_two orders.Open client_of number_of fields o h in moved _ _ _ _ _ p.are p.is (lines.opens p.a_is p.b_is)
+open_line : (fields : List Text) (o : ScriptLine) → two script_lines.Open client_of number_of fields ≡ Some o → IsLine (codes "open" ∷ fields) o
+open_line fields o h = let p = has_two script_lines.Open client_of number_of fields o h in moved _ _ _ _ _ p.are p.is (lines.opens p.a_is p.b_is)
 
-up_line : (fields : List Text) (o : ScriptLine) → two orders.CarryUp number_of amount_of fields ≡ Some o → IsOrder (codes "up" ∷ fields) o
-up_line fields o h = let p = has_two orders.CarryUp number_of amount_of fields o h in moved _ _ _ _ _ p.are p.is (lines.up p.a_is p.b_is)
+up_line : (fields : List Text) (o : ScriptLine) → two script_lines.CarryUp number_of amount_of fields ≡ Some o → IsLine (codes "up" ∷ fields) o
+up_line fields o h = let p = has_two script_lines.CarryUp number_of amount_of fields o h in moved _ _ _ _ _ p.are p.is (lines.up p.a_is p.b_is)
 
-down_line : (fields : List Text) (o : ScriptLine) → two orders.CarryDown number_of amount_of fields ≡ Some o → IsOrder (codes "down" ∷ fields) o
-down_line fields o h = let p = has_two orders.CarryDown number_of amount_of fields o h in moved _ _ _ _ _ p.are p.is (lines.down p.a_is p.b_is)
+down_line : (fields : List Text) (o : ScriptLine) → two script_lines.CarryDown number_of amount_of fields ≡ Some o → IsLine (codes "down" ∷ fields) o
+down_line fields o h = let p = has_two script_lines.CarryDown number_of amount_of fields o h in moved _ _ _ _ _ p.are p.is (lines.down p.a_is p.b_is)
 
-abandon_line : (fields : List Text) (o : ScriptLine) → one orders.Abandon client_of fields ≡ Some o → IsOrder (codes "abandon" ∷ fields) o
-abandon_line fields o h = let p = has_one orders.Abandon client_of fields o h in moved _ _ _ _ _ p.are p.is (lines.abandon p.a_is)
+abandon_line : (fields : List Text) (o : ScriptLine) → one script_lines.Abandon client_of fields ≡ Some o → IsLine (codes "abandon" ∷ fields) o
+abandon_line fields o h = let p = has_one script_lines.Abandon client_of fields o h in moved _ _ _ _ _ p.are p.is (lines.abandon p.a_is)
 
-disconnect_line : (fields : List Text) (o : ScriptLine) → one orders.Disconnect client_of fields ≡ Some o → IsOrder (codes "disconnect" ∷ fields) o
-disconnect_line fields o h = let p = has_one orders.Disconnect client_of fields o h in moved _ _ _ _ _ p.are p.is (lines.disconnect p.a_is)
+disconnect_line : (fields : List Text) (o : ScriptLine) → one script_lines.Disconnect client_of fields ≡ Some o → IsLine (codes "disconnect" ∷ fields) o
+disconnect_line fields o h = let p = has_one script_lines.Disconnect client_of fields o h in moved _ _ _ _ _ p.are p.is (lines.disconnect p.a_is)
 
-notice_line : (fields : List Text) (o : ScriptLine) → one orders.Notice number_of fields ≡ Some o → IsOrder (codes "notice" ∷ fields) o
-notice_line fields o h = let p = has_one orders.Notice number_of fields o h in moved _ _ _ _ _ p.are p.is (lines.notice p.a_is)
+notice_line : (fields : List Text) (o : ScriptLine) → one script_lines.Notice number_of fields ≡ Some o → IsLine (codes "notice" ∷ fields) o
+notice_line fields o h = let p = has_one script_lines.Notice number_of fields o h in moved _ _ _ _ _ p.are p.is (lines.notice p.a_is)
 
-expel_line : (fields : List Text) (o : ScriptLine) → two orders.Expel client_of number_of fields ≡ Some o → IsOrder (codes "expel" ∷ fields) o
-expel_line fields o h = let p = has_two orders.Expel client_of number_of fields o h in moved _ _ _ _ _ p.are p.is (lines.expel p.a_is p.b_is)
+expel_line : (fields : List Text) (o : ScriptLine) → two script_lines.Expel client_of number_of fields ≡ Some o → IsLine (codes "expel" ∷ fields) o
+expel_line fields o h = let p = has_two script_lines.Expel client_of number_of fields o h in moved _ _ _ _ _ p.are p.is (lines.expel p.a_is p.b_is)
 
-unsubscribe_line : (fields : List Text) (o : ScriptLine) → two orders.Unsubscribe client_of filter_of fields ≡ Some o → IsOrder (codes "unsubscribe" ∷ fields) o
-unsubscribe_line fields o h = let p = has_two orders.Unsubscribe client_of filter_of fields o h in moved _ _ _ _ _ p.are p.is (lines.unsubscribe p.a_is p.b_is)
+unsubscribe_line : (fields : List Text) (o : ScriptLine) → two script_lines.Unsubscribe client_of filter_of fields ≡ Some o → IsLine (codes "unsubscribe" ∷ fields) o
+unsubscribe_line fields o h = let p = has_two script_lines.Unsubscribe client_of filter_of fields o h in moved _ _ _ _ _ p.are p.is (lines.unsubscribe p.a_is p.b_is)
 
-subscribe_line : (fields : List Text) (o : ScriptLine) → subscribe_of fields ≡ Some o → IsOrder (codes "subscribe" ∷ fields) o
+subscribe_line : (fields : List Text) (o : ScriptLine) → subscribe_of fields ≡ Some o → IsLine (codes "subscribe" ∷ fields) o
 subscribe_line [] o h = absurd (false≢true (ap is_some h))
 subscribe_line (c ∷ []) o h = absurd (false≢true (ap is_some h))
 subscribe_line (c ∷ f ∷ []) o h = absurd (false≢true (ap is_some h))
 subscribe_line (c ∷ f ∷ q ∷ []) o h =
-    let third = made (with (with (Some subscription_order) (client_of c)) (filter_of f)) (qos_of q) o h in
-    let second = made (with (Some subscription_order) (client_of c)) (filter_of f) third.f third.make_is in
-    let first = made (Some subscription_order) (client_of c) second.f second.make_is in
+    let third = made (with (with (Some subscription_line) (client_of c)) (filter_of f)) (qos_of q) o h in
+    let second = made (with (Some subscription_line) (client_of c)) (filter_of f) third.f third.make_is in
+    let first = made (Some subscription_line) (client_of c) second.f second.make_is in
     let second_is = first.is ∙ ap (λ g. g first.x) (sym (same_Some _ _ first.make_is)) in
     let third_is = second.is ∙ ap (λ g. g second.x) second_is in
     rw (third.is ∙ ap (λ g. g third.x) third_is) (lines.subscribe first.value_is second.value_is third.value_is)
 subscribe_line (c ∷ f ∷ q ∷ d ∷ more) o h = absurd (false≢true (ap is_some h))
 
-publish_line : (fields : List Text) (o : ScriptLine) → publish_of fields ≡ Some o → IsOrder (codes "publish" ∷ fields) o
+publish_line : (fields : List Text) (o : ScriptLine) → publish_of fields ≡ Some o → IsLine (codes "publish" ∷ fields) o
 unfolding publication_of
 publish_line [] o h = absurd (false≢true (ap is_some h))
 publish_line (c ∷ []) o h = absurd (false≢true (ap is_some h))
@@ -133,8 +133,8 @@ publish_line (c ∷ t ∷ []) o h = absurd (false≢true (ap is_some h))
 publish_line (c ∷ t ∷ q ∷ []) o h = absurd (false≢true (ap is_some h))
 publish_line (c ∷ t ∷ q ∷ r ∷ []) o h = absurd (false≢true (ap is_some h))
 publish_line (c ∷ t ∷ q ∷ r ∷ p ∷ []) o h =
-    let whole = made (with (Some publication_order) (client_of c)) (publication_of t q r p) o h in
-    let sender = made (Some publication_order) (client_of c) whole.f whole.make_is in
+    let whole = made (with (Some publication_line) (client_of c)) (publication_of t q r p) o h in
+    let sender = made (Some publication_line) (client_of c) whole.f whole.make_is in
     let fourth = made (with (with (with (Some publication) (topic_of t)) (qos_of q)) (retain_of r)) (payload_of p) whole.x whole.value_is in
     let third = made (with (with (Some publication) (topic_of t)) (qos_of q)) (retain_of r) fourth.f fourth.make_is in
     let second = made (with (Some publication) (topic_of t)) (qos_of q) third.f third.make_is in
@@ -144,13 +144,13 @@ publish_line (c ∷ t ∷ q ∷ r ∷ p ∷ []) o h =
     let fourth_is = third.is ∙ ap (λ g. g third.x) third_is in
     let sent_is = fourth.is ∙ ap (λ g. g fourth.x) fourth_is in
     let sender_is = sender.is ∙ ap (λ g. g sender.x) (sym (same_Some _ _ sender.make_is)) in
-    rw (whole.is ∙ ap (λ g. g whole.x) sender_is ∙ ap (publication_order sender.x) sent_is)
+    rw (whole.is ∙ ap (λ g. g whole.x) sender_is ∙ ap (publication_line sender.x) sent_is)
     (lines.publish sender.value_is first.value_is second.value_is third.value_is fourth.value_is)
 publish_line (c ∷ t ∷ q ∷ r ∷ p ∷ d ∷ more) o h = absurd (false≢true (ap is_some h))
 
-none_is_no_order : (word : Text) (fields : List Text) (o : ScriptLine) → order_by word fields ≡ None
-    → order_by word fields ≡ Some o → ⊥
-none_is_no_order word fields o none some = false≢true (ap is_some (sym none ∙ some))
+none_is_no_line : (word : Text) (fields : List Text) (o : ScriptLine) → line_by word fields ≡ None
+    → line_by word fields ≡ Some o → ⊥
+none_is_no_line word fields o none some = false≢true (ap is_some (sym none ∙ some))
 
 -- a word is this one, or another
 decide : {R : Type 0} (word w : Text) → (word ≡ w → R) → ((word ≡ w → ⊥) → R) → R
@@ -160,13 +160,13 @@ decide word w same differ = elim (cases_Bool (bytes_eq word w)) [
 ]
 
 -- the line of a word that is known
-known : (word w : Text) (fields : List Text) (o : ScriptLine) (form : Option ScriptLine) → word ≡ w → order_by w fields ≡ form
-    → (form ≡ Some o → IsOrder (w ∷ fields) o) → order_by word fields ≡ Some o → IsOrder (word ∷ fields) o
+known : (word w : Text) (fields : List Text) (o : ScriptLine) (form : Option ScriptLine) → word ≡ w → line_by w fields ≡ form
+    → (form ≡ Some o → IsLine (w ∷ fields) o) → line_by word fields ≡ Some o → IsLine (word ∷ fields) o
 known word w fields o form is by_form line h =
-    subst (λ v. IsOrder (v ∷ fields) o) (sym is) (line (sym by_form ∙ ap (λ v. order_by v fields) (sym is) ∙ h))
+    subst (λ v. IsLine (v ∷ fields) o) (sym is) (line (sym by_form ∙ ap (λ v. line_by v fields) (sym is) ∙ h))
 
 -- what is read is said by the line
-pub has_line : (word : Text) (fields : List Text) (o : ScriptLine) → order_by word fields ≡ Some o → IsOrder (word ∷ fields) o
+pub has_line : (word : Text) (fields : List Text) (o : ScriptLine) → line_by word fields ≡ Some o → IsLine (word ∷ fields) o
 has_line word fields o h =
     decide word (codes "assign") (λ e. known word _ fields o _ e (by_assign fields) (assign_line fields o) h) (λ n0.
     decide word (codes "deliver") (λ e. known word _ fields o _ e (by_deliver fields) (deliver_line fields o) h) (λ n1.
@@ -183,10 +183,10 @@ has_line word fields o h =
     decide word (codes "subscribe") (λ e. known word _ fields o _ e (by_subscribe fields) (subscribe_line fields o) h) (λ n12.
     decide word (codes "unsubscribe") (λ e. known word _ fields o _ e (by_unsubscribe fields) (unsubscribe_line fields o) h) (λ n13.
     decide word (codes "expel") (λ e. known word _ fields o _ e (by_expel fields) (expel_line fields o) h) (λ n14.
-    absurd (none_is_no_order word fields o (by_none word fields n0 n1 n2 n3 n4 n5 n6 n7 n8 n9 n10 n11 n12 n13 n14) h))))))))))))))))
+    absurd (none_is_no_line word fields o (by_none word fields n0 n1 n2 n3 n4 n5 n6 n7 n8 n9 n10 n11 n12 n13 n14) h))))))))))))))))
 
--- what the fields order is said by them
-pub says : (fields : List Text) (o : ScriptLine) → order_of fields ≡ Some o → IsOrder fields o
+-- what is read of the fields is said by them
+pub says : (fields : List Text) (o : ScriptLine) → line_of fields ≡ Some o → IsLine fields o
 says [] o h = absurd (false≢true (ap is_some h))
 says (word ∷ fields) o h = has_line word fields o h
 
@@ -197,8 +197,8 @@ with_two : {X Y : Type 0} (make : X → Y → ScriptLine) (first : Option X) (se
     → second ≡ Some y → with (with (Some make) first) second ≡ Some (make x y)
 with_two make first second x y a b = rw (a, b) refl
 
--- a line orders what is read of it
-pub is_read : (fields : List Text) (o : ScriptLine) → IsOrder fields o → order_of fields ≡ Some o
+-- a line says what is read of it
+pub is_read : (fields : List Text) (o : ScriptLine) → IsLine fields o → line_of fields ≡ Some o
 unfolding publication_of
 is_read fields o (lines.assign a b) = by_assign _ ∙ with_two _ _ _ _ _ a b
 is_read fields o (lines.deliver a) = by_deliver _ ∙ with_one _ _ _ a

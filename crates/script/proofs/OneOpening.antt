@@ -10,7 +10,7 @@ use Rattle.script.specs.declared.opening.Opening.{Opening}
 use Rattle.script.specs.Fields.{Text, clients_of, fields_of, number_of, numbers_of}
 use Rattle.script.specs.Scripts as lines
 use Rattle.script.specs.Scripts.{HasOpening, IsOpening, IsOpeningLine, are_distinct, is_lawful_opening}
-use Rattle.script.specs.Inside.Ordering.{with}
+use Rattle.script.specs.Inside.LineReading.{with}
 use Rattle.script.specs.Inside.Worlds.{Values, checked, values, values_of, world_of}
 use Rattle.script.proofs.OneForm.{made}
 

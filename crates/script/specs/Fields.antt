@@ -11,8 +11,8 @@ use Rattle.session_base.specs.topics.Text.{filter_fault, topic_fault}
 use Rattle.session_base.specs.packet.ClientId.{client_fault}
 use Rattle.session_base.specs.packet.declared.qos.QoS.{QoS}
 use Rattle.session_base.specs.packet.declared.qos.QoS.TheVariants as levels
-use Rattle.script.specs.declared.order.Amount.{Amount}
-use Rattle.script.specs.declared.order.Amount.TheVariants as amounts
+use Rattle.script.specs.declared.script_line.Amount.{Amount}
+use Rattle.script.specs.declared.script_line.Amount.TheVariants as amounts
 
 -- a text by its bytes
 abbrev pub Text : Type 0

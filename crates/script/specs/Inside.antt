@@ -1,2 +1,2 @@
-pub mod Ordering
+pub mod LineReading
 pub mod Worlds

@@ -1,16 +1,16 @@
 -- The laws that `src/laws.rt` proves.
 use Rattle.std.specs.Prelude.{◌≡◌, ℕ, List}
 use Rattle.script.specs.Fields.{Text}
-use Rattle.script.specs.Orders.{IsOrder}
+use Rattle.script.specs.Lines.{IsLine}
 use Rattle.script.specs.Scripts.{IsScript, Refuses}
 use Rattle.script.specs.declared.error.ScriptError.TheVariants as errors
-use Rattle.script.specs.declared.order.ScriptLine.{ScriptLine}
+use Rattle.script.specs.declared.script_line.ScriptLine.{ScriptLine}
 use Rattle.script.specs.declared.reading.Script.{Script}
 
 -- the form of a line leaves no choice
-abbrev pub OneOrderALine : Type 0
-OneOrderALine = (fields : List Text) (order other : ScriptLine) → IsOrder fields order
-    → IsOrder fields other → order ≡ other
+abbrev pub OneMeaningALine : Type 0
+OneMeaningALine = (fields : List Text) (line other : ScriptLine) → IsLine fields line
+    → IsLine fields other → line ≡ other
 
 -- a script has no line without its form
 abbrev pub NoScriptIsRefused : Type 0

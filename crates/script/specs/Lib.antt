@@ -1,5 +1,5 @@
 pub mod Fields
-pub mod Orders
+pub mod Lines
 pub mod Scripts
 pub mod Laws
 pub mod Faults

@@ -4,11 +4,11 @@ use Rattle.std.specs.List.{list_all, list_any, slice_split}
 use Rattle.std.specs.Str.{IsUtf8}
 use Rattle.ballot_base.specs.LawfulConfig.{is_lawful}
 use Rattle.script.specs.Fields.{Text, clients_of, fields_of, number_of, numbers_of}
-use Rattle.script.specs.Orders.{IsOrder}
+use Rattle.script.specs.Lines.{IsLine}
 use Rattle.script.specs.declared.error.ScriptError.{ScriptError}
 use Rattle.script.specs.declared.error.ScriptError.TheVariants as errors
 use Rattle.script.specs.declared.opening.Opening.{Opening}
-use Rattle.script.specs.declared.order.ScriptLine.{ScriptLine}
+use Rattle.script.specs.declared.script_line.ScriptLine.{ScriptLine}
 use Rattle.script.specs.declared.reading.Script.{Script}
 
 -- a line feed, 10, after the last line may be missing
@@ -52,36 +52,37 @@ pub data IsOpening : List Text → Opening → Type 0 where
 abbrev pub IsOpeningLine : Text → Opening → Type 0
 IsOpeningLine line opening = IsUtf8 line × IsOpening (fields_of line) opening
 
--- a line is UTF-8, and its fields are those of an order
-abbrev pub IsOrderLine : Text → ScriptLine → Type 0
-IsOrderLine line order = IsUtf8 line × IsOrder (fields_of line) order
+-- a line is UTF-8, and its fields have one of the other forms
+abbrev pub IsOtherLine : Text → ScriptLine → Type 0
+IsOtherLine line script_line = IsUtf8 line × IsLine (fields_of line) script_line
 
--- the lines order these, one after another
-abbrev pub AreOrders : List Text → List ScriptLine → Type 0
-AreOrders [] [] = Unit {0}
-AreOrders [] (order ∷ orders) = ⊥
-AreOrders (line ∷ lines) [] = ⊥
-AreOrders (line ∷ lines) (order ∷ orders) = IsOrderLine line order × AreOrders lines orders
+-- the lines say these, one after another
+abbrev pub AreLines : List Text → List ScriptLine → Type 0
+AreLines [] [] = Unit {0}
+AreLines [] (script_line ∷ script_lines) = ⊥
+AreLines (line ∷ lines) [] = ⊥
+AreLines (line ∷ lines) (script_line ∷ script_lines) =
+    IsOtherLine line script_line × AreLines lines script_lines
 
 -- the lines are this script
 abbrev pub IsScript : List Text → Script → Type 0
 IsScript [] script = ⊥
 IsScript (first ∷ lines) script =
-    IsOpeningLine first script.opening × AreOrders lines script.orders.items
+    IsOpeningLine first script.opening × AreLines lines script.lines.items
 
--- some order, or no order, has this line
-abbrev pub HasOrder : Text → Type 0
-HasOrder line = (order : ScriptLine) × IsOrderLine line order
+-- a line has one of the other forms
+abbrev pub HasForm : Text → Type 0
+HasForm line = (script_line : ScriptLine) × IsOtherLine line script_line
 
 -- a line is a first line, which opens some world
 abbrev pub HasOpening : Text → Type 0
 HasOpening line = (opening : Opening) × IsOpeningLine line opening
 
--- the line of this index is the first that orders nothing
+-- the line of this index is the first without its form
 abbrev pub IsFirstBad : List Text → ℕ → Type 0
 IsFirstBad [] index = ⊥
-IsFirstBad (line ∷ lines) zero = ¬ (HasOrder line)
-IsFirstBad (line ∷ lines) (suc index) = HasOrder line × IsFirstBad lines index
+IsFirstBad (line ∷ lines) zero = ¬ (HasForm line)
+IsFirstBad (line ∷ lines) (suc index) = HasForm line × IsFirstBad lines index
 
 -- lines are refused by the number of the first without its form, or because memory ran out
 abbrev pub Refuses : List Text → ScriptError → Type 0

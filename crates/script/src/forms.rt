@@ -1,12 +1,12 @@
 // The forms of the lines after the first, by the fields after their word.
 
 ghost use Rattle.std.specs.Prelude.{◌≡◌, Some, None, IfOk, IsErrOf};
-ghost use Rattle.script.specs.declared.order.ScriptLine.TheVariants as orders;
+ghost use Rattle.script.specs.declared.script_line.ScriptLine.TheVariants as lines;
 ghost use Rattle.script.specs.Fields.{amount_of, client_of, filter_of, number_of, numbers_of, texts};
-ghost use Rattle.script.specs.Inside.Ordering.{one, only, publication_of, publish_of, subscribe_of, two};
+ghost use Rattle.script.specs.Inside.LineReading.{one, only, publication_of, publish_of, subscribe_of, two};
 
 use crate::error::FieldFault;
-use crate::order::ScriptLine;
+use crate::script_line::ScriptLine;
 use crate::values::{amount, client, filter, number, numbers, payload, qos, retain, topic};
 use session_base::Publication;
 use session_base::packet::ClientId;
@@ -36,80 +36,80 @@ fn one_client(alloc: Global, fields: &[&str]) -> Result<ClientId, FieldFault>
 
 /// Reads the fields of `deliver 0`: message 0 reaches its receiver.
 pub(crate) fn deliver(fields: &[&str]) -> Result<ScriptLine, FieldFault>
-    ensures value { IfOk result (λ order.
-        one orders.Deliver number_of (texts fields.now) ≡ Some order) }
+    ensures value { IfOk result (λ line.
+        one lines.Deliver number_of (texts fields.now) ≡ Some line) }
     ensures form { IsErrOf result FieldFault.Form
-        → one orders.Deliver number_of (texts fields.now) ≡ None }
+        → one lines.Deliver number_of (texts fields.now) ≡ None }
 {
     Ok(ScriptLine::Deliver(one_number(fields)?))
 }
 
 /// Reads the fields of `tick 1`: time passes at node 1.
 pub(crate) fn tick(fields: &[&str]) -> Result<ScriptLine, FieldFault>
-    ensures value { IfOk result (λ order.
-        one orders.Tick number_of (texts fields.now) ≡ Some order) }
+    ensures value { IfOk result (λ line.
+        one lines.Tick number_of (texts fields.now) ≡ Some line) }
     ensures form { IsErrOf result FieldFault.Form
-        → one orders.Tick number_of (texts fields.now) ≡ None }
+        → one lines.Tick number_of (texts fields.now) ≡ None }
 {
     Ok(ScriptLine::Tick(one_number(fields)?))
 }
 
 /// Reads the fields of `cut 1`: node 1 cuts its log.
 pub(crate) fn cut(fields: &[&str]) -> Result<ScriptLine, FieldFault>
-    ensures value { IfOk result (λ order.
-        one orders.Cut number_of (texts fields.now) ≡ Some order) }
+    ensures value { IfOk result (λ line.
+        one lines.Cut number_of (texts fields.now) ≡ Some line) }
     ensures form { IsErrOf result FieldFault.Form
-        → one orders.Cut number_of (texts fields.now) ≡ None }
+        → one lines.Cut number_of (texts fields.now) ≡ None }
 {
     Ok(ScriptLine::Cut(one_number(fields)?))
 }
 
 /// Reads the fields of `crash 1`: node 1 stops for good.
 pub(crate) fn crash(fields: &[&str]) -> Result<ScriptLine, FieldFault>
-    ensures value { IfOk result (λ order.
-        one orders.Crash number_of (texts fields.now) ≡ Some order) }
+    ensures value { IfOk result (λ line.
+        one lines.Crash number_of (texts fields.now) ≡ Some line) }
     ensures form { IsErrOf result FieldFault.Form
-        → one orders.Crash number_of (texts fields.now) ≡ None }
+        → one lines.Crash number_of (texts fields.now) ≡ None }
 {
     Ok(ScriptLine::Crash(one_number(fields)?))
 }
 
 /// Reads the fields of `notice 1`: the node notices the end of connection 1.
 pub(crate) fn notice(fields: &[&str]) -> Result<ScriptLine, FieldFault>
-    ensures value { IfOk result (λ order.
-        one orders.Notice number_of (texts fields.now) ≡ Some order) }
+    ensures value { IfOk result (λ line.
+        one lines.Notice number_of (texts fields.now) ≡ Some line) }
     ensures form { IsErrOf result FieldFault.Form
-        → one orders.Notice number_of (texts fields.now) ≡ None }
+        → one lines.Notice number_of (texts fields.now) ≡ None }
 {
     Ok(ScriptLine::Notice(one_number(fields)?))
 }
 
 /// Reads the fields of `abandon a`: client a loses its connection.
 pub(crate) fn abandon(alloc: Global, fields: &[&str]) -> Result<ScriptLine, FieldFault>
-    ensures value { IfOk result (λ order.
-        one orders.Abandon client_of (texts fields.now) ≡ Some order) }
+    ensures value { IfOk result (λ line.
+        one lines.Abandon client_of (texts fields.now) ≡ Some line) }
     ensures form { IsErrOf result FieldFault.Form
-        → one orders.Abandon client_of (texts fields.now) ≡ None }
+        → one lines.Abandon client_of (texts fields.now) ≡ None }
 {
     Ok(ScriptLine::Abandon(one_client(alloc, fields)?))
 }
 
 /// Reads the fields of `disconnect a`: client a sends DISCONNECT and closes.
 pub(crate) fn disconnect(alloc: Global, fields: &[&str]) -> Result<ScriptLine, FieldFault>
-    ensures value { IfOk result (λ order.
-        one orders.Disconnect client_of (texts fields.now) ≡ Some order) }
+    ensures value { IfOk result (λ line.
+        one lines.Disconnect client_of (texts fields.now) ≡ Some line) }
     ensures form { IsErrOf result FieldFault.Form
-        → one orders.Disconnect client_of (texts fields.now) ≡ None }
+        → one lines.Disconnect client_of (texts fields.now) ≡ None }
 {
     Ok(ScriptLine::Disconnect(one_client(alloc, fields)?))
 }
 
 /// Reads the fields of `assign 2,3 2`: a ballot of members 2 and 3, with primary 2.
 pub(crate) fn assign(alloc: Global, fields: &[&str]) -> Result<ScriptLine, FieldFault>
-    ensures value { IfOk result (λ order.
-        two orders.Assign numbers_of number_of (texts fields.now) ≡ Some order) }
+    ensures value { IfOk result (λ line.
+        two lines.Assign numbers_of number_of (texts fields.now) ≡ Some line) }
     ensures form { IsErrOf result FieldFault.Form
-        → two orders.Assign numbers_of number_of (texts fields.now) ≡ None }
+        → two lines.Assign numbers_of number_of (texts fields.now) ≡ None }
 {
     let [members, primary] = fields else {
         return Err(FieldFault::Form);
@@ -120,10 +120,10 @@ pub(crate) fn assign(alloc: Global, fields: &[&str]) -> Result<ScriptLine, Field
 
 /// Reads the fields of `open a 1`: client a opens a connection to node 1.
 pub(crate) fn open_connection(alloc: Global, fields: &[&str]) -> Result<ScriptLine, FieldFault>
-    ensures value { IfOk result (λ order.
-        two orders.Open client_of number_of (texts fields.now) ≡ Some order) }
+    ensures value { IfOk result (λ line.
+        two lines.Open client_of number_of (texts fields.now) ≡ Some line) }
     ensures form { IsErrOf result FieldFault.Form
-        → two orders.Open client_of number_of (texts fields.now) ≡ None }
+        → two lines.Open client_of number_of (texts fields.now) ≡ None }
 {
     let [name, node] = fields else {
         return Err(FieldFault::Form);
@@ -134,10 +134,10 @@ pub(crate) fn open_connection(alloc: Global, fields: &[&str]) -> Result<ScriptLi
 
 /// Reads the fields of `expel b 1`: node 1 proposes that the session of client b ends.
 pub(crate) fn expel(alloc: Global, fields: &[&str]) -> Result<ScriptLine, FieldFault>
-    ensures value { IfOk result (λ order.
-        two orders.Expel client_of number_of (texts fields.now) ≡ Some order) }
+    ensures value { IfOk result (λ line.
+        two lines.Expel client_of number_of (texts fields.now) ≡ Some line) }
     ensures form { IsErrOf result FieldFault.Form
-        → two orders.Expel client_of number_of (texts fields.now) ≡ None }
+        → two lines.Expel client_of number_of (texts fields.now) ≡ None }
 {
     let [name, node] = fields else {
         return Err(FieldFault::Form);
@@ -148,10 +148,10 @@ pub(crate) fn expel(alloc: Global, fields: &[&str]) -> Result<ScriptLine, FieldF
 
 /// Reads the fields of `up 1 all`: all bytes of connection 1 go up to its node.
 pub(crate) fn carry_up(fields: &[&str]) -> Result<ScriptLine, FieldFault>
-    ensures value { IfOk result (λ order.
-        two orders.CarryUp number_of amount_of (texts fields.now) ≡ Some order) }
+    ensures value { IfOk result (λ line.
+        two lines.CarryUp number_of amount_of (texts fields.now) ≡ Some line) }
     ensures form { IsErrOf result FieldFault.Form
-        → two orders.CarryUp number_of amount_of (texts fields.now) ≡ None }
+        → two lines.CarryUp number_of amount_of (texts fields.now) ≡ None }
 {
     let [connection, bytes] = fields else {
         return Err(FieldFault::Form);
@@ -162,10 +162,10 @@ pub(crate) fn carry_up(fields: &[&str]) -> Result<ScriptLine, FieldFault>
 
 /// Reads the fields of `down 1 all`: all bytes of connection 1 go down to its client.
 pub(crate) fn carry_down(fields: &[&str]) -> Result<ScriptLine, FieldFault>
-    ensures value { IfOk result (λ order.
-        two orders.CarryDown number_of amount_of (texts fields.now) ≡ Some order) }
+    ensures value { IfOk result (λ line.
+        two lines.CarryDown number_of amount_of (texts fields.now) ≡ Some line) }
     ensures form { IsErrOf result FieldFault.Form
-        → two orders.CarryDown number_of amount_of (texts fields.now) ≡ None }
+        → two lines.CarryDown number_of amount_of (texts fields.now) ≡ None }
 {
     let [connection, bytes] = fields else {
         return Err(FieldFault::Form);
@@ -176,7 +176,7 @@ pub(crate) fn carry_down(fields: &[&str]) -> Result<ScriptLine, FieldFault>
 
 /// Reads the fields of `publish a t/1 2 0 78`: topic, QoS, RETAIN and payload in hexadecimal.
 pub(crate) fn publish(alloc: Global, fields: &[&str]) -> Result<ScriptLine, FieldFault>
-    ensures value { IfOk result (λ order. publish_of (texts fields.now) ≡ Some order) }
+    ensures value { IfOk result (λ line. publish_of (texts fields.now) ≡ Some line) }
     ensures form { IsErrOf result FieldFault.Form → publish_of (texts fields.now) ≡ None }
 {
     let [name, about, level, keep, bytes] = fields else {
@@ -187,7 +187,7 @@ pub(crate) fn publish(alloc: Global, fields: &[&str]) -> Result<ScriptLine, Fiel
 }
 
 // Returns the publication of the last four fields.
-#[tactic(auto, unfolding(crate::specs::Inside::Ordering::publication_of))]
+#[tactic(auto, unfolding(crate::specs::Inside::LineReading::publication_of))]
 fn publication(
     alloc: Global,
     about: &str,
@@ -213,7 +213,7 @@ fn publication(
 
 /// Reads the fields of `subscribe b t/# 2`: client b subscribes, at most at QoS 2.
 pub(crate) fn subscribe(alloc: Global, fields: &[&str]) -> Result<ScriptLine, FieldFault>
-    ensures value { IfOk result (λ order. subscribe_of (texts fields.now) ≡ Some order) }
+    ensures value { IfOk result (λ line. subscribe_of (texts fields.now) ≡ Some line) }
     ensures form { IsErrOf result FieldFault.Form → subscribe_of (texts fields.now) ≡ None }
 {
     let [name, pattern, level] = fields else {
@@ -226,10 +226,10 @@ pub(crate) fn subscribe(alloc: Global, fields: &[&str]) -> Result<ScriptLine, Fi
 
 /// Reads the fields of `unsubscribe b t/#`: client b unsubscribes.
 pub(crate) fn unsubscribe(alloc: Global, fields: &[&str]) -> Result<ScriptLine, FieldFault>
-    ensures value { IfOk result (λ order.
-        two orders.Unsubscribe client_of filter_of (texts fields.now) ≡ Some order) }
+    ensures value { IfOk result (λ line.
+        two lines.Unsubscribe client_of filter_of (texts fields.now) ≡ Some line) }
     ensures form { IsErrOf result FieldFault.Form
-        → two orders.Unsubscribe client_of filter_of (texts fields.now) ≡ None }
+        → two lines.Unsubscribe client_of filter_of (texts fields.now) ≡ None }
 {
     let [name, pattern] = fields else {
         return Err(FieldFault::Form);

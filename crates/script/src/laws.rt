@@ -1,10 +1,10 @@
 // Laws of the definitions: functions whose contract is the law.
 
-ghost use Rattle.script.specs.Laws.{NoScriptIsRefused, OneOrderALine};
+ghost use Rattle.script.specs.Laws.{NoScriptIsRefused, OneMeaningALine};
 
-/// States that the fields of a line order one thing at most.
-pub fn one_order_a_line()
-    ensures { OneOrderALine }
+/// States that the fields of a line say one thing at most.
+pub fn one_meaning_a_line()
+    ensures { OneMeaningALine }
 {}
 
 /// States that lines that are a script are refused only because memory ran out.

@@ -2,16 +2,16 @@
 
 ghost use Rattle.std.specs.Prelude.{◌≡◌, ◌+◌, ◌∷◌, ℕ, Some, None, IfOk, IfErr, IsErrOf};
 ghost use Rattle.script.specs.declared.opening.Opening.{Opening};
-ghost use Rattle.script.specs.declared.order.ScriptLine.{ScriptLine};
+ghost use Rattle.script.specs.declared.script_line.ScriptLine.{ScriptLine};
 ghost use Rattle.script.specs.Fields.{texts};
-ghost use Rattle.script.specs.Scripts.{AreOrders, HasOpening, HasOrder, IsFirstBad, IsOpeningLine, IsOrderLine, IsScript, Refuses, lines_of};
+ghost use Rattle.script.specs.Scripts.{AreLines, HasForm, HasOpening, IsFirstBad, IsOpeningLine, IsOtherLine, IsScript, Refuses, lines_of};
 
 use crate::error::{FieldFault, ScriptError};
 use crate::fields::fields_of;
+use crate::line_reading::line_of;
 use crate::lines::lines_of;
 use crate::opening::{Opening, opening_of};
-use crate::order::ScriptLine;
-use crate::ordering::order_of;
+use crate::script_line::ScriptLine;
 use std::alloc::Global;
 use std::str;
 
@@ -21,7 +21,7 @@ pub struct Script {
     /// The world at the beginning.
     pub opening: Opening,
     /// What happens in it, one after another.
-    pub orders: Vec<ScriptLine>,
+    pub lines: Vec<ScriptLine>,
 }
 
 /// Reads a whole script. Unless memory runs out, it is refused exactly if a line does not have its
@@ -55,8 +55,8 @@ fn script_after(alloc: Global, first: &[u8], others: &[&[u8]]) -> Result<Script,
         Err(FieldFault::Form) => return Err(ScriptError::Line(1)),
         Err(FieldFault::Memory) => return Err(ScriptError::Memory),
     };
-    match orders(alloc, others) {
-        Ok(orders) => Ok(Script { opening, orders }),
+    match other_lines(alloc, others) {
+        Ok(lines) => Ok(Script { opening, lines }),
         Err(error) => Err(error),
     }
 }
@@ -73,31 +73,31 @@ fn opening_line(alloc: Global, line: &[u8]) -> Result<Opening, FieldFault>
     opening_of(alloc, fields.as_slice())
 }
 
-// Returns what one of the other lines orders.
-fn order_line(alloc: Global, line: &[u8]) -> Result<ScriptLine, FieldFault>
-    ensures value { IfOk result (IsOrderLine line.now) }
-    ensures form { IsErrOf result FieldFault.Form → HasOrder line.now → ⊥ }
+// Returns what one of the other lines says.
+fn other_line(alloc: Global, line: &[u8]) -> Result<ScriptLine, FieldFault>
+    ensures value { IfOk result (IsOtherLine line.now) }
+    ensures form { IsErrOf result FieldFault.Form → HasForm line.now → ⊥ }
 {
     let Ok(line) = str::from_utf8(line) else {
         return Err(FieldFault::Form);
     };
     let fields = fields_of(alloc, line)?;
-    order_of(alloc, fields.as_slice())
+    line_of(alloc, fields.as_slice())
 }
 
-// Returns what the lines after the first order. They are counted from the second line of the text.
-fn orders(alloc: Global, lines: &[&[u8]]) -> Result<Vec<ScriptLine>, ScriptError>
-    ensures orders { IfOk result (λ orders. AreOrders (texts lines.now) orders.items) }
+// Returns what the lines after the first say. They are counted from the second line of the text.
+fn other_lines(alloc: Global, lines: &[&[u8]]) -> Result<Vec<ScriptLine>, ScriptError>
+    ensures said { IfOk result (λ said. AreLines (texts lines.now) said.items) }
     ensures refused { (bad : ℕ) → IsErrOf result (ScriptError.Line bad)
         → (index : ℕ) × (bad ≡ index + 2) × IsFirstBad (texts lines.now) index }
 {
-    let mut orders = Vec::new(alloc);
+    let mut script_lines = Vec::new(alloc);
     for (index, line) in lines.iter().enumerate() {
-        match order_line(alloc, line) {
-            Ok(order) => orders.push(order)?,
+        match other_line(alloc, line) {
+            Ok(script_line) => script_lines.push(script_line)?,
             Err(FieldFault::Form) => return Err(ScriptError::Line(index as u64 + 2)),
             Err(FieldFault::Memory) => return Err(ScriptError::Memory),
         }
     }
-    Ok(orders)
+    Ok(script_lines)
 }

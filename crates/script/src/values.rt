@@ -6,7 +6,7 @@ ghost use Rattle.script.specs.Fields.{amount_of, client_of, clients_of, filter_o
 use crate::error::FieldFault;
 use crate::fields::parts_of;
 use crate::numbers::Numbers;
-use crate::order::Amount;
+use crate::script_line::Amount;
 use hex::FromHexError;
 use session_base::packet::{ClientId, Payload, QoS};
 use session_base::topics::{Filter, TopicName};

@@ -1,4 +1,4 @@
-// The result of a text: whether it is a script, and what its lines order.
+// The result of a text: whether it is a script, and what its lines say.
 
 use crate::tests::worlds::World;
 use play::packet::{ClientId, Payload, QoS};
@@ -10,8 +10,8 @@ use std::alloc::{AllocError, Global};
 /// The result of a text.
 #[derive(Clone, Copy)]
 pub enum Outcome<'a> {
-    /// It has this many orders, and these lines spell them.
-    Orders(usize, &'a str),
+    /// It has this many lines after the first one, and these texts spell them.
+    Lines(usize, &'a str),
     /// It has this many.
     Counts(usize),
     /// It opens the world of this row.
@@ -33,10 +33,10 @@ pub fn comes(alloc: Global, text: &[u8], outcome: Outcome<'_>) -> bool {
 
 fn is_script(alloc: Global, script: &Script, outcome: Outcome<'_>) -> bool {
     match outcome {
-        Outcome::Orders(count, lines) => {
-            script.orders.len() == count && are_spelt(alloc, script.orders.as_slice(), lines)
+        Outcome::Lines(count, lines) => {
+            script.lines.len() == count && are_spelt(alloc, script.lines.as_slice(), lines)
         }
-        Outcome::Counts(count) => script.orders.len() == count,
+        Outcome::Counts(count) => script.lines.len() == count,
         Outcome::Opens(world) => is_opened(&script.opening, world),
         Outcome::Refused | Outcome::Bad(_) => false,
     }
@@ -63,24 +63,24 @@ fn is_opened(opening: &Opening, world: &World) -> bool {
             .all(|(client, name)| client.as_str() == *name)
 }
 
-// Says whether the lines of a text spell these orders.
-fn are_spelt(alloc: Global, orders: &[ScriptLine], lines: &str) -> bool {
-    orders
+// Says whether the lines of a text spell these.
+fn are_spelt(alloc: Global, script_lines: &[ScriptLine], lines: &str) -> bool {
+    script_lines
         .iter()
         .zip(lines.split('\n'))
-        .all(|(order, line)| is_spelt(alloc, order, line))
+        .all(|(script_line, line)| is_spelt(alloc, script_line, line))
 }
 
-// Says whether this line spells an order, without zeros in front.
-fn is_spelt(alloc: Global, order: &ScriptLine, line: &str) -> bool {
-    match spelt(alloc, order) {
+// Says whether this text spells a line, without zeros in front.
+fn is_spelt(alloc: Global, script_line: &ScriptLine, line: &str) -> bool {
+    match spelt(alloc, script_line) {
         Ok(text) => text.as_str() == line,
         Err(_) => false,
     }
 }
 
-fn spelt(alloc: Global, order: &ScriptLine) -> Result<String, AllocError> {
-    match order {
+fn spelt(alloc: Global, script_line: &ScriptLine) -> Result<String, AllocError> {
+    match script_line {
         ScriptLine::Assign(members, primary) => assignment(alloc, members, *primary),
         ScriptLine::Deliver(message) => format!(in alloc; "deliver {message}"),
         ScriptLine::Tick(node) => format!(in alloc; "tick {node}"),

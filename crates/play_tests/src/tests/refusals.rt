@@ -41,8 +41,8 @@ const NO_WORLDS: &[&str] = &[
     "tick 1",
 ];
 
-// Other lines that order nothing.
-const NO_ORDERS: &[&str] = &[
+// Other lines without their form.
+const BAD_LINES: &[&str] = &[
     "",
     " ",
     "tick",
@@ -155,7 +155,7 @@ const BEFORE: &[(&str, u64)] = &[
 
 #[test]
 fn no_orders_are_refused_at_their_line(rt: HostRuntime) {
-    for line in NO_ORDERS {
+    for line in BAD_LINES {
         for (before, number) in BEFORE {
             let is_refused = is_bad(rt.alloc(), before, line, "\nnothing\n", *number);
             assert!(rt; is_refused, "{line}");

@@ -4,7 +4,7 @@ use crate::tests::hand::{text_of, transcript_of};
 use play::PlayError;
 use std::alloc::Global;
 
-// Orders that name what no world has are of the form, and cannot happen.
+// Lines that name what no world has are of the form, and cannot happen.
 const IDLE: &[&str] = &[
     "assign 300 300",
     "assign 1,2 300",

@@ -22,18 +22,18 @@ const SCRIPTS: &[(&[&str; 2], usize)] = &[
 fn scripts_order_what_they_say(rt: HostRuntime) {
     for (script, count) in SCRIPTS {
         assert!(rt;
-            orders_what_it_says(rt.alloc(), script[0], *count),
+            is_read_as_written(rt.alloc(), script[0], *count),
             "{count}"
         );
     }
 }
 
-// Says whether each of the lines 2 to `count` + 1 of a script orders what it says.
-fn orders_what_it_says(alloc: Global, script: &str, count: usize) -> bool {
+// Says whether each of the lines 2 to `count` + 1 of a script is read as it is written.
+fn is_read_as_written(alloc: Global, script: &str, count: usize) -> bool {
     match script.split_once("\n") {
         Some((_, lines)) => {
             let text = front(script.as_bytes(), count.saturating_add(1));
-            comes(alloc, text, Outcome::Orders(count, lines))
+            comes(alloc, text, Outcome::Lines(count, lines))
         }
         None => false,
     }

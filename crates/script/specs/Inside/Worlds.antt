@@ -2,7 +2,7 @@
 use Rattle.std.specs.Prelude.{ℕ, Bool, ◌&&◌, nat_le, if◌then◌else◌, List, [], ◌∷◌, codes, bytes_eq, Option, Some, None}
 use Rattle.script.specs.Fields.{Text, clients_of, number_of, numbers_of}
 use Rattle.script.specs.Scripts.{are_distinct, is_lawful_opening}
-use Rattle.script.specs.Inside.Ordering.{with}
+use Rattle.script.specs.Inside.LineReading.{with}
 use Rattle.script.specs.declared.opening.Opening.{Opening}
 
 -- nodes, members, primary and clients

@@ -10,6 +10,6 @@ loop-index-preserved c = record {
   named = c.in_ok-play.ensures.named ∙ c.loop-index.invariant.named;
   written = c.in_ok-play.ensures.written;
   all =
-      appends_more _ c.args.orders.now c.loop-index.index c.index-orders-index.result _ _ _ _ _ _ (omega arith) c.index-orders-index.is
+      appends_more _ c.args.lines.now c.loop-index.index c.index-lines-index.result _ _ _ _ _ _ (omega arith) c.index-lines-index.is
       c.loop-index.invariant.all (renamed c.loop-index.invariant.named c.in_ok-play.ensures.lines);
 }

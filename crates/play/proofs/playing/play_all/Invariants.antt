@@ -6,5 +6,5 @@ abbrev pub invariant-loop-index : goal.invariant-loop-index
 invariant-loop-index l = record {
   named : names_of l.played.recipients.items ≡ names_of l.initial.played.recipients.items;
   written : AreWritten l.played.recipients.items l.played.world;
-  all : AppendsAll (names_of l.initial.played.recipients.items) (take l.index l.orders) l.initial.played.world l.played.world l.initial.transcript.items l.transcript.items;
+  all : AppendsAll (names_of l.initial.played.recipients.items) (take l.index l.lines) l.initial.played.world l.played.world l.initial.transcript.items l.transcript.items;
 }

@@ -8,7 +8,7 @@ use Rattle.play.proofs.played_world.PlayedWorld.play.Goals as goal
 pub returns-clause-lines : goal.returns-clause-lines
 returns-clause-lines c =
     let ls = c.happens.new.self.recipients.items in
-    appends c.write_all_new.result (names_of c.args.self.now.recipients.items) c.args.index c.args.order.now c.in_ok-came.came c.args.self.now.world c.happens.new.self.world ls
+    appends c.write_all_new.result (names_of c.args.self.now.recipients.items) c.args.index c.args.line.now c.in_ok-came.came c.args.self.now.world c.happens.new.self.world ls
     c.args.transcript.now.items c.write_line.new.transcript.items c.write_all_new.new.transcript.items c.in_ok-came.ensures.comes c.in_ok-write_line.ensures.line
     (ap names_of c.in_ok-came.ensures.recipients)
     (subst (λ (l : List Recipient). AreWritten l c.args.self.now.world) (sym c.in_ok-came.ensures.recipients) c.requires.written)

@@ -1,4 +1,4 @@
-// What a line of a script orders.
+// What a line of a script says.
 
 use crate::numbers::Numbers;
 use session_base::Publication;
@@ -14,8 +14,8 @@ pub enum Amount {
     Bytes(u64),
 }
 
-/// What a line orders to happen. Every number is one that a line may write; whether there is such a
-/// node, message or connection is checked only when the order is done.
+/// What a line says. Every number is one that a line may write; whether there is such a node,
+/// message or connection is checked only when the line is played.
 #[derive(Drop)]
 pub enum ScriptLine {
     /// A configuration of these members and this primary is assigned.

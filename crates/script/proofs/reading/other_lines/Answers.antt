@@ -1,6 +1,6 @@
 use Rattle.std.proofs.Common.{refl, ap, Err}
-use Rattle.script.proofs.ManyLines.{first_bad, one_number, orders_more}
-use Rattle.script.proofs.reading.orders.Goals as goal
+use Rattle.script.proofs.ManyLines.{first_bad, lines_more, one_number}
+use Rattle.script.proofs.reading.other_lines.Goals as goal
 
 pub returns-in-Err-Form-clause-refused : goal.returns-in-Err-Form-clause-refused
 returns-in-Err-Form-clause-refused c bad same =
@@ -8,5 +8,5 @@ returns-in-Err-Form-clause-refused c bad same =
 
 pub loop-index-preserved : goal.loop-index-preserved
 loop-index-preserved c =
-    orders_more c.args.lines.now c.loop-index.index _ _ _ _ c.loop-index-test.true c.loop-index.invariant
+    lines_more c.args.lines.now c.loop-index.index _ _ _ _ c.loop-index-test.true c.loop-index.invariant
     c.in-Ok.ensures.value c.in_ok-push-in-Ok.ensures.items

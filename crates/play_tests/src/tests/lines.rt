@@ -1,11 +1,11 @@
-// Lines that order something.
+// Lines that have their form.
 
 use crate::tests::reading::{Outcome, comes};
 use std::alloc::Global;
 
 const HEAD: &str = "world 2 1,2 1 a,b\n";
 
-// Lines, and what they order: the same line, if the second text is empty.
+// Lines, and what is read of them, without zeros in front.
 const LINES: &[(&str, &str)] = &[
     ("assign 2,3 2", "assign 2,3 2"),
     ("assign 300 0300", "assign 300 300"),
@@ -42,19 +42,19 @@ const LINES: &[(&str, &str)] = &[
 #[test]
 fn lines_order_so(rt: HostRuntime) {
     for (line, wanted) in LINES {
-        assert!(rt; orders(rt.alloc(), line, wanted), "{line}");
+        assert!(rt; is_read_as(rt.alloc(), line, wanted), "{line}");
     }
 }
 
-// Says whether a line orders this, after a first line.
-fn orders(alloc: Global, line: &str, wanted: &str) -> bool {
+// Says whether this is read of a line, after a first line.
+fn is_read_as(alloc: Global, line: &str, wanted: &str) -> bool {
     match format!(in alloc; "{HEAD}{line}\n") {
-        Ok(text) => comes(alloc, text.as_str().as_bytes(), Outcome::Orders(1, wanted)),
+        Ok(text) => comes(alloc, text.as_str().as_bytes(), Outcome::Lines(1, wanted)),
         Err(_) => false,
     }
 }
 
-// Texts, and the result of them: how many orders they have.
+// Texts, and the result of them: how many lines they have after the first one.
 const COUNTED: &[(&str, Outcome<'static>)] = &[
     ("world 2 1,2 1 a,b", Outcome::Counts(0)),
     ("world 2 1,2 1 a,b\n", Outcome::Counts(0)),

@@ -1,6 +1,6 @@
 use Rattle.script.specs.Fields.{texts}
 use Rattle.script.proofs.ByWord.{by_assign, by_deliver, by_tick, by_cut, by_crash, by_open, by_up, by_down, by_abandon, by_disconnect, by_none, by_notice, by_publish, by_subscribe, by_unsubscribe, by_expel, form_by, value_by}
-use Rattle.script.proofs.ordering.order_by.Goals as goal
+use Rattle.script.proofs.line_reading.line_by.Goals as goal
 
 pub returns-in-assign-clause-value : goal.returns-in-assign-clause-value
 returns-in-assign-clause-value c =

@@ -1,29 +1,29 @@
-// What the lines after the first order.
+// What the lines after the first say.
 
 ghost use Rattle.std.specs.Prelude.{◌≡◌, Some, None, IfOk, IsErrOf};
 ghost use Rattle.script.specs.Fields.{texts};
-ghost use Rattle.script.specs.Inside.Ordering.{order_by, order_of};
+ghost use Rattle.script.specs.Inside.LineReading.{line_by, line_of};
 
 use crate::error::FieldFault;
 use crate::forms;
-use crate::order::ScriptLine;
+use crate::script_line::ScriptLine;
 use std::alloc::Global;
 
-/// Returns what the fields of a line order.
-pub(crate) fn order_of(alloc: Global, fields: &[&str]) -> Result<ScriptLine, FieldFault>
-    ensures value { IfOk result (λ order. order_of (texts fields.now) ≡ Some order) }
-    ensures form { IsErrOf result FieldFault.Form → order_of (texts fields.now) ≡ None }
+/// Returns what the fields of a line say.
+pub(crate) fn line_of(alloc: Global, fields: &[&str]) -> Result<ScriptLine, FieldFault>
+    ensures value { IfOk result (λ line. line_of (texts fields.now) ≡ Some line) }
+    ensures form { IsErrOf result FieldFault.Form → line_of (texts fields.now) ≡ None }
 {
     match fields {
         [] => Err(FieldFault::Form),
-        [word, fields @ ..] => order_by(alloc, word, fields),
+        [word, fields @ ..] => line_by(alloc, word, fields),
     }
 }
 
-// Returns what the fields after a word order.
-fn order_by(alloc: Global, word: &str, fields: &[&str]) -> Result<ScriptLine, FieldFault>
-    ensures value { IfOk result (λ order. order_by word.now (texts fields.now) ≡ Some order) }
-    ensures form { IsErrOf result FieldFault.Form → order_by word.now (texts fields.now) ≡ None }
+// Returns what the fields after a word say.
+fn line_by(alloc: Global, word: &str, fields: &[&str]) -> Result<ScriptLine, FieldFault>
+    ensures value { IfOk result (λ line. line_by word.now (texts fields.now) ≡ Some line) }
+    ensures form { IsErrOf result FieldFault.Form → line_by word.now (texts fields.now) ≡ None }
 {
     match word {
         "assign" => forms::assign(alloc, fields),

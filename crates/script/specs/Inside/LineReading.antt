@@ -1,10 +1,10 @@
--- What the fields of a line order, by the first of them.
+-- What the fields of a line say, by the first of them.
 use Rattle.std.specs.Prelude.{Bool, if◌then◌else◌, List, [], ◌∷◌, codes, bytes_eq, Option, Some, None}
 use Rattle.session_base.specs.packet.declared.qos.QoS.{QoS}
 use Rattle.session_base.specs.declared.publication.Publication.{Publication}
 use Rattle.script.specs.Fields.{Text, amount_of, client_of, filter_of, number_of, numbers_of, payload_of, qos_of, retain_of, topic_of}
-use Rattle.script.specs.declared.order.ScriptLine.{ScriptLine}
-use Rattle.script.specs.declared.order.ScriptLine.TheVariants as orders
+use Rattle.script.specs.declared.script_line.ScriptLine.{ScriptLine}
+use Rattle.script.specs.declared.script_line.ScriptLine.TheVariants as lines
 
 -- the result with one more value, if there is one
 abbrev pub with : {X Y : Type 0} → Option (X → Y) → Option X → Option Y
@@ -30,9 +30,9 @@ two make reads next (field ∷ []) = None
 two make reads next (field ∷ other ∷ []) = with (with (Some make) (reads field)) (next other)
 two make reads next (field ∷ other ∷ third ∷ more) = None
 
--- the order by which a client subscribes to a filter
-abbrev pub subscription_order : Text → Text → QoS → ScriptLine
-subscription_order client filter qos = orders.Subscribe client filter qos
+-- the line by which a client subscribes to a filter
+abbrev pub subscription_line : Text → Text → QoS → ScriptLine
+subscription_line client filter qos = lines.Subscribe client filter qos
 
 -- the three fields of `subscribe`
 abbrev pub subscribe_of : List Text → Option ScriptLine
@@ -40,7 +40,7 @@ subscribe_of [] = None
 subscribe_of (c ∷ []) = None
 subscribe_of (c ∷ f ∷ []) = None
 subscribe_of (c ∷ f ∷ q ∷ []) =
-    with (with (with (Some subscription_order) (client_of c)) (filter_of f)) (qos_of q)
+    with (with (with (Some subscription_line) (client_of c)) (filter_of f)) (qos_of q)
 subscribe_of (c ∷ f ∷ q ∷ d ∷ more) = None
 
 -- a publication of these fields
@@ -54,9 +54,9 @@ publication_of t q r p =
     with (with (with (with (Some publication) (topic_of t)) (qos_of q)) (retain_of r))
     (payload_of p)
 
--- the order by which a client publishes
-abbrev pub publication_order : Text → Publication → ScriptLine
-publication_order client sent = orders.Publish client sent
+-- the line by which a client publishes
+abbrev pub publication_line : Text → Publication → ScriptLine
+publication_line client sent = lines.Publish client sent
 
 -- the five fields of `publish`
 abbrev pub publish_of : List Text → Option ScriptLine
@@ -66,31 +66,31 @@ publish_of (c ∷ t ∷ []) = None
 publish_of (c ∷ t ∷ q ∷ []) = None
 publish_of (c ∷ t ∷ q ∷ r ∷ []) = None
 publish_of (c ∷ t ∷ q ∷ r ∷ p ∷ []) =
-    with (with (Some publication_order) (client_of c)) (publication_of t q r p)
+    with (with (Some publication_line) (client_of c)) (publication_of t q r p)
 publish_of (c ∷ t ∷ q ∷ r ∷ p ∷ d ∷ more) = None
 
--- what the fields after this word order
-unfoldable pub order_by : Text → List Text → Option ScriptLine
-order_by word fields =
-    if bytes_eq word (codes "assign") then two orders.Assign numbers_of number_of fields else
-    if bytes_eq word (codes "deliver") then one orders.Deliver number_of fields else
-    if bytes_eq word (codes "tick") then one orders.Tick number_of fields else
-    if bytes_eq word (codes "cut") then one orders.Cut number_of fields else
-    if bytes_eq word (codes "crash") then one orders.Crash number_of fields else
-    if bytes_eq word (codes "open") then two orders.Open client_of number_of fields else
-    if bytes_eq word (codes "up") then two orders.CarryUp number_of amount_of fields else
-    if bytes_eq word (codes "down") then two orders.CarryDown number_of amount_of fields else
-    if bytes_eq word (codes "abandon") then one orders.Abandon client_of fields else
-    if bytes_eq word (codes "disconnect") then one orders.Disconnect client_of fields else
-    if bytes_eq word (codes "notice") then one orders.Notice number_of fields else
+-- what the fields after this word say
+unfoldable pub line_by : Text → List Text → Option ScriptLine
+line_by word fields =
+    if bytes_eq word (codes "assign") then two lines.Assign numbers_of number_of fields else
+    if bytes_eq word (codes "deliver") then one lines.Deliver number_of fields else
+    if bytes_eq word (codes "tick") then one lines.Tick number_of fields else
+    if bytes_eq word (codes "cut") then one lines.Cut number_of fields else
+    if bytes_eq word (codes "crash") then one lines.Crash number_of fields else
+    if bytes_eq word (codes "open") then two lines.Open client_of number_of fields else
+    if bytes_eq word (codes "up") then two lines.CarryUp number_of amount_of fields else
+    if bytes_eq word (codes "down") then two lines.CarryDown number_of amount_of fields else
+    if bytes_eq word (codes "abandon") then one lines.Abandon client_of fields else
+    if bytes_eq word (codes "disconnect") then one lines.Disconnect client_of fields else
+    if bytes_eq word (codes "notice") then one lines.Notice number_of fields else
     if bytes_eq word (codes "publish") then publish_of fields else
     if bytes_eq word (codes "subscribe") then subscribe_of fields else
     if bytes_eq word (codes "unsubscribe")
-    then two orders.Unsubscribe client_of filter_of fields else
-    if bytes_eq word (codes "expel") then two orders.Expel client_of number_of fields else
+    then two lines.Unsubscribe client_of filter_of fields else
+    if bytes_eq word (codes "expel") then two lines.Expel client_of number_of fields else
     None
 
--- what the fields of a line order
-abbrev pub order_of : List Text → Option ScriptLine
-order_of [] = None
-order_of (word ∷ fields) = order_by word fields
+-- what the fields of a line say
+abbrev pub line_of : List Text → Option ScriptLine
+line_of [] = None
+line_of (word ∷ fields) = line_by word fields

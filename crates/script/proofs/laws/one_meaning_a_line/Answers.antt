@@ -2,7 +2,7 @@
 use Rattle.std.proofs.Common.{sym, ◌∙◌}
 use Rattle.std.proofs.lemmas.Option.{same_Some}
 use Rattle.script.proofs.OneForm.{is_read}
-use Rattle.script.proofs.laws.one_order_a_line.Goals as goal
+use Rattle.script.proofs.laws.one_meaning_a_line.Goals as goal
 
 pub returns : goal.returns
-returns c fields order other is also = same_Some order other (sym (is_read fields order is) ∙ is_read fields other also)
+returns c fields line other is also = same_Some line other (sym (is_read fields line is) ∙ is_read fields other also)
