@@ -79,7 +79,7 @@ const ENDS: &[(&[&str], u8, &str)] = &[
 ];
 
 #[test]
-fn jobs_end_so(rt: HostRuntime) {
+fn jobs_end_with_their_status_and_text(rt: HostRuntime) {
     for (words, status, told) in ENDS {
         let is_so = ends(&rt, words, b"".as_slice(), (*status, "", told));
         assert!(rt; is_so, "{told}");
@@ -168,7 +168,7 @@ const REFUSED: &[(&str, &str)] = &[
 ];
 
 #[test]
-fn tables_are_refused_so(rt: HostRuntime) {
+fn tables_are_refused_with_their_text(rt: HostRuntime) {
     for (text, told) in REFUSED {
         assert!(rt; is_refused(&rt, text, told), "{told}");
     }

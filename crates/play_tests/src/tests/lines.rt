@@ -40,7 +40,7 @@ const LINES: &[(&str, &str)] = &[
 ];
 
 #[test]
-fn lines_order_so(rt: HostRuntime) {
+fn each_form_of_line_is_read(rt: HostRuntime) {
     for (line, wanted) in LINES {
         assert!(rt; is_read_as(rt.alloc(), line, wanted), "{line}");
     }

@@ -154,7 +154,7 @@ const BEFORE: &[(&str, u64)] = &[
 ];
 
 #[test]
-fn no_orders_are_refused_at_their_line(rt: HostRuntime) {
+fn lines_without_their_form_are_refused(rt: HostRuntime) {
     for line in BAD_LINES {
         for (before, number) in BEFORE {
             let is_refused = is_bad(rt.alloc(), before, line, "\nnothing\n", *number);

@@ -19,7 +19,7 @@ const SCRIPTS: &[(&[&str; 2], usize)] = &[
 
 // Each line of these scripts is read as it is written.
 #[test]
-fn scripts_order_what_they_say(rt: HostRuntime) {
+fn scripts_are_read_as_written(rt: HostRuntime) {
     for (script, count) in SCRIPTS {
         assert!(rt;
             is_read_as_written(rt.alloc(), script[0], *count),
