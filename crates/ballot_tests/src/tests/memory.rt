@@ -11,57 +11,78 @@ use std::test::*;
 
 type Out = Vec<Effect<TallyCommand, u64>>;
 
-// Says whether a replica that takes the command gives what it is to give, or its one message is
-// lost and counted.
-fn is_taken(replica: &Replica<Tally>, out: &Out, is_alone: bool) -> bool {
+// Returns what is not so of a replica that took the command: it gives what it is to give, or its
+// one message is lost and counted.
+fn missed_when_taken(replica: &Replica<Tally>, out: &Out, is_alone: bool) -> Option<&'static str> {
     let given = if is_alone {
         gives(out, 0, 0, 2)
     } else {
         appends(out, 0, (1, 2), 0, 2)
     };
     let is_lost = !is_alone && out.is_empty() && replica.losses() == 1;
-    logs(replica, &[TallyCommand::Add(2)]) && (given || is_lost)
-}
-
-// Says whether a replica has stopped and gives nothing any more.
-fn is_stopped(replica: &mut Replica<Tally>, out: &mut Out) -> bool {
-    replica.tick(out);
-    out.is_empty()
-        && replica.status().stopped
-        && replica.losses() == 1
-        && replica.propose(TallyCommand::Add(2), out) == Err(ProposeError::Halted)
-}
-
-// Proposes to add 2, again if it was refused.
-fn proposes(replica: &mut Replica<Tally>, out: &mut Out, is_alone: bool) -> bool {
-    match replica.propose(TallyCommand::Add(2), out) {
-        Ok(()) => is_taken(replica, out, is_alone),
-        Err(ProposeError::Memory) => {
-            let is_same = out.is_empty() && shows(replica, 1, Role::Active, 0, 0);
-            is_same
-                && replica.losses() == 1
-                && replica.propose(TallyCommand::Add(2), out).is_ok()
-                && is_taken(replica, out, is_alone)
-        }
-        Err(ProposeError::Halted) => is_stopped(replica, out),
-        Err(_) => false,
+    if !logs(replica, &[TallyCommand::Add(2)]) {
+        Some("the command that was taken is in the log")
+    } else if !given && !is_lost {
+        Some("what it gives comes, or its one message is lost and counted")
+    } else {
+        None
     }
 }
 
-// Says whether the primary of these members comes through. If memory runs out for it nothing is
+// Returns what is not so of a replica that has stopped and gives nothing any more.
+fn missed_when_stopped(replica: &mut Replica<Tally>, out: &mut Out) -> Option<&'static str> {
+    replica.tick(out);
+    if !out.is_empty() {
+        Some("a stopped replica gives nothing")
+    } else if !replica.status().stopped {
+        Some("it says that it has stopped")
+    } else if replica.losses() != 1 {
+        Some("one loss is counted once it has stopped")
+    } else if replica.propose(TallyCommand::Add(2), out) == Err(ProposeError::Halted) {
+        None
+    } else {
+        Some("a stopped replica refuses another command")
+    }
+}
+
+// Proposes to add 2, again if it was refused. Returns the first step that is not so, in words.
+fn missed_step(
+    replica: &mut Replica<Tally>,
+    out: &mut Out,
+    is_alone: bool,
+) -> Option<&'static str> {
+    match replica.propose(TallyCommand::Add(2), out) {
+        Ok(()) => missed_when_taken(replica, out, is_alone),
+        Err(ProposeError::Memory) => {
+            if !out.is_empty() || !shows(replica, 1, Role::Active, 0, 0) {
+                Some("a refused command leaves the replica as it was")
+            } else if replica.losses() != 1 {
+                Some("the refusal is counted")
+            } else if replica.propose(TallyCommand::Add(2), out).is_err() {
+                Some("the command is taken at the second try")
+            } else {
+                missed_when_taken(replica, out, is_alone)
+            }
+        }
+        Err(ProposeError::Halted) => missed_when_stopped(replica, out),
+        Err(_) => Some("a command is refused only for memory"),
+    }
+}
+
+// Returns what is not so of the primary of these members. If memory runs out for it nothing is
 // asked of it.
-fn comes_through(alloc: Global, members: &[u8]) -> bool {
+fn missed_by(alloc: Global, members: &[u8]) -> Option<&'static str> {
     let mut out = Vec::new(alloc);
     match made(alloc, 1, members, 1) {
-        Ok(mut replica) => proposes(&mut replica, &mut out, members.len() == 1),
-        Err(_) => true,
+        Ok(mut replica) => missed_step(&mut replica, &mut out, members.len() == 1),
+        Err(_) => None,
     }
 }
 
 #[test]
 fn a_command_is_taken_or_refused_whole(rt: HostRuntime) {
-    assert!(rt; comes_through(rt.alloc(), &[1]));
-    assert!(rt; comes_through(rt.alloc(), &[1, 2]));
+    assert_eq!(rt; missed_by(rt.alloc(), &[1]), None);
+    assert_eq!(rt; missed_by(rt.alloc(), &[1, 2]), None);
 }
 
 // Says whether bytes of no machine are refused only for that.

@@ -29,20 +29,6 @@ fn takes<J: Naming, R: Wait>(
     receiver.take(rt, receipt) == wanted
 }
 
-// Says whether two items arrive, in order, and no other.
-fn arrives<J: Naming, R: Wait>(
-    rt: &R,
-    receiver: &mut Receiver<u64, J>,
-    lanes: &mut [Lane<u64, J>],
-) -> bool {
-    sends(rt, lanes, 1, 20)
-        && sends(rt, lanes, 0, 10)
-        && takes(rt, receiver, Some((1, 20)))
-        && takes(rt, receiver, Some((0, 10)))
-        && takes(rt, receiver, None)
-        && sends(rt, lanes, 1, 21)
-}
-
 // Says whether one item of each lane was taken, and one of the second is left over; none if memory
 // was refused for the question.
 fn settles<J: Naming, R: Wait>(
@@ -77,23 +63,49 @@ fn is_settled<J: Naming, R: Wait>(
     }
 }
 
-// Says whether all arrives, if there is memory for the lanes.
-fn comes_through<J: Naming, R: Wait>(rt: &R, alloc: Global, inbox: Inbox<u64>) -> bool
+// Two items arrive, in order, and no other, and all is settled. Returns the first step that is not
+// so.
+fn missed_step<J: Naming, R: Wait>(
+    rt: &R,
+    alloc: Global,
+    receiver: &mut Receiver<u64, J>,
+    lanes: &mut [Lane<u64, J>],
+) -> Option<&'static str> {
+    if !sends(rt, lanes, 1, 20) {
+        Some("the second lane sends 20")
+    } else if !sends(rt, lanes, 0, 10) {
+        Some("the first lane sends 10")
+    } else if !takes(rt, receiver, Some((1, 20))) {
+        Some("20 of the second lane is taken first")
+    } else if !takes(rt, receiver, Some((0, 10))) {
+        Some("10 of the first lane is taken then")
+    } else if !takes(rt, receiver, None) {
+        Some("nothing else is taken")
+    } else if !sends(rt, lanes, 1, 21) {
+        Some("the second lane sends 21")
+    } else if !is_settled(rt, alloc, receiver, lanes) {
+        Some("one item of each lane was taken, and 21 is left over")
+    } else {
+        None
+    }
+}
+
+// Returns the first step that is not so, if there is memory for the lanes.
+fn missed_in<J: Naming, R: Wait>(rt: &R, alloc: Global, inbox: Inbox<u64>) -> Option<&'static str>
     requires { inbox ≡ J.inbox_of 1 }
 {
     match inbox.named::<J>(1, 2) {
         Ok((mut receiver, mut lanes)) => {
-            arrives(rt, &mut receiver, lanes.as_mut_slice())
-                && is_settled(rt, alloc, &mut receiver, lanes.as_mut_slice())
+            missed_step(rt, alloc, &mut receiver, lanes.as_mut_slice())
         }
-        Err(_) => true,
+        Err(_) => None,
     }
 }
 
 #[test]
 fn an_inbox_is_whole_or_none(rt: HostRuntime) {
     if let Ok(inbox) = Inbox::new(rt.alloc()) {
-        let is_well = comes_through::<Brand, HostRuntime>(&rt, rt.alloc(), inbox);
-        assert!(rt; is_well);
+        let missed = missed_in::<Brand, HostRuntime>(&rt, rt.alloc(), inbox);
+        assert_eq!(rt; missed, None);
     }
 }

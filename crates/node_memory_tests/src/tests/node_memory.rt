@@ -93,18 +93,27 @@ fn is_answered<J: NodeNaming>(alloc: Global, state: &mut NodeState<J>) -> bool {
     is_whole && state.losses() <= 1
 }
 
-// Says whether each item is taken, in order, and the CONNECT is answered or lost.
-fn goes_through<J: NodeNaming, R: Wait>(
+// Each item is taken, in order, and the CONNECT is answered or lost. Returns the first step that is
+// not so.
+fn missed_step<J: NodeNaming, R: Wait>(
     rt: &R,
     alloc: Global,
     state: &mut NodeState<J>,
     lanes: &mut [Lane<Item, J>],
-) -> bool {
-    sends_all(rt, alloc, lanes)
-        && (0..3).all(|_| takes(rt, alloc, state, true))
-        && takes(rt, alloc, state, false)
-        && is_answered(alloc, state)
-        && sends(rt, lanes, Item::Tick(2))
+) -> Option<&'static str> {
+    if !sends_all(rt, alloc, lanes) {
+        Some("the lane sends three items")
+    } else if !(0..3).all(|_| takes(rt, alloc, state, true)) {
+        Some("each of them is taken, with no effect")
+    } else if !takes(rt, alloc, state, false) {
+        Some("no other item is taken")
+    } else if !is_answered(alloc, state) {
+        Some("the CONNECT is answered, or one loss is counted")
+    } else if !sends(rt, lanes, Item::Tick(2)) {
+        Some("the lane sends another tick")
+    } else {
+        None
+    }
 }
 
 // Says whether three items were taken, and the last tick is left over.
@@ -127,37 +136,48 @@ fn closes<J: NodeNaming, R: Wait>(
     }
 }
 
-// Says whether the node goes through and says what happened to its items, if there is memory for
-// the lane.
-fn is_whole_or_counted<J: NodeNaming, R: Wait>(
+// Returns the step that was missed before; if there is none, what the report does not say.
+fn first_missed(missed: Option<&'static str>, is_told: bool) -> Option<&'static str> {
+    if missed.is_none() && !is_told {
+        Some("the report says that three items were taken and a tick is left over")
+    } else {
+        missed
+    }
+}
+
+// Returns the first step that is not so of the node, which says at its end what happened to its
+// items, if there is memory for the lane.
+fn missed_in<J: NodeNaming, R: Wait>(
     rt: &R,
     alloc: Global,
     inbox: Inbox<Item>,
     core: NodeCore,
-) -> bool
+) -> Option<&'static str>
     requires inbox { inbox ≡ J.inbox_of 1 }
     requires first { core ≡ J.first_of 1 }
 {
     match inbox.named::<J>(1, 1) {
         Ok((receiver, mut lanes)) => {
             let mut state = NodeState::new(receiver, core);
-            let goes = goes_through(rt, alloc, &mut state, lanes.as_mut_slice());
-            closes(rt, alloc, state, lanes.as_mut_slice()) && goes
+            let missed = missed_step(rt, alloc, &mut state, lanes.as_mut_slice());
+            let is_told = closes(rt, alloc, state, lanes.as_mut_slice());
+            first_missed(missed, is_told)
         }
-        Err(_) => true,
+        Err(_) => None,
     }
 }
 
-// Says whether a node for which memory runs out does not exist, or counts what it lost.
-fn is_well<R: Wait>(rt: &R, alloc: Global) -> bool {
+// A node for which memory runs out does not exist, or counts what it lost. Returns the first step
+// that is not so.
+fn missed_by<R: Wait>(rt: &R, alloc: Global) -> Option<&'static str> {
     match (Inbox::new(alloc), sole(alloc)) {
-        (Ok(inbox), Some(core)) => is_whole_or_counted::<Brand, R>(rt, alloc, inbox, core),
-        _ => true,
+        (Ok(inbox), Some(core)) => missed_in::<Brand, R>(rt, alloc, inbox, core),
+        _ => None,
     }
 }
 
 #[test]
 fn a_refused_step_is_counted(rt: HostRuntime) {
-    let is_well = is_well(&rt, rt.alloc());
-    assert!(rt; is_well);
+    let missed = missed_by(&rt, rt.alloc());
+    assert_eq!(rt; missed, None);
 }

@@ -18,22 +18,22 @@ fn lines_in(transcript: &[u8]) -> usize {
     transcript.iter().filter(|byte| **byte == b'\n').count()
 }
 
-// Says whether the script is played as usual, or to its end with losses, or stops early. No
-// publication is ever accepted.
-fn is_played_or_told(alloc: Global, row: &[&str; 2]) -> bool {
+// Returns what is not so: it is played as usual, or to its end with losses, or stops early.
+fn missed_in(alloc: Global, row: &[&str; 2]) -> Option<&'static str> {
     let mut transcript = Vec::new(alloc);
     let played = play(alloc, row[0].as_bytes(), &mut transcript);
     let written = transcript.as_slice();
-    let is_so = match played {
-        Ok(()) => written == row[1].as_bytes(),
-        Err(PlayError::Losses) => lines_in(written) == lines_in(row[1].as_bytes()),
-        Err(PlayError::Memory) => true,
-        Err(PlayError::Line(_) | PlayError::Idle) => false,
-    };
-    is_so && accepted_in(written) == 0
+    let wanted = row[1].as_bytes();
+    match played {
+        _ if accepted_in(written) != 0 => Some("no publication is accepted"),
+        Ok(()) if written != wanted => Some("it is played as usual"),
+        Err(PlayError::Losses) if lines_in(written) != lines_in(wanted) => Some("no line is lost"),
+        Err(PlayError::Line(_) | PlayError::Idle) => Some("nothing but memory is lacking"),
+        Ok(()) | Err(PlayError::Losses | PlayError::Memory) => None,
+    }
 }
 
 #[test]
 fn what_finds_no_memory_is_told(rt: HostRuntime) {
-    assert!(rt; is_played_or_told(rt.alloc(), &ANSWER_WAITS_FOR_THE_BACKUP));
+    assert_eq!(rt; missed_in(rt.alloc(), &ANSWER_WAITS_FOR_THE_BACKUP), None);
 }

@@ -145,26 +145,35 @@ fn is_dropped<I: SubIndex>(alloc: Global, index: &mut I, text: &str) -> bool {
     }
 }
 
-// Says whether it grants what it is to when all is set, and nothing when both clients are dropped.
-fn goes_through<I: SubIndex>(alloc: Global, index: &mut I) -> bool {
-    all_are_set(alloc, index)
-        && shows(alloc, index, &GRANTS)
-        && is_dropped(alloc, index, "a")
-        && is_dropped(alloc, index, "b")
-        && shows(alloc, index, &[])
+// It grants what it is to when all is set, and nothing when both clients are dropped. Returns the
+// first step that is not so.
+fn missed_step<I: SubIndex>(alloc: Global, index: &mut I) -> Option<&'static str> {
+    if !all_are_set(alloc, index) {
+        Some("each row is set")
+    } else if !shows(alloc, index, &GRANTS) {
+        Some("the rows are granted")
+    } else if !is_dropped(alloc, index, "a") {
+        Some("there is memory to drop client a")
+    } else if !is_dropped(alloc, index, "b") {
+        Some("there is memory to drop client b")
+    } else if !shows(alloc, index, &[]) {
+        Some("nothing is granted once both are dropped")
+    } else {
+        None
+    }
 }
 
-fn comes_through<I: SubIndex>(alloc: Global) -> bool {
+fn missed_by<I: SubIndex>(alloc: Global) -> Option<&'static str> {
     let mut index = I::new(alloc);
-    goes_through(alloc, &mut index)
+    missed_step(alloc, &mut index)
 }
 
 #[test]
 fn the_list_comes_through(rt: HostRuntime) {
-    assert!(rt; comes_through::<ListIndex>(rt.alloc()));
+    assert_eq!(rt; missed_by::<ListIndex>(rt.alloc()), None);
 }
 
 #[test]
 fn the_tree_comes_through(rt: HostRuntime) {
-    assert!(rt; comes_through::<TreeIndex>(rt.alloc()));
+    assert_eq!(rt; missed_by::<TreeIndex>(rt.alloc()), None);
 }

@@ -51,20 +51,31 @@ fn finds(alloc: Global, store: &RetainedStore, text: &str, wanted: usize) -> boo
     }
 }
 
-fn comes_through(alloc: Global, store: &mut RetainedStore) -> bool {
-    is_put(alloc, store, "t/1", "x", 1)
-        && is_put(alloc, store, "t/2", "y", 2)
-        && is_put(alloc, store, "t/1", "zz", 2)
-        && finds(alloc, store, "t/#", 2)
-        && finds(alloc, store, "t/2", 1)
-        && is_put(alloc, store, "t/1", "", 1)
-        && finds(alloc, store, "+/1", 0)
+// Returns the first step that is not so, in words.
+fn missed_step(alloc: Global, store: &mut RetainedStore) -> Option<&'static str> {
+    if !is_put(alloc, store, "t/1", "x", 1) {
+        Some("t/1 is kept")
+    } else if !is_put(alloc, store, "t/2", "y", 2) {
+        Some("t/2 is kept beside it")
+    } else if !is_put(alloc, store, "t/1", "zz", 2) {
+        Some("t/1 is kept in place of the first")
+    } else if !finds(alloc, store, "t/#", 2) {
+        Some("t/# finds both")
+    } else if !finds(alloc, store, "t/2", 1) {
+        Some("t/2 finds one")
+    } else if !is_put(alloc, store, "t/1", "", 1) {
+        Some("t/1 is removed")
+    } else if !finds(alloc, store, "+/1", 0) {
+        Some("+/1 finds none")
+    } else {
+        None
+    }
 }
 
 #[test]
 fn a_store_comes_through(rt: HostRuntime) {
     let mut store = RetainedStore::new(rt.alloc());
-    assert!(rt; comes_through(rt.alloc(), &mut store));
+    assert_eq!(rt; missed_step(rt.alloc(), &mut store), None);
 }
 
 // Returns the text of a topic by its number; it tries a second time if the first try ran out of

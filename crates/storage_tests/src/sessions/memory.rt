@@ -68,18 +68,29 @@ fn is_received(session: &mut Session) -> bool {
     is_first && session.inbound(id) == Ok(Arrival::Again)
 }
 
-fn comes_through(alloc: Global, session: &mut Session) -> bool {
-    (0..3).all(|_| is_added(alloc, session) == Some(true))
-        && sends(alloc, session, &[New(1), New(2), New(3)])
-        && sends(alloc, session, &[])
-        && is_released(alloc, session)
-        && sends_again(alloc, session, &[Release(1), Again(2), Again(3)])
-        && is_received(session)
-        && session.room() == 4093
+// Returns the first step that is not so, in words.
+fn missed_step(alloc: Global, session: &mut Session) -> Option<&'static str> {
+    if !(0..3).all(|_| is_added(alloc, session) == Some(true)) {
+        Some("three publications are added, each once")
+    } else if !sends(alloc, session, &[New(1), New(2), New(3)]) {
+        Some("the three are sent")
+    } else if !sends(alloc, session, &[]) {
+        Some("nothing is sent twice")
+    } else if !is_released(alloc, session) {
+        Some("the PUBREC of the first is answered, one of identifier 9 is not")
+    } else if !sends_again(alloc, session, &[Release(1), Again(2), Again(3)]) {
+        Some("PUBREL of the first and the other two are sent again")
+    } else if !is_received(session) {
+        Some("identifier 7 comes for the first time, and then again")
+    } else if session.room() != 4093 {
+        Some("there is room for 4,093 more")
+    } else {
+        None
+    }
 }
 
 #[test]
 fn a_session_comes_through(rt: HostRuntime) {
     let mut session = Session::new(rt.alloc());
-    assert!(rt; comes_through(rt.alloc(), &mut session));
+    assert_eq!(rt; missed_step(rt.alloc(), &mut session), None);
 }
