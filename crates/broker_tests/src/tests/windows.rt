@@ -128,7 +128,7 @@ pub(crate) fn frees_its_identifier(alloc: Global, broker: &mut BrokerMachine) ->
 }
 
 #[test]
-fn window_of_64(rt: HostRuntime) {
+fn sixty_four_of_seventy_entries_are_sent(rt: HostRuntime) {
     assert_eq!(rt;
         first_fault(rt.alloc(), Start::Fresh, Run::Parts(SEVENTY)),
         None

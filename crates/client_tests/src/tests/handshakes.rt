@@ -26,7 +26,7 @@ const SPEAKS: &[Row<'static>] = &[
 
 // CONNECT, SUBSCRIBE with identifier 1, and PUBLISH with the next one (MQTT 2.3.1).
 #[test]
-fn client_speaks(rt: HostRuntime) {
+fn a_client_connects_subscribes_and_publishes(rt: HostRuntime) {
     assert_eq!(rt; first_fault(rt.alloc(), SPEAKS), None);
 }
 

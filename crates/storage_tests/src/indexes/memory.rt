@@ -169,11 +169,11 @@ fn missed_by<I: SubIndex>(alloc: Global) -> Option<&'static str> {
 }
 
 #[test]
-fn the_list_comes_through(rt: HostRuntime) {
+fn a_refused_list_is_unchanged_and_goes_on(rt: HostRuntime) {
     assert_eq!(rt; missed_by::<ListIndex>(rt.alloc()), None);
 }
 
 #[test]
-fn the_tree_comes_through(rt: HostRuntime) {
+fn a_refused_tree_is_unchanged_and_goes_on(rt: HostRuntime) {
     assert_eq!(rt; missed_by::<TreeIndex>(rt.alloc()), None);
 }

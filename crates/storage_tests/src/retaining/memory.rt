@@ -73,7 +73,7 @@ fn missed_step(alloc: Global, store: &mut RetainedStore) -> Option<&'static str>
 }
 
 #[test]
-fn a_store_comes_through(rt: HostRuntime) {
+fn a_refused_store_is_unchanged_and_goes_on(rt: HostRuntime) {
     let mut store = RetainedStore::new(rt.alloc());
     assert_eq!(rt; missed_step(rt.alloc(), &mut store), None);
 }
@@ -105,7 +105,7 @@ fn is_full(alloc: Global, store: &mut RetainedStore) -> bool {
 }
 
 #[test]
-fn a_full_store_comes_through(rt: HostRuntime) {
+fn a_refused_store_still_fills_to_its_limit(rt: HostRuntime) {
     let mut store = RetainedStore::new(rt.alloc());
     assert!(rt; is_full(rt.alloc(), &mut store));
 }

@@ -90,7 +90,7 @@ fn missed_step(alloc: Global, session: &mut Session) -> Option<&'static str> {
 }
 
 #[test]
-fn a_session_comes_through(rt: HostRuntime) {
+fn a_refused_session_is_unchanged_and_goes_on(rt: HostRuntime) {
     let mut session = Session::new(rt.alloc());
     assert_eq!(rt; missed_step(rt.alloc(), &mut session), None);
 }
