@@ -93,7 +93,7 @@ head_at bytes = do
   keep ((form.0 == 1) || (form.0 == 2))
   if form.0 == 1 then Ok (narrow_window, form.1) else size_at form.1
 
--- so many sessions and topics at most, and nothing after them
+-- at most `max_sessions` sessions and `max_topics` topics, and nothing after them
 abbrev pub content_at : ℕ → List ℕ → Result State Stop
 content_at window bytes = do
   sessions ← counted_at number_at row_follows (row_at window) max_sessions bytes

@@ -29,8 +29,8 @@ max_waiting = 524288
 abbrev pub has_room : Item → List Item → Bool
 has_room item items = not (is_of_node item) || nat_lt (length items) max_waiting
 
--- What may wait for the node of a number: what was queued for it, and at most so many messages of
--- other nodes.
+-- What may wait for the node of a number: what was queued for it, and at most `max_waiting` messages
+-- of other nodes.
 pub record Waits (number : ℕ) (items : List Item) : Type 0 where
   pub queued : Each (IsQueued number) items
   pub bounded : of_nodes items ≤ max_waiting
