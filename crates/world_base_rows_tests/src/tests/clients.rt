@@ -123,7 +123,7 @@ const RETAINED: &[Row<'static>] = &[
 ];
 
 #[test]
-fn retained_at_subscribe(rt: HostRuntime) {
+fn a_retained_message_comes_at_subscribe(rt: HostRuntime) {
     assert_eq!(rt; first_fault(rt.alloc(), RETAINED), None);
 }
 
@@ -149,7 +149,7 @@ const TWO_FILTERS: &[Row<'static>] = &[
 ];
 
 #[test]
-fn two_filters_one_publication(rt: HostRuntime) {
+fn two_filters_bring_one_publication(rt: HostRuntime) {
     assert_eq!(rt; first_fault(rt.alloc(), TWO_FILTERS), None);
 }
 
@@ -166,7 +166,7 @@ const NOT_SUBSCRIBED: &[Row<'static>] = &[
 ];
 
 #[test]
-fn unsubscribe_without_a_subscription(rt: HostRuntime) {
+fn an_unsubscribe_without_a_subscription_is_answered(rt: HostRuntime) {
     assert_eq!(rt; first_fault(rt.alloc(), NOT_SUBSCRIBED), None);
 }
 
@@ -190,7 +190,7 @@ const VIOLATED: &[Row<'static>] = &[
 ];
 
 #[test]
-fn ping_unsubscribe_and_violations(rt: HostRuntime) {
+fn requests_are_answered_and_violations_close(rt: HostRuntime) {
     assert_eq!(rt; first_fault(rt.alloc(), VIOLATED), None);
 }
 

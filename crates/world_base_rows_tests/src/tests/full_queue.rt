@@ -212,36 +212,44 @@ fn goes_on_with_the_rest(cutting: Cutting, node: &mut NodeCore, got: &mut Got) -
     }
 }
 
-// Says whether the queue of this node keeps the order on its way to a client.
-fn keeps_the_order(cutting: Cutting, node: &mut NodeCore, got: &mut Got) -> bool {
-    fills(cutting, node)
-        && answers(cutting, node, 2, THREE, FIRST, false)
-        && comes_back(cutting, node, got)
-        && goes_on_with_the_rest(cutting, node, got)
-        && ends_with_three(got.payloads.as_slice())
-        && node.losses() == 0
+// Returns the first step that is not so on the way of this node's queue to a client.
+fn missed_step(cutting: Cutting, node: &mut NodeCore, got: &mut Got) -> Option<&'static str> {
+    if !fills(cutting, node) {
+        Some("all slots but one are taken while the subscriber is away")
+    } else if !answers(cutting, node, 2, THREE, FIRST, false) {
+        Some("the first of three is answered, and the publisher is closed")
+    } else if !comes_back(cutting, node, got) {
+        Some("the subscriber comes back, and is handed what waited")
+    } else if !goes_on_with_the_rest(cutting, node, got) {
+        Some("the three come again and are answered, and the subscriber answers the rest")
+    } else if !ends_with_three(got.payloads.as_slice()) {
+        Some("each of the three comes once, after all others")
+    } else if node.losses() != 0 {
+        Some("no step ran out of memory")
+    } else {
+        None
+    }
 }
 
-// Says whether a full queue keeps the order when pieces come so.
-fn is_kept(alloc: Global, coming: Coming) -> bool {
+// Returns the first step that is not so when pieces come so.
+fn missed_by(alloc: Global, coming: Coming) -> Option<&'static str> {
     match primary(alloc, &[1]) {
-        Some(mut node) => keeps_the_order(
-            Cutting { alloc, coming },
-            &mut node,
-            &mut Got::new(alloc),
-        ),
-        None => false,
+        Some(mut node) => missed_step(Cutting { alloc, coming }, &mut node, &mut Got::new(alloc)),
+        None => Some("there is memory for a node"),
     }
 }
 
 // The longest piece of a publisher: three publications.
 const LONGEST: usize = 30;
 
-// Returns the first cut with which it is not kept, as far as a publisher's pieces are long.
-fn first_cut(alloc: Global) -> Option<usize> {
+// A cut, and the first step that is not so with it.
+type Missed = (usize, &'static str);
+
+// Returns the first cut with which a step is not so, as far as a publisher's pieces are long.
+fn missed_with_a_cut(alloc: Global) -> Option<Missed> {
     for cut in 0..=LONGEST {
-        if !is_kept(alloc, Coming::Cut(cut)) {
-            return Some(cut);
+        if let Some(step) = missed_by(alloc, Coming::Cut(cut)) {
+            return Some((cut, step));
         }
     }
     None
@@ -249,6 +257,6 @@ fn first_cut(alloc: Global) -> Option<usize> {
 
 #[test]
 fn a_full_queue_keeps_the_order(rt: HostRuntime) {
-    assert_eq!(rt; first_cut(rt.alloc()), None);
-    assert!(rt; is_kept(rt.alloc(), Coming::Bytes));
+    assert_eq!(rt; missed_with_a_cut(rt.alloc()), None);
+    assert_eq!(rt; missed_by(rt.alloc(), Coming::Bytes), None);
 }

@@ -10,7 +10,7 @@ use world_base::{Item, NodeCore, Port};
 
 // Keep alive 60, last whole packet at 1,000.
 #[test]
-fn keep_alive_ends(rt: HostRuntime) {
+fn a_silent_client_is_closed_after_its_keep_alive(rt: HostRuntime) {
     let rows: [Row<'static>; 5] = [
         (0, 1, Act::Open, NOTHING, true),
         (1_000, 1, Act::Bytes(CONNECT_A), ACCEPTED, true),
@@ -23,7 +23,7 @@ fn keep_alive_ends(rt: HostRuntime) {
 
 // A PINGREQ begins the time again; bytes of less than a packet do not.
 #[test]
-fn a_whole_packet_counts(rt: HostRuntime) {
+fn only_a_whole_packet_begins_the_time_again(rt: HostRuntime) {
     let rows: [Row<'static>; 7] = [
         (0, 1, Act::Open, NOTHING, true),
         (1_000, 1, Act::Bytes(CONNECT_A), ACCEPTED, true),

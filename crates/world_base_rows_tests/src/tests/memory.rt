@@ -24,49 +24,66 @@ fn comes_at_last(alloc: Global, node: &mut NodeCore, row: &Row<'_>) {
     take(alloc, node, item);
 }
 
-// Says whether a row's bytes are handed over, and its port is open or not. What found no memory is
-// asked again.
-fn hands_over_at_last(alloc: Global, node: &mut NodeCore, row: &Row<'_>) -> bool {
+// What a node answered, and how many bytes it handed over; no answer if memory ran out.
+type Came = (Option<Handed>, usize);
+
+// What was not as it was to be.
+#[derive(Clone, Copy, Debug, PartialEq, Eq)]
+enum Missed {
+    // At this row this came, although nothing was lost.
+    Row(usize, Came),
+    // So many steps ran out of memory.
+    Losses(u64),
+}
+
+// Returns what came, if not a row's bytes are handed over, or its port is not open or closed as the
+// row says. What found no memory is asked again.
+fn other_at_last(alloc: Global, node: &mut NodeCore, row: &Row<'_>) -> Option<Came> {
     let (_, port, _, bytes, open) = *row;
     let answer = if open { Handed::Open } else { Handed::Closed };
     for _ in 0..2 {
         let mut out = Vec::new(alloc);
         if let Ok(handed) = node.outgoing(Port(port), &mut out) {
-            return handed == answer && out.as_slice() == bytes;
+            if handed == answer && out.as_slice() == bytes {
+                return None;
+            }
+            return Some((Some(handed), out.len()));
         }
     }
-    false
+    Some((None, 0))
 }
 
-// Finds the first row that comes out otherwise although nothing was lost; the row after the last
-// one if more than one step is counted.
-fn first_fault(alloc: Global, node: &mut NodeCore, rows: &[Row<'_>]) -> Option<usize> {
-    let mut fault = None;
+// Finds the first row that comes out otherwise although nothing was lost, or how many steps are
+// counted if there are more than one.
+fn first_missed(alloc: Global, node: &mut NodeCore, rows: &[Row<'_>]) -> Option<Missed> {
+    let mut missed: Option<Missed> = None;
     for (at, row) in rows.iter().enumerate() {
         comes_at_last(alloc, node, row);
-        let is_whole = hands_over_at_last(alloc, node, row);
-        if !is_whole && fault.is_none() {
-            fault = Some(at);
+        if let Some(came) = other_at_last(alloc, node, row) {
+            if missed.is_none() {
+                missed = Some(Missed::Row(at, came));
+            }
         }
     }
     match node.losses() {
-        0 => fault,
+        0 => missed,
         1 => None,
-        _ => Some(rows.len()),
+        losses => Some(Missed::Losses(losses)),
     }
 }
 
 // If memory runs out for a node nothing is asked of it.
-fn first_fault_if_opened(alloc: Global, rows: &[Row<'_>]) -> Option<usize> {
+fn first_missed_if_opened(alloc: Global, rows: &[Row<'_>]) -> Option<Missed> {
     match primary(alloc, &[1]) {
-        Some(mut node) => first_fault(alloc, &mut node, rows),
+        Some(mut node) => first_missed(alloc, &mut node, rows),
         None => None,
     }
 }
 
 #[test]
 fn rows_are_whole_or_one_step_is_counted(rt: HostRuntime) {
-    for rows in TABLES {
-        assert_eq!(rt; first_fault_if_opened(rt.alloc(), rows), None);
+    for (table, rows) in TABLES.iter().enumerate() {
+        let missed = first_missed_if_opened(rt.alloc(), rows);
+        assert_eq!(rt; missed, None, "table {table}");
     }
 }

@@ -26,11 +26,32 @@ pub enum Act<'a> {
 pub type Row<'a> = (u64, u64, Act<'a>, &'a [u8], bool);
 
 /// How a piece comes: whole, cut in two after this many bytes, or byte by byte.
-#[derive(Clone, Copy)]
+#[derive(Clone, Copy, Debug, PartialEq, Eq)]
 pub enum Coming {
     Whole,
     Cut(usize),
     Bytes,
+}
+
+/// What came at a row: whether no message to another node followed, what the node answered for the
+/// port (none if memory ran out), how many bytes it handed over and the first eight of them (zeros
+/// after the last), and how many steps ran out of memory.
+#[derive(Clone, Copy, Debug, PartialEq, Eq)]
+pub struct Came {
+    is_silent: bool,
+    handed: Option<Handed>,
+    count: usize,
+    front: [u8; 8],
+    losses: u64,
+}
+
+/// What was not as it was to be.
+#[derive(Clone, Copy, Debug, PartialEq, Eq)]
+pub enum Fault {
+    /// There was no memory for a node, or for the bytes that come.
+    NoMemory,
+    /// At this row, with pieces that come so, this came.
+    Row(usize, Coming, Came),
 }
 
 /// What a node hands out to others.
@@ -161,22 +182,72 @@ fn bring_row(alloc: Global, node: &mut NodeCore, row: &Row<'_>, coming: Coming) 
     take(alloc, node, item).is_empty()
 }
 
-// Says whether a row comes out with a node as it says, and nothing is lost.
-fn comes_out(alloc: Global, node: &mut NodeCore, row: &Row<'_>, coming: Coming) -> bool {
+// Returns the byte at an index, or zero after the last.
+fn byte_at(bytes: &[u8], index: usize) -> u8 {
+    match bytes.get(index) {
+        Some(byte) => *byte,
+        None => 0,
+    }
+}
+
+// Returns the first eight of these bytes, and zeros after the last.
+fn front_of(bytes: &[u8]) -> [u8; 8] {
+    [
+        byte_at(bytes, 0),
+        byte_at(bytes, 1),
+        byte_at(bytes, 2),
+        byte_at(bytes, 3),
+        byte_at(bytes, 4),
+        byte_at(bytes, 5),
+        byte_at(bytes, 6),
+        byte_at(bytes, 7),
+    ]
+}
+
+// Lets a row come. Returns what came, if it is not what the row says, or something was lost.
+fn other_of(alloc: Global, node: &mut NodeCore, row: &Row<'_>, coming: Coming) -> Option<Came> {
     let (_, port, _, bytes, open) = *row;
-    bring_row(alloc, node, row, coming)
-        && hands_over(alloc, node, port, bytes, open)
-        && node.losses() == 0
+    let answer = if open { Handed::Open } else { Handed::Closed };
+    let is_silent = bring_row(alloc, node, row, coming);
+    let mut out = Vec::new(alloc);
+    let handed = node.outgoing(Port(port), &mut out).ok();
+    let losses = node.losses();
+    if is_silent && handed == Some(answer) && out.as_slice() == bytes && losses == 0 {
+        None
+    } else {
+        Some(Came {
+            is_silent,
+            handed,
+            count: out.len(),
+            front: front_of(out.as_slice()),
+            losses,
+        })
+    }
+}
+
+// Goes through the rows with a node, to which pieces come so: the first row that comes out
+// otherwise, and what came.
+fn fault_with(
+    alloc: Global,
+    node: &mut NodeCore,
+    rows: &[Row<'_>],
+    coming: Coming,
+) -> Option<Fault> {
+    for (at, row) in rows.iter().enumerate() {
+        if let Some(came) = other_of(alloc, node, row, coming) {
+            return Some(Fault::Row(at, coming, came));
+        }
+    }
+    None
 }
 
 /// Goes through the rows with a fresh node, the sole member of ballot 1, to which pieces come so:
-/// the first row that comes out otherwise.
-pub fn first_fault_so(alloc: Global, rows: &[Row<'_>], coming: Coming) -> Option<usize> {
-    let Some(mut node) = primary(alloc, &[1]) else {
-        return Some(0);
-    };
-    rows.iter()
-        .position(|row| !comes_out(alloc, &mut node, row, coming))
+/// the first row that comes out otherwise, and what came.
+pub fn first_fault_so(alloc: Global, rows: &[Row<'_>], coming: Coming) -> Option<Fault> {
+    match primary(alloc, &[1]) {
+        Some(mut node) => fault_with(alloc, &mut node, rows, coming),
+        None => Some(Fault::NoMemory),
+    }
 }
 
 // Returns how many bytes the longest piece of the rows has.
@@ -191,8 +262,8 @@ fn longest(rows: &[Row<'_>]) -> usize {
 }
 
 /// Goes through the rows with the pieces whole, cut in two at every byte, and byte by byte: the
-/// first row that comes out otherwise.
-pub fn first_fault(alloc: Global, rows: &[Row<'_>]) -> Option<usize> {
+/// first row that comes out otherwise, with which cut, and what came.
+pub fn first_fault(alloc: Global, rows: &[Row<'_>]) -> Option<Fault> {
     for cut in 0..=longest(rows) {
         let fault = first_fault_so(alloc, rows, Coming::Cut(cut));
         if fault.is_some() {

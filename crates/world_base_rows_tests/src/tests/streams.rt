@@ -1,7 +1,7 @@
 // How far a packet goes, and which filters a topic matches, as a node's clients see it.
 
 use super::row::{
-    ACCEPTED, Act, CONNECT_A, CONNECT_B, Coming, NOTHING, Row, first_fault, first_fault_so,
+    ACCEPTED, Act, CONNECT_A, CONNECT_B, Coming, Fault, NOTHING, Row, first_fault, first_fault_so,
 };
 use std::alloc::Global;
 
@@ -27,10 +27,10 @@ fn filled(alloc: Global, first: &[u8], length: usize) -> Option<Vec<u8>> {
     Some(bytes)
 }
 
-// Says whether a PUBLISH of this length is answered.
-fn is_answered(alloc: Global, first: &[u8], length: usize) -> bool {
+// Finds the first row that comes out otherwise if a PUBLISH of this length comes.
+fn fault_with_length(alloc: Global, first: &[u8], length: usize) -> Option<Fault> {
     let Some(bytes) = filled(alloc, first, length) else {
-        return false;
+        return Some(Fault::NoMemory);
     };
     let rows: [Row<'_>; 3] = [
         (0, 1, Act::Open, NOTHING, true),
@@ -43,16 +43,18 @@ fn is_answered(alloc: Global, first: &[u8], length: usize) -> bool {
             true,
         ),
     ];
-    first_fault(alloc, &rows).is_none()
+    first_fault(alloc, &rows)
 }
 
 #[test]
 fn each_length_is_read(rt: HostRuntime) {
-    let alloc = rt.alloc();
-    let other = LENGTHS
-        .iter()
-        .position(|(first, length)| !is_answered(alloc, first, *length));
-    assert_eq!(rt; other, None);
+    for (first, length) in LENGTHS {
+        assert_eq!(rt;
+            fault_with_length(rt.alloc(), first, length),
+            None,
+            "{length}"
+        );
+    }
 }
 
 // Bytes after a CONNECT, and whether the connection stays open: less than a packet, a packet over
@@ -67,23 +69,26 @@ const FRONTS: [(&[u8], bool); 7] = [
     (&[0x30, 0xFF, 0xFF, 0xFF, 0xFF], false),
 ];
 
-// Says whether a connection on which these bytes come is open then, or not.
-fn stays(alloc: Global, bytes: &[u8], open: bool) -> bool {
+// Finds the first row that comes out otherwise if these bytes come after a CONNECT, and the
+// connection is open then, or not.
+fn fault_after_connect(alloc: Global, bytes: &[u8], open: bool) -> Option<Fault> {
     let rows: [Row<'_>; 3] = [
         (0, 1, Act::Open, NOTHING, true),
         (0, 1, Act::Bytes(CONNECT_A), ACCEPTED, true),
         (0, 1, Act::Bytes(bytes), NOTHING, open),
     ];
-    first_fault(alloc, &rows).is_none()
+    first_fault(alloc, &rows)
 }
 
 #[test]
 fn a_length_is_checked_at_once(rt: HostRuntime) {
-    let alloc = rt.alloc();
-    let other = FRONTS
-        .iter()
-        .position(|(bytes, open)| !stays(alloc, bytes, *open));
-    assert_eq!(rt; other, None);
+    for (bytes, open) in FRONTS {
+        assert_eq!(rt;
+            fault_after_connect(rt.alloc(), bytes, open),
+            None,
+            "{bytes:?}"
+        );
+    }
 }
 
 // PUBLISH at QoS 0 on `$a/b` and on `/finance`, without a payload.
@@ -130,8 +135,14 @@ const FILTERS: [(&[u8], &[u8], bool); 6] = [
     ),
 ];
 
-// Says whether a publication comes, or does not come, to a client with that filter.
-fn comes<'a>(alloc: Global, subscribe: &'a [u8], publish: &'a [u8], matches: bool) -> bool {
+// Finds the first row that comes out otherwise if a publication comes, or does not come, to a
+// client with that filter.
+fn fault_with_filter<'a>(
+    alloc: Global,
+    subscribe: &'a [u8],
+    publish: &'a [u8],
+    matches: bool,
+) -> Option<Fault> {
     let got = if matches { publish } else { NOTHING };
     let rows: [Row<'a>; 7] = [
         (0, 1, Act::Open, NOTHING, true),
@@ -148,16 +159,15 @@ fn comes<'a>(alloc: Global, subscribe: &'a [u8], publish: &'a [u8], matches: boo
         (0, 2, Act::Bytes(publish), NOTHING, true),
         (0, 1, Act::Look, got, true),
     ];
-    first_fault(alloc, &rows).is_none()
+    first_fault(alloc, &rows)
 }
 
 #[test]
-fn dollar_and_empty_levels(rt: HostRuntime) {
-    let alloc = rt.alloc();
-    let other = FILTERS.iter().position(|(subscribe, publish, matches)| !comes(
-        alloc, subscribe, publish, *matches,
-    ));
-    assert_eq!(rt; other, None);
+fn wildcards_miss_dollar_topics_and_match_empty_levels(rt: HostRuntime) {
+    for (subscribe, publish, matches) in FILTERS {
+        let fault = fault_with_filter(rt.alloc(), subscribe, publish, matches);
+        assert_eq!(rt; fault, None, "{subscribe:?}");
+    }
 }
 
 // This many PINGREQ, and as many PINGRESP.
@@ -173,10 +183,10 @@ fn many(alloc: Global, packet: &[u8]) -> Option<Vec<u8>> {
 }
 
 // Finds the first row that goes otherwise when all PINGREQ come in one piece.
-fn other_with_pings(alloc: Global) -> Option<usize> {
+fn fault_with_pings(alloc: Global) -> Option<Fault> {
     let (Some(pings), Some(answers)) = (many(alloc, &[0xC0, 0x00]), many(alloc, &[0xD0, 0x00]))
     else {
-        return Some(0);
+        return Some(Fault::NoMemory);
     };
     let rows: [Row<'_>; 3] = [
         (0, 1, Act::Open, NOTHING, true),
@@ -188,5 +198,5 @@ fn other_with_pings(alloc: Global) -> Option<usize> {
 
 #[test]
 fn many_packets_come_in_one_piece(rt: HostRuntime) {
-    assert_eq!(rt; other_with_pings(rt.alloc()), None);
+    assert_eq!(rt; fault_with_pings(rt.alloc()), None);
 }
