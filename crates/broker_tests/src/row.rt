@@ -27,35 +27,60 @@ pub(crate) type Answer<'a> = (u64, &'a [u8]);
 /// An event, and what is sent for it.
 pub(crate) type Row<'a> = (Event<'a>, &'a [Answer<'a>]);
 
+/// What came for an event, where it is not what was wanted.
+#[derive(Clone, Copy, Debug, PartialEq, Eq)]
+pub(crate) enum Came {
+    /// No answer: the event makes no command, or memory ran out.
+    Nothing,
+    /// Only so many of the wanted answers.
+    TooFew(usize),
+    /// Another answer, by its index: this connection was closed.
+    Closed(usize, u64),
+    /// Another answer, by its index: on this connection a packet with these bytes was sent. They
+    /// are its first eight, with zeros after the last.
+    Sent(usize, u64, [u8; 8]),
+}
+
+/// A row that was answered otherwise, by its index, and what came.
+#[derive(Clone, Copy, Debug, PartialEq, Eq)]
+pub(crate) struct Other {
+    row: usize,
+    came: Came,
+}
+
 /// What is written if a connection is closed.
 pub(crate) const CLOSED: &[u8] = &[];
 
 /// Nothing is sent.
 pub(crate) const NOTHING: &[Answer<'static>] = &[];
 
-/// Finds the first row that a broker does not answer as expected.
+/// Finds the first row that a broker does not answer as expected, and what came.
 pub(crate) fn other_answer(
     alloc: Global,
     broker: &mut BrokerMachine,
     rows: &[Row<'_>],
-) -> Option<usize> {
-    for (index, (event, wanted)) in rows.iter().enumerate() {
-        if !is_answered(alloc, broker, *event, wanted) {
-            return Some(index);
+) -> Option<Other> {
+    for (row, (event, wanted)) in rows.iter().enumerate() {
+        if let Some(came) = came_instead(alloc, broker, *event, wanted) {
+            return Some(Other { row, came });
         }
     }
     None
 }
 
-/// Says whether a broker answers an event as expected.
-pub(crate) fn is_answered(
+/// Returns what came for an event, if a broker does not answer it as expected.
+pub(crate) fn came_instead(
     alloc: Global,
     broker: &mut BrokerMachine,
     event: Event<'_>,
     wanted: &[Answer<'_>],
-) -> bool {
+) -> Option<Came> {
     let mut given = Vec::new(alloc);
-    is_given(alloc, broker, event, &mut given) && are_wanted(alloc, &given, wanted)
+    if is_given(alloc, broker, event, &mut given) {
+        first_unwanted(alloc, &given, wanted)
+    } else {
+        Some(Came::Nothing)
+    }
 }
 
 // Appends the answers to an event, and says whether memory was found.
@@ -110,17 +135,62 @@ fn sized(packet: Packet) -> Option<SizedPacket> {
     SizedPacket::new(packet).ok()
 }
 
-// Says whether these outputs are the answers of a row.
-fn are_wanted(alloc: Global, given: &[Output], wanted: &[Answer<'_>]) -> bool {
-    if given.len() != wanted.len() {
-        return false;
-    }
-    for (output, answer) in given.iter().zip(wanted) {
-        if !is_wanted(alloc, output, *answer) {
-            return false;
+// Finds the first of these outputs that is not the answer of a row; how many there are if there are
+// too few.
+fn first_unwanted(alloc: Global, given: &[Output], wanted: &[Answer<'_>]) -> Option<Came> {
+    for (index, output) in given.iter().enumerate() {
+        if !is_wanted_at(alloc, output, wanted, index) {
+            return Some(came_at(alloc, index, output));
         }
     }
-    true
+    if given.len() == wanted.len() {
+        None
+    } else {
+        Some(Came::TooFew(given.len()))
+    }
+}
+
+// Says whether an output is the answer at an index.
+fn is_wanted_at(alloc: Global, output: &Output, wanted: &[Answer<'_>], index: usize) -> bool {
+    match wanted.get(index) {
+        Some(answer) => is_wanted(alloc, output, *answer),
+        None => false,
+    }
+}
+
+// Returns an output as what came.
+fn came_at(alloc: Global, index: usize, output: &Output) -> Came {
+    match output {
+        Output::Close(name) => Came::Closed(index, name.count()),
+        Output::Send(name, packet) => Came::Sent(index, name.count(), front_of(alloc, packet)),
+    }
+}
+
+// Returns the first eight bytes of a packet, with zeros after the last.
+fn front_of(alloc: Global, packet: &Packet) -> [u8; 8] {
+    let mut spelled = Vec::new(alloc);
+    if !packet.has_no_empty_list() || encode(packet, &mut spelled).is_err() {
+        return [0; 8];
+    }
+    let bytes = spelled.as_slice();
+    [
+        byte_at(bytes, 0),
+        byte_at(bytes, 1),
+        byte_at(bytes, 2),
+        byte_at(bytes, 3),
+        byte_at(bytes, 4),
+        byte_at(bytes, 5),
+        byte_at(bytes, 6),
+        byte_at(bytes, 7),
+    ]
+}
+
+// Returns the byte at an index, or zero after the last.
+fn byte_at(bytes: &[u8], index: usize) -> u8 {
+    match bytes.get(index) {
+        Some(byte) => *byte,
+        None => 0,
+    }
 }
 
 // Says whether an output is this answer.

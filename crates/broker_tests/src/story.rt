@@ -1,6 +1,6 @@
 // Runs: what a broker goes through. Each is made in one place, and lent from there.
 
-use crate::row::{Row, other_answer};
+use crate::row::{Came, Other, Row, other_answer};
 use crate::tests::forms::{Form, Step, is_built};
 use crate::tests::queues::{Part, other_part};
 use crate::tests::{forms, windows};
@@ -27,10 +27,27 @@ pub(crate) enum Run<'a> {
     HasForms(Form<'a>, &'a [Step<'a>]),
     /// It answers these rows, as many times as they come.
     Parts(&'a [Part<'a>]),
-    /// Seventeen entries are sent at once.
-    SendsSeventeen,
-    /// With a window of 16 a PUBACK frees its identifier.
-    FreesItsIdentifier,
+    /// Of seventeen entries as many are sent at once, and then it answers these rows.
+    Sends(u8, &'a [Row<'a>]),
+}
+
+/// What was not as it was to be.
+#[derive(Clone, Copy, Debug, PartialEq, Eq)]
+pub(crate) enum Fault {
+    /// There was no broker: memory ran out, or its bytes were not read.
+    Start,
+    /// This row was answered otherwise.
+    Row(Other),
+    /// At this step this came.
+    Step(usize, Came),
+    /// When the part of this index came once more, after this many times, this row was answered
+    /// otherwise.
+    Part(usize, u32, Other),
+    /// For the publication with this identifier this came.
+    Publication(u8, Came),
+    /// After this many steps the bytes of a frozen broker were others, from this index on; none if
+    /// memory ran out.
+    Bytes(usize, Option<usize>),
 }
 
 // Returns the broker that is thawed from the bytes of a form.
@@ -51,27 +68,29 @@ fn started(alloc: Global, start: Start<'_>) -> Option<BrokerMachine> {
     }
 }
 
-// Returns a fault of a run that is one step.
-fn fault_unless(is_right: bool) -> Option<usize> {
-    if is_right { None } else { Some(0) }
-}
-
-// Finds the first step at which a broker goes through a run in another way.
-fn fault_of(alloc: Global, broker: &mut BrokerMachine, run: Run<'_>) -> Option<usize> {
-    match run {
-        Run::Rows(rows) => other_answer(alloc, broker, rows),
-        Run::HasBytes(form) => fault_unless(forms::has_bytes(alloc, broker, form)),
-        Run::HasForms(first, steps) => forms::other_form(alloc, broker, first, steps),
-        Run::Parts(parts) => other_part(alloc, broker, parts),
-        Run::SendsSeventeen => fault_unless(windows::sends_seventeen(alloc, broker)),
-        Run::FreesItsIdentifier => fault_unless(windows::frees_its_identifier(alloc, broker)),
+// Finds the first row that a broker answers otherwise.
+fn fault_in_rows(alloc: Global, broker: &mut BrokerMachine, rows: &[Row<'_>]) -> Option<Fault> {
+    match other_answer(alloc, broker, rows) {
+        Some(other) => Some(Fault::Row(other)),
+        None => None,
     }
 }
 
-/// Finds the first step at which a broker goes through a run in another way.
-pub(crate) fn first_fault(alloc: Global, start: Start<'_>, run: Run<'_>) -> Option<usize> {
+// Finds the first step at which a broker goes through a run in another way.
+fn fault_of(alloc: Global, broker: &mut BrokerMachine, run: Run<'_>) -> Option<Fault> {
+    match run {
+        Run::Rows(rows) => fault_in_rows(alloc, broker, rows),
+        Run::HasBytes(form) => forms::other_bytes(alloc, broker, form, 0),
+        Run::HasForms(first, steps) => forms::other_form(alloc, broker, first, steps),
+        Run::Parts(parts) => other_part(alloc, broker, parts),
+        Run::Sends(sent, rows) => windows::other_sent(alloc, broker, sent, rows),
+    }
+}
+
+/// Finds the first step at which a broker goes through a run in another way, and what came.
+pub(crate) fn first_fault(alloc: Global, start: Start<'_>, run: Run<'_>) -> Option<Fault> {
     match started(alloc, start) {
         Some(mut broker) => fault_of(alloc, &mut broker, run),
-        None => Some(0),
+        None => Some(Fault::Start),
     }
 }

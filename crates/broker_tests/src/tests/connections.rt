@@ -23,18 +23,16 @@ const A_SECOND_CONNECTION_TAKES_OVER: &[Row<'static>] = &[
 
 #[test]
 fn a_second_connection_takes_over(rt: HostRuntime) {
-    assert_eq!(rt;
-        first_fault(
-            rt.alloc(),
-            Start::Fresh,
-            Run::Rows(A_SECOND_CONNECTION_TAKES_OVER)
-        ),
-        None
+    let fault = first_fault(
+        rt.alloc(),
+        Start::Fresh,
+        Run::Rows(A_SECOND_CONNECTION_TAKES_OVER),
     );
+    assert_eq!(rt; fault, None);
 }
 
 // PINGREQ is answered by PINGRESP, UNSUBSCRIBE by UNSUBACK with or without the subscription, and a
-// second CONNECT closes the connection (MQTT 3.1.0, 3.10.4, 3.12.4).
+// second CONNECT closes the connection (MQTT-3.1.0-2, MQTT 3.10.4, 3.12.4).
 const PING_UNSUBSCRIBE_AND_VIOLATIONS: &[Row<'static>] = &[
     (Event::Connect(2, "b", false), &[(2, &[0x20, 2, 0, 0])]),
     (Event::Bytes(2, &[0xC0, 0]), &[(2, &[0xD0, 0])]),
@@ -51,14 +49,12 @@ const PING_UNSUBSCRIBE_AND_VIOLATIONS: &[Row<'static>] = &[
 
 #[test]
 fn ping_unsubscribe_and_violations(rt: HostRuntime) {
-    assert_eq!(rt;
-        first_fault(
-            rt.alloc(),
-            Start::Fresh,
-            Run::Rows(PING_UNSUBSCRIBE_AND_VIOLATIONS)
-        ),
-        None
+    let fault = first_fault(
+        rt.alloc(),
+        Start::Fresh,
+        Run::Rows(PING_UNSUBSCRIBE_AND_VIOLATIONS),
     );
+    assert_eq!(rt; fault, None);
 }
 
 // A clean session ends with its connection, and each with a Start (MQTT 3.1.2.4): the session that
@@ -75,8 +71,6 @@ const SESSIONS_END_AND_GO_ON: &[Row<'static>] = &[
 
 #[test]
 fn sessions_end_and_go_on(rt: HostRuntime) {
-    assert_eq!(rt;
-        first_fault(rt.alloc(), Start::Fresh, Run::Rows(SESSIONS_END_AND_GO_ON)),
-        None
-    );
+    let fault = first_fault(rt.alloc(), Start::Fresh, Run::Rows(SESSIONS_END_AND_GO_ON));
+    assert_eq!(rt; fault, None);
 }

@@ -39,30 +39,33 @@ fn is_no_puback(alloc: Global, payload: &str, sent: &Awaits) -> bool {
     }
 }
 
-// Returns the first of these that is not so: this entry equals its copy, and none that differs in a
-// part.
-fn other_of(alloc: Global, sent: &Awaits) -> Option<usize> {
-    let steps = [
-        has_equal_copy(sent),
-        is_no_pubrec(alloc, "y", sent),
-        is_no_puback(alloc, "x", sent),
-        !(Awaits::Pubcomp == *sent),
-    ];
-    steps.iter().position(|is_so| !*is_so)
+// Returns the first of these that is not so of an entry that waits for PUBREC.
+fn missed_by(alloc: Global, sent: &Awaits) -> Option<&'static str> {
+    if !has_equal_copy(sent) {
+        Some("it equals its copy")
+    } else if !is_no_pubrec(alloc, "y", sent) {
+        Some("it is another than that of another payload")
+    } else if !is_no_puback(alloc, "x", sent) {
+        Some("it is another than one that waits for PUBACK")
+    } else if Awaits::Pubcomp == *sent {
+        Some("it is another than one that waits for PUBCOMP")
+    } else {
+        None
+    }
 }
 
-// Returns the first of these that is not so of an entry that waits for PUBREC.
-fn other_copy(alloc: Global) -> Option<usize> {
+// Returns the first of these that is not so, that there is a publication among them.
+fn missed_copy(alloc: Global) -> Option<&'static str> {
     match publication(alloc, "x") {
-        Some(sent) => other_of(alloc, &Awaits::Pubrec(sent)),
-        None => Some(0),
+        Some(sent) => missed_by(alloc, &Awaits::Pubrec(sent)),
+        None => Some("there is memory for a publication"),
     }
 }
 
 // A copy equals its original, and nothing that differs in a part.
 #[test]
 fn copies_are_equal(rt: HostRuntime) {
-    assert_eq!(rt; other_copy(rt.alloc()), None);
+    assert_eq!(rt; missed_copy(rt.alloc()), None);
 }
 
 // The laws are calls that do nothing.

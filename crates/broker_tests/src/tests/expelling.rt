@@ -26,15 +26,13 @@ const EXPELLED_WHILE_CONNECTED: &[Row<'static>] = &[
 ];
 
 #[test]
-fn expelled_while_connected(rt: HostRuntime) {
-    assert_eq!(rt;
-        first_fault(
-            rt.alloc(),
-            Start::Fresh,
-            Run::Rows(EXPELLED_WHILE_CONNECTED)
-        ),
-        None
+fn an_expelled_client_is_closed_and_begins_anew(rt: HostRuntime) {
+    let fault = first_fault(
+        rt.alloc(),
+        Start::Fresh,
+        Run::Rows(EXPELLED_WHILE_CONNECTED),
     );
+    assert_eq!(rt; fault, None);
 }
 
 // A publication with another payload, `y`, by the packet identifier 2.
@@ -59,14 +57,12 @@ const WHAT_COMES_MEANWHILE_IS_FOR_NOBODY: &[Row<'static>] = &[
 
 #[test]
 fn what_comes_meanwhile_is_for_nobody(rt: HostRuntime) {
-    assert_eq!(rt;
-        first_fault(
-            rt.alloc(),
-            Start::Fresh,
-            Run::Rows(WHAT_COMES_MEANWHILE_IS_FOR_NOBODY)
-        ),
-        None
+    let fault = first_fault(
+        rt.alloc(),
+        Start::Fresh,
+        Run::Rows(WHAT_COMES_MEANWHILE_IS_FOR_NOBODY),
     );
+    assert_eq!(rt; fault, None);
 }
 
 // What waits for a client that is away is lost with its session, and the queue of a client whose
@@ -89,11 +85,9 @@ const EXPELLED_WHILE_AWAY: &[Row<'static>] = &[
 ];
 
 #[test]
-fn expelled_while_away(rt: HostRuntime) {
-    assert_eq!(rt;
-        first_fault(rt.alloc(), Start::Fresh, Run::Rows(EXPELLED_WHILE_AWAY)),
-        None
-    );
+fn an_expelled_client_loses_what_waits(rt: HostRuntime) {
+    let fault = first_fault(rt.alloc(), Start::Fresh, Run::Rows(EXPELLED_WHILE_AWAY));
+    assert_eq!(rt; fault, None);
 }
 
 // The identifiers that were received are forgotten, so the same publication is taken once more.
@@ -118,14 +112,12 @@ const WHAT_WAS_RECEIVED_IS_FORGOTTEN: &[Row<'static>] = &[
 
 #[test]
 fn what_was_received_is_forgotten(rt: HostRuntime) {
-    assert_eq!(rt;
-        first_fault(
-            rt.alloc(),
-            Start::Fresh,
-            Run::Rows(WHAT_WAS_RECEIVED_IS_FORGOTTEN)
-        ),
-        None
+    let fault = first_fault(
+        rt.alloc(),
+        Start::Fresh,
+        Run::Rows(WHAT_WAS_RECEIVED_IS_FORGOTTEN),
     );
+    assert_eq!(rt; fault, None);
 }
 
 // An Expel of a client that never came, or whose identifier only begins as another's does, changes
@@ -149,10 +141,8 @@ const EXPELLED_NOBODY: &[Row<'static>] = &[
 
 #[test]
 fn an_expel_of_nobody_changes_nothing(rt: HostRuntime) {
-    assert_eq!(rt;
-        first_fault(rt.alloc(), Start::Fresh, Run::Rows(EXPELLED_NOBODY)),
-        None
-    );
+    let fault = first_fault(rt.alloc(), Start::Fresh, Run::Rows(EXPELLED_NOBODY));
+    assert_eq!(rt; fault, None);
 }
 
 // A clean session ends too, and its client may come again.
@@ -168,10 +158,8 @@ const EXPELLED_CLEAN: &[Row<'static>] = &[
 
 #[test]
 fn an_expelled_clean_session_ends(rt: HostRuntime) {
-    assert_eq!(rt;
-        first_fault(rt.alloc(), Start::Fresh, Run::Rows(EXPELLED_CLEAN)),
-        None
-    );
+    let fault = first_fault(rt.alloc(), Start::Fresh, Run::Rows(EXPELLED_CLEAN));
+    assert_eq!(rt; fault, None);
 }
 
 // A text that is no Client Identifier makes no command: none at all, one with U+0000, one of 65
@@ -180,8 +168,8 @@ fn an_expelled_clean_session_ends(rt: HostRuntime) {
 fn no_identifier_makes_no_expel(rt: HostRuntime) {
     let long = "aaaaaaaaaaaaaaaaaaaaaaaaaaaaaaaaaaaaaaaaaaaaaaaaaaaaaaaaaaaaaaaaa";
     assert_eq!(rt; long.len(), 65);
-    assert!(rt; command_of(rt.alloc(), Event::Expel("")).is_none());
-    assert!(rt; command_of(rt.alloc(), Event::Expel("a\u{0}")).is_none());
-    assert!(rt; command_of(rt.alloc(), Event::Expel(long)).is_none());
-    assert!(rt; command_of(rt.alloc(), Event::Expel("b")).is_some());
+    for (client, expels) in [("", false), ("a\u{0}", false), (long, false), ("b", true)] {
+        let command = command_of(rt.alloc(), Event::Expel(client));
+        assert_eq!(rt; command.is_some(), expels, "{client:?}");
+    }
 }

@@ -2,8 +2,8 @@
 // forms 1 and 2.
 
 use super::handshakes::{PUBLISH, SUBSCRIBE};
-use crate::row::{Answer, CLOSED, Event, NOTHING, Row, is_answered};
-use crate::story::{Run, Start, first_fault};
+use crate::row::{Answer, CLOSED, Event, NOTHING, Row, came_instead};
+use crate::story::{Fault, Run, Start, first_fault};
 use broker::BrokerMachine;
 use broker::machine::Machine;
 use std::alloc::Global;
@@ -171,13 +171,36 @@ pub(crate) fn is_built(form: Form<'_>, bytes: &mut Vec<u8>) -> bool {
     true
 }
 
-/// Says whether a broker is frozen to the bytes of this form.
-pub(crate) fn has_bytes(alloc: Global, broker: &BrokerMachine, wanted: Form<'_>) -> bool {
+// Returns the index from which on these bytes are not those that are wanted.
+fn first_unlike(bytes: &[u8], wanted: &[u8]) -> Option<usize> {
+    for (index, byte) in bytes.iter().enumerate() {
+        if !wanted.get(index).is_some_and(|one| *one == *byte) {
+            return Some(index);
+        }
+    }
+    if bytes.len() == wanted.len() {
+        None
+    } else {
+        Some(bytes.len())
+    }
+}
+
+/// Finds what is otherwise if a broker is frozen, after so many steps, to the bytes of this form.
+pub(crate) fn other_bytes(
+    alloc: Global,
+    broker: &BrokerMachine,
+    wanted: Form<'_>,
+    steps: usize,
+) -> Option<Fault> {
     let mut built = Vec::new(alloc);
     let mut bytes = Vec::new(alloc);
-    is_built(wanted, &mut built)
-        && is_frozen(broker, &mut bytes)
-        && bytes.as_slice() == built.as_slice()
+    if !is_built(wanted, &mut built) || !is_frozen(broker, &mut bytes) {
+        return Some(Fault::Bytes(steps, None));
+    }
+    match first_unlike(bytes.as_slice(), built.as_slice()) {
+        Some(index) => Some(Fault::Bytes(steps, Some(index))),
+        None => None,
+    }
 }
 
 /// What comes to a broker, what it sends then, and the form that the broker has then, if it is
@@ -202,22 +225,21 @@ const STEPS: &[Step<'static>] = &[
     ),
 ];
 
-// Says whether a broker has this form, if one is asked for.
-fn is_form(alloc: Global, broker: &BrokerMachine, wanted: Option<Form<'_>>) -> bool {
-    match wanted {
-        Some(form) => has_bytes(alloc, broker, form),
-        None => true,
+// Finds what is otherwise at the step of this index: what comes, or the form, if one is asked for.
+fn other_step(
+    alloc: Global,
+    broker: &mut BrokerMachine,
+    index: usize,
+    step: Step<'_>,
+) -> Option<Fault> {
+    let (event, wanted, form) = step;
+    if let Some(came) = came_instead(alloc, broker, event, wanted) {
+        return Some(Fault::Step(index, came));
     }
-}
-
-// Returns which step leaves a broker with other answers or bytes, if there is one.
-fn other_bytes(alloc: Global, broker: &mut BrokerMachine, steps: &[Step<'_>]) -> Option<usize> {
-    for (index, (event, wanted, form)) in steps.iter().enumerate() {
-        if !is_answered(alloc, broker, *event, wanted) || !is_form(alloc, broker, *form) {
-            return Some(index);
-        }
+    match form {
+        Some(form) => other_bytes(alloc, broker, form, index.saturating_add(1)),
+        None => None,
     }
-    None
 }
 
 /// Finds the first step at which a broker has other bytes, or answers in another way.
@@ -226,16 +248,20 @@ pub(crate) fn other_form(
     broker: &mut BrokerMachine,
     first: Form<'_>,
     steps: &[Step<'_>],
-) -> Option<usize> {
-    if !has_bytes(alloc, broker, first) {
-        return Some(0);
+) -> Option<Fault> {
+    let mut fault = other_bytes(alloc, broker, first, 0);
+    for (index, step) in steps.iter().enumerate() {
+        if fault.is_some() {
+            return fault;
+        }
+        fault = other_step(alloc, broker, index, *step);
     }
-    other_bytes(alloc, broker, steps)
+    fault
 }
 
 // Finds what is wrong with the broker that is thawed from form 2 with these fields, if it is not
 // frozen to them again.
-fn other_again(alloc: Global, fields: &[&[u8]]) -> Option<usize> {
+fn other_again(alloc: Global, fields: &[&[u8]]) -> Option<Fault> {
     let form = (WIDE, fields);
     first_fault(alloc, Start::Thawed(form), Run::HasBytes(form))
 }
@@ -253,7 +279,7 @@ const READ: [(&[&[u8]], &[Step<'static>]); 2] = [
 ];
 
 // Finds what is wrong with the broker that is thawed from form 1 with these fields.
-fn other_before<'a>(alloc: Global, fields: &'a [&'a [u8]], steps: &'a [Step<'a>]) -> Option<usize> {
+fn other_before<'a>(alloc: Global, fields: &'a [&'a [u8]], steps: &'a [Step<'a>]) -> Option<Fault> {
     first_fault(
         alloc,
         Start::Thawed((BEFORE, fields)),
@@ -267,26 +293,22 @@ fn form_1_is_read(rt: HostRuntime) {
     for (fields, steps) in READ {
         assert_eq!(rt; other_before(rt.alloc(), fields, steps), None);
     }
-    assert_eq!(rt;
-        first_fault(
-            rt.alloc(),
-            Start::Thawed((BEFORE, FULL)),
-            Run::HasBytes((NARROW, FULL))
-        ),
-        None
+    let fault = first_fault(
+        rt.alloc(),
+        Start::Thawed((BEFORE, FULL)),
+        Run::HasBytes((NARROW, FULL)),
     );
+    assert_eq!(rt; fault, None);
 }
 
 #[test]
 fn brokers_have_their_frozen_bytes(rt: HostRuntime) {
-    assert_eq!(rt;
-        first_fault(
-            rt.alloc(),
-            Start::Fresh,
-            Run::HasForms((WIDE, FRESH), STEPS)
-        ),
-        None
+    let fault = first_fault(
+        rt.alloc(),
+        Start::Fresh,
+        Run::HasForms((WIDE, FRESH), STEPS),
     );
+    assert_eq!(rt; fault, None);
     assert_eq!(rt; other_again(rt.alloc(), FRESH), None);
     assert_eq!(rt; other_again(rt.alloc(), ONE_SESSION), None);
     assert_eq!(rt; other_again(rt.alloc(), ONE_ENTRY), None);
@@ -312,12 +334,10 @@ const GOES_ON: &[Row<'static>] = &[
 // A thawed broker continues where the frozen one was.
 #[test]
 fn a_thawed_broker_goes_on(rt: HostRuntime) {
-    assert_eq!(rt;
-        first_fault(
-            rt.alloc(),
-            Start::Thawed((WIDE, ONE_ENTRY)),
-            Run::Rows(GOES_ON)
-        ),
-        None
+    let fault = first_fault(
+        rt.alloc(),
+        Start::Thawed((WIDE, ONE_ENTRY)),
+        Run::Rows(GOES_ON),
     );
+    assert_eq!(rt; fault, None);
 }

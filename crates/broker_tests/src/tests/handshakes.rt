@@ -33,12 +33,10 @@ const PUBLISH_REACHES_THE_SUBSCRIBER_ONCE: &[Row<'static>] = &[
 
 #[test]
 fn publish_reaches_the_subscriber_once(rt: HostRuntime) {
-    assert_eq!(rt;
-        first_fault(
-            rt.alloc(),
-            Start::Fresh,
-            Run::Rows(PUBLISH_REACHES_THE_SUBSCRIBER_ONCE)
-        ),
-        None
+    let fault = first_fault(
+        rt.alloc(),
+        Start::Fresh,
+        Run::Rows(PUBLISH_REACHES_THE_SUBSCRIBER_ONCE),
     );
+    assert_eq!(rt; fault, None);
 }

@@ -31,10 +31,8 @@ const RETAINED_AT_SUBSCRIBE: &[Row<'static>] = &[
 
 #[test]
 fn retained_at_subscribe(rt: HostRuntime) {
-    assert_eq!(rt;
-        first_fault(rt.alloc(), Start::Fresh, Run::Rows(RETAINED_AT_SUBSCRIBE)),
-        None
-    );
+    let fault = first_fault(rt.alloc(), Start::Fresh, Run::Rows(RETAINED_AT_SUBSCRIBE));
+    assert_eq!(rt; fault, None);
 }
 
 // Two of a client's filters match: one copy goes to it, at the greater QoS.
@@ -51,12 +49,10 @@ const TWO_FILTERS_ONE_PUBLICATION: &[Row<'static>] = &[
 
 #[test]
 fn two_filters_one_publication(rt: HostRuntime) {
-    assert_eq!(rt;
-        first_fault(
-            rt.alloc(),
-            Start::Fresh,
-            Run::Rows(TWO_FILTERS_ONE_PUBLICATION)
-        ),
-        None
+    let fault = first_fault(
+        rt.alloc(),
+        Start::Fresh,
+        Run::Rows(TWO_FILTERS_ONE_PUBLICATION),
     );
+    assert_eq!(rt; fault, None);
 }

@@ -2,7 +2,7 @@
 
 use super::handshakes::{AGAIN, BEGINS, PUBLISH, SUBSCRIBE};
 use crate::row::{CLOSED, Event, NOTHING, Row, other_answer};
-use crate::story::{Run, Start, first_fault};
+use crate::story::{Fault, Run, Start, first_fault};
 use broker::BrokerMachine;
 use std::alloc::Global;
 use std::test::*;
@@ -159,15 +159,21 @@ const FULL: &[Part<'static>] = &[
     (1, LAST),
 ];
 
-// Says whether a broker answers rows as expected, as many times as they come.
-fn is_part_answered(alloc: Global, broker: &mut BrokerMachine, part: Part<'_>) -> bool {
+// Finds the first row of the part at an index that a broker does not answer as expected, and after
+// how many times it does not.
+fn other_time(
+    alloc: Global,
+    broker: &mut BrokerMachine,
+    index: usize,
+    part: Part<'_>,
+) -> Option<Fault> {
     let (times, rows) = part;
-    for _ in 0..times {
-        if other_answer(alloc, broker, rows).is_some() {
-            return false;
+    for time in 0..times {
+        if let Some(other) = other_answer(alloc, broker, rows) {
+            return Some(Fault::Part(index, time, other));
         }
     }
-    true
+    None
 }
 
 /// Finds the first part that a broker does not answer as expected.
@@ -175,10 +181,11 @@ pub(crate) fn other_part(
     alloc: Global,
     broker: &mut BrokerMachine,
     parts: &[Part<'_>],
-) -> Option<usize> {
+) -> Option<Fault> {
     for (index, part) in parts.iter().enumerate() {
-        if !is_part_answered(alloc, broker, *part) {
-            return Some(index);
+        let fault = other_time(alloc, broker, index, *part);
+        if fault.is_some() {
+            return fault;
         }
     }
     None
@@ -189,8 +196,6 @@ pub(crate) fn other_part(
 // order.
 #[test]
 fn a_full_queue_keeps_the_order(rt: HostRuntime) {
-    assert_eq!(rt;
-        first_fault(rt.alloc(), Start::Fresh, Run::Parts(FULL)),
-        None
-    );
+    let fault = first_fault(rt.alloc(), Start::Fresh, Run::Parts(FULL));
+    assert_eq!(rt; fault, None);
 }

@@ -4,8 +4,8 @@
 use super::forms::FRESH_BEFORE;
 use super::handshakes::BEGINS;
 use super::queues::{self, COMES_BACK, FINISHES, GOES_ON, Part, WAITS};
-use crate::row::{CLOSED, Event, NOTHING, Row, is_answered, other_answer};
-use crate::story::{Run, Start, first_fault};
+use crate::row::{CLOSED, Came, Event, NOTHING, Row, came_instead, other_answer};
+use crate::story::{Fault, Run, Start, first_fault};
 use broker::BrokerMachine;
 use std::alloc::Global;
 use std::test::*;
@@ -90,58 +90,62 @@ const OF_SIXTEEN: &[Row<'static>] = &[
     ),
 ];
 
-// `a` publishes `x` at QoS 1 with this identifier; `b` is sent it, or not yet.
-fn is_routed(alloc: Global, broker: &mut BrokerMachine, id: u8, sent: bool) -> bool {
+// `a` publishes `x` at QoS 1 with this identifier; `b` is sent it, or not yet. Returns what came,
+// if it is something else.
+fn came_for(alloc: Global, broker: &mut BrokerMachine, id: u8, sent: bool) -> Option<Came> {
     let packet = [0x32, 8, 0, 3, 0x74, 0x2F, 0x31, 0, id, 0x78];
     let puback = [0x40, 2, 0, id];
     let event = Event::Bytes(1, &packet);
     if sent {
-        is_answered(alloc, broker, event, &[(1, &puback), (2, &packet)])
+        came_instead(alloc, broker, event, &[(1, &puback), (2, &packet)])
     } else {
-        is_answered(alloc, broker, event, &[(1, &puback)])
+        came_instead(alloc, broker, event, &[(1, &puback)])
     }
 }
 
-// Says whether the first `sent` of seventeen publications are sent at once, and no others.
-fn are_routed(alloc: Global, broker: &mut BrokerMachine, sent: u8) -> bool {
+// Finds the first of seventeen publications that is not routed so: the first `sent` of them are
+// sent at once, and no others.
+fn other_routed(alloc: Global, broker: &mut BrokerMachine, sent: u8) -> Option<Fault> {
     for id in 1..=17 {
-        if !is_routed(alloc, broker, id, id <= sent) {
-            return false;
+        if let Some(came) = came_for(alloc, broker, id, id <= sent) {
+            return Some(Fault::Publication(id, came));
         }
     }
-    true
+    None
 }
 
-/// Says whether a broker with the wide window sends 17 publications at once.
-pub(crate) fn sends_seventeen(alloc: Global, broker: &mut BrokerMachine) -> bool {
-    other_answer(alloc, broker, BEFORE).is_none()
-        && are_routed(alloc, broker, 17)
-        && other_answer(alloc, broker, OF_SEVENTEEN).is_none()
-}
-
-/// Says whether a broker with the narrow window sends 16, and the last once a PUBACK frees an
-/// identifier.
-pub(crate) fn frees_its_identifier(alloc: Global, broker: &mut BrokerMachine) -> bool {
-    other_answer(alloc, broker, BEFORE).is_none()
-        && are_routed(alloc, broker, 16)
-        && other_answer(alloc, broker, OF_SIXTEEN).is_none()
+/// Finds what is otherwise: of seventeen publications a broker sends so many at once, and then it
+/// answers these rows, which are part 1. Part 0 are the rows before.
+pub(crate) fn other_sent(
+    alloc: Global,
+    broker: &mut BrokerMachine,
+    sent: u8,
+    rows: &[Row<'_>],
+) -> Option<Fault> {
+    if let Some(other) = other_answer(alloc, broker, BEFORE) {
+        return Some(Fault::Part(0, 0, other));
+    }
+    let routed = other_routed(alloc, broker, sent);
+    if routed.is_some() {
+        return routed;
+    }
+    match other_answer(alloc, broker, rows) {
+        Some(other) => Some(Fault::Part(1, 0, other)),
+        None => None,
+    }
 }
 
 #[test]
 fn sixty_four_of_seventy_entries_are_sent(rt: HostRuntime) {
-    assert_eq!(rt;
-        first_fault(rt.alloc(), Start::Fresh, Run::Parts(SEVENTY)),
-        None
-    );
+    let fault = first_fault(rt.alloc(), Start::Fresh, Run::Parts(SEVENTY));
+    assert_eq!(rt; fault, None);
 }
 
 // Seventeen entries are in flight at once, and a PUBACK starts nothing.
 #[test]
 fn seventeen_are_in_flight(rt: HostRuntime) {
-    assert_eq!(rt;
-        first_fault(rt.alloc(), Start::Fresh, Run::SendsSeventeen),
-        None
-    );
+    let fault = first_fault(rt.alloc(), Start::Fresh, Run::Sends(17, OF_SEVENTEEN));
+    assert_eq!(rt; fault, None);
 }
 
 // Sixteen entries are in flight at once in a broker that was read from form 1. A PUBACK frees its
@@ -149,12 +153,10 @@ fn seventeen_are_in_flight(rt: HostRuntime) {
 // which they were sent first, with DUP 1.
 #[test]
 fn puback_frees_its_identifier(rt: HostRuntime) {
-    assert_eq!(rt;
-        first_fault(
-            rt.alloc(),
-            Start::Thawed(FRESH_BEFORE),
-            Run::FreesItsIdentifier
-        ),
-        None
+    let fault = first_fault(
+        rt.alloc(),
+        Start::Thawed(FRESH_BEFORE),
+        Run::Sends(16, OF_SIXTEEN),
     );
+    assert_eq!(rt; fault, None);
 }
