@@ -4,6 +4,7 @@ use super::row::*;
 use std::alloc::{AllocError, Global};
 use std::test::*;
 use user_client::client::ClientError;
+use user_client::client::ClientError::{NotActive, Protocol};
 use user_client::topics::MalformedKind;
 
 // Returns a PUBLISH, and after it these bytes.
@@ -15,37 +16,31 @@ fn after_publish(alloc: Global, bytes: &[u8]) -> Result<Vec<u8>, AllocError> {
 
 // Says whether this piece, a PUBLISH and more, ends the connection, and the PUBLISH stays
 // accepted.
-fn is_the_end(alloc: Global, piece: &[u8], cause: ClientError) -> bool {
+fn is_the_end(alloc: Global, piece: &[u8], cause: ClientError) -> Result<bool, Fault> {
     let rows: [Row<'_>; 4] = [
         (Act::Open, None, CONNECT, 0, 0),
         (Act::Bytes(ACCEPTED), None, NOTHING, 0, 0),
         (Act::Bytes(piece), Some(cause), PUBREC, 0, 1),
-        (
-            Act::Bytes(NOTHING),
-            Some(ClientError::NotActive),
-            NOTHING,
-            0,
-            1,
-        ),
+        (Act::Bytes(NOTHING), Some(NotActive), NOTHING, 0, 1),
     ];
     match play(alloc, &rows) {
-        Ok(client) => !client.connected(),
-        Err(_) => false,
+        Ok(client) => Ok(!client.connected()),
+        Err(fault) => Err(fault),
     }
 }
 
 // Says whether these bytes after a PUBLISH end the connection, and the PUBLISH stays accepted.
-fn ends(alloc: Global, bytes: &[u8], cause: ClientError) -> bool {
+fn ends(alloc: Global, bytes: &[u8], cause: ClientError) -> Result<bool, Fault> {
     match after_publish(alloc, bytes) {
         Ok(piece) => is_the_end(alloc, &piece, cause),
-        Err(_) => false,
+        Err(_) => Err(Fault::NoMemory),
     }
 }
 
 #[test]
 fn malformed_bytes_end_the_connection(rt: HostRuntime) {
     let malformed = ClientError::Malformed(MalformedKind::PacketType);
-    assert!(rt; ends(rt.alloc(), &[0xF0, 0x00], malformed));
+    assert_eq!(rt; ends(rt.alloc(), &[0xF0, 0x00], malformed), Ok(true));
 }
 
 /// A CONNECT of another level, which a server would refuse with a code.
@@ -57,24 +52,19 @@ const LEVEL_3: &[u8] = &[
 #[test]
 fn a_fault_ends_the_connection(rt: HostRuntime) {
     for bytes in [ACCEPTED, CONNECT, &[0xC0, 0x00], &[0xE0, 0x00], LEVEL_3] {
-        assert!(rt; ends(rt.alloc(), bytes, ClientError::Protocol), "{bytes:?}");
+        let ended = ends(rt.alloc(), bytes, Protocol);
+        assert_eq!(rt; ended, Ok(true), "{bytes:?}");
     }
 }
 
 /// Another first packet, and a CONNACK with a code.
 const CONNACK_FIRST: &[Row<'static>] = &[
     (Act::Open, None, CONNECT, 0, 0),
-    (
-        Act::Bytes(PUBLISH),
-        Some(ClientError::Protocol),
-        NOTHING,
-        0,
-        0,
-    ),
+    (Act::Bytes(PUBLISH), Some(Protocol), NOTHING, 0, 0),
     (Act::Open, None, CONNECT, 0, 0),
     (
         Act::Bytes(&[0x20, 0x02, 0x00, 0x03]),
-        Some(ClientError::NotActive),
+        Some(NotActive),
         NOTHING,
         0,
         0,
@@ -89,20 +79,14 @@ fn connack_comes_first(rt: HostRuntime) {
 }
 
 const DISCONNECTS: &[Row<'static>] = &[
-    (Act::Disconnect, Some(ClientError::NotActive), NOTHING, 0, 0),
+    (Act::Disconnect, Some(NotActive), NOTHING, 0, 0),
     (Act::Open, None, CONNECT, 0, 0),
-    (Act::Subscribe, Some(ClientError::NotActive), NOTHING, 0, 0),
+    (Act::Subscribe, Some(NotActive), NOTHING, 0, 0),
     (Act::Disconnect, None, NOTHING, 0, 0),
     (Act::Open, None, CONNECT, 0, 0),
     (Act::Bytes(ACCEPTED), None, NOTHING, 0, 0),
     (Act::Disconnect, None, &[0xE0, 0x00], 0, 0),
-    (
-        Act::Unsubscribe,
-        Some(ClientError::NotActive),
-        NOTHING,
-        0,
-        0,
-    ),
+    (Act::Unsubscribe, Some(NotActive), NOTHING, 0, 0),
 ];
 
 // DISCONNECT is written if the connection was accepted, and nothing before.

@@ -84,7 +84,7 @@ pub fn taken(client: &mut ClientCore) -> (usize, usize) {
 fn a_repeat_is_accepted_once(rt: HostRuntime) {
     let counts = match play(rt.alloc(), REPEATS) {
         Ok(mut client) => Ok(taken(&mut client)),
-        Err(at) => Err(at),
+        Err(fault) => Err(fault),
     };
     assert_eq!(rt; counts, Ok((2, 0)));
 }
@@ -156,15 +156,15 @@ fn other_accepted(accepted: &[Accepted], wanted: &[Shown<'_>]) -> Option<usize> 
 
 // What was accepted shows the five fields of its PUBLISH.
 #[test]
-fn accepted_as_it_was_sent(rt: HostRuntime) {
+fn an_accepted_publication_shows_what_was_sent(rt: HostRuntime) {
     let wanted: [Shown<'_>; 3] = [
         (QoS::ExactlyOnce, true, "t/1", b"x"),
         (QoS::AtLeastOnce, false, "t/2", b"y"),
         (QoS::AtMostOnce, true, "t/1", b""),
     ];
     let other = match play(rt.alloc(), SENT) {
-        Ok(client) => other_accepted(client.accepted(), &wanted),
-        Err(_) => Some(0),
+        Ok(client) => Ok(other_accepted(client.accepted(), &wanted)),
+        Err(fault) => Err(fault),
     };
-    assert_eq!(rt; other, None);
+    assert_eq!(rt; other, Ok(None));
 }

@@ -72,19 +72,13 @@ fn act_again(client: &mut ClientCore, alloc: Global, done: Act<'_>) -> Option<Cl
     }
 }
 
-// Says whether a row comes out as it says, done again if memory ran out.
-fn comes_out_again(client: &mut ClientCore, alloc: Global, row: &Row<'_>) -> bool {
-    let (done, refusal, written, kept, accepted) = *row;
-    act_again(client, alloc, done) == refusal
-        && wrote(client, alloc, written)
-        && counts(client) == (kept, accepted)
-}
-
-// The first row that comes out otherwise.
-fn first_fault_again(client: &mut ClientCore, alloc: Global, rows: &[Row<'_>]) -> Option<usize> {
+// The first row that comes out otherwise, done again if memory ran out, and what came.
+fn first_fault_again(client: &mut ClientCore, alloc: Global, rows: &[Row<'_>]) -> Option<Fault> {
     for (at, row) in rows.iter().enumerate() {
-        if !comes_out_again(client, alloc, row) {
-            return Some(at);
+        let (done, _, _, _, _) = *row;
+        let refusal = act_again(client, alloc, done);
+        if let Some(came) = came_after(client, alloc, row, refusal) {
+            return Some(Fault::Row(at, None, came));
         }
     }
     None

@@ -44,20 +44,20 @@ const KEEPS: &[Row<'static>] = &[
 fn kept_publications_go_out_again(rt: HostRuntime) {
     let present = match play(rt.alloc(), KEEPS) {
         Ok(client) => Ok(client.present()),
-        Err(at) => Err(at),
+        Err(fault) => Err(fault),
     };
     assert_eq!(rt; present, Ok(true));
 }
 
-// Says whether this many publications at QoS 2 are kept.
-fn keeps_all(client: &mut ClientCore, alloc: Global, count: usize) -> bool {
+// Publishes so often at QoS 2. Returns how many were kept, one by one, until one was not.
+fn kept_one_by_one(client: &mut ClientCore, alloc: Global, count: usize) -> usize {
     for kept in 0..count {
         let one = publish(client, alloc, QoS::ExactlyOnce, b"x");
         if one.is_some() || !wrote(client, alloc, NOTHING) || counts(client).0 != kept + 1 {
-            return false;
+            return kept;
         }
     }
-    true
+    count
 }
 
 const FULL: &Row<'static> = &(
@@ -80,9 +80,9 @@ const OFFLINE: &Row<'static> = &(
 #[test]
 fn the_sixty_fifth_is_refused(rt: HostRuntime) {
     let mut client = new_client(rt.alloc()).expect(&rt, "memory is left");
-    assert!(rt; keeps_all(&mut client, rt.alloc(), 64));
-    assert!(rt; comes_out(&mut client, rt.alloc(), FULL, None));
-    assert!(rt; comes_out(&mut client, rt.alloc(), OFFLINE, None));
+    assert_eq!(rt; kept_one_by_one(&mut client, rt.alloc(), 64), 64);
+    assert_eq!(rt; came_instead(&mut client, rt.alloc(), FULL, None), None);
+    assert_eq!(rt; came_instead(&mut client, rt.alloc(), OFFLINE, None), None);
 }
 
 /// CONNACK without a session present, and after it a PUBLISH.
@@ -120,7 +120,7 @@ fn last_session(client: &ClientCore) -> (bool, Option<u64>) {
 fn a_lost_session_forgets(rt: HostRuntime) {
     let last = match play_cut(rt.alloc(), FORGETS, None) {
         Ok(client) => Ok(last_session(&client)),
-        Err(at) => Err(at),
+        Err(fault) => Err(fault),
     };
     assert_eq!(rt; last, Ok((true, Some(2))));
 }
@@ -149,10 +149,8 @@ fn publish_bytes(
 
 // Returns how many bytes a client wrote.
 fn written_len(client: &mut ClientCore, alloc: Global) -> Option<usize> {
-    match take_written(client, alloc) {
-        Some(out) => Some(out.len()),
-        None => None,
-    }
+    let out = take_written(client, alloc)?;
+    Some(out.len())
 }
 
 const ONE: &Row<'static> = &(Act::Publish(QoS::ExactlyOnce, b'x'), None, PUBLISH, 1, 0);
@@ -164,7 +162,7 @@ fn is_limited(alloc: Global, qos: QoS, refused: usize, largest: usize) -> bool {
         return false;
     };
     publish_bytes(&mut client, alloc, qos, refused) == Some(ClientError::TooLarge)
-        && comes_out(&mut client, alloc, ONE, None)
+        && came_instead(&mut client, alloc, ONE, None).is_none()
         && publish_bytes(&mut client, alloc, qos, largest).is_none()
         && written_len(&mut client, alloc) == Some(1_048_576)
 }

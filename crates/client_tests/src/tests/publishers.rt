@@ -22,11 +22,11 @@ fn fault_of_publishing(
     ended: Result<(), ClientFault>,
     rests: u32,
 ) -> Option<Wrong> {
-    fault_of_publishing_within(alloc, qos, usize::MAX, connections, written, ended, rests)
+    fault_within(alloc, qos, usize::MAX, connections, written, ended, rests)
 }
 
 // Finds what is not so of a publication if the first connection takes no more than `room` bytes.
-fn fault_of_publishing_within(
+fn fault_within(
     alloc: Global,
     qos: QoS,
     room: usize,
@@ -51,16 +51,12 @@ fn fault_of_publishing_within(
 fn a_publication_is_answered(rt: HostRuntime) {
     let pieces: &[Pieces] = &[&[CONNACK, PUBREC, PUBCOMP]];
     let written: &[&[u8]] = &[CONNECT, PUBLISH, PUBREL, DISCONNECT];
-    assert_eq!(rt;
-        fault_of_publishing(rt.alloc(), QoS::ExactlyOnce, pieces, written, Ok(()), 0),
-        None
-    );
+    let fault = fault_of_publishing(rt.alloc(), QoS::ExactlyOnce, pieces, written, Ok(()), 0);
+    assert_eq!(rt; fault, None);
     let pieces: &[Pieces] = &[&[CONNACK]];
     let written: &[&[u8]] = &[CONNECT, PUBLISH_ONCE, DISCONNECT];
-    assert_eq!(rt;
-        fault_of_publishing(rt.alloc(), QoS::AtMostOnce, pieces, written, Ok(()), 0),
-        None
-    );
+    let fault = fault_of_publishing(rt.alloc(), QoS::AtMostOnce, pieces, written, Ok(()), 0);
+    assert_eq!(rt; fault, None);
 }
 
 // A connection that is lost before PUBREC, and one on which the server continues.
@@ -68,31 +64,23 @@ fn a_publication_is_answered(rt: HostRuntime) {
 fn a_publication_is_sent_again(rt: HostRuntime) {
     let pieces: &[Pieces] = &[&[CONNACK], &[SESSION_PRESENT, PUBREC, PUBCOMP]];
     let written: &[&[u8]] = &[CONNECT, PUBLISH, CONNECT, PUBLISH_AGAIN, PUBREL, DISCONNECT];
-    assert_eq!(rt;
-        fault_of_publishing(rt.alloc(), QoS::ExactlyOnce, pieces, written, Ok(()), 1),
-        None
-    );
+    let fault = fault_of_publishing(rt.alloc(), QoS::ExactlyOnce, pieces, written, Ok(()), 1);
+    assert_eq!(rt; fault, None);
 }
 
 #[test]
 fn a_publication_is_given_up(rt: HostRuntime) {
     let lost = Err(ClientFault::Lost);
-    assert_eq!(rt;
-        fault_of_publishing(rt.alloc(), QoS::AtLeastOnce, &[], &[], lost, 2),
-        None
-    );
+    let fault = fault_of_publishing(rt.alloc(), QoS::AtLeastOnce, &[], &[], lost, 2);
+    assert_eq!(rt; fault, None);
     let present = Err(ClientFault::SessionPresent);
     let pieces: &[Pieces] = &[&[SESSION_PRESENT]];
-    assert_eq!(rt;
-        fault_of_publishing(rt.alloc(), QoS::ExactlyOnce, pieces, &[CONNECT], present, 0),
-        None
-    );
+    let fault = fault_of_publishing(rt.alloc(), QoS::ExactlyOnce, pieces, &[CONNECT], present, 0);
+    assert_eq!(rt; fault, None);
     let pieces: &[Pieces] = &[&[CONNACK], &[CONNACK]];
     let written: &[&[u8]] = &[CONNECT, PUBLISH, CONNECT];
-    assert_eq!(rt;
-        fault_of_publishing(rt.alloc(), QoS::ExactlyOnce, pieces, written, lost, 1),
-        None
-    );
+    let fault = fault_of_publishing(rt.alloc(), QoS::ExactlyOnce, pieces, written, lost, 1);
+    assert_eq!(rt; fault, None);
 }
 
 // What is acknowledged is done, also if the DISCONNECT cannot be written: nothing is published
@@ -103,17 +91,13 @@ fn an_acknowledged_publication_is_done(rt: HostRuntime) {
     let pieces: &[Pieces] = &[&[CONNACK, PUBREC, PUBCOMP], &[SESSION_PRESENT]];
     let written: &[&[u8]] = &[CONNECT, PUBLISH, PUBREL];
     let room = CONNECT.len() + PUBLISH.len() + PUBREL.len();
-    assert_eq!(rt;
-        fault_of_publishing_within(alloc, QoS::ExactlyOnce, room, pieces, written, Ok(()), 0),
-        None
-    );
+    let fault = fault_within(alloc, QoS::ExactlyOnce, room, pieces, written, Ok(()), 0);
+    assert_eq!(rt; fault, None);
     let pieces: &[Pieces] = &[&[CONNACK, PUBACK], &[SESSION_PRESENT]];
     let written: &[&[u8]] = &[CONNECT, PUBLISH_ANSWERED];
     let room = CONNECT.len() + PUBLISH_ANSWERED.len();
-    assert_eq!(rt;
-        fault_of_publishing_within(alloc, QoS::AtLeastOnce, room, pieces, written, Ok(()), 0),
-        None
-    );
+    let fault = fault_within(alloc, QoS::AtLeastOnce, room, pieces, written, Ok(()), 0);
+    assert_eq!(rt; fault, None);
 }
 
 // Bytes that are no packet, in the piece of the last answer.
@@ -121,10 +105,8 @@ fn an_acknowledged_publication_is_done(rt: HostRuntime) {
 fn what_comes_after_the_last_answer_does_not_matter(rt: HostRuntime) {
     let pieces: &[Pieces] = &[&[CONNACK, PUBACK_AND_NONSENSE], &[SESSION_PRESENT]];
     let written: &[&[u8]] = &[CONNECT, PUBLISH_ANSWERED];
-    assert_eq!(rt;
-        fault_of_publishing(rt.alloc(), QoS::AtLeastOnce, pieces, written, Ok(()), 0),
-        None
-    );
+    let fault = fault_of_publishing(rt.alloc(), QoS::AtLeastOnce, pieces, written, Ok(()), 0);
+    assert_eq!(rt; fault, None);
 }
 
 // At QoS 0 a publication is done once its bytes are written, and not before.
@@ -135,22 +117,16 @@ fn a_publication_at_qos_0_is_written(rt: HostRuntime) {
     let lost = Err(ClientFault::Lost);
     let room = CONNECT.len();
     let written: &[&[u8]] = &[CONNECT, CONNECT];
-    assert_eq!(rt;
-        fault_of_publishing_within(alloc, QoS::AtMostOnce, room, pieces, written, lost, 1),
-        None
-    );
+    let fault = fault_within(alloc, QoS::AtMostOnce, room, pieces, written, lost, 1);
+    assert_eq!(rt; fault, None);
     let pieces: &[Pieces] = &[&[CONNACK], &[SESSION_PRESENT]];
     let written: &[&[u8]] = &[CONNECT, CONNECT, PUBLISH_ONCE, DISCONNECT];
-    assert_eq!(rt;
-        fault_of_publishing_within(alloc, QoS::AtMostOnce, room, pieces, written, Ok(()), 1),
-        None
-    );
+    let fault = fault_within(alloc, QoS::AtMostOnce, room, pieces, written, Ok(()), 1);
+    assert_eq!(rt; fault, None);
     let room = CONNECT.len() + PUBLISH_ONCE.len();
     let written: &[&[u8]] = &[CONNECT, PUBLISH_ONCE];
-    assert_eq!(rt;
-        fault_of_publishing_within(alloc, QoS::AtMostOnce, room, pieces, written, Ok(()), 0),
-        None
-    );
+    let fault = fault_within(alloc, QoS::AtMostOnce, room, pieces, written, Ok(()), 0);
+    assert_eq!(rt; fault, None);
 }
 
 fn refuses_to_publish(alloc: Global, id: &str, topic: &str, number: u8) -> bool {

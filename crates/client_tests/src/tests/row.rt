@@ -25,6 +25,25 @@ pub enum Act<'a> {
 /// were accepted.
 pub type Row<'a> = (Act<'a>, Option<ClientError>, &'a [u8], usize, usize);
 
+/// What came of a row: the refusal, how many bytes were written (none if memory ran out), the first
+/// of them, and how many publications are kept and were accepted.
+#[derive(Clone, Copy, Debug, PartialEq, Eq)]
+pub struct Came {
+    refusal: Option<ClientError>,
+    written: Option<usize>,
+    first: Option<u8>,
+    counts: (usize, usize),
+}
+
+/// What was not as it was to be.
+#[derive(Clone, Copy, Debug, PartialEq, Eq)]
+pub enum Fault {
+    /// There was no memory for a client, or for its bytes.
+    NoMemory,
+    /// At this row, with each piece cut after this many bytes or whole, this came.
+    Row(usize, Option<usize>, Came),
+}
+
 /// CONNECT of client `a` with CleanSession 0 and keep alive 0 (MQTT 3.1).
 pub const CONNECT: &[u8] = &[
     0x10, 0x0D, 0x00, 0x04, 0x4D, 0x51, 0x54, 0x54, 0x04, 0x00, 0x00, 0x00, 0x00, 0x01, 0x61,
@@ -83,10 +102,6 @@ fn give_cut(client: &mut ClientCore, bytes: &[u8], cut: Option<usize>) -> Option
     }
 }
 
-fn disconnect(client: &mut ClientCore) -> Option<ClientError> {
-    client.disconnect().err()
-}
-
 /// Subscribes to a filter; `Memory` also if there is no memory for the filter.
 pub fn subscribe(client: &mut ClientCore, alloc: Global, text: &str) -> Option<ClientError> {
     match Filter::new(alloc, text) {
@@ -136,7 +151,7 @@ pub fn attempt(
             client.lost();
             None
         }
-        Act::Disconnect => disconnect(client),
+        Act::Disconnect => client.disconnect().err(),
         Act::Bytes(bytes) => give_cut(client, bytes, cut),
         Act::Subscribe => subscribe(client, alloc, "t/#"),
         Act::Unsubscribe => unsubscribe(client, alloc, "t/#"),
@@ -166,42 +181,65 @@ pub fn counts(client: &ClientCore) -> (usize, usize) {
     (client.kept(), client.accepted().len())
 }
 
-/// Says whether a row comes out with a client as it says.
-pub fn comes_out(
+/// Returns what came of a row whose act was refused so, if it is not what the row says.
+pub fn came_after(
+    client: &mut ClientCore,
+    alloc: Global,
+    row: &Row<'_>,
+    refusal: Option<ClientError>,
+) -> Option<Came> {
+    let (_, wanted, bytes, kept, accepted) = *row;
+    let mut came = Came {
+        refusal,
+        written: None,
+        first: None,
+        counts: counts(client),
+    };
+    if let Some(out) = take_written(client, alloc) {
+        if refusal == wanted && out.as_slice() == bytes && came.counts == (kept, accepted) {
+            return None;
+        }
+        came.written = Some(out.len());
+        came.first = out.as_slice().first().copied();
+    }
+    Some(came)
+}
+
+/// Returns what came of a row, if it is not what the row says.
+pub fn came_instead(
     client: &mut ClientCore,
     alloc: Global,
     row: &Row<'_>,
     cut: Option<usize>,
-) -> bool {
-    let (done, refusal, written, kept, accepted) = *row;
-    attempt(client, alloc, done, cut) == refusal
-        && wrote(client, alloc, written)
-        && counts(client) == (kept, accepted)
+) -> Option<Came> {
+    let (done, _, _, _, _) = *row;
+    let refusal = attempt(client, alloc, done, cut);
+    came_after(client, alloc, row, refusal)
 }
 
 /// Does the rows with a client that was never connected, each piece of the server whole or cut in
-/// two. Returns the first row whose result is another.
-pub fn play_cut(alloc: Global, rows: &[Row<'_>], cut: Option<usize>) -> Result<ClientCore, usize> {
+/// two. Returns the first row whose result is another, and what came.
+pub fn play_cut(alloc: Global, rows: &[Row<'_>], cut: Option<usize>) -> Result<ClientCore, Fault> {
     let Some(mut client) = new_client(alloc) else {
-        return Err(0);
+        return Err(Fault::NoMemory);
     };
     for (at, row) in rows.iter().enumerate() {
-        if !comes_out(&mut client, alloc, row, cut) {
-            return Err(at);
+        if let Some(came) = came_instead(&mut client, alloc, row, cut) {
+            return Err(Fault::Row(at, cut, came));
         }
     }
     Ok(client)
 }
 
 /// Does the rows with every cut of each piece, and at last with none.
-pub fn play(alloc: Global, rows: &[Row<'_>]) -> Result<ClientCore, usize> {
+pub fn play(alloc: Global, rows: &[Row<'_>]) -> Result<ClientCore, Fault> {
     for cut in 0..LONGEST {
         play_cut(alloc, rows, Some(cut))?;
     }
     play_cut(alloc, rows, None)
 }
 
-/// Returns the first row whose result is another, with some cut or none.
-pub fn first_fault(alloc: Global, rows: &[Row<'_>]) -> Option<usize> {
+/// Returns the first row whose result is another, with some cut or none, and what came.
+pub fn first_fault(alloc: Global, rows: &[Row<'_>]) -> Option<Fault> {
     play(alloc, rows).err()
 }

@@ -10,7 +10,7 @@ use user_client::topics::MalformedKind;
 
 // Each refusal has its number in the table of refusals.
 #[test]
-fn refusals_have_their_numbers(rt: HostRuntime) -> Result<(), Fail> {
+fn refusals_have_their_numbers(rt: HostRuntime) {
     assert_eq!(rt; ClientError::TooLarge.number(), 4);
     assert_eq!(rt; ClientError::Protocol.number(), 11);
     assert_eq!(rt; ClientError::Memory.number(), 12);
@@ -18,27 +18,24 @@ fn refusals_have_their_numbers(rt: HostRuntime) -> Result<(), Fail> {
     assert_eq!(rt; ClientError::WindowFull.number(), 22);
     assert_eq!(rt; ClientError::SessionLost.number(), 23);
     assert_eq!(rt; ClientError::Malformed(MalformedKind::Flags).number(), 2);
-    Ok(())
 }
 
 // A request differs from one of the other kind, and from one with another identifier.
 #[test]
-fn requests_are_compared(rt: HostRuntime) -> Result<(), Fail> {
-    let one = PacketId::new(1);
-    assert!(rt; Request::Subscribes(one) != Request::Unsubscribes(one));
-    assert!(rt; Request::Subscribes(one) != Request::Subscribes(PacketId::new(2)));
-    assert!(rt; Stage::Opened != Stage::Online);
-    Ok(())
+fn requests_are_compared(rt: HostRuntime) {
+    let (one, two) = (PacketId::new(1), PacketId::new(2));
+    assert_ne!(rt; Request::Subscribes(one), Request::Unsubscribes(one));
+    assert_ne!(rt; Request::Subscribes(one), Request::Subscribes(two));
+    assert_ne!(rt; Stage::Opened, Stage::Online);
 }
 
 // The laws are calls that do nothing.
 #[test]
-fn laws_can_be_called() -> Result<(), Fail> {
+fn laws_can_be_called() {
     accepted_once_an_identifier();
     history_is_followed();
     identifiers_are_distinct();
     publishing_order_is_kept();
-    Ok(())
 }
 
 // What a fault says to a user.

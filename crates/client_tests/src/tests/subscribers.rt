@@ -26,11 +26,11 @@ fn fault_of_hearing(
     printed: &[u8],
     written: &[&[u8]],
 ) -> Option<Wrong> {
-    fault_of_hearing_within(alloc, count, usize::MAX, connections, printed, written)
+    fault_within(alloc, count, usize::MAX, connections, printed, written)
 }
 
 // Finds what is not so of a client whose first connection takes no more than `room` bytes.
-fn fault_of_hearing_within(
+fn fault_within(
     alloc: Global,
     count: u32,
     room: usize,
@@ -55,10 +55,8 @@ fn fault_of_hearing_within(
 fn publications_are_printed(rt: HostRuntime) {
     let pieces: &[Pieces] = &[&[CONNACK, SUBACK, PUBLISH, PUBLISH_ONCE]];
     let written: &[&[u8]] = &[CONNECT, SUBSCRIBE, PUBREC, DISCONNECT];
-    assert_eq!(rt;
-        fault_of_hearing(rt.alloc(), 2, pieces, b"2 0 t/1 x\n0 0 t/1 x\n", written),
-        None
-    );
+    let fault = fault_of_hearing(rt.alloc(), 2, pieces, b"2 0 t/1 x\n0 0 t/1 x\n", written);
+    assert_eq!(rt; fault, None);
 }
 
 // What is printed is done, also if neither the last answer nor the DISCONNECT can be written.
@@ -70,10 +68,8 @@ fn printed_publications_are_done(rt: HostRuntime) {
     ];
     let written: &[&[u8]] = &[CONNECT, SUBSCRIBE];
     let room = CONNECT.len() + SUBSCRIBE.len();
-    assert_eq!(rt;
-        fault_of_hearing_within(rt.alloc(), 1, room, pieces, b"2 0 t/1 x\n", written),
-        None
-    );
+    let fault = fault_within(rt.alloc(), 1, room, pieces, b"2 0 t/1 x\n", written);
+    assert_eq!(rt; fault, None);
 }
 
 // A subscription may be lost with its connection; one that has brought something is there.
@@ -81,16 +77,12 @@ fn printed_publications_are_done(rt: HostRuntime) {
 fn a_subscription_is_asked_for_again(rt: HostRuntime) {
     let pieces: &[Pieces] = &[&[CONNACK], &[SESSION_PRESENT, PUBLISH_ONCE]];
     let written: &[&[u8]] = &[CONNECT, SUBSCRIBE, CONNECT, SUBSCRIBE, DISCONNECT];
-    assert_eq!(rt;
-        fault_of_hearing(rt.alloc(), 1, pieces, b"0 0 t/1 x\n", written),
-        None
-    );
+    let fault = fault_of_hearing(rt.alloc(), 1, pieces, b"0 0 t/1 x\n", written);
+    assert_eq!(rt; fault, None);
     let pieces: &[Pieces] = &[&[CONNACK, PUBLISH_ONCE], &[SESSION_PRESENT, PUBLISH_ONCE]];
     let written: &[&[u8]] = &[CONNECT, SUBSCRIBE, CONNECT, DISCONNECT];
-    assert_eq!(rt;
-        fault_of_hearing(rt.alloc(), 2, pieces, b"0 0 t/1 x\n0 0 t/1 x\n", written),
-        None
-    );
+    let fault = fault_of_hearing(rt.alloc(), 2, pieces, b"0 0 t/1 x\n0 0 t/1 x\n", written);
+    assert_eq!(rt; fault, None);
 }
 
 fn refuses_to_subscribe(alloc: Global, id: &str, filter: &str, number: u8) -> bool {
