@@ -5,7 +5,7 @@ use cutter::topics::MalformedKind;
 use std::alloc::Global;
 
 /// What bytes are.
-#[derive(Clone, Copy, PartialEq)]
+#[derive(Clone, Copy, Debug, PartialEq, Eq)]
 pub enum Answer {
     /// A packet of this many bytes, at the front.
     Whole(usize),
@@ -27,11 +27,15 @@ pub fn answer_to(alloc: Global, bytes: &[u8]) -> Answer {
     }
 }
 
+/// The index of a row, and what its bytes are.
+pub type Other = (usize, Answer);
+
 /// Finds the first row whose bytes are something else.
-pub fn other_answer(alloc: Global, rows: &[(&[u8], Answer)]) -> Option<usize> {
+pub fn other_answer(alloc: Global, rows: &[(&[u8], Answer)]) -> Option<Other> {
     for (row, (bytes, wanted)) in rows.iter().enumerate() {
-        if answer_to(alloc, bytes) != *wanted {
-            return Some(row);
+        let answer = answer_to(alloc, bytes);
+        if answer != *wanted {
+            return Some((row, answer));
         }
     }
     None

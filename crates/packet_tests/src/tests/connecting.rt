@@ -12,11 +12,13 @@ const CONNECT: [u8; 15] = [
     0x10, 0x0D, 0x00, 0x04, 0x4D, 0x51, 0x54, 0x54, 0x04, 0x00, 0x00, 0x3C, 0x00, 0x01, 0x61,
 ];
 
-// Returns the first front of the bytes that is not less than a packet, by its length.
-fn finished_front(alloc: Global, bytes: &[u8]) -> Option<usize> {
+// Returns the first front of the bytes that is not less than a packet, by its length, and what it
+// is.
+fn finished_front(alloc: Global, bytes: &[u8]) -> Option<Other> {
     for len in 0..bytes.len() {
-        if answer_to(alloc, &bytes[..len]) != Answer::More {
-            return Some(len);
+        let answer = answer_to(alloc, &bytes[..len]);
+        if answer != Answer::More {
+            return Some((len, answer));
         }
     }
     None
@@ -43,10 +45,11 @@ fn changed(at: usize, byte: u8) -> [u8; 15] {
 type Change = (usize, u8, Answer);
 
 // Returns the first row whose CONNECT is answered otherwise.
-fn other_change(alloc: Global, rows: &[Change]) -> Option<usize> {
+fn other_change(alloc: Global, rows: &[Change]) -> Option<Other> {
     for (row, (at, byte, wanted)) in rows.iter().enumerate() {
-        if answer_to(alloc, &changed(*at, *byte)) != *wanted {
-            return Some(row);
+        let answer = answer_to(alloc, &changed(*at, *byte));
+        if answer != *wanted {
+            return Some((row, answer));
         }
     }
     None
@@ -68,7 +71,7 @@ const NO_FLAGS: &[(&[u8], Answer)] = &[(
 )];
 
 #[test]
-fn connect_is_malformed(rt: HostRuntime) {
+fn a_changed_connect_is_malformed(rt: HostRuntime) {
     assert_eq!(rt; other_change(rt.alloc(), MALFORMED_CHANGES), None);
     assert_eq!(rt; other_answer(rt.alloc(), NO_FLAGS), None);
 }
@@ -86,7 +89,7 @@ const NO_CLIENT: &[(&[u8], Answer)] = &[(
 )];
 
 #[test]
-fn connect_is_refused(rt: HostRuntime) {
+fn a_connect_is_refused_with_its_code(rt: HostRuntime) {
     assert_eq!(rt; other_change(rt.alloc(), REFUSED_CHANGES), None);
     assert_eq!(rt; other_answer(rt.alloc(), NO_CLIENT), None);
 }
@@ -124,7 +127,7 @@ const CONNACKS: &[(Made<'static>, &[u8])] = &[
 
 // MQTT 3.2.2: session present occurs only with code 0.
 #[test]
-fn connack_in_both_directions(rt: HostRuntime) {
+fn a_connack_is_written_and_read(rt: HostRuntime) {
     assert_eq!(rt; other_spelling(rt.alloc(), CONNACKS), None);
 }
 
@@ -144,7 +147,7 @@ const NO_CONNACKS: &[(&[u8], Answer)] = &[
 ];
 
 #[test]
-fn connack_is_malformed(rt: HostRuntime) {
+fn other_connacks_are_malformed(rt: HostRuntime) {
     assert_eq!(rt; other_answer(rt.alloc(), NO_CONNACKS), None);
 }
 
@@ -175,22 +178,31 @@ fn is_client_before(alloc: Global, client: &ClientId, later: &str) -> bool {
     }
 }
 
-// Says whether a text is a Client Identifier, is printed as it is, and comes before another.
-fn is_client(alloc: Global, text: &str, later: &str) -> bool {
+// Returns the first of these that is not so of a Client Identifier of this text.
+fn missed_by(alloc: Global, client: &ClientId, text: &str, later: &str) -> Option<&'static str> {
+    if client.as_str() != text {
+        Some("it has its text")
+    } else if !is_client_printed(alloc, client, text) {
+        Some("it is printed as it is")
+    } else if !is_client_before(alloc, client, later) {
+        Some("it comes before the later one, which equals its copy")
+    } else {
+        None
+    }
+}
+
+// Returns the first of these that is not so of a text, that it is a Client Identifier among them.
+fn missed_by_text(alloc: Global, text: &str, later: &str) -> Option<&'static str> {
     match ClientId::new(alloc, text) {
-        Ok(client) => {
-            client.as_str() == text
-                && is_client_printed(alloc, &client, text)
-                && is_client_before(alloc, &client, later)
-        }
-        Err(_) => false,
+        Ok(client) => missed_by(alloc, &client, text, later),
+        Err(_) => Some("it is a Client Identifier"),
     }
 }
 
 #[test]
 fn a_client_identifier_may_have_64_bytes(rt: HostRuntime) {
     let longest = "0123456789012345678901234567890123456789012345678901234567890123";
-    assert!(rt; is_client(rt.alloc(), longest, "b"));
+    assert_eq!(rt; missed_by_text(rt.alloc(), longest, "b"), None);
 }
 
 const NO_CLIENTS: &[(&str, MalformedKind)] = &[
@@ -202,61 +214,38 @@ const NO_CLIENTS: &[(&str, MalformedKind)] = &[
     ("a\0", MalformedKind::Text),
 ];
 
-// Returns the first row whose text is not refused with its kind.
-fn other_fault(alloc: Global) -> Option<usize> {
-    for (row, (text, kind)) in NO_CLIENTS.iter().enumerate() {
-        if client_fault(alloc, text) != Some(*kind) {
-            return Some(row);
-        }
-    }
-    None
-}
-
 #[test]
-fn no_client_identifiers(rt: HostRuntime) {
-    assert_eq!(rt; other_fault(rt.alloc()), None);
+fn a_text_that_is_no_client_identifier_is_refused(rt: HostRuntime) {
+    for (text, kind) in NO_CLIENTS {
+        assert_eq!(rt; client_fault(rt.alloc(), text), Some(*kind), "{text:?}");
+    }
 }
 
 const MALFORMED: DecodeFault = DecodeFault::Malformed(MalformedKind::Shape);
 
 const REFUSED: DecodeFault = DecodeFault::Refused(RefusalCode::IdentifierRejected);
 
-fn are_numbered() -> bool {
-    MALFORMED.number() == Some(10)
-        && REFUSED.number().is_none()
-        && EncodeFault::TooLarge.number() == 4
-        && EncodeFault::Memory.number() == 12
-        && QoS::ExactlyOnce.number() == 2
-        && QoS::AtMostOnce < QoS::AtLeastOnce
+#[test]
+fn refusals_have_their_numbers(rt: HostRuntime) {
+    assert_eq!(rt; MALFORMED.number(), Some(10));
+    assert_eq!(rt; REFUSED.number(), None);
+    assert_eq!(rt; EncodeFault::TooLarge.number(), 4);
+    assert_eq!(rt; EncodeFault::Memory.number(), 12);
+    assert_eq!(rt; QoS::ExactlyOnce.number(), 2);
+    assert!(rt;
+        QoS::AtMostOnce < QoS::AtLeastOnce,
+        "QoS 0 comes before QoS 1"
+    );
 }
 
 #[test]
-fn numbers_of_refusals(rt: HostRuntime) {
-    assert!(rt; are_numbered());
-}
-
-fn is_decode_fault_printed(alloc: Global, fault: DecodeFault, wanted: &str) -> bool {
-    match format!(in alloc; "{fault}") {
-        Ok(text) => text.as_str() == wanted,
-        Err(_) => false,
-    }
-}
-
-fn is_encode_fault_printed(alloc: Global, fault: EncodeFault, wanted: &str) -> bool {
-    match format!(in alloc; "{fault}") {
-        Ok(text) => text.as_str() == wanted,
-        Err(_) => false,
-    }
-}
-
-fn are_printed(alloc: Global) -> bool {
-    is_decode_fault_printed(alloc, MALFORMED, "malformed packet: shape of the packet")
-        && is_decode_fault_printed(alloc, REFUSED, "connection refused: identifier rejected")
-        && is_encode_fault_printed(alloc, EncodeFault::TooLarge, "packet too large")
-        && is_encode_fault_printed(alloc, EncodeFault::Memory, "out of memory")
-}
-
-#[test]
-fn texts_of_refusals(rt: HostRuntime) {
-    assert!(rt; are_printed(rt.alloc()));
+fn refusals_have_their_texts(rt: HostRuntime) -> Result<(), Fail> {
+    let text = format!(in rt.alloc(); "{}; {}", MALFORMED, REFUSED)?;
+    assert_eq!(rt;
+        text.as_str(),
+        "malformed packet: shape of the packet; connection refused: identifier rejected"
+    );
+    let text = format!(in rt.alloc(); "{}; {}", EncodeFault::TooLarge, EncodeFault::Memory)?;
+    assert_eq!(rt; text.as_str(), "packet too large; out of memory");
+    Ok(())
 }

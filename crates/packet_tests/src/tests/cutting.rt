@@ -63,25 +63,34 @@ fn are_cut(cutter: &mut Cutter, pieces: &[&[u8]], out: &mut Vec<u8>) -> bool {
     true
 }
 
-// Says whether the stream in these pieces is cut into its packets.
-fn is_stream(alloc: Global, pieces: &[&[u8]]) -> bool {
+// Returns how many bytes of packets come of the stream in these pieces, if it is not cut into its
+// packets.
+fn other_stream(alloc: Global, pieces: &[&[u8]]) -> Option<usize> {
     let mut cutter = Cutter::new(alloc);
     let mut out = Vec::new(alloc);
-    are_cut(&mut cutter, pieces, &mut out) && out.as_slice() == STREAM.as_slice()
+    let is_taken = are_cut(&mut cutter, pieces, &mut out);
+    if is_taken && out.as_slice() == STREAM.as_slice() {
+        None
+    } else {
+        Some(out.len())
+    }
 }
 
-// Returns the first index at which the stream may not be cut in two.
-fn first_cut(alloc: Global, stream: &[u8]) -> Option<usize> {
+// An index at which a stream is cut in two, and how many bytes of packets come then.
+type Cut = (usize, usize);
+
+// Returns the first index at which the stream may not be cut in two, and what comes then.
+fn first_cut(alloc: Global, stream: &[u8]) -> Option<Cut> {
     for at in 0..=stream.len() {
-        if !is_stream(alloc, &[&stream[..at], &stream[at..]]) {
-            return Some(at);
+        if let Some(count) = other_stream(alloc, &[&stream[..at], &stream[at..]]) {
+            return Some((at, count));
         }
     }
     None
 }
 
 #[test]
-fn cut_in_two_at_every_byte(rt: HostRuntime) {
+fn a_stream_cut_in_two_gives_its_packets(rt: HostRuntime) {
     assert_eq!(rt; first_cut(rt.alloc(), &STREAM), None);
 }
 
@@ -140,7 +149,7 @@ fn other_answer_of_fresh(alloc: Global) -> Option<usize> {
 }
 
 #[test]
-fn a_fault_after_good_packets(rt: HostRuntime) {
+fn a_fault_after_good_packets_stays(rt: HostRuntime) {
     assert_eq!(rt; other_answer_of_fresh(rt.alloc()), None);
     assert_eq!(rt; FAULT.number(), Some(1));
 }

@@ -44,7 +44,8 @@ const FAULTS: &[(&[u8], Answer)] = &[
     ),
     // QoS 3 of a PUBLISH (3.3.1.2)
     (&[0x36, 0x00], Answer::Malformed(MalformedKind::Qos)),
-    // length 0 in two bytes: the second is not needed
+    // length 0 in two bytes. MQTT 3.1.1 does not forbid it, as MQTT 5 does (1.5.5); its table 2.4
+    // has one spelling for each length, and the broker takes no other (packet_base)
     (
         &[0x30, 0x80, 0x00],
         Answer::Malformed(MalformedKind::Length),
@@ -150,7 +151,7 @@ const FAULTS: &[(&[u8], Answer)] = &[
 ];
 
 #[test]
-fn each_fault_of_decode(rt: HostRuntime) {
+fn each_fault_of_decode_has_its_kind(rt: HostRuntime) {
     assert_eq!(rt; other_answer(rt.alloc(), FAULTS), None);
 }
 
@@ -169,7 +170,7 @@ const LESS: &[(&[u8], Answer)] = &[
 ];
 
 #[test]
-fn less_than_a_packet(rt: HostRuntime) {
+fn a_front_of_a_packet_is_less_than_one(rt: HostRuntime) {
     assert_eq!(rt; other_answer(rt.alloc(), LESS), None);
 }
 

@@ -33,7 +33,7 @@ const LISTS: &[(Made<'static>, &[u8])] = &[
 ];
 
 #[test]
-fn lists_in_both_directions(rt: HostRuntime) {
+fn lists_are_written_and_read(rt: HostRuntime) {
     assert_eq!(rt; other_spelling(rt.alloc(), LISTS), None);
 }
 

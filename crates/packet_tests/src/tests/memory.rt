@@ -31,19 +31,28 @@ fn round(alloc: Global, bytes: &[u8], out: &mut Vec<u8>) -> Option<u8> {
     }
 }
 
-// Says whether these bytes come back, or it ran out of memory and none came.
-fn is_free_or_same(alloc: Global, bytes: &[u8]) -> bool {
+// The number of a refusal, and how many bytes came.
+type Came = (Option<u8>, usize);
+
+// Returns what came, if these bytes do not come back, and it did not run out of memory with none.
+fn other_round(alloc: Global, bytes: &[u8]) -> Option<Came> {
     let mut out = Vec::new(alloc);
-    match round(alloc, bytes, &mut out) {
+    let refusal = round(alloc, bytes, &mut out);
+    let is_so = match refusal {
         None => out.as_slice() == bytes,
         Some(number) => number == 12 && out.is_empty(),
+    };
+    if is_so {
+        None
+    } else {
+        Some((refusal, out.len()))
     }
 }
 
 #[test]
 fn memory_is_the_one_free_answer(rt: HostRuntime) {
-    assert!(rt; is_free_or_same(rt.alloc(), &SUBSCRIBE));
-    assert!(rt; is_free_or_same(rt.alloc(), &PUBLISH));
+    assert_eq!(rt; other_round(rt.alloc(), &SUBSCRIBE), None);
+    assert_eq!(rt; other_round(rt.alloc(), &PUBLISH), None);
 }
 
 // Feeds a piece, again if it ran out of memory, which leaves the cutter as it was.
@@ -81,23 +90,33 @@ fn is_next(cutter: &mut Cutter, out: &mut Vec<u8>) -> bool {
     }
 }
 
-// Says whether a stream in two pieces is cut into its three packets.
-fn is_cut(cutter: &mut Cutter, out: &mut Vec<u8>) -> bool {
-    feed(cutter, &STREAM[..20])
-        && is_next(cutter, out)
-        && feed(cutter, &STREAM[20..])
-        && is_next(cutter, out)
-        && is_next(cutter, out)
-        && out.as_slice() == STREAM.as_slice()
+// Returns the first step that is not so of a stream in two pieces, cut into its three packets.
+fn missed_step(cutter: &mut Cutter, out: &mut Vec<u8>) -> Option<&'static str> {
+    if !feed(cutter, &STREAM[..20]) {
+        Some("the first piece is fed")
+    } else if !is_next(cutter, out) {
+        Some("the first packet is taken")
+    } else if !feed(cutter, &STREAM[20..]) {
+        Some("the second piece is fed")
+    } else if !is_next(cutter, out) {
+        Some("the second packet is taken")
+    } else if !is_next(cutter, out) {
+        Some("the third packet is taken")
+    } else if out.as_slice() != STREAM.as_slice() {
+        Some("the packets are those of the stream")
+    } else {
+        None
+    }
 }
 
-fn is_stream(alloc: Global) -> bool {
+// Returns the first step that is not so of a fresh cutter.
+fn missed_by_fresh(alloc: Global) -> Option<&'static str> {
     let mut cutter = Cutter::new(alloc);
     let mut out = Vec::new(alloc);
-    is_cut(&mut cutter, &mut out)
+    missed_step(&mut cutter, &mut out)
 }
 
 #[test]
 fn a_cutter_without_memory_is_as_it_was(rt: HostRuntime) {
-    assert!(rt; is_stream(rt.alloc()));
+    assert_eq!(rt; missed_by_fresh(rt.alloc()), None);
 }

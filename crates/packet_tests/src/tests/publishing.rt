@@ -30,20 +30,16 @@ const PUBLISHES: &[(Made<'static>, &[u8])] = &[
 ];
 
 #[test]
-fn publish_in_both_directions(rt: HostRuntime) {
+fn a_publish_is_written_and_read(rt: HostRuntime) {
     assert_eq!(rt; other_spelling(rt.alloc(), PUBLISHES), None);
 }
 
-fn says_qos_and_identifier() -> bool {
-    let id = PacketId::new(10);
-    Delivery::ExactlyOnce(true, id).qos() == QoS::ExactlyOnce
-        && Delivery::AtLeastOnce(true, id).id() == Some(id)
-        && Delivery::AtMostOnce.id().is_none()
-}
-
 #[test]
-fn what_a_delivery_says(rt: HostRuntime) {
-    assert!(rt; says_qos_and_identifier());
+fn a_delivery_says_its_qos_and_identifier(rt: HostRuntime) {
+    let id = PacketId::new(10);
+    assert_eq!(rt; Delivery::ExactlyOnce(true, id).qos(), QoS::ExactlyOnce);
+    assert_eq!(rt; Delivery::AtLeastOnce(true, id).id(), Some(id));
+    assert_eq!(rt; Delivery::AtMostOnce.id(), None);
 }
 
 // MQTT 3.4 to 3.7, 3.11 to 3.14.
@@ -59,7 +55,7 @@ const ANSWERS: &[(Made<'static>, &[u8])] = &[
 ];
 
 #[test]
-fn answers_and_empty_packets_in_both_directions(rt: HostRuntime) {
+fn answers_and_empty_packets_are_written_and_read(rt: HostRuntime) {
     assert_eq!(rt; other_spelling(rt.alloc(), ANSWERS), None);
 }
 
@@ -84,27 +80,47 @@ fn is_read_after(alloc: Global, packet: &Packet, bytes: &[u8]) -> bool {
     }
 }
 
-// Says whether a packet is written as expected, and what is not refused is read again.
-fn is_written_so(alloc: Global, packet: &Packet, out: &mut Vec<u8>, wanted: Large<'_>) -> bool {
-    out.extend_from_slice(&[1, 2]).is_ok()
-        && write(packet, out) == wanted.refusal
+/// The number of the refusal, if there is one, and how many bytes there are then; none of either if
+/// there was no memory for the PUBLISH.
+type Attempt = (Option<u8>, usize);
+
+// Returns what came of a packet, if it is not written as expected, or is not refused and not read
+// again.
+fn other_after_two(
+    alloc: Global,
+    packet: &Packet,
+    out: &mut Vec<u8>,
+    wanted: Large<'_>,
+) -> Option<Attempt> {
+    if out.extend_from_slice(&[1, 2]).is_err() {
+        return Some((None, 0));
+    }
+    let refusal = write(packet, out);
+    let is_so = refusal == wanted.refusal
         && out.len() == wanted.len
         && out.as_slice().starts_with(wanted.front)
-        && (wanted.refusal.is_some() || is_read_after(alloc, packet, out.as_slice()))
-}
-
-fn is_sent(alloc: Global, payload: &[u8], wanted: Large<'_>) -> bool {
-    let mut out = Vec::new(alloc);
-    match &publish(alloc, Delivery::AtMostOnce, false, payload) {
-        Some(packet) => is_written_so(alloc, packet, &mut out, wanted),
-        None => false,
+        && (refusal.is_some() || is_read_after(alloc, packet, out.as_slice()));
+    if is_so {
+        None
+    } else {
+        Some((refusal, out.len()))
     }
 }
 
-fn is_large(alloc: Global, wanted: Large<'_>) -> bool {
+// Returns what came of a PUBLISH with this payload, if it is something else.
+fn other_sent(alloc: Global, payload: &[u8], wanted: Large<'_>) -> Option<Attempt> {
+    let mut out = Vec::new(alloc);
+    match &publish(alloc, Delivery::AtMostOnce, false, payload) {
+        Some(packet) => other_after_two(alloc, packet, &mut out, wanted),
+        None => Some((None, 0)),
+    }
+}
+
+// Returns what came of a large PUBLISH, if it is something else.
+fn other_large(alloc: Global, wanted: Large<'_>) -> Option<Attempt> {
     match Vec::from_elem(alloc, 7u8, wanted.count) {
-        Ok(payload) => is_sent(alloc, payload.as_slice(), wanted),
-        Err(_) => false,
+        Ok(payload) => other_sent(alloc, payload.as_slice(), wanted),
+        Err(_) => Some((None, 0)),
     }
 }
 
@@ -124,11 +140,11 @@ const LARGER: Large<'static> = Large {
 };
 
 #[test]
-fn the_largest_publish(rt: HostRuntime) {
-    assert!(rt; is_large(rt.alloc(), LARGEST));
+fn the_largest_publish_is_written(rt: HostRuntime) {
+    assert_eq!(rt; other_large(rt.alloc(), LARGEST), None);
 }
 
 #[test]
-fn a_larger_publish(rt: HostRuntime) {
-    assert!(rt; is_large(rt.alloc(), LARGER));
+fn a_larger_publish_is_refused(rt: HostRuntime) {
+    assert_eq!(rt; other_large(rt.alloc(), LARGER), None);
 }

@@ -1,5 +1,6 @@
 // Packets, and the bytes that spell them.
 
+use super::answers::{Answer, answer_to};
 use cutter::packet::*;
 use cutter::topics::{Filter, TopicName};
 use std::alloc::Global;
@@ -189,35 +190,76 @@ pub fn write(packet: &Packet, out: &mut Vec<u8>) -> Option<u8> {
     }
 }
 
-// Says whether these bytes are written for the packet, after a byte that the vector is given.
-fn is_written(packet: &Packet, out: &mut Vec<u8>, bytes: &[u8]) -> bool {
-    if out.push(9).is_err() || write(packet, out).is_some() {
-        return false;
+/// What came of a packet to make.
+#[derive(Clone, Copy, Debug, PartialEq, Eq)]
+pub enum Came {
+    /// There was no memory.
+    NoMemory,
+    /// It was not written: the number of the refusal, which is 0 for an empty list.
+    Refused(u8),
+    /// So many bytes were written, and they are others from this index on.
+    Written(usize, usize),
+    /// The byte before was changed.
+    Before,
+    /// Its bytes were not read as the packet, but are this.
+    Read(Answer),
+}
+
+/// The index of a row, and what came of its packet.
+pub type Spelled = (usize, Came);
+
+// Returns what was written, if it is something else.
+fn other_bytes(written: &[u8], bytes: &[u8]) -> Option<Came> {
+    for (index, byte) in written.iter().enumerate() {
+        if !bytes.get(index).is_some_and(|one| *one == *byte) {
+            return Some(Came::Written(written.len(), index));
+        }
+    }
+    if written.len() == bytes.len() {
+        None
+    } else {
+        Some(Came::Written(written.len(), written.len()))
+    }
+}
+
+// Returns what came, if not these bytes are written for the packet, after a byte that the vector is
+// given.
+fn other_written(packet: &Packet, out: &mut Vec<u8>, bytes: &[u8]) -> Option<Came> {
+    if out.push(9).is_err() {
+        return Some(Came::NoMemory);
+    }
+    if let Some(number) = write(packet, out) {
+        return Some(Came::Refused(number));
     }
     match out.as_slice() {
-        [9, written @ ..] => written == bytes,
-        _ => false,
+        [9, written @ ..] => other_bytes(written, bytes),
+        _ => Some(Came::Before),
     }
 }
 
-// Says whether these bytes are written for the packet and read as it.
-fn is_spelled(alloc: Global, packet: &Packet, bytes: &[u8]) -> bool {
+// Returns what came, if not these bytes are written for the packet, or they are not read as it.
+fn came_instead(alloc: Global, packet: &Packet, bytes: &[u8]) -> Option<Came> {
     let mut out = Vec::new(alloc);
-    is_written(packet, &mut out, bytes) && is_read(alloc, packet, bytes)
+    match other_written(packet, &mut out, bytes) {
+        Some(came) => Some(came),
+        None if is_read(alloc, packet, bytes) => None,
+        None => Some(Came::Read(answer_to(alloc, bytes))),
+    }
 }
 
-fn is_made_and_spelled(alloc: Global, packet: Made<'_>, bytes: &[u8]) -> bool {
+// Returns what came of a packet to make, if it is not spelled by these bytes.
+fn came_of(alloc: Global, packet: Made<'_>, bytes: &[u8]) -> Option<Came> {
     match &packet_of(alloc, packet) {
-        Some(packet) => is_spelled(alloc, packet, bytes),
-        None => false,
+        Some(packet) => came_instead(alloc, packet, bytes),
+        None => Some(Came::NoMemory),
     }
 }
 
 /// Finds the first row whose bytes are not written for its packet, or not read as it.
-pub fn other_spelling(alloc: Global, rows: &[(Made<'_>, &[u8])]) -> Option<usize> {
+pub fn other_spelling(alloc: Global, rows: &[(Made<'_>, &[u8])]) -> Option<Spelled> {
     for (row, (packet, bytes)) in rows.iter().enumerate() {
-        if !is_made_and_spelled(alloc, *packet, bytes) {
-            return Some(row);
+        if let Some(came) = came_of(alloc, *packet, bytes) {
+            return Some((row, came));
         }
     }
     None
