@@ -4,7 +4,7 @@ use Rattle.std.specs.Prelude.{◌≡◌, true, false, [], ◌∷◌, ◌++◌, S
 use Rattle.std.specs.List.{AllByRecursion}
 use Rattle.session.specs.packet.declared.delivery.Delivery.TheVariants as deliveries
 use Rattle.session.specs.packet.declared.packet.Packet.TheVariants as packets
-use Rattle.session.specs.packet.declared.qos.QoS.TheVariants as levels
+use Rattle.session.specs.packet.declared.qos.QoS.TheVariants as qualities
 use Rattle.session.specs.session_base.Publication.{is_acknowledged}
 use Rattle.broker_form.specs.broker_spec.Commands.{usual_limits}
 use Rattle.broker_form.specs.broker_spec.Entries.{Entry}
@@ -33,7 +33,7 @@ EntriesFitTheirQoS =
 abbrev pub AnswersOfAnotherQoSAreNothing : Type 0
 AnswersOfAnotherQoSAreNothing =
     Gives usual_limits
-    (subscribed_at levels.ExactlyOnce
+    (subscribed_at qualities.ExactlyOnce
     ++ gets 2 (publish (deliveries.AtLeastOnce false 7) false (codes "x"))
     ∷ gets 2 (publish (deliveries.ExactlyOnce false 8) false (codes "y")) ∷ [])
     (gets 1 (packets.Pubrec 1) ∷ gets 1 (packets.Puback 2) ∷ connect 3 b ∷ [])
@@ -45,7 +45,7 @@ AnswersOfAnotherQoSAreNothing =
 -- that begins a client's own or begins with it: b continues as it was.
 abbrev pub ExpelsOfNobodyAreNothing : Type 0
 ExpelsOfNobodyAreNothing =
-    Gives usual_limits (subscribed_at levels.ExactlyOnce ++ connect 4 (codes "bc")
+    Gives usual_limits (subscribed_at qualities.ExactlyOnce ++ connect 4 (codes "bc")
     ∷ gets 2 (publish (deliveries.ExactlyOnce false 1) false (codes "x")) ∷ [])
     (commands.Expel (codes "c") ∷ commands.Expel [] ∷ commands.Expel (0 ∷ [])
     ∷ commands.Expel (codes "ba")
@@ -58,7 +58,7 @@ ExpelsOfNobodyAreNothing =
 -- when it comes back a new session begins
 abbrev pub ExpelledWhileAway : Type 0
 ExpelledWhileAway =
-    Gives usual_limits (subscribed_at levels.ExactlyOnce ++ commands.Lost (nth 1)
+    Gives usual_limits (subscribed_at qualities.ExactlyOnce ++ commands.Lost (nth 1)
     ∷ gets 2 (publish (deliveries.ExactlyOnce false 1) false (codes "x")) ∷ [])
     (commands.Expel b ∷ commands.Expel b ∷ connect 3 b ∷ [])
     ([] ∷ [] ∷ (sends 3 (connack false) ∷ []) ∷ [])

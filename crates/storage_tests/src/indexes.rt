@@ -1,6 +1,6 @@
 // What both indexes do, tested by callers that know only the law.
 
 mod calls;
-mod memory;
+pub(crate) mod memory;
 mod random;
 mod rows;

@@ -1,7 +1,7 @@
 // The laws are calls that do nothing; each can be made.
 
 #[test]
-fn laws_of_rows() {
+fn laws_of_rows_can_be_called() {
     broker_form::broker_rows::one_row_is_written();
     broker_form::broker_rows::nobody_changes_nothing();
     broker_form::broker_rows::owner_is_found_by_map();
@@ -26,7 +26,7 @@ fn laws_of_rows() {
 }
 
 #[test]
-fn laws_of_maps() {
+fn laws_of_maps_can_be_called() {
     broker_form::broker_rows::copies_in_parts();
     broker_form::broker_rows::subscribes_in_turn();
     broker_form::broker_rows::maps_stay();
@@ -40,7 +40,7 @@ fn laws_of_maps() {
 }
 
 #[test]
-fn laws_of_forms() {
+fn laws_of_forms_stores_and_readings_can_be_called() {
     broker_form::states_stay_in_range();
     broker_form::answers_can_be_spelled();
     broker_form::lists_are_in_range();
@@ -52,16 +52,8 @@ fn laws_of_forms() {
     session::session_base::read_has_form();
     session::session_base::read_is_frozen();
     session::session_base::full_session_is_frozen();
-}
-
-#[test]
-fn laws_of_retained_publications() {
     broker_form::retained::last_is_retained();
     broker_form::retained::stays_in_bounds();
-}
-
-#[test]
-fn laws_of_readings() {
     crate::readings::live_connections_are_current();
     crate::readings::released_entries_are_read();
     crate::readings::removing_needs_no_room();

@@ -38,34 +38,43 @@ const AT_THE_LIMIT: &[Row<'static>] = &[
     Has(16_384),
 ];
 
-// Returns which row a store does not do as it says, if there is one.
-fn first_fault(alloc: Global, store: &mut RetainedStore, rows: &[Row<'_>]) -> Option<usize> {
-    rows.iter().position(|row| !is_right(alloc, store, *row))
-}
+// The index of a row that a store does not do as it says, and how many topics it keeps then.
+type Fault = (usize, usize);
 
-// Keeps a publication of each of as many topics as a store may have.
-fn fill(alloc: Global, store: &mut RetainedStore) -> bool {
-    for number in 0..16_384u32 {
-        let Ok(text) = format!(in alloc; "t/{number}") else {
-            return false;
-        };
-        if put(alloc, store, text.as_str(), QoS::AtMostOnce, "x") != Some(Ok(())) {
-            return false;
+// Returns which row a store does not do as it says, if there is one.
+fn first_fault(alloc: Global, store: &mut RetainedStore, rows: &[Row<'_>]) -> Option<Fault> {
+    for (index, row) in rows.iter().enumerate() {
+        if !is_right(alloc, store, *row) {
+            return Some((index, store.len()));
         }
     }
-    true
+    None
+}
+
+// Keeps a publication of each of as many topics as a store may have. Returns the first of them that
+// is not kept.
+fn first_unkept(alloc: Global, store: &mut RetainedStore) -> Option<u32> {
+    for number in 0..16_384u32 {
+        let Ok(text) = format!(in alloc; "t/{number}") else {
+            return Some(number);
+        };
+        if put(alloc, store, text.as_str(), QoS::AtMostOnce, "x") != Some(Ok(())) {
+            return Some(number);
+        }
+    }
+    None
 }
 
 #[test]
-fn last_publications_by_topic(rt: HostRuntime) {
+fn the_last_publication_of_a_topic_is_found(rt: HostRuntime) {
     let mut store = RetainedStore::new(rt.alloc());
     assert_eq!(rt; first_fault(rt.alloc(), &mut store, ROWS), None);
 }
 
 #[test]
-fn the_store_is_full(rt: HostRuntime) {
+fn a_store_keeps_16384_topics(rt: HostRuntime) {
     let mut store = RetainedStore::new(rt.alloc());
-    assert!(rt; fill(rt.alloc(), &mut store));
+    assert_eq!(rt; first_unkept(rt.alloc(), &mut store), None);
     assert_eq!(rt; first_fault(rt.alloc(), &mut store, AT_THE_LIMIT), None);
 }
 

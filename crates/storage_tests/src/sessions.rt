@@ -8,7 +8,7 @@ use crate::sessions::row::Row::{
     Subscribe, Unsubscribe,
 };
 use crate::sessions::row::Sent::{Again, New};
-use crate::sessions::row::{Row, Sent, first_fault, granted, is_received};
+use crate::sessions::row::{Fault, Row, Sent, first_fault, granted, is_received};
 use session::packet::QoS;
 use session::packet_base::Reader;
 use session::{Arrival, EnqueueError, MAX_ENTRIES, Session};
@@ -115,17 +115,33 @@ const FROZEN: [u8; 29] = [
 ];
 
 // Finds the first of these rows that a new session does not do.
-fn first_undone(alloc: Global, rows: &[Row<'_>]) -> Option<usize> {
+fn first_undone(alloc: Global, rows: &[Row<'_>]) -> Option<Fault> {
     let mut session = Session::new(alloc);
     first_fault(alloc, &mut session, rows)
 }
 
 #[test]
-fn a_new_session_does_as_its_rows_say(rt: HostRuntime) {
+fn a_puback_frees_its_identifier(rt: HostRuntime) {
     assert_eq!(rt; first_undone(rt.alloc(), FREES_ITS_IDENTIFIER), None);
+}
+
+#[test]
+fn released_entries_come_first_again(rt: HostRuntime) {
     assert_eq!(rt; first_undone(rt.alloc(), RELEASED_COME_FIRST), None);
+}
+
+#[test]
+fn an_identifier_is_new_after_pubrel(rt: HostRuntime) {
     assert_eq!(rt; first_undone(rt.alloc(), NEW_AFTER_PUBREL), None);
+}
+
+#[test]
+fn the_greatest_matching_qos_is_granted(rt: HostRuntime) {
     assert_eq!(rt; first_undone(rt.alloc(), GREATEST_QOS), None);
+}
+
+#[test]
+fn a_queue_takes_4096_entries(rt: HostRuntime) {
     assert_eq!(rt; first_undone(rt.alloc(), QUEUE_IS_FULL), None);
 }
 
@@ -142,18 +158,28 @@ fn thawed(alloc: Global, bytes: &[u8]) -> Option<Session> {
     Session::read(alloc, 64, &mut reader).ok()
 }
 
-// Says whether the session is that of the bytes.
-fn is_as_frozen(alloc: Global, session: &Session) -> bool {
-    is_received(session, 7)
-        && !is_received(session, 8)
-        && session.room() == MAX_ENTRIES - 1
-        && granted(alloc, session) == Some(Some(QoS::ExactlyOnce))
+// Returns the first of these that is not so of the session of the bytes.
+fn missed_by(alloc: Global, session: &Session) -> Option<&'static str> {
+    if !is_received(session, 7) {
+        Some("identifier 7 was received")
+    } else if is_received(session, 8) {
+        Some("no other identifier was received")
+    } else if session.room() != MAX_ENTRIES - 1 {
+        Some("one publication waits")
+    } else if granted(alloc, session) != Some(Some(QoS::ExactlyOnce)) {
+        Some("t/1 is granted at QoS 2")
+    } else {
+        None
+    }
 }
 
 #[test]
 fn a_frozen_session_is_read(rt: HostRuntime) {
-    let session = thawed(rt.alloc(), &FROZEN);
-    assert!(rt; session.is_some_and(|session| is_as_frozen(rt.alloc(), &session)));
+    let missed = match thawed(rt.alloc(), &FROZEN) {
+        Some(session) => missed_by(rt.alloc(), &session),
+        None => Some("the bytes are read"),
+    };
+    assert_eq!(rt; missed, None);
 }
 
 #[test]
@@ -163,7 +189,10 @@ fn other_bytes_are_no_session(rt: HostRuntime) {
     for (index, byte) in rows {
         let mut bytes = FROZEN;
         bytes[index] = byte;
-        assert!(rt; thawed(rt.alloc(), &bytes).is_none());
+        assert!(rt; thawed(rt.alloc(), &bytes).is_none(), "{index}");
     }
-    assert!(rt; thawed(rt.alloc(), &FROZEN[..26]).is_none());
+    assert!(rt;
+        thawed(rt.alloc(), &FROZEN[..26]).is_none(),
+        "the last byte is missing"
+    );
 }

@@ -40,7 +40,8 @@ fn client_of(alloc: Global, text: &str) -> Option<ClientId> {
     }
 }
 
-fn filter_of(alloc: Global, text: &str) -> Option<Filter> {
+/// Returns a filter, made at the second try if memory was refused.
+pub(crate) fn filter_of(alloc: Global, text: &str) -> Option<Filter> {
     match Filter::new(alloc, text) {
         Ok(filter) => Some(filter),
         Err(_) => Filter::new(alloc, text).ok(),

@@ -130,12 +130,12 @@ fn first_row<I: SubIndex>(alloc: Global, rows: &[&[Call<'_>]]) -> Option<(usize,
 }
 
 #[test]
-fn rows_of_the_list(rt: HostRuntime) {
+fn the_list_answers_its_rows(rt: HostRuntime) {
     grants_one_list();
     assert_eq!(rt; first_row::<ListIndex>(rt.alloc(), ROWS), None);
 }
 
 #[test]
-fn rows_of_the_tree(rt: HostRuntime) {
+fn the_tree_answers_its_rows(rt: HostRuntime) {
     assert_eq!(rt; first_row::<TreeIndex>(rt.alloc(), ROWS), None);
 }

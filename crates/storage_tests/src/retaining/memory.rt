@@ -2,6 +2,7 @@
 // runs out of memory leaves the store, and what was found, as they were, and does its work when it
 // is made again.
 
+use crate::indexes::memory::filter_of;
 use crate::retaining::row::put;
 use broker_form::retained::{RetainedError, RetainedStore};
 use session::packet::QoS;
@@ -27,13 +28,6 @@ fn is_put(
         }
     }
     false
-}
-
-fn filter_of(alloc: Global, text: &str) -> Option<Filter> {
-    match Filter::new(alloc, text) {
-        Ok(filter) => Some(filter),
-        Err(_) => Filter::new(alloc, text).ok(),
-    }
 }
 
 // Returns how many topics a filter finds, none if memory was refused.
@@ -107,5 +101,7 @@ fn is_full(alloc: Global, store: &mut RetainedStore) -> bool {
 #[test]
 fn a_refused_store_still_fills_to_its_limit(rt: HostRuntime) {
     let mut store = RetainedStore::new(rt.alloc());
-    assert!(rt; is_full(rt.alloc(), &mut store));
+    let is_so = is_full(rt.alloc(), &mut store);
+    let count = store.len();
+    assert!(rt; is_so, "{count} topics are kept");
 }

@@ -50,9 +50,27 @@ pub(crate) enum Row<'a> {
     Granted(Option<QoS>),
 }
 
+/// A row that a session does not do as it says, by its index, and what is so after it: how many
+/// more publications may wait, and how many subscriptions there are.
+#[derive(Clone, Copy, Debug, PartialEq, Eq)]
+pub(crate) struct Fault {
+    row: usize,
+    room: usize,
+    subscriptions: usize,
+}
+
 /// Returns which row a session does not do as it says, if there is one.
-pub(crate) fn first_fault(alloc: Global, session: &mut Session, rows: &[Row<'_>]) -> Option<usize> {
-    rows.iter().position(|row| !is_right(alloc, session, *row))
+pub(crate) fn first_fault(alloc: Global, session: &mut Session, rows: &[Row<'_>]) -> Option<Fault> {
+    for (row, wanted) in rows.iter().enumerate() {
+        if !is_right(alloc, session, *wanted) {
+            return Some(Fault {
+                row,
+                room: session.room(),
+                subscriptions: session.subscription_count(),
+            });
+        }
+    }
+    None
 }
 
 fn is_right(alloc: Global, session: &mut Session, row: Row<'_>) -> bool {
@@ -81,16 +99,12 @@ fn id_of(number: u16) -> Option<PacketId> {
     Some(PacketId::new(number))
 }
 
-fn topic(alloc: Global) -> Option<TopicName> {
-    TopicName::new(alloc, "t/1").ok()
-}
-
 /// Returns a publication of `x` on `t/1`.
 pub(crate) fn publication(alloc: Global, qos: QoS) -> Option<Publication> {
     Some(Publication {
         retain: false,
         qos,
-        topic: topic(alloc)?,
+        topic: TopicName::new(alloc, "t/1").ok()?,
         payload: Payload::new(alloc, b"x").ok()?,
     })
 }
@@ -190,5 +204,6 @@ fn unsubscribe(alloc: Global, session: &mut Session, text: &str, count: usize) -
 
 /// Returns at which QoS `t/1` is granted; none if there was no memory for the topic.
 pub(crate) fn granted(alloc: Global, session: &Session) -> Option<Option<QoS>> {
-    Some(session.granted(&topic(alloc)?))
+    let topic = TopicName::new(alloc, "t/1").ok()?;
+    Some(session.granted(&topic))
 }
