@@ -24,12 +24,6 @@ fn assigned(
     }
 }
 
-// Says whether a ballot is activated, and which is active after that.
-fn activates(master: &mut Master, ballot: u64) -> (bool, u64) {
-    let activated = master.activate(ballot) == Activation::Activated;
-    (activated, master.active().0)
-}
-
 // Says whether the master gives this ballot.
 fn is_given(master: &mut Master, alloc: Global, members: &[u8], primary: u8, ballot: u64) -> bool {
     match assigned(master, alloc, members, primary) {
@@ -38,6 +32,7 @@ fn is_given(master: &mut Master, alloc: Global, members: &[u8], primary: u8, bal
     }
 }
 
+// Ballots, whether each is activated, and which is active after that.
 const ACTIVATED: &[(u64, (bool, u64))] = &[
     (2, (false, 1)),
     (3, (true, 3)),
@@ -47,8 +42,9 @@ const ACTIVATED: &[(u64, (bool, u64))] = &[
 
 // Says whether ballots are activated in turn as these rows say.
 fn activates_all(master: &mut Master, rows: &[(u64, (bool, u64))]) -> bool {
-    for (ballot, activated) in rows {
-        if activates(master, *ballot) != *activated {
+    for (ballot, wanted) in rows {
+        let activated = master.activate(*ballot) == Activation::Activated;
+        if (activated, master.active().0) != *wanted {
             return false;
         }
     }
@@ -128,8 +124,8 @@ fn is_no_primary(alloc: Global) -> bool {
 
 // The numbers of the refusals, and a master that opens with none of its members as primary.
 #[test]
-fn refusals_have_numbers(rt: HostRuntime) {
-    assert!(rt; is_no_primary(rt.alloc()));
+fn a_primary_is_a_member_and_refusals_have_numbers(rt: HostRuntime) {
+    assert!(rt; is_no_primary(rt.alloc()), "no master opens so");
     assert_eq!(rt; AssignError::BadMembers.number(), 20);
     assert_eq!(rt; AssignError::BallotsSpent.number(), 21);
 }

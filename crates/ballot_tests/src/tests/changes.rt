@@ -51,7 +51,7 @@ pub fn begins(pair: &mut Pair, alloc: Global) -> Option<usize> {
 
 // A ballot with another primary becomes active and begins with its start, which is committed.
 #[test]
-fn configuration_changes(rt: HostRuntime) {
+fn a_new_ballot_begins_with_its_start(rt: HostRuntime) {
     assert_eq!(rt; first_fault_of_two(rt.alloc(), &[1], Change::Begins), None);
 }
 
@@ -68,7 +68,7 @@ pub fn is_superseded(pair: &mut Pair, alloc: Global) -> Option<usize> {
 
 // A ballot that was superseded leaves its primary a backup, and does not begin any more.
 #[test]
-fn ballot_is_superseded(rt: HostRuntime) {
+fn a_superseded_ballot_does_not_begin(rt: HostRuntime) {
     assert_eq!(rt;
         first_fault_of_two(rt.alloc(), &[1], Change::IsSuperseded),
         None
@@ -89,7 +89,7 @@ pub fn is_replaced(pair: &mut Pair, alloc: Global) -> Option<usize> {
 
 // The log of the old primary is longer; the log of the new ballot replaces it.
 #[test]
-fn stale_primary(rt: HostRuntime) {
+fn a_longer_log_of_a_stale_primary_is_replaced(rt: HostRuntime) {
     assert_eq!(rt;
         first_fault_of_two(rt.alloc(), &[1, 2], Change::IsReplaced),
         None

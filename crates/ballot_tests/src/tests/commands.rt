@@ -75,7 +75,7 @@ pub fn leaves_once_held(
 
 // What is proposed to one of two members leaves once the other holds it.
 #[test]
-fn append_held_commit(rt: HostRuntime) {
+fn an_output_leaves_once_all_members_hold_it(rt: HostRuntime) {
     assert_eq!(rt;
         first_fault(rt.alloc(), 1, &[1, 2], 1, Run::LeavesOnceHeld),
         None
@@ -108,7 +108,7 @@ pub fn hears_it_again(
 
 // A message that comes twice changes nothing more; a tick says again what is committed.
 #[test]
-fn held_comes_twice(rt: HostRuntime) {
+fn a_held_that_comes_twice_changes_nothing(rt: HostRuntime) {
     assert_eq!(rt;
         first_fault(rt.alloc(), 1, &[1, 2], 1, Run::HearsItAgain),
         None

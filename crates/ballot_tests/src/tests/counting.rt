@@ -39,7 +39,7 @@ fn other_row_of_fresh(alloc: Global) -> Option<usize> {
 }
 
 #[test]
-fn tally_counts(rt: HostRuntime) {
+fn a_tally_adds_up_and_starts_give_nothing(rt: HostRuntime) {
     assert_eq!(rt; other_row_of_fresh(rt.alloc()), None);
 }
 
@@ -51,10 +51,6 @@ fn is_thawed(alloc: Global, tally: &Tally, bytes: &[u8]) -> bool {
     }
 }
 
-fn is_refused(alloc: Global, bytes: &[u8]) -> bool {
-    Tally::thaw(alloc, bytes).is_err()
-}
-
 // Says whether the machine is frozen to the bytes of 258, thaws from them, and does not thaw
 // without the first byte.
 fn is_frozen(alloc: Global, tally: &Tally) -> bool {
@@ -62,7 +58,7 @@ fn is_frozen(alloc: Global, tally: &Tally) -> bool {
     tally.freeze(&mut bytes).is_ok()
         && bytes.as_slice() == [0, 0, 0, 0, 0, 0, 1, 2].as_slice()
         && is_thawed(alloc, tally, bytes.as_slice())
-        && is_refused(alloc, &bytes.as_slice()[1..])
+        && Tally::thaw(alloc, &bytes.as_slice()[1..]).is_err()
 }
 
 // Says whether the counting machine is frozen to its total and thawed from it.
@@ -77,7 +73,7 @@ fn freezes(alloc: Global) -> bool {
 
 // The frozen machine is its total, most significant byte first; nothing else thaws.
 #[test]
-fn tally_freezes(rt: HostRuntime) {
-    assert!(rt; freezes(rt.alloc()));
-    assert!(rt; Tally::start(7) == TallyCommand::Start(7));
+fn a_tally_is_frozen_to_its_total(rt: HostRuntime) {
+    assert!(rt; freezes(rt.alloc()), "258 is frozen and thawed");
+    assert_eq!(rt; Tally::start(7), TallyCommand::Start(7));
 }

@@ -46,7 +46,7 @@ fn goes_on(replica: &mut Replica<Tally>, out: &mut Vec<Effect<TallyCommand, u64>
 }
 
 #[test]
-fn a_log_is_cut(rt: HostRuntime) {
+fn a_sole_member_cuts_its_log_once(rt: HostRuntime) {
     assert_eq!(rt; first_fault(rt.alloc(), 1, &[1], 1, Run::IsCut), None);
 }
 

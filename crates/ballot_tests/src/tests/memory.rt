@@ -105,6 +105,9 @@ fn is_whole_or_free(alloc: Global, tally: &mut Tally) -> bool {
 #[test]
 fn a_machine_is_whole_or_gives_nothing(rt: HostRuntime) {
     if let Ok(mut tally) = Tally::fresh(rt.alloc()) {
-        assert!(rt; is_whole_or_free(rt.alloc(), &mut tally));
+        assert!(rt;
+            is_whole_or_free(rt.alloc(), &mut tally),
+            "a part of it came"
+        );
     }
 }

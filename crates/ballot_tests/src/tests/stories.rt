@@ -1,10 +1,10 @@
 // Which replicas and pairs go through what. Each is made in one place and lent from there.
 
 use super::pairs::{Pair, open};
-use super::replicas::made;
-use super::{changes, commands, cutting, opening};
+use super::replicas::{made, shows};
+use super::{changes, commands, cutting};
 use master::ballot::machine::{Tally, TallyCommand};
-use master::ballot::{Effect, Replica};
+use master::ballot::{Effect, Replica, Role, Status};
 use std::alloc::Global;
 
 /// What a replica is to go through.
@@ -21,6 +21,18 @@ pub enum Run {
     ReadsSnapshots,
 }
 
+/// What was not as it was to be.
+#[derive(Clone, Copy, Debug, PartialEq, Eq)]
+pub enum Fault {
+    /// A node did not open.
+    Unopened,
+    /// This step went otherwise; after the last step the replica shows this, and so many effects
+    /// are there.
+    Step(usize, Status, usize),
+    /// This step went otherwise; after the last step nodes 1 and 2 show this.
+    StepOfTwo(usize, Status, Status),
+}
+
 /// Finds the first of these that is not so.
 pub fn first_false(steps: &[bool]) -> Option<usize> {
     for (step, is_so) in steps.iter().enumerate() {
@@ -32,7 +44,7 @@ pub fn first_false(steps: &[bool]) -> Option<usize> {
 }
 
 // Finds the first step at which a replica does not what a run says.
-fn fault_of(
+fn step_of(
     replica: &mut Replica<Tally>,
     out: &mut Vec<Effect<TallyCommand, u64>>,
     alloc: Global,
@@ -45,25 +57,38 @@ fn fault_of(
         Run::WaitsForTheFirst => commands::waits_for_the_first(replica, out),
         Run::IsSilent => commands::is_silent(replica, out),
         Run::SaysWhatIsLacking => commands::says_what_is_lacking(replica, out),
-        Run::IsNoMember => opening::is_no_member(replica),
+        Run::IsNoMember => first_false(&[shows(replica, 0, Role::Backup, 0, 0)]),
         Run::IsCut => cutting::is_cut_once(replica, out),
         Run::ReadsSnapshots => cutting::reads_snapshots(replica, out, alloc),
     }
 }
 
+// Finds the same, with what the replica shows then.
+fn fault_of(
+    replica: &mut Replica<Tally>,
+    out: &mut Vec<Effect<TallyCommand, u64>>,
+    alloc: Global,
+    run: Run,
+) -> Option<Fault> {
+    match step_of(replica, out, alloc, run) {
+        Some(step) => Some(Fault::Step(step, replica.status(), out.len())),
+        None => None,
+    }
+}
+
 /// Finds the first step at which a node that opens with these members and this primary goes through
-/// a run in another way; step 0 if it does not open.
+/// a run in another way.
 pub fn first_fault(
     alloc: Global,
     node: u8,
     members: &[u8],
     primary: u8,
     run: Run,
-) -> Option<usize> {
+) -> Option<Fault> {
     let mut out = Vec::new(alloc);
     match made(alloc, node, members, primary) {
         Ok(mut replica) => fault_of(&mut replica, &mut out, alloc, run),
-        Err(_) => Some(0),
+        Err(_) => Some(Fault::Unopened),
     }
 }
 
@@ -79,7 +104,7 @@ pub enum Change {
 }
 
 // Finds the first step at which two nodes do not what a change says.
-fn fault_of_two(alloc: Global, pair: &mut Pair, change: Change) -> Option<usize> {
+fn step_of_two(alloc: Global, pair: &mut Pair, change: Change) -> Option<usize> {
     match change {
         Change::GoesOver => changes::goes_over(pair, alloc),
         Change::Begins => changes::begins(pair, alloc),
@@ -90,11 +115,19 @@ fn fault_of_two(alloc: Global, pair: &mut Pair, change: Change) -> Option<usize>
     }
 }
 
+// Finds the same, with what the two show then.
+fn fault_of_two(alloc: Global, pair: &mut Pair, change: Change) -> Option<Fault> {
+    match step_of_two(alloc, pair, change) {
+        Some(step) => Some(Fault::StepOfTwo(step, pair.one.status(), pair.two.status())),
+        None => None,
+    }
+}
+
 /// Finds the first step at which two nodes that open with these members and node 1 as primary go
-/// through a change in another way; step 0 if they do not open.
-pub fn first_fault_of_two(alloc: Global, members: &[u8], change: Change) -> Option<usize> {
+/// through a change in another way.
+pub fn first_fault_of_two(alloc: Global, members: &[u8], change: Change) -> Option<Fault> {
     match open(alloc, members) {
         Ok(mut pair) => fault_of_two(alloc, &mut pair, change),
-        Err(_) => Some(0),
+        Err(_) => Some(Fault::Unopened),
     }
 }
