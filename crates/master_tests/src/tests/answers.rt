@@ -62,18 +62,14 @@ const ALONE: &[TallyCommand] = &[
     TallyCommand::Add(3),
 ];
 
-// Proposes two numbers to a sole member, and a Start between them.
-fn run_alone(group: &mut Group<Tally>) {
+/// Finds the first of these that is not so: a sole member answers at once two numbers that are
+/// proposed to it, and a Start between them.
+pub fn counts_alone(group: &mut Group<Tally>) -> Option<usize> {
     group.run(&[
         Event::Propose(1, TallyCommand::Add(2)),
         Event::Propose(1, TallyCommand::Start(2)),
         Event::Propose(1, TallyCommand::Add(3)),
     ]);
-}
-
-/// Finds the first of these that is not so: a sole member answers at once.
-pub fn counts_alone(group: &mut Group<Tally>) -> Option<usize> {
-    run_alone(group);
     first_false(&[
         counts(group) == (0, 2, 3),
         gave(group, 0, 0, 2),
@@ -84,6 +80,6 @@ pub fn counts_alone(group: &mut Group<Tally>) -> Option<usize> {
 
 // A sole member answers at once: 2, nothing at the start of a ballot, and 5.
 #[test]
-fn tally_counts(rt: HostRuntime) {
+fn a_sole_member_answers_at_once(rt: HostRuntime) {
     assert_eq!(rt; first_fault(rt.alloc(), 1, &[1], Run::CountsAlone), None);
 }

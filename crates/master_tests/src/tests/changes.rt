@@ -34,7 +34,7 @@ pub fn is_changed(group: &mut Group<Tally>, alloc: Global) -> Option<usize> {
 // The counts of a change of configuration: [1] to [1, 2] with primary 2. The messages are
 // NewBallot, Join, State, Install, Installed, Activate, Activated, Append, Held, Commit.
 #[test]
-fn configuration_changes(rt: HostRuntime) {
+fn a_new_configuration_takes_the_log_over(rt: HostRuntime) {
     assert_eq!(rt; first_fault(rt.alloc(), 2, &[1], Run::Changes), None);
 }
 

@@ -76,18 +76,11 @@ const BAD: &[(u8, &[u8], u8)] = &[
     (0, &[1], 1),
 ];
 
-// Returns the first row that is not refused.
-fn first_opened(alloc: Global, rows: &[(u8, &[u8], u8)]) -> Option<usize> {
-    for (row, (nodes, members, primary)) in rows.iter().enumerate() {
-        if is_refused(alloc, *nodes, members, *primary) != Some(true) {
-            return Some(row);
-        }
-    }
-    None
-}
-
 #[test]
 fn bad_members_are_refused(rt: HostRuntime) {
-    assert_eq!(rt; first_opened(rt.alloc(), BAD), None);
-    assert!(rt; is_refused(rt.alloc(), 15, &[1, 2, 15], 1) == Some(false));
+    for (nodes, members, primary) in BAD {
+        let refused = is_refused(rt.alloc(), *nodes, members, *primary);
+        assert_eq!(rt; refused, Some(true), "{nodes}, {members:?}, {primary}");
+    }
+    assert_eq!(rt; is_refused(rt.alloc(), 15, &[1, 2, 15], 1), Some(false));
 }

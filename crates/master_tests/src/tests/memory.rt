@@ -21,16 +21,11 @@ fn is_whole_or_counted(group: &Group<Tally>) -> bool {
     (losses == 0 && counts(group) == (6, 1, 1) && gave(group, 0, 0, 2)) || losses == 1
 }
 
-// Says whether a node has not stopped.
-fn runs(group: &mut Group<Tally>, node: u8) -> bool {
-    happens(group, &Event::Tick(node))
-}
-
-// Two of three nodes, of which one at most has stopped.
+// Two of three nodes, of which one at most has stopped: at that one a tick cannot happen.
 fn two_that_run(group: &mut Group<Tally>) -> [u8; 2] {
-    if !runs(group, 2) {
+    if !happens(group, &Event::Tick(2)) {
         [1, 3]
-    } else if !runs(group, 3) {
+    } else if !happens(group, &Event::Tick(3)) {
         [1, 2]
     } else {
         [2, 3]

@@ -1,6 +1,6 @@
 // Which groups go through what. Each group is made in one place and lent from there.
 
-use super::groups::group;
+use super::groups::{counts, group};
 use super::{answers, changes, cutting, idle, memory, takeovers};
 use master::Group;
 use master::machine::Tally;
@@ -24,8 +24,26 @@ pub enum Run {
     LeavesLate,
 }
 
+/// What a group shows: how many messages were sent, how many outputs left and how many places are
+/// agreed, which ballot is active, and how many steps ran out of memory.
+#[derive(Clone, Copy, Debug, PartialEq, Eq)]
+pub struct Shown {
+    counts: (usize, usize, u64),
+    active: u64,
+    losses: u64,
+}
+
+/// What was not as it was to be.
+#[derive(Clone, Copy, Debug, PartialEq, Eq)]
+pub enum Fault {
+    /// The group did not open.
+    Unopened,
+    /// This step went otherwise; after the last step the group shows this.
+    Step(usize, Shown),
+}
+
 // Finds the first step at which a group does not what a run says.
-fn fault_of(alloc: Global, group: &mut Group<Tally>, run: Run) -> Option<usize> {
+fn step_of(alloc: Global, group: &mut Group<Tally>, run: Run) -> Option<usize> {
     match run {
         Run::WaitsForAll => answers::waits_for_all(group),
         Run::CountsAlone => answers::counts_alone(group),
@@ -43,14 +61,29 @@ fn fault_of(alloc: Global, group: &mut Group<Tally>, run: Run) -> Option<usize> 
     }
 }
 
+// Finds the same, with what the group shows then.
+fn fault_of(alloc: Global, group: &mut Group<Tally>, run: Run) -> Option<Fault> {
+    match step_of(alloc, group, run) {
+        Some(step) => {
+            let shown = Shown {
+                counts: counts(group),
+                active: group.active().0,
+                losses: group.losses(),
+            };
+            Some(Fault::Step(step, shown))
+        }
+        None => None,
+    }
+}
+
 // Finds the first step at which a fresh group goes otherwise; `unopened` if it does not open.
 fn fault_from_the_opening(
     alloc: Global,
     nodes: u8,
     members: &[u8],
     run: Run,
-    unopened: Option<usize>,
-) -> Option<usize> {
+    unopened: Option<Fault>,
+) -> Option<Fault> {
     match group(alloc, nodes, members) {
         Ok(mut group) => fault_of(alloc, &mut group, run),
         Err(_) => unopened,
@@ -58,12 +91,12 @@ fn fault_from_the_opening(
 }
 
 /// Finds the first step at which this many nodes, these of them members and node 1 the primary, go
-/// through a run in another way; step 0 if they do not open.
-pub fn first_fault(alloc: Global, nodes: u8, members: &[u8], run: Run) -> Option<usize> {
-    fault_from_the_opening(alloc, nodes, members, run, Some(0))
+/// through a run in another way.
+pub fn first_fault(alloc: Global, nodes: u8, members: &[u8], run: Run) -> Option<Fault> {
+    fault_from_the_opening(alloc, nodes, members, run, Some(Fault::Unopened))
 }
 
 /// Finds the same if they open; none if memory runs out for them.
-pub fn first_fault_if_opened(alloc: Global, nodes: u8, members: &[u8], run: Run) -> Option<usize> {
+pub fn first_fault_if_opened(alloc: Global, nodes: u8, members: &[u8], run: Run) -> Option<Fault> {
     fault_from_the_opening(alloc, nodes, members, run, None)
 }
