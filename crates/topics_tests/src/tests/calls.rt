@@ -28,22 +28,32 @@ fn is_text_before(alloc: Global, text: &Text, later: &str) -> bool {
     }
 }
 
-// Says whether a text has an equal copy, is printed as it is, and comes before another.
-fn is_text(alloc: Global, row: Order<'_>) -> bool {
+// Returns the first of these that is not so of a text.
+fn missed_by_text(alloc: Global, made: &Text, row: Order<'_>) -> Option<&'static str> {
     let (text, later) = row;
+    if !is_text_copied(made, text) {
+        Some("it has an equal copy")
+    } else if !is_text_printed(alloc, made, text) {
+        Some("it is printed as it is")
+    } else if !is_text_before(alloc, made, later) {
+        Some("it comes before the later text")
+    } else {
+        None
+    }
+}
+
+// Returns the first of these that is not so, that it is a text among them.
+fn missed_text(alloc: Global, row: Order<'_>) -> Option<&'static str> {
+    let (text, _) = row;
     match Text::new(alloc, text) {
-        Ok(made) => {
-            is_text_copied(&made, text)
-                && is_text_printed(alloc, &made, text)
-                && is_text_before(alloc, &made, later)
-        }
-        Err(_) => false,
+        Ok(made) => missed_by_text(alloc, &made, row),
+        Err(_) => Some("it is a text"),
     }
 }
 
 #[test]
-fn a_text_and_its_copy(rt: HostRuntime) {
-    assert!(rt; is_text(rt.alloc(), ("a/B", "b")));
+fn a_text_is_printed_copied_and_ordered(rt: HostRuntime) {
+    assert_eq!(rt; missed_text(rt.alloc(), ("a/B", "b")), None);
 }
 
 fn is_name_copied(name: &TopicName) -> bool {
@@ -68,17 +78,30 @@ fn is_name_before(alloc: Global, name: &TopicName, later: &str) -> bool {
     }
 }
 
-fn are_names(alloc: Global, row: Order<'_>) -> bool {
+// Returns the first of these that is not so of a name.
+fn missed_by_name(alloc: Global, name: &TopicName, row: Order<'_>) -> Option<&'static str> {
     let (first, later) = row;
+    if !is_name_printed(alloc, name, first) {
+        Some("it is printed as it is")
+    } else if !is_name_before(alloc, name, later) {
+        Some("it comes before the later name, which equals its copy")
+    } else {
+        None
+    }
+}
+
+// Returns the first of these that is not so, that it is a name among them.
+fn missed_name(alloc: Global, row: Order<'_>) -> Option<&'static str> {
+    let (first, _) = row;
     match TopicName::new(alloc, first) {
-        Ok(name) => is_name_printed(alloc, &name, first) && is_name_before(alloc, &name, later),
-        Err(_) => false,
+        Ok(name) => missed_by_name(alloc, &name, row),
+        Err(_) => Some("it is a Topic Name"),
     }
 }
 
 #[test]
 fn names_are_ordered_by_bytes(rt: HostRuntime) {
-    assert!(rt; are_names(rt.alloc(), ("B", "a")));
+    assert_eq!(rt; missed_name(rt.alloc(), ("B", "a")), None);
 }
 
 fn is_filter_copied(filter: &Filter) -> bool {
@@ -95,31 +118,46 @@ fn is_filter_printed(alloc: Global, filter: &Filter, wanted: &str) -> bool {
     }
 }
 
-// Says whether a later filter has an equal copy, is printed as it is, and comes after this one,
-// which is another.
-fn is_filter_before(alloc: Global, filter: &Filter, text: &str) -> bool {
-    match Filter::new(alloc, text) {
-        Ok(later) => {
-            is_filter_copied(&later)
-                && is_filter_printed(alloc, &later, text)
-                && *filter < later
-                && *filter != later
-        }
-        Err(_) => false,
+// Returns the first of these that is not so of a later filter.
+fn missed_by_later(
+    alloc: Global,
+    first: &Filter,
+    later: &Filter,
+    text: &str,
+) -> Option<&'static str> {
+    if !is_filter_copied(later) {
+        Some("it equals its copy")
+    } else if !is_filter_printed(alloc, later, text) {
+        Some("it is printed as it is")
+    } else if !(*first < *later) {
+        Some("it comes after the first filter")
+    } else if *first == *later {
+        Some("it is another than the first filter")
+    } else {
+        None
     }
 }
 
-fn are_filters(alloc: Global, row: Order<'_>) -> bool {
+// Returns the first of these that is not so, that the later is a filter among them.
+fn missed_later(alloc: Global, first: &Filter, text: &str) -> Option<&'static str> {
+    match Filter::new(alloc, text) {
+        Ok(later) => missed_by_later(alloc, first, &later, text),
+        Err(_) => Some("the later is a filter"),
+    }
+}
+
+// Returns the first of these that is not so, that both are filters among them.
+fn missed_filter(alloc: Global, row: Order<'_>) -> Option<&'static str> {
     let (first, later) = row;
     match Filter::new(alloc, first) {
-        Ok(filter) => is_filter_before(alloc, &filter, later),
-        Err(_) => false,
+        Ok(first) => missed_later(alloc, &first, later),
+        Err(_) => Some("the first is a filter"),
     }
 }
 
 #[test]
 fn filters_are_ordered_by_bytes(rt: HostRuntime) {
-    assert!(rt; are_filters(rt.alloc(), ("#", "+")));
+    assert_eq!(rt; missed_filter(rt.alloc(), ("#", "+")), None);
 }
 
 // Says whether a filter is its own text as a topic, or none.
@@ -141,8 +179,9 @@ fn is_topic_of(alloc: Global, text: &str, wanted: Option<&str>) -> bool {
 // A filter without wildcards is a Topic Name.
 #[test]
 fn bare_filters_are_topics(rt: HostRuntime) {
-    assert!(rt; is_topic_of(rt.alloc(), "sport/tennis", Some("sport/tennis")));
-    assert!(rt; is_topic_of(rt.alloc(), "sport/#", None));
+    for (text, topic) in [("sport/tennis", Some("sport/tennis")), ("sport/#", None)] {
+        assert!(rt; is_topic_of(rt.alloc(), text, topic), "{text}");
+    }
 }
 
 fn is_kind_printed(alloc: Global, kind: MalformedKind, wanted: &str) -> bool {
@@ -153,9 +192,10 @@ fn is_kind_printed(alloc: Global, kind: MalformedKind, wanted: &str) -> bool {
 }
 
 #[test]
-fn kinds_and_their_texts(rt: HostRuntime) {
+fn kinds_have_their_numbers_and_texts(rt: HostRuntime) {
     assert_eq!(rt; MalformedKind::TooDeep.number(), 14);
-    assert!(rt; is_kind_printed(rt.alloc(), MalformedKind::Topic, "topic name"));
+    let is_printed = is_kind_printed(rt.alloc(), MalformedKind::Topic, "topic name");
+    assert!(rt; is_printed, "the kind Topic is printed");
     assert_eq!(rt; MalformedKind::from(AllocError), MalformedKind::Memory);
 }
 

@@ -8,30 +8,47 @@ use topics::MalformedKind;
 /// A text that repeats a part this many times, and its fault.
 type Row<'a> = (&'a str, usize, Option<MalformedKind>);
 
-fn is_filter_fault(alloc: Global, row: Row<'_>) -> bool {
-    let (part, count, fault) = row;
+/// The index of a row, and the fault of its text.
+type Other = (usize, Option<MalformedKind>);
+
+// Returns the fault of a row's text as a Topic Filter; `Memory` also if there is none for the text.
+fn fault_of_filter(alloc: Global, row: Row<'_>) -> Option<MalformedKind> {
+    let (part, count, _) = row;
     match part.repeat(alloc, count) {
-        Ok(text) => filter_fault(alloc, &text) == fault,
-        Err(_) => false,
+        Ok(text) => filter_fault(alloc, &text),
+        Err(_) => Some(MalformedKind::Memory),
     }
 }
 
-fn is_topic_fault(alloc: Global, row: Row<'_>) -> bool {
-    let (part, count, fault) = row;
+// Returns the fault of a row's text as a Topic Name; `Memory` also if there is none for the text.
+fn fault_of_topic(alloc: Global, row: Row<'_>) -> Option<MalformedKind> {
+    let (part, count, _) = row;
     match part.repeat(alloc, count) {
-        Ok(text) => topic_fault(alloc, &text) == fault,
-        Err(_) => false,
+        Ok(text) => topic_fault(alloc, &text),
+        Err(_) => Some(MalformedKind::Memory),
     }
 }
 
 // Returns the first row that is another fault as a Topic Filter.
-fn other_filter(alloc: Global, rows: &[Row<'_>]) -> Option<usize> {
-    rows.iter().position(|row| !is_filter_fault(alloc, *row))
+fn other_filter(alloc: Global, rows: &[Row<'_>]) -> Option<Other> {
+    for (at, row) in rows.iter().enumerate() {
+        let fault = fault_of_filter(alloc, *row);
+        if fault != row.2 {
+            return Some((at, fault));
+        }
+    }
+    None
 }
 
 // Returns the first row that is another fault as a Topic Name.
-fn other_topic(alloc: Global, rows: &[Row<'_>]) -> Option<usize> {
-    rows.iter().position(|row| !is_topic_fault(alloc, *row))
+fn other_topic(alloc: Global, rows: &[Row<'_>]) -> Option<Other> {
+    for (at, row) in rows.iter().enumerate() {
+        let fault = fault_of_topic(alloc, *row);
+        if fault != row.2 {
+            return Some((at, fault));
+        }
+    }
+    None
 }
 
 const LONG_TOPICS: &[Row<'static>] = &[
@@ -72,6 +89,6 @@ fn a_text_has_at_most_32_levels(rt: HostRuntime) {
 }
 
 #[test]
-fn the_deepest_match(rt: HostRuntime) {
+fn the_deepest_filter_matches(rt: HostRuntime) {
     assert_eq!(rt; answer(rt.alloc(), DEEPEST, SLASHES), Some(true));
 }

@@ -2,6 +2,7 @@
 // made, or `Memory` is answered and it is made at the second try; a text that is refused for a
 // fault is refused for it as usual; and a match takes no memory.
 
+use super::asking::{filter_fault, topic_fault};
 use std::alloc::Global;
 use std::test::*;
 use topics::{Filter, MalformedKind, TopicName, matches};
@@ -39,8 +40,9 @@ fn is_match(alloc: Global, filter: &str, topic: &str) -> bool {
 
 #[test]
 fn a_text_is_made_or_memory_is_answered(rt: HostRuntime) {
-    assert!(rt; is_match(rt.alloc(), "t/#", "t/1/2/3"));
-    assert!(rt; is_match(rt.alloc(), "+/+/é", "/a/é"));
+    for (filter, topic) in [("t/#", "t/1/2/3"), ("+/+/é", "/a/é")] {
+        assert!(rt; is_match(rt.alloc(), filter, topic), "{filter}");
+    }
 }
 
 // Texts that are no filter and no topic, each with its fault.
@@ -59,12 +61,33 @@ const NO_TOPICS: &[(&str, MalformedKind)] = &[
     ("/////////////////////////////////", MalformedKind::TooDeep),
 ];
 
-fn are_refused(alloc: Global) -> bool {
-    NO_FILTERS.iter().all(|(text, kind)| Filter::new(alloc, text).err() == Some(*kind))
-        && NO_TOPICS.iter().all(|(text, kind)| TopicName::new(alloc, text).err() == Some(*kind))
+// The index of a row, and the fault of its text.
+type Other = (usize, Option<MalformedKind>);
+
+// Returns the first text that has another fault as a Topic Filter.
+fn other_filter(alloc: Global) -> Option<Other> {
+    for (at, (text, kind)) in NO_FILTERS.iter().enumerate() {
+        let fault = filter_fault(alloc, text);
+        if fault != Some(*kind) {
+            return Some((at, fault));
+        }
+    }
+    None
+}
+
+// Returns the first text that has another fault as a Topic Name.
+fn other_topic(alloc: Global) -> Option<Other> {
+    for (at, (text, kind)) in NO_TOPICS.iter().enumerate() {
+        let fault = topic_fault(alloc, text);
+        if fault != Some(*kind) {
+            return Some((at, fault));
+        }
+    }
+    None
 }
 
 #[test]
 fn a_fault_comes_before_memory(rt: HostRuntime) {
-    assert!(rt; are_refused(rt.alloc()));
+    assert_eq!(rt; other_filter(rt.alloc()), None);
+    assert_eq!(rt; other_topic(rt.alloc()), None);
 }
