@@ -285,54 +285,64 @@ fn handed(alloc: Global, node: &mut NodeCore) -> Vec<u8> {
     out
 }
 
-// Says whether client `a` finds its session at node 2; or, if a loss was counted, finds no session
-// or no node that serves.
-fn finds_session(alloc: Global, one: &mut NodeCore, two: &mut NodeCore) -> bool {
+// How many steps of both nodes ran out of memory, and how many bytes were handed over.
+type Came = (u64, usize);
+
+// Returns what came, if client `a` does not find its session at node 2; or, if a loss was counted,
+// finds another than a session, no session, or no node that serves.
+fn other_than_session(alloc: Global, one: &mut NodeCore, two: &mut NodeCore) -> Option<Came> {
     let appended = connects(alloc, two);
     commits(alloc, one, two, appended);
     settles(alloc, one, two);
     let out = handed(alloc, two);
-    match one.losses().saturating_add(two.losses()) {
+    let losses = one.losses().saturating_add(two.losses());
+    let is_well = match losses {
         0 => out.as_slice() == PRESENT,
         1 => out.is_empty() || out.as_slice() == ACCEPTED || out.as_slice() == PRESENT,
         _ => false,
+    };
+    if is_well {
+        None
+    } else {
+        Some((losses, out.len()))
     }
 }
 
-// Says whether a session moves by a snapshot if one allocation is refused, and at most one step is
-// counted.
-fn goes_over_or_counts(alloc: Global, one: &mut NodeCore, two: &mut NodeCore) -> bool {
+// Returns what came, if a session does not move by a snapshot although no allocation is refused, or
+// more than one step is counted.
+fn other_than_moved(alloc: Global, one: &mut NodeCore, two: &mut NodeCore) -> Option<Came> {
     connects(alloc, one);
     for _ in 0..2 {
         take(alloc, one, Item::Cut);
     }
     let Some(ballot) = ballot_2(alloc, &[1, 2]) else {
-        return true;
+        return None;
     };
     tell(alloc, two, 0, ballot);
     settles(alloc, one, two);
-    finds_session(alloc, one, two)
+    other_than_session(alloc, one, two)
 }
 
-// Says whether it gives its snapshot to a fresh second node, or a refusal is counted. If memory
-// runs out for a node nothing is asked of the other.
-fn is_well_with(alloc: Global, one: &mut NodeCore) -> bool {
+// Returns what came, if it does not give its snapshot to a fresh second node, and no refusal is
+// counted. If memory runs out for a node nothing is asked of the other.
+fn other_with(alloc: Global, one: &mut NodeCore) -> Option<Came> {
     match node_of(alloc, 2, &[1]) {
-        Some(mut two) => goes_over_or_counts(alloc, one, &mut two),
-        None => true,
+        Some(mut two) => other_than_moved(alloc, one, &mut two),
+        None => None,
     }
 }
 
-// Says whether a fresh first node gives its snapshot to a second one, or counts the refusal.
-fn is_well(alloc: Global) -> bool {
+// Returns what came, if a fresh first node does not give its snapshot to a second one, and does not
+// count the refusal.
+fn other_of_fresh(alloc: Global) -> Option<Came> {
     match node_of(alloc, 1, &[1]) {
-        Some(mut one) => is_well_with(alloc, &mut one),
-        None => true,
+        Some(mut one) => other_with(alloc, &mut one),
+        None => None,
     }
 }
 
 // Run with each allocation failing in turn.
 #[test]
 fn a_refused_snapshot_is_counted(rt: HostRuntime) {
-    assert!(rt; is_well(rt.alloc()));
+    assert_eq!(rt; other_of_fresh(rt.alloc()), None);
 }

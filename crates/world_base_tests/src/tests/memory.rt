@@ -115,24 +115,34 @@ fn has_no_gap(subscriber: &Seen, publisher: &Seen) -> bool {
     subscriber_is_well && publisher_is_well
 }
 
-fn is_whole_or_counted(alloc: Global, node: &mut NodeCore) -> bool {
+// How many steps ran out of memory, and how many bytes came to the subscriber and the publisher.
+type Came = (u64, usize, usize);
+
+// Returns what came, if it has a gap, or something is closed although nothing was lost.
+fn other_than_whole(alloc: Global, node: &mut NodeCore) -> Option<Came> {
     let (subscriber, publisher) = rows_seen(alloc, node);
-    match node.losses() {
+    let losses = node.losses();
+    let is_well = match losses {
         0 => subscriber.open && publisher.open && has_no_gap(&subscriber, &publisher),
         1 => has_no_gap(&subscriber, &publisher),
         _ => false,
+    };
+    if is_well {
+        None
+    } else {
+        Some((losses, subscriber.bytes.len(), publisher.bytes.len()))
     }
 }
 
 // If memory runs out for a node nothing is asked of it.
-fn is_well(alloc: Global) -> bool {
+fn other_of_fresh(alloc: Global) -> Option<Came> {
     match primary(alloc, &[1]) {
-        Some(mut node) => is_whole_or_counted(alloc, &mut node),
-        None => true,
+        Some(mut node) => other_than_whole(alloc, &mut node),
+        None => None,
     }
 }
 
 #[test]
 fn a_refused_growth_is_counted_and_leaves_no_gap(rt: HostRuntime) {
-    assert!(rt; is_well(rt.alloc()));
+    assert_eq!(rt; other_of_fresh(rt.alloc()), None);
 }

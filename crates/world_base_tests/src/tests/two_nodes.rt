@@ -84,31 +84,42 @@ fn agree(alloc: Global, primary: &mut NodeCore, backup: &mut NodeCore) -> Option
     commit(alloc, primary, held)
 }
 
-// Says whether the messages and bytes of a CONNECT are these.
-fn waits_for_both(alloc: Global, primary: &mut NodeCore, backup: &mut NodeCore) -> bool {
+// Returns the first of these that is not so of the messages and bytes of a CONNECT.
+fn missed_by_both(
+    alloc: Global,
+    primary: &mut NodeCore,
+    backup: &mut NodeCore,
+) -> Option<&'static str> {
     let Some(committed) = agree(alloc, primary, backup) else {
-        return false;
+        return Some("Append, Held and Commit are sent, and the answer with the Commit");
     };
-    is_silent(alloc, backup, committed) && primary.losses() == 0 && backup.losses() == 0
-}
-
-// Says whether the messages and bytes are these with a fresh backup. Each node has an owner of its
-// own, which has one way on which it drops it.
-fn waits_for_fresh(alloc: Global, primary: &mut NodeCore) -> bool {
-    match node_of(alloc, 2, &[1, 2]) {
-        Some(mut backup) => waits_for_both(alloc, primary, &mut backup),
-        None => false,
+    if !is_silent(alloc, backup, committed) {
+        Some("the backup has nothing to say to the Commit")
+    } else if primary.losses() != 0 || backup.losses() != 0 {
+        Some("no step ran out of memory")
+    } else {
+        None
     }
 }
 
-fn is_told(alloc: Global) -> bool {
+// Returns the first that is not so with a fresh backup. Each node has an owner of its own, which
+// has one way on which it drops it.
+fn missed_with_fresh(alloc: Global, primary: &mut NodeCore) -> Option<&'static str> {
+    match node_of(alloc, 2, &[1, 2]) {
+        Some(mut backup) => missed_by_both(alloc, primary, &mut backup),
+        None => Some("there is memory for the backup"),
+    }
+}
+
+// Returns the first that is not so of two fresh nodes.
+fn missed_by_fresh(alloc: Global) -> Option<&'static str> {
     match node_of(alloc, 1, &[1, 2]) {
-        Some(mut primary) => waits_for_fresh(alloc, &mut primary),
-        None => false,
+        Some(mut primary) => missed_with_fresh(alloc, &mut primary),
+        None => Some("there is memory for the primary"),
     }
 }
 
 #[test]
 fn the_answer_waits_for_the_backup(rt: HostRuntime) {
-    assert!(rt; is_told(rt.alloc()));
+    assert_eq!(rt; missed_by_fresh(rt.alloc()), None);
 }
