@@ -14,7 +14,7 @@ ghost use Rattle.ballot_base.specs.Serving.{added, commit_at, max_places, propos
 use crate::error::{OpeningError, ProposeError};
 use ballot_base::machine::{Halted, Machine};
 use ballot_base::{
-    Config, Effect, Log, Members, Progress, Role, Status, apply_places, least_held,
+    Config, Effect, Log, MAX_NODE, Members, Progress, Role, Status, apply_places, least_held,
     progress_of_others, send_appends, send_commits,
 };
 use std::alloc::Global;
@@ -103,7 +103,7 @@ impl<M: Machine> Replica<M> {
     /// Opens node `id` in ballot 1: its members begin with an empty log, its primary is active.
     pub fn new(alloc: Global, id: u8, config: &Config) -> Result<Replica<M>, OpeningError>
         requires low { 1 ≤ id }
-        requires high { id ≤ 15 }
+        requires high { id ≤ MAX_NODE }
         ensures ok { IfOk result (λ replica.
             replica ≡ record {
               state = opening M.rules id config.now;

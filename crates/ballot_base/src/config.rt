@@ -7,6 +7,9 @@ use machine::Memory;
 use std::alloc::Global;
 use std::marker::Model;
 
+/// The greatest number of a node.
+pub const MAX_NODE: u8 = 15;
+
 /// The numbers of nodes, in the order in which they were given.
 #[derive(Drop)]
 pub struct Members {
@@ -64,7 +67,7 @@ impl Config {
         let members = self.members.as_slice();
         let mut last = 0;
         for member in members {
-            if *member <= last || *member > 15 {
+            if *member <= last || *member > MAX_NODE {
                 return false;
             }
             last = *member;

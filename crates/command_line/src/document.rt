@@ -16,7 +16,10 @@ use std::alloc::Global;
 use std::collections::btree_map::Iter;
 use toml::{Table, Value};
 
-/// Returns the table of nodes in a document, with numbers of at most 15.
+// The greatest number of a node, as an integer of TOML.
+const MAX_NODE: i64 = ballot_base::MAX_NODE as i64;
+
+/// Returns the table of nodes in a document, with no number above the greatest of a node.
 pub(crate) fn document_table(alloc: Global, document: &Table) -> Result<NodeTable, TableFault>
     ensures value { IfOk result (λ t. table_view document.now ≡ document_of t) }
     ensures shape { IsErrOf result TableFault.Shape → (t : NodeTable) → IsSmall t
@@ -53,20 +56,20 @@ fn next_value<'a>(entries: &mut Iter<'a, String, Value>, key: &str) -> Option<&'
     }
 }
 
-// Returns a number from 0 to 15.
+// Returns a number from 0 to the greatest of a node.
 fn small_number(value: &Value) -> Option<u8>
     ensures some { IfSome result (λ n. view value.now ≡ number n) }
     ensures none { IsNone result → (n : ℕ) → is_small n ≡ true → view value.now ≡ number n → ⊥ }
 {
     let number = value.as_integer()?;
-    if 0 <= number && number <= 15 {
+    if 0 <= number && number <= MAX_NODE {
         Some(number as u8)
     } else {
         None
     }
 }
 
-// Returns a list of numbers from 0 to 15.
+// Returns a list of numbers from 0 to the greatest of a node.
 fn numbers_of(alloc: Global, value: &Value) -> Result<Members, TableFault>
     ensures value { IfOk result (λ numbers. view value.now ≡ list_data number numbers) }
     ensures shape { IsErrOf result TableFault.Shape → (ns : List ℕ) → list_all is_small ns ≡ true

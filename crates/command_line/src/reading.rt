@@ -8,6 +8,7 @@ ghost use Rattle.command_line.specs.Tables.{Says, are_told_apart, has, is_lawful
 use crate::document::document_table;
 use crate::fault::TableFault;
 use crate::node_table::{ListeningNode, NodeTable};
+use ballot_base::MAX_NODE;
 use std::alloc::Global;
 
 /// Reads the table of nodes from a TOML document. [`TableFault::Shape`] comes exactly if the text
@@ -38,14 +39,14 @@ fn is_lawful(read: &NodeTable) -> bool
         && (are_nodes(nodes, read.config.members.as_slice()) && read.config.is_lawful())
 }
 
-// Says whether each number is from 1 to 15, and none occurs twice.
+// Says whether each number is from 1 to the greatest, and none occurs twice.
 fn are_told_apart(nodes: &[ListeningNode]) -> bool
     ensures { result ≡ are_told_apart nodes.now }
 {
     let Some((node, others)) = nodes.split_first() else {
         return true;
     };
-    (1 <= node.id && node.id <= 15) && (!has(others, node.id) && are_told_apart(others))
+    (1 <= node.id && node.id <= MAX_NODE) && (!has(others, node.id) && are_told_apart(others))
 }
 
 // Says whether each of these is a node.

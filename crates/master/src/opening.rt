@@ -4,13 +4,13 @@ ghost use Rattle.std.specs.Prelude.{◌≡◌, nat_le};
 ghost use Rattle.std.specs.List.{list_all};
 ghost use Rattle.snapshots.specs.agreement.World.{can_open};
 
-use ballot::Config;
+use ballot::{Config, MAX_NODE};
 
 /// Says whether this many nodes may open in a configuration.
 pub fn can_open(nodes: u8, config: &Config) -> bool
     ensures { result ≡ can_open nodes config.now }
 {
-    nodes <= 15 && (config.is_lawful() && are_nodes(config.members.as_slice(), nodes))
+    nodes <= MAX_NODE && (config.is_lawful() && are_nodes(config.members.as_slice(), nodes))
 }
 
 // Says whether members are among the nodes.

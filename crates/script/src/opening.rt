@@ -23,8 +23,8 @@ pub struct Opening {
     pub clients: Vec<ClientId>,
 }
 
-/// The greatest number of a node.
-const MAX_NODE: u64 = 15;
+/// The greatest number of a node, as a number of a script.
+const MAX_NODE: u64 = ballot_base::MAX_NODE as u64;
 
 /// Returns the world that the fields of the first line open.
 pub(crate) fn opening_of(alloc: Global, fields: &[&str]) -> Result<Opening, FieldFault>
@@ -86,7 +86,7 @@ fn are_nodes(count: u64, members: &[u64]) -> bool
     members.iter().all(|member| *member <= count)
 }
 
-// Returns the members if all numbers are at most 15.
+// Returns the members. Each number is at most the greatest of a node.
 fn small_members(alloc: Global, members: &[u64]) -> Result<Members, FieldFault>
     requires { list_all is_small members.now ≡ true }
     ensures value { IfOk result (λ small. small ≡ members.now) }

@@ -5,12 +5,12 @@ ghost use Rattle.node_threads.specs.Named.{AreNamed};
 ghost use Rattle.server.specs.Opening.{first_in, inbox_among};
 
 use node_threads::post::mailbox::Inbox;
-use node_threads::post::node::{Config, NodeCore, OpeningError};
+use node_threads::post::node::{Config, MAX_NODE, NodeCore, OpeningError};
 use node_threads::{NodeContexts, Opened};
 use std::alloc::Global;
 
-/// One more than the highest number of a node.
-const NUMBERS_END: u8 = 16;
+/// One more than the greatest number of a node.
+const NUMBERS_END: u8 = MAX_NODE + 1;
 
 /// Opens the nodes of all listeners, each as the one of its listener's number, in rising order.
 /// `BadMembers` comes if two listeners have one number, if a number is outside 1 to 15, and if no
@@ -40,7 +40,7 @@ pub(crate) fn open_all(
 // Opens the node of a number.
 fn open(alloc: Global, number: u8, config: &Config) -> Result<Opened, OpeningError>
     requires low { 1 ≤ number }
-    requires high { number ≤ 15 }
+    requires high { number ≤ MAX_NODE }
     ensures number { IfOk result (λ opened. opened.number ≡ number) }
     ensures core { IfOk result (λ opened. opened.core ≡ first_in config.now number) }
 {

@@ -12,7 +12,9 @@ mod stepping_node;
 mod taking;
 
 pub use ballot;
-pub use ballot::{Body, Config, Effect, Members, Memory, Message, OpeningError, Status, machine};
+pub use ballot::{
+    Body, Config, Effect, MAX_NODE, Members, Memory, Message, OpeningError, Status, machine,
+};
 pub use broker;
 pub use broker::BrokerMachine;
 pub use item::Item;

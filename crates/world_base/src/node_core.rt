@@ -18,7 +18,7 @@ ghost use Rattle.world_base.specs.Losses.{DoesNothing, Stepped};
 
 use crate::item::Item;
 use crate::stepping_node::SteppingNode;
-use ballot::{Config, Effect, Memory, Message, OpeningError, Status};
+use ballot::{Config, Effect, MAX_NODE, Memory, Message, OpeningError, Status};
 use node_connections::broker_spec::{Command, Output};
 use node_connections::{Handed, Port, Standing};
 use std::alloc::Global;
@@ -44,7 +44,7 @@ impl NodeCore {
     /// Opens node `id` in ballot 1, whose members and primary are given.
     pub fn new(alloc: Global, id: u8, config: &Config) -> Result<NodeCore, OpeningError>
         requires low { 1 ≤ id }
-        requires high { id ≤ 15 }
+        requires high { id ≤ MAX_NODE }
         ensures ok { IfOk result (λ node.
             node ≡ record { core = opening_core id config.now; losses = 0 }) }
         ensures bad { IsErrOf result OpeningError.BadMembers

@@ -16,7 +16,7 @@ ghost use Rattle.world_base.specs.Reading.{changes, open_at, refused, unread_of}
 ghost use Rattle.world_base.specs.Step.{accepted, accepts, next_name, opens, settled};
 ghost use Rattle.world_base.specs.Turns.{changes_named, has_room};
 
-use ballot::{Config, MAX_PLACES, OpeningError, Replica, Status};
+use ballot::{Config, MAX_NODE, MAX_PLACES, OpeningError, Replica, Status};
 use broker::BrokerMachine;
 use node_connections::broker_spec::{Command, ConnectionId};
 use node_connections::packet::{Packet, RefusalCode};
@@ -61,7 +61,7 @@ impl SteppingNode {
     /// Opens node `id` in ballot 1, with no connection.
     pub fn new(alloc: Global, id: u8, config: &Config) -> Result<SteppingNode, OpeningError>
         requires low { 1 ≤ id }
-        requires high { id ≤ 15 }
+        requires high { id ≤ MAX_NODE }
         ensures ok { IfOk result (λ serving.
             serving ≡ record { core = opening_core id config.now; out_of_memory = false }) }
         ensures bad { IsErrOf result OpeningError.BadMembers
