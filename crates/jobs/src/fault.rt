@@ -6,7 +6,7 @@ ghost use Rattle.jobs.specs.Faults.{status_of};
 use command_line::TableFault;
 use play::PlayError;
 use play::user_client::ClientFault;
-use server::{Memory, ServeError};
+use server::{Memory, ServeError, THREADS};
 use std::alloc::{AllocError, AllocFailed};
 use std::io::ErrorKind;
 use thiserror::Error;
@@ -27,7 +27,7 @@ pub enum Fault {
     #[error("the clock could not be read")]
     Clock,
     /// Fewer threads could be started than the nodes need.
-    #[error("too few threads could be started: a node needs 63")]
+    #[error("too few threads could be started: a node needs {count}", count = THREADS)]
     Threads,
     /// Fewer files can be open at once than the nodes need.
     #[error("too few files can be open at once: {0} more are needed (ulimit -n)")]
