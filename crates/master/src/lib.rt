@@ -21,6 +21,7 @@ pub use error::AssignError;
 pub use event::{Event, Idle};
 pub use group::Group;
 pub use master::{MAX_BALLOT, Master};
+pub use opening::can_open;
 pub use recording::record;
 pub use sending::{answer_of, asks_for, send};
 pub use told::{Told, turn_over};

@@ -7,7 +7,6 @@ mod asking;
 mod counters;
 mod keeping;
 mod nodes;
-mod opening;
 mod turning;
 
 pub use master;

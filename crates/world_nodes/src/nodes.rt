@@ -15,12 +15,11 @@ ghost use Rattle.world_nodes.specs.HandingOver.{HandsIn};
 ghost use Rattle.world_nodes.specs.GroupSteps.{ActsOrRests, ComesOrRests, MasterGoesOrRests};
 
 use crate::counters::Counters;
-use crate::opening::can_open;
 use byte_world::packet::ClientId;
 use byte_world::world_base::{
     BrokerMachine, Command, Config, Handed, Item, Message, NodeCore, OpeningError, Piece, Port,
 };
-use master::{Idle, Master, asks_for, copy_of};
+use master::{Idle, Master, asks_for, can_open, copy_of};
 use std::alloc::Global;
 use std::marker::Model;
 
