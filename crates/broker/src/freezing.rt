@@ -19,7 +19,7 @@ use session_base::{write_number, write_payload, write_text};
 use std::alloc::AllocError;
 use std::collections::BTreeMap;
 
-// The number of the form.
+/// The number of the form.
 const FORM: u8 = 2;
 
 /// Appends the bytes of the tables. If memory runs out nothing is appended.

@@ -16,7 +16,7 @@ use std::alloc::Global;
 use std::collections::btree_map::Iter;
 use toml::{Table, Value};
 
-// The greatest number of a node, as an integer of TOML.
+/// The greatest number of a node, as an integer of TOML.
 const MAX_NODE: i64 = ballot_base::MAX_NODE as i64;
 
 /// Returns the table of nodes in a document, with no number above the greatest of a node.

@@ -20,7 +20,7 @@ use std::alloc::Global;
 use std::io::{BufRead, Write};
 use std::rt::Files;
 
-// The number by which a word is refused that is no list of members.
+/// The number by which a word is refused that is no list of members.
 const BAD_MEMBERS: u8 = 20;
 
 /// Plays the script of a file, or of the input if no file is named, and writes its transcript, or a

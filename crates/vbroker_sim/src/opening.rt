@@ -4,7 +4,7 @@ use sim_looks::packet::ClientId;
 use std::alloc::{AllocError, Global};
 use world::{Config, Members, World};
 
-// The identifiers of the clients of a run.
+/// The identifiers of the clients of a run.
 const NAMES: [&str; 8] = ["a", "b", "c", "d", "e", "f", "g", "h"];
 
 /// A world in which a run begins: how many nodes it has, how many of them are members of ballot 1

@@ -8,10 +8,10 @@ use sim_looks::topics::{Filter, TopicName};
 use std::alloc::Global;
 use world::Event;
 
-// The topics of a run.
+/// The topics of a run.
 const TOPICS: [&str; 4] = ["t/1", "t/2", "u", "t/1/x"];
 
-// The filters of a run.
+/// The filters of a run.
 const FILTERS: [&str; 8] = ["t/#", "#", "t/1", "t/#", "t/+", "#", "+", "+/1/#"];
 
 /// Draws a subscription. None if it ran out of memory.

@@ -20,7 +20,7 @@ use headline::world_base::{Config, Members, Memory};
 use std::alloc::Global;
 use world_events::{EscapeError, Event, push_answers, push_client, push_group};
 
-// More messages than any memory holds.
+/// More messages than any memory holds.
 const MAX_MESSAGES: u64 = 4_611_686_018_427_387_904;
 
 impl World {
