@@ -43,17 +43,17 @@ Does outcome old (Ok done) new = (outcome.refusal ≡ None) × IsDone outcome ol
 Does outcome old (Err errors.Memory) new = new ≡ old
 Does outcome old (Err cause) new = (outcome.refusal ≡ Some cause) × (new ≡ old)
 
--- its connection is lost: what it wrote stays, what it has not read is dropped
+-- the client loses its connection: what it wrote stays, what it has not read is dropped
 abbrev pub gone : Core → Core
 gone core = record core { state = lost core.state; unread = nothing_read }
 
--- it opens a connection: CONNECT is the first that is written on it
+-- the client opens a connection: CONNECT is the first that is written on it
 abbrev pub Opens : ClientOutcome → Core → Result (Unit {0}) ClientError → Core → Type 0
 Opens outcome old (Ok done) new =
     (new.state ≡ outcome.state) × AppendsAll [] new.out outcome.writes × (new.unread ≡ nothing_read)
 Opens outcome old (Err cause) new = (cause ≡ errors.Memory) × (new ≡ old)
 
--- it disconnects: like a call, and what it has not read is dropped
+-- the client disconnects: like a call, and what it has not read is dropped
 abbrev pub Leaves : ClientOutcome → Core → Result (Unit {0}) ClientError → Core → Type 0
 Leaves outcome old (Ok done) new =
     (outcome.refusal ≡ None) × (new.state ≡ outcome.state)
@@ -62,7 +62,7 @@ Leaves outcome old (Ok done) new =
 Leaves outcome old (Err errors.Memory) new = new ≡ old
 Leaves outcome old (Err cause) new = (outcome.refusal ≡ Some cause) × (new ≡ old)
 
--- what it accepted is taken out
+-- what the client accepted is taken out
 abbrev pub without_accepted : Core → Core
 without_accepted core = record core { state = record core.state { accepted = [] } }
 

@@ -28,7 +28,7 @@ impl ClientCore {
     /// at once if the client is online, otherwise after the next CONNACK. In this order:
     /// `WindowFull` comes exactly if at QoS 1 or 2 sixty-four publications are kept or no
     /// identifier is free. `NotActive` comes if the client is offline at QoS 0, `TooLarge` if the
-    /// packet would be over the size limit. A refusal changes nothing.
+    /// packet would be over the size limit, `Memory` if memory runs out. A refusal changes nothing.
     pub fn publish(
         &mut self,
         topic: TopicName,
