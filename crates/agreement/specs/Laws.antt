@@ -24,7 +24,7 @@ HasAgreed {S} {C} {O} rules =
     (config : Config) (a : Moment S C O) (past : List (Moment S C O)) →
     Past rules config (a ∷ past) → (xs : List C) × IsAgreed config (a ∷ past) xs
 
--- the nodes agree on it, one of them, a member of the active ballot, holds it, and what left is its
+-- the nodes agree on each agreed list, a member of the active ballot holds it, and what left is its
 -- answers in order
 abbrev pub NodesAgree : {S C O : Type 0} → Rules S C O → Type 0
 NodesAgree {S} {C} {O} rules =
@@ -65,7 +65,7 @@ pub record StandsAtOnce {S C O : Type 0} {rules : Rules S C O} {m : MasterState}
   pub refused : taken_in step ≡ [] → (row : ℕ × C) → In row (proposal_of step) →
       (n : ℕ) → log_of (slice_get v.nodes n) ≡ log_of (slice_get w.nodes n)
 
--- that holds in each step
+-- in each step, what is taken stands at the end of a log at once (`StandsAtOnce`)
 abbrev pub TakenStandAtOnce : {S C O : Type 0} → Rules S C O → Type 0
 TakenStandAtOnce {S} {C} {O} rules =
     (m : MasterState) (w : World S C O) (k : MasterState) (v : World S C O) →

@@ -12,12 +12,12 @@ use Rattle.agreement.specs.Steps.{MayHappen}
 use Rattle.agreement.specs.MasterState.{MasterState, opening_master}
 use Rattle.agreement.specs.World.{World, can_open, moved, opening_world}
 
--- the master and the world
+-- a moment of a group: the master and the world
 pub record Moment (S C O : Type 0) : Type 0 where
   pub master : MasterState
   pub world : World S C O
 
--- as it opens
+-- the moment at which a group opens
 abbrev pub opening_moment : {S C O : Type 0} → Rules S C O → ℕ → Config → Moment S C O
 opening_moment rules nodes config =
     record { master = opening_master config; world = opening_world rules nodes config }

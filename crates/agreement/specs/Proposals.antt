@@ -39,7 +39,7 @@ proposals_of (began nodes lawful is) = []
 proposals_of (went_on came step) = proposals_of came ++ proposal_of step
 proposals_of (learned came learns) = proposals_of came
 
--- what the node takes of it: its log is longer after the step
+-- what a node takes of an input: its log is longer after the step
 abbrev pub taken_by : {S C : Type 0} → ReplicaState S C → ReplicaState S C → Input C → List (ℕ × C)
 taken_by old new input =
     if nat_lt (length old.log) (length new.log) then proposal_by old input else []

@@ -4,11 +4,11 @@ use Rattle.whole.specs.machine.Machine.{Rules, replay}
 use Rattle.whole.specs.Replica.{ReplicaState}
 use Rattle.agreement.specs.World.{World}
 
--- of one node
+-- the machine of one replica is the replay of the places that it applied
 abbrev pub IsReplay : {S C O : Type 0} → Rules S C O → ReplicaState S C → Type 0
 IsReplay rules r = r.machine ≡ replay rules (take r.committed r.log)
 
--- of each that has not stopped
+-- the machine of each replica that has not stopped is the replay of the places that it applied
 abbrev pub AreReplays : {S C O : Type 0} → Rules S C O → World S C O → Type 0
 AreReplays {S} {C} rules w =
     (n : ℕ) (r : ReplicaState S C) → slice_get w.nodes n ≡ Some r → r.stopped ≡ false →

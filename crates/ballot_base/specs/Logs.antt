@@ -12,7 +12,7 @@ pub record Log (C : Type 0) : Type 0 where
 abbrev pub empty_log : (C : Type 0) → Log C
 empty_log C = record { base = 0; snapshot = []; rest = [] }
 
--- how many places it has, counted from 0
+-- how many places a log has, counted from 0
 abbrev pub places : {C : Type 0} → Log C → ℕ
 places log = log.base + length log.rest
 

@@ -43,21 +43,21 @@ is_active Fetching = false
 is_active Installing = false
 is_active Active = true
 
--- whether it is that of a backup
+-- whether a role is that of a backup
 abbrev pub is_backup : Role → Bool
 is_backup Backup = true
 is_backup Fetching = false
 is_backup Installing = false
 is_backup Active = false
 
--- whether it is that of a new primary that asks for logs
+-- whether a role is that of a new primary that asks for logs
 abbrev pub is_fetching : Role → Bool
 is_fetching Backup = false
 is_fetching Fetching = true
 is_fetching Installing = false
 is_fetching Active = false
 
--- whether it is that of one that sends its log
+-- whether a role is that of a new primary that sends its log
 abbrev pub is_installing : Role → Bool
 is_installing Backup = false
 is_installing Fetching = false

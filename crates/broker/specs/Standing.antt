@@ -53,8 +53,8 @@ GoesOnStanding =
     × (answers state command
     ≡ answers_of (limits_from first) (past_of (limits_from first) commands) command)
 
--- what such a state was frozen to in form 1, before any Start, is read as a state that corresponds
--- to the same list with the narrow window at first
+-- what a state with the narrow window was frozen to in form 1, before any Start, is read as a state
+-- that corresponds to the same list with the narrow window at first
 abbrev pub GoesOnFromFormOne : Type 0
 GoesOnFromFormOne =
     (state : State) → (commands : List Command) → IsUsualState state →

@@ -36,7 +36,7 @@ HasQuietQueue window kept =
     (kept.connection ≡ None)
     ⊎ IsQuietQueue window kept.state.queue.in_flight kept.state.queue.waiting
 
--- no more of its entries are in flight than the window allows
+-- no more entries of a session are in flight than the window allows
 abbrev pub FitsWindow : ℕ → ClientSession → Type 0
 FitsWindow window kept = length kept.state.queue.in_flight ≤ window
 
@@ -58,7 +58,7 @@ AllInWindow window rows = AllByRecursion (λ row. FitsWindow window row.1) rows
 abbrev pub AreByClient : Sessions → Type 0
 AreByClient rows = IsStrictlySortedBy by_bytes (keys_of rows)
 
--- x is not the connection of any of these
+-- x is not the connection of any of these sessions
 abbrev pub IsNobodys : ConnectionName → Sessions → Type 0
 IsNobodys x (row ∷ rows) =
     (any_connection (same_connection x) row.1.connection ≡ false) × IsNobodys x rows
@@ -78,7 +78,7 @@ pub record IsSound (state : State) : Type 0 where
   pub apart : AreApart state.sessions
   pub sessions : AllSound state.sessions
 
--- a step preserves it
+-- a step keeps a state sound
 abbrev pub StaysSound : Type 0
 StaysSound =
     (limits : Limits) → (later : ℕ) → (state : State) → (command : Command) → IsSound state →

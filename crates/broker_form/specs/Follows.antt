@@ -14,7 +14,7 @@ abbrev pub is_after : {X : Type 0} → Option (List ℕ × X) → List ℕ → B
 is_after (Some last) key = is_lt (by_bytes last.0 key)
 is_after None key = true
 
--- the connection is that of one of these
+-- the connection, if there is one, is that of one of these sessions
 abbrev pub is_taken : Sessions → Option ConnectionName → Bool
 is_taken rows (Some x) = is_some (owner_in x rows)
 is_taken rows None = false

@@ -79,7 +79,7 @@ retained_at bytes = do
 
 -- ---- the broker
 
--- form 2 names its window, one of the two
+-- form 2 names its window, 16 or 64
 unfoldable pub size_at : List ℕ → Result (ℕ × List ℕ) Stop
 size_at bytes = do
   size ← byte_at bytes

@@ -23,7 +23,7 @@ session_of_a window connection = record {
   retained = [];
 }
 
--- its bytes, after those of the head
+-- the bytes of the session of `a`, on connection 1 of ballot 1, after those of the head
 abbrev pub content_of_a : List ℕ
 content_of_a =
     0 ∷ 1 ∷ 0 ∷ 1 ∷ 0x61 ∷ 0 ∷ 1 ∷ 0 ∷ 0 ∷ 0 ∷ 0 ∷ 0 ∷ 0 ∷ 0 ∷ 1 ∷ 0 ∷ 0 ∷ 0 ∷ 0 ∷ 0 ∷ 0 ∷ 0 ∷ 1
@@ -33,7 +33,7 @@ content_of_a =
 abbrev pub FreshIsFrozen : Type 0
 FreshIsFrozen = frozen (empty_state 64) ≡ 0x02 ∷ 0x40 ∷ no_content
 
--- it is frozen to form 2
+-- the session of `a`, on connection 1 of ballot 1, is frozen to form 2
 abbrev pub OneSessionIsFrozen : Type 0
 OneSessionIsFrozen =
     frozen (session_of_a 64 (Some (record { ballot = 1; count = 1 }))) ≡ 0x02 ∷ 0x40 ∷ content_of_a
@@ -56,7 +56,7 @@ OneSessionGoesOn =
     (commands.Start 2)).0
     ≡ 0x02 ∷ 0x40 ∷ 0 ∷ 1 ∷ 0 ∷ 1 ∷ 0x61 ∷ 0 ∷ 0 ∷ 0 ∷ 0 ∷ 0 ∷ 0 ∷ 0 ∷ 0 ∷ 0 ∷ 0 ∷ 0 ∷ [])
 
--- there is no other window, and no other form
+-- a window of 32 is refused, and so is a form 3
 abbrev pub OthersAreRefused : Type 0
 OthersAreRefused =
     (thawed (0x02 ∷ 0x20 ∷ no_content) ≡ None) × (thawed (0x03 ∷ 0x40 ∷ no_content) ≡ None)

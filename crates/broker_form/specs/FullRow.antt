@@ -42,7 +42,7 @@ topics_by_hand =
 abbrev pub full_content : List ℕ
 full_content = client_by_hand ++ full_session_by_hand ++ topics_by_hand
 
--- the state is frozen to them in both forms
+-- the full state is frozen to a head and the full content, in both forms
 abbrev pub FullIsFrozen : Type 0
 FullIsFrozen =
     (frozen (full_state 64) ≡ 0x02 ∷ 0x40 ∷ full_content)

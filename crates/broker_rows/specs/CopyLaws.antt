@@ -73,14 +73,14 @@ granted_in_turn limits window content held (new ∷ more) =
     ∷ granted_in_turn limits window content (subscribed_by limits window content held new) more
 granted_in_turn limits window content held [] = []
 
--- the session after all of them
+-- the session after all filters of a SUBSCRIBE, one after another
 abbrev pub subscribed_in_turn : Limits → ℕ → RetainedTopics → SessionState → List Subscription →
     SessionState
 subscribed_in_turn limits window content held (new ∷ more) =
     subscribed_in_turn limits window content (subscribed_by limits window content held new) more
 subscribed_in_turn limits window content held [] = held
 
--- the packets of all of them
+-- the packets that are sent for all filters of a SUBSCRIBE, one after another
 abbrev pub sent_in_turn : Limits → ℕ → RetainedTopics → SessionState → List Subscription →
     List Packet
 sent_in_turn limits window content held (new ∷ more) =

@@ -27,7 +27,7 @@ NobodysExpelStep =
     (limits : Limits) → (later : ℕ) → (state : State) → (c : Client) →
     session_in c state.sessions ≡ None → step limits later state (commands.Expel c) ≡ (state, [])
 
--- in the map of connections its connection, if it has one, is removed
+-- an Expel removes the client's connection, if it has one, from the map of connections
 abbrev pub ExpelRemovesTheOwner : Type 0
 ExpelRemovesTheOwner =
     (state : State) → (c : Client) → (kept : ClientSession) → IsSound state →

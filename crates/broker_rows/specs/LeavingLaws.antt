@@ -23,7 +23,7 @@ LeavingStep =
     step limits later state (commands.Packet x packet)
     ≡ (with_session c (left_off kept) state, Close x ∷ [])
 
--- a further Connect on it, of any client, closes it too
+-- a further Connect on a served client's connection closes it, whichever client it names
 abbrev pub FurtherConnectStep : Type 0
 FurtherConnectStep =
     (limits : Limits) → (later : ℕ) → (state : State) → (x : ConnectionName) → (c : Client) →
@@ -32,7 +32,7 @@ FurtherConnectStep =
     step limits later state (commands.Connect x named clean)
     ≡ (with_session c (left_off kept) state, Close x ∷ [])
 
--- its loss has no answer
+-- the loss of a served client's connection has no answer
 abbrev pub LostStep : Type 0
 LostStep =
     (limits : Limits) → (later : ℕ) → (state : State) → (x : ConnectionName) → (c : Client) →

@@ -24,7 +24,7 @@ WritingKeepsOwners =
     new.connection ≡ old.connection → (y : ConnectionName) →
     owners_in (written c (Some new) rows) y ≡ owners_in rows y
 
--- if a served client's connection ends, it is removed
+-- if a served client's connection ends, it is removed from the map
 abbrev pub LeavingRemovesTheOwner : Type 0
 LeavingRemovesTheOwner =
     (state : State) → (x : ConnectionName) → (c : Client) → (kept : ClientSession) →

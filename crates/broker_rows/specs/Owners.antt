@@ -9,7 +9,7 @@ use Rattle.broker_base.specs.State.{Sessions, session_in, owner_in}
 abbrev pub Owners : Type 0
 Owners = ConnectionName → Option Client
 
--- those of these sessions
+-- the map that these sessions make: at each connection the client whose current one it is
 abbrev pub owners_in : Sessions → Owners
 owners_in sessions x = option_map (λ (row : Client × ClientSession). row.0) (owner_in x sessions)
 

@@ -67,8 +67,8 @@ subscribed_to window content granted held =
     with_filters (with_subscriptions (map as_held granted) held.subscriptions)
     (with_queue (copies_left window (copies_for_all content granted) held.queue) held)
 
--- the packets that answer a SUBSCRIBE if these of its filters are granted: SUBACK, then those
--- copies (MQTT 3.8.4)
+-- the packets that answer a SUBSCRIBE if these of its filters are granted: SUBACK, then the copies
+-- of what is retained (MQTT 3.8.4)
 abbrev pub subscribe_answers : ℕ → RetainedTopics → Subscribe → List Bool → SessionState →
     List Packet
 subscribe_answers window content s which held =

@@ -72,7 +72,7 @@ HaveRoomInTurn limits window p (row ∷ granted) rows =
     × HaveRoomInTurn limits window p granted (changed row.0 (delivered_on window p row.1) rows)
 HaveRoomInTurn limits window p [] rows = Unit {0}
 
--- that holds if none is full before: no copy of a taken publication finds its queue full
+-- if no granted session is full beforehand, no copy of a taken publication finds its queue full
 abbrev pub RoomLastsToItsTurn : Type 0
 RoomLastsToItsTurn =
     (limits : Limits) → (window : ℕ) → (p : Publication) → (c : Client) → (delivery : Delivery) →
@@ -84,8 +84,8 @@ RoomLastsToItsTurn =
 
 -- ---- one session changed
 
--- it is written in its place if it is found; nothing changes if there is none or the change leaves
--- it as it is
+-- a change of a client's session writes it in its place; nothing changes if there is no session, or
+-- if the change leaves it as it is
 abbrev pub ChangeIsOfOneRow : Type 0
 ChangeIsOfOneRow =
     (d : Client) → (change : ClientSession → ClientSession) → (rows : Sessions) →

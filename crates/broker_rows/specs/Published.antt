@@ -55,20 +55,20 @@ all_delivered window p granted sessions =
 
 -- ---- room and answers, of a granted row's session
 
--- whether it would have to queue the publication and is full
+-- whether a granted session, if there is one, would have to queue the publication and is full
 abbrev pub is_full_at : Limits → Publication → QoS → Option ClientSession → Bool
 is_full_at limits p qos (Some kept) =
     is_answered (lower_qos p.qos qos) && (room limits.entries kept.state.queue == 0)
 is_full_at limits p qos None = false
 
--- what its client is sent
+-- what the client of a granted session is sent
 abbrev pub copy_answered : ℕ → Publication → QoS → Option ClientSession → List Output
 copy_answered window p qos (Some kept) =
     sent_on kept.connection
     (copies_sent window (copy_of p (Some (lower_qos p.qos qos))) kept.state.queue)
 copy_answered window p qos None = []
 
--- what they all are sent, each from the sessions as those before it left them
+-- what the clients of all granted rows are sent, each from the sessions that those before it left
 abbrev pub answered_in_turn : ℕ → Publication → List Row → Sessions → List Output
 answered_in_turn window p (row ∷ granted) rows =
     copy_answered window p row.1 (session_in row.0 rows)

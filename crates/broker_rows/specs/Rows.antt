@@ -45,7 +45,7 @@ of_b = (codes "t/#", levels.AtLeastOnce) ∷ []
 abbrev pub of_c : List HeldFilter
 of_c = (codes "t/1", levels.ExactlyOnce) ∷ []
 
--- their sessions: a and c are connected, b is away
+-- the sessions of three clients: a and c are connected, b is away
 abbrev pub three : Sessions
 three =
     row a true (Some (nth 1)) [] [] empty_queue
@@ -58,16 +58,16 @@ three =
 abbrev pub o_at : QoS → Publication
 o_at qos = record { retain = false; qos = qos; topic = codes "t/1"; payload = codes "o" }
 
--- its delivery, with the identifier 7
+-- the delivery at QoS 2 with the identifier 7
 abbrev pub seventh : Delivery
 seventh = deliveries.ExactlyOnce false 7
 
--- b and c are granted it, each at its own QoS
+-- b and c are granted the publication, each at its own QoS
 abbrev pub TwoAreGranted : Type 0
 TwoAreGranted =
     granted_rows (codes "t/1") three ≡ (b, levels.AtLeastOnce) ∷ (c, levels.ExactlyOnce) ∷ []
 
--- a's session takes note of 7, o waits for b, and c is sent it and owes PUBREC
+-- a's session takes note of 7, o waits for b, and c is sent o and owes PUBREC
 abbrev pub EachGetsItsCopy : Type 0
 EachGetsItsCopy =
     all_delivered 16 (o_at levels.ExactlyOnce) (granted_rows (codes "t/1") three)
@@ -78,7 +78,7 @@ EachGetsItsCopy =
     (record { in_flight = (1, waits_for.Pubrec (o_at levels.ExactlyOnce)) ∷ []; waiting = [] })
     ∷ []
 
--- only c is sent it at once
+-- only c is sent o at once
 abbrev pub OneIsAnswered : Type 0
 OneIsAnswered =
     answered_in_turn 16 (o_at levels.ExactlyOnce) (granted_rows (codes "t/1") three)

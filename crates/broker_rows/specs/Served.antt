@@ -24,7 +24,7 @@ with_session c session state =
       retained = state.retained;
     }
 
--- a session with this in it
+-- a client's session with this content, and all else as it was
 abbrev pub holding : SessionState → ClientSession → ClientSession
 holding held kept = record { clean = kept.clean; connection = kept.connection; state = held }
 

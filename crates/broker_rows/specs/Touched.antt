@@ -11,7 +11,7 @@ use Rattle.broker_base.specs.Step.{touches}
 use Rattle.broker_spec.specs.declared.command.Command.{Command}
 use Rattle.broker_spec.specs.declared.command.Command.TheVariants as commands
 
--- the place touches none of these
+-- the place touches none of these sessions
 abbrev pub Untouched : Place → Sessions → Type 0
 Untouched place (row ∷ rows) = (touches place row.0 row.1 ≡ false) × Untouched place rows
 Untouched place [] = Unit {0}
@@ -44,12 +44,12 @@ comes_on (commands.Lost x) = Some x
 comes_on (commands.Start ballot) = None
 comes_on (commands.Expel c) = None
 
--- whether it is the mark of a taken publication
+-- whether a mark is that of a taken publication
 abbrev pub is_taken : Mark → Bool
 is_taken (Mark.Taken c) = true
 is_taken _ = false
 
--- whether it is the mark of an accepted Connect
+-- whether a mark is that of an accepted Connect
 abbrev pub is_accepted : Mark → Bool
 is_accepted Mark.Accepted = true
 is_accepted _ = false

@@ -30,15 +30,15 @@ is_unasked (Send x (packets.Publish p)) = true
 is_unasked (Close x) = true
 is_unasked _ = false
 
--- it goes to the connection that the command names, or it is unasked, to a client's current
--- connection
+-- an answer goes to the connection that the command names, or it is unasked, and goes to a client's
+-- current connection
 abbrev pub IsAddressed : Past → Command → Output → Type 0
 IsAddressed past command answer =
     (named_in command ≡ Some (goes_to answer))
     ⊎ (((c : Client) × (current_connection past c ≡ Some (goes_to answer)))
     × (is_unasked answer ≡ true))
 
--- each answer is addressed in this way: CONNACK, PUBACK, PUBREC, PUBREL, PUBCOMP, SUBACK and
+-- each answer is addressed (`IsAddressed`): CONNACK, PUBACK, PUBREC, PUBREL, PUBCOMP, SUBACK and
 -- UNSUBACK go to the client that asked
 abbrev pub AnswersAreAddressed : Type 0
 AnswersAreAddressed =

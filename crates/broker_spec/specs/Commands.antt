@@ -52,7 +52,7 @@ window_from first (place ∷ past) =
     if is_start place.command then wide_window else window_from first past
 window_from first [] = first
 
--- the limits of a broker with such a window: its first window is the wide one in a new broker, the
--- narrow one in one that was read from form 1
+-- the limits with the window of `window_from`: the first window is the wide one in a new broker,
+-- the narrow one in a broker that was read from form 1
 abbrev pub limits_from : ℕ → Limits
 limits_from first = limits_with (window_from first)

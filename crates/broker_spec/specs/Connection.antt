@@ -12,7 +12,7 @@ is_connection_name name =
     (nat_lt 0 name.ballot && nat_le name.ballot (2 ^ 32))
     && (nat_lt 0 name.count && nat_le name.count (2 ^ 40))
 
--- the name is one of these
+-- the ballot and the number of the name are in their ranges
 abbrev pub IsConnectionName : ConnectionName → Type 0
 IsConnectionName name = is_connection_name name ≡ true
 

@@ -18,12 +18,12 @@ pub record StandsAt (past : Past) (place : Place) (below : Past) : Type 0 where
   pub later : Past
   pub is : past ≡ later ++ place ∷ below
 
--- whether it is a Connect with this connection's name
+-- whether a command is a Connect with this connection's name
 abbrev pub is_connect_of : ConnectionName → Command → Bool
 is_connect_of x (commands.Connect y c clean) = same_connection x y
 is_connect_of x _ = false
 
--- how many of these a past has
+-- how many Connects with this connection's name a past has
 abbrev pub connects_of : ConnectionName → Past → ℕ
 connects_of x (place ∷ past) = (if is_connect_of x place.command then 1 else 0) + connects_of x past
 connects_of x [] = 0

@@ -76,7 +76,7 @@ pub data Entry : Type 0 where
   Finished : (made : ℕ) → (publication : Publication) → (id start : ℕ) → (release : Option ℕ)
       → (finish : ℕ) → Entry
 
--- whether it takes room: all entries do except the finished ones
+-- whether an entry takes room: all do except the finished ones
 abbrev pub is_unfinished : Entry → Bool
 is_unfinished (Entry.Finished made p id start release finish) = false
 is_unfinished _ = true

@@ -52,8 +52,8 @@ IsMadeAt n (Entry.Waits made p) = made ≡ n
 IsMadeAt n (Entry.Started made p id start) = (made ≡ n) × (start ≡ n)
 IsMadeAt n _ = ⊥
 
--- the earlier entries change in this way and keep their order, and those after them are made at
--- place n
+-- the earlier entries keep their order and change as one place later (`GoesOn`), and those after
+-- them are made at place n
 abbrev pub GrowsTo : ℕ → List Entry → List Entry → Type 0
 GrowsTo n (entry ∷ entries) (later ∷ others) = GoesOn n entry later × GrowsTo n entries others
 GrowsTo n (entry ∷ entries) [] = ⊥

@@ -29,7 +29,7 @@ IdentifiersAreInTheWindow =
     (limits : Limits) → NeverShrinks limits → (past : Past) (c : Client)
     → AllByRecursion (IsInWindow (window_at limits past)) (busy_ids (entries_of limits past c))
 
--- in this broker they are 1 to 64
+-- in this broker the identifiers of what is in flight are 1 to 64
 abbrev pub IdentifiersAreTo64 : Type 0
 IdentifiersAreTo64 =
     (past : Past) (c : Client)

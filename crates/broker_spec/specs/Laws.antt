@@ -71,7 +71,8 @@ ends_in_publish (place ∷ past) c id =
     in_session (session_of (place ∷ past) c) (begins place past c) false
     (newest (says_of place.command place.mark c id) (ends_in_publish past c id))
 
--- a PUBLISH at QoS 2 is a repeat exactly if the last of these is a PUBLISH (MQTT 4.3.3)
+-- a PUBLISH at QoS 2 is a repeat exactly if, of its session's taken PUBLISHes with its identifier
+-- and their PUBRELs, the last is a PUBLISH (MQTT 4.3.3)
 abbrev pub RepeatIsUnreleased : Type 0
 RepeatIsUnreleased =
     (past : Past) (c : Client) (id : ℕ) → has_id id (received_of past c) ≡ ends_in_publish past c id

@@ -7,7 +7,7 @@ use Rattle.broker_spec.specs.Sized.{IsSized}
 use Rattle.broker_spec.specs.declared.command.Command.{Command}
 use Rattle.broker_spec.specs.declared.command.Command.TheVariants as commands
 
--- each of its parts is in its range
+-- each part of a command is in its range
 abbrev pub IsBrokerCommand : Command → Type 0
 IsBrokerCommand (commands.Connect x c clean) = IsConnectionName x × (is_client c ≡ true)
 IsBrokerCommand (commands.Packet x packet) = IsConnectionName x × Fits packet × IsSized packet

@@ -45,7 +45,7 @@ abbrev pub is_one_too_many : Limits → List HeldFilter → Subscription → Boo
 is_one_too_many limits held new =
     not (is_held new.filter held) && nat_le limits.subscriptions (length held)
 
--- how many entries it makes: the retained publications that it brings at QoS 1 or 2
+-- how many entries a subscription makes: the retained publications that it brings at QoS 1 or 2
 abbrev pub entries_for : RetainedTopics → Subscription → ℕ
 entries_for content new = length (queued (copies_for content new))
 

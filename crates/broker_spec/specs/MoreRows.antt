@@ -56,7 +56,7 @@ FullQueueKeepsTheOrder =
 
 -- ---- pings, unsubscribing, violations
 
--- PINGREQ is answered by PINGRESP, and UNSUBSCRIBE by UNSUBACK with or without such a subscription
+-- PINGREQ is answered by PINGRESP, and UNSUBSCRIBE by UNSUBACK with or without the subscription
 -- (MQTT 3.10.4, 3.12.4)
 abbrev pub PingAndUnsubscribe : Type 0
 PingAndUnsubscribe =

@@ -25,8 +25,8 @@ Delivers granted sent answers =
 abbrev pub to_b : Delivery → Output
 to_b delivery = sends 1 (publish delivery false (codes "x"))
 
--- what is sent is answered by its own QoS and identifier; what is delivered has the lower of the
--- two QoS
+-- what is sent is answered by its own QoS and identifier; what is delivered has the lower QoS of
+-- the publication and the subscription
 abbrev pub LowerQosIsDelivered : Type 0
 LowerQosIsDelivered =
     Delivers levels.AtMostOnce deliveries.AtMostOnce (to_b deliveries.AtMostOnce ∷ [])
@@ -61,7 +61,8 @@ sent_by_a delivery retain payload = gets 2 (publish delivery retain payload)
 abbrev pub retained_to_b : Delivery → List ℕ → List Output
 retained_to_b delivery payload = sends 1 (publish delivery true payload) ∷ []
 
--- it keeps its own QoS, 0 included, and is sent at the lower of that and the QoS that is asked for
+-- a retained publication keeps its own QoS, 0 included, and is sent at the lower of that and the
+-- QoS that is asked for
 abbrev pub RetainedAtTheLowerQos : Type 0
 RetainedAtTheLowerQos =
     Retains (sent_by_a (deliveries.ExactlyOnce false 1) true (codes "x") ∷ []) levels.AtLeastOnce
@@ -73,7 +74,7 @@ RetainedAtTheLowerQos =
     × Retains (sent_by_a (deliveries.ExactlyOnce false 1) true (codes "x") ∷ []) levels.AtMostOnce
     (retained_to_b deliveries.AtMostOnce (codes "x"))
 
--- the last one with RETAIN 1 is retained, one with RETAIN 0 is not, and an empty payload removes it
+-- the last publication with RETAIN 1 is retained, none with RETAIN 0; an empty payload removes it
 abbrev pub LastIsRetained : Type 0
 LastIsRetained =
     Retains (sent_by_a deliveries.AtMostOnce false (codes "x") ∷ []) levels.AtMostOnce []

@@ -41,6 +41,6 @@ PacketOfNobodyIsNothing =
     ≡ retained_publications past)
     × (answers_of limits past (commands.Packet x packet) ≡ [])
 
--- the window of this broker is such a window, and so is one that grows at a new ballot
+-- the window of this broker is steady, and so is one that grows at a new ballot
 abbrev pub WindowIsSteady : Type 0
 WindowIsSteady = IsSteady usual_limits × ((first : ℕ) → IsSteady (limits_from first))

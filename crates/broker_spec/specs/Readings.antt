@@ -17,7 +17,7 @@ made_of (Entry.Started made p id start) = made
 made_of (Entry.Released made p id start release) = made
 made_of (Entry.Finished made p id start release finish) = made
 
--- the publication that it delivers
+-- the publication that an entry delivers
 abbrev pub publication_in : Entry → Publication
 publication_in (Entry.Waits made p) = p
 publication_in (Entry.Started made p id start) = p
@@ -30,21 +30,21 @@ origin_of entry =
     if (publication_in entry).retain then Origin.FromRetained (made_of entry)
     else Origin.FromPublish (made_of entry)
 
--- the place at which it started, if it did
+-- the place at which an entry started, if it did
 abbrev pub start_place : Entry → Option ℕ
 start_place (Entry.Waits made p) = None
 start_place (Entry.Started made p id start) = Some start
 start_place (Entry.Released made p id start release) = Some start
 start_place (Entry.Finished made p id start release finish) = Some start
 
--- the place at which it was released, if it was
+-- the place at which an entry was released, if it was
 abbrev pub release_place : Entry → Option ℕ
 release_place (Entry.Waits made p) = None
 release_place (Entry.Started made p id start) = None
 release_place (Entry.Released made p id start release) = Some release
 release_place (Entry.Finished made p id start release finish) = release
 
--- the place at which it finished, if it did
+-- the place at which an entry finished, if it did
 abbrev pub finish_place : Entry → Option ℕ
 finish_place (Entry.Finished made p id start release finish) = Some finish
 finish_place _ = None

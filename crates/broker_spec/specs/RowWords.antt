@@ -26,7 +26,7 @@ Gives limits earlier next answers = answers_from limits (past_of limits earlier)
 abbrev pub a : Client
 a = codes "a"
 
--- the second one
+-- the second client
 abbrev pub b : Client
 b = codes "b"
 
@@ -85,7 +85,7 @@ publications many =
     map (λ id. gets 2 (publish (deliveries.AtLeastOnce false id) false (codes "o")))
     (numbers many 1)
 
--- what b is sent for them on the nth connection, with these identifiers
+-- what b is sent for `publications` on the nth connection, with these identifiers
 abbrev pub delivered : ℕ → Bool → List ℕ → List Output
 delivered n dup = map (λ id. sends n (publish (deliveries.AtLeastOnce dup id) false (codes "o")))
 
@@ -110,7 +110,7 @@ publish_on topic delivery retain payload =
 abbrev pub asked_at : QoS → List (List ℕ) → List Subscription
 asked_at qos = map (λ filter. record { filter = filter; qos = qos })
 
--- a SUBSCRIBE to them
+-- a SUBSCRIBE to these filters
 abbrev pub asks : ℕ → List Subscription → Packet
 asks id filters = packets.Subscribe (record { id = id; filters = filters })
 

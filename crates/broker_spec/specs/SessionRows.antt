@@ -82,7 +82,7 @@ three_entries =
 abbrev pub entries_of_b : List Entry
 entries_of_b = entries_of usual_limits (past_of usual_limits three_entries) b
 
--- where they come from, start, are released and finish
+-- at which places the entries of b come, start, are released and finish
 abbrev pub EntriesHaveTheirPlaces : Type 0
 EntriesHaveTheirPlaces =
     (map origin_of entries_of_b

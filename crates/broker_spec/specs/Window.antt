@@ -5,15 +5,15 @@ use Rattle.std.specs.Prelude.{ℕ, ◌==◌, ◌||◌, Bool, IsTrue, if◌then�
 abbrev pub wide_window : ℕ
 wide_window = 64
 
--- that of a broker that was read from form 1, until a Start
+-- the window of a broker that was read from form 1, until a Start
 abbrev pub narrow_window : ℕ
 narrow_window = 16
 
--- one of the two
+-- whether a number is the narrow window or the wide one
 abbrev pub is_window_size : ℕ → Bool
 is_window_size n = (n == narrow_window) || (n == wide_window)
 
--- the number is one of these
+-- the number is the narrow window or the wide one
 abbrev pub IsWindowSize : ℕ → Type 0
 IsWindowSize n = IsTrue (is_window_size n)
 

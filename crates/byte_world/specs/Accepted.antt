@@ -9,7 +9,7 @@ abbrev pub publication_accepted : Accepted → Publication
 publication_accepted a =
     record { retain = a.retain; qos = a.qos; topic = a.topic; payload = a.payload }
 
--- whether it was accepted at QoS 2
+-- whether a publication was accepted at QoS 2
 abbrev pub is_accepted_once : Accepted → Bool
 is_accepted_once a = is_two a.qos
 

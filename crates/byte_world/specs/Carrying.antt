@@ -31,7 +31,7 @@ CarriesItsBytes {core = core} node_call run =
     (bytes_on x run ≡ coming_with x node_call core)
     × (handed_in_run x run ≡ going_with x node_call core)
 
--- if an item is taken with losses they do in any case
+-- a step carries just the bytes of its call; of a step with losses nothing is required here
 abbrev pub IsFaithful : {g h : Group} → GroupStep g h → Type 0
 IsFaithful (node_acts n core node_call turn run at is first sent) = CarriesItsBytes node_call run
 IsFaithful (node_loses n core item turn kept by at runs sent thinned) = Unit {0}

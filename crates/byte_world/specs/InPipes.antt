@@ -40,7 +40,7 @@ pub record PipesAreInOrder {nodes : ℕ} {config : Config} {cs : List Client} {w
       (i : ℕ) (c : ClientPipes) (j : ℕ) (κ : Connection) (p : Pipe) →
       HasPipe w i c j κ p → IsInOrder agreed κ p
 
--- that holds for each world that can be reached
+-- in each world that can be reached the connections of each client are in order
 abbrev pub PipesCarryInOrder : Type 0
 PipesCarryInOrder =
     (nodes : ℕ) (config : Config) (cs : List Client) (w : World)

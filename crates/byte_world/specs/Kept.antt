@@ -31,7 +31,7 @@ pub record AsksForNoneClean {nodes : ℕ} {config : Config} {cs : List Client} {
   pub none : (agreed : List Command) → IsAgreed config (moment_of w.group ∷ of.earlier) agreed →
       NoneIsClean agreed
 
--- that holds for each world that can be reached
+-- in each world that can be reached no agreed list asks for a clean session
 abbrev pub NoConnectIsClean : Type 0
 NoConnectIsClean =
     (nodes : ℕ) (config : Config) (cs : List Client) (w : World)

@@ -42,7 +42,7 @@ pub record RunsAs (g : Group) (n : ℕ) (node_call : NodeCall) (core : CoreState
   pub records : (archive : List Command) →
       recorded_in archive run ≡ recorded_after archive core node_call
 
--- each call of a node, in any state of the node, has such moves
+-- each call of a node, in any state of the node, is done by moves that carry just its bytes
 abbrev pub NodeCallsCarryTheirBytes : Type 0
 NodeCallsCarryTheirBytes =
     (g : Group) (n : ℕ) (node_call : NodeCall) (core : CoreState) →

@@ -43,7 +43,7 @@ abbrev pub published_on : {nodes : ℕ} {config : Config} {cs : List Client} {w 
 published_on (begins can) = []
 published_on (goes_on before step) = published_on before ++ published_in step
 
--- those of the client at this index
+-- the publications of the client at this index
 abbrev pub published_of : ℕ → List (ℕ × Publication) → List Publication
 published_of i ((j, p) ∷ asked) = if j == i then p ∷ published_of i asked else published_of i asked
 published_of i [] = []

@@ -77,7 +77,7 @@ abbrev pub newly_written : List Connection → List Connection → List Packet
 newly_written (κ ∷ connections) (later ∷ more) = packets_of (drop (length κ.written) later.written)
 newly_written _ _ = []
 
--- their bytes go into its pipe
+-- the bytes of these packets go into the pipe of the newest connection
 abbrev pub sent_up : List Packet → List Pipe → List Pipe
 sent_up packets (p ∷ pipes) = record p { up = p.up ++ spelled packets } ∷ pipes
 sent_up packets [] = []

@@ -53,8 +53,8 @@ disconnects keeper = if keeper.is_online then plain packets.Disconnect ∷ [] el
 
 -- ---- publishing and asking
 
--- its own publications after one more: at QoS 0 it is done at once, and else sent if the client is
--- online
+-- a client's own publications after one more: at QoS 0 it is done at once, and else sent if the
+-- client is online
 abbrev pub adds_own : Publication → Keeper → Keeper
 adds_own p keeper =
     record keeper {

@@ -14,7 +14,7 @@ use Rattle.client_base.specs.Handshakes.{at_puback, at_pubcomp, releasing, takes
 
 -- ---- CONNACK 0, and the end of a connection
 
--- what it published stays in its history
+-- what a client published stays in its history
 abbrev pub discarded : Keeper → Keeper
 discarded keeper =
     record keeper { earlier = all_own keeper; own = []; releases = []; received = [] }

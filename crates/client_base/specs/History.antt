@@ -8,19 +8,19 @@ use Rattle.client_base.specs.Keeper.{Own, Written, Connection, Keeper}
 
 -- ---- what is kept of all that was published
 
--- those that were sent and are not acknowledged yet
+-- the publications that were sent and are not acknowledged yet
 abbrev pub sent_of : List Own → List KeptPublication
 sent_of (Own.Sent k p id ∷ own) = record { id = id; publication = p } ∷ sent_of own
 sent_of (_ ∷ own) = sent_of own
 sent_of [] = []
 
--- those that were not sent yet
+-- the publications that were not sent yet
 abbrev pub unsent_of : List Own → List KeptPublication
 unsent_of (Own.Unsent k p id ∷ own) = record { id = id; publication = p } ∷ unsent_of own
 unsent_of (_ ∷ own) = unsent_of own
 unsent_of [] = []
 
--- the identifiers of those that are released
+-- the identifiers of the publications that are released
 abbrev pub released_of : List Own → List ℕ
 released_of (Own.Released k p id ∷ own) = id ∷ released_of own
 released_of (_ ∷ own) = released_of own

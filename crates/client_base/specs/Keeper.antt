@@ -18,7 +18,7 @@ pub data Own : Type 0 where
   -- nothing more is to come for it
   Done : (number : ℕ) → (publication : Publication) → Own
 
--- A packet that it wrote, and which publication it belongs to. History: the bytes do not say it.
+-- A packet that the client wrote, and its publication. History: the bytes do not say it.
 pub record Written : Type 0 where
   pub packet : Packet
   pub number : Option ℕ
@@ -63,7 +63,7 @@ new_keeper c =
       was_served = false;
     }
 
--- the identifiers of its publications that are not done
+-- the identifiers of a client's publications that are not done
 abbrev pub ids_of_own : List Own → List ℕ
 ids_of_own (Own.Unsent k p id ∷ own) = id ∷ ids_of_own own
 ids_of_own (Own.Sent k p id ∷ own) = id ∷ ids_of_own own
@@ -71,7 +71,7 @@ ids_of_own (Own.Released k p id ∷ own) = id ∷ ids_of_own own
 ids_of_own (Own.Done k p ∷ own) = ids_of_own own
 ids_of_own [] = []
 
--- all that it published, in the order of its calls
+-- all that a client published, in the order of its calls
 abbrev pub all_own : Keeper → List Own
 all_own keeper = keeper.earlier ++ keeper.own
 
@@ -79,7 +79,7 @@ all_own keeper = keeper.earlier ++ keeper.own
 abbrev pub next_number : Keeper → ℕ
 next_number keeper = length keeper.earlier + length keeper.own
 
--- the identifiers that it uses
+-- the identifiers that a client uses
 abbrev pub ids_in_use : Keeper → List ℕ
 ids_in_use keeper = ids_of_own keeper.own ++ map id_of_request keeper.requests
 

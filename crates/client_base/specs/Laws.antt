@@ -19,7 +19,7 @@ AcceptsUnlessKept =
     × (has_id id state.received ≡ false → after.accepted ≡ (accepting p state).accepted)
     × (has_id id after.received ≡ true)
 
--- It stays kept until its PUBREL comes, or a CONNACK 0 without a session.
+-- An identifier stays kept until its PUBREL comes, or a CONNACK 0 without a session.
 abbrev pub StaysKept : Type 0
 StaysKept =
     (id : ℕ) (call : Call) (state : ClientState) → has_id id state.received ≡ true →

@@ -39,8 +39,8 @@ NumbersStay =
     AreNumbered 0 (all_own side.keeper)
     → AreNumbered 0 (all_own (keeper_goes fresh call side).keeper)
 
--- what a CONNACK 0 makes the client send of it, again or for the first time, it sends in the order
--- of the calls
+-- what a CONNACK 0 makes the client send of its publications, again or for the first time, it sends
+-- in the order of the calls
 abbrev pub GoesOutInOrder : Type 0
 GoesOutInOrder =
     (n : ℕ) (own : List Own) → AreNumbered n own → IsSentFirst own

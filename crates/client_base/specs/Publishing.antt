@@ -17,7 +17,7 @@ use Rattle.client_base.specs.Answered.{ClientOutcome, going_on}
 abbrev pub next_id : ClientState → ℕ
 next_id state = least_free (used_ids state)
 
--- whether there is one
+-- whether an identifier is free for the next publication or request
 abbrev pub has_free_id : ClientState → Bool
 has_free_id state = nat_lt (next_id state) 65536
 

@@ -4,7 +4,7 @@ use Rattle.session_base.specs.topics.Refusals.{number_of}
 use Rattle.client_base.specs.declared.error.ClientError.{ClientError}
 use Rattle.client_base.specs.declared.error.ClientError.TheVariants as errors
 
--- as in the table of refusals
+-- the number of each error, as in the table of refusals
 abbrev pub client_number : ClientError → ℕ
 client_number errors.NotActive = 18
 client_number errors.WindowFull = 22

@@ -54,7 +54,7 @@ is_online stages.Closed = false
 is_online stages.Opened = false
 is_online stages.Online = true
 
--- how many publications it keeps
+-- how many publications a client keeps
 abbrev pub kept_count : ClientState → ℕ
 kept_count state = length state.released + length state.sent + length state.unsent
 
@@ -69,15 +69,15 @@ id_of_request (requests.Unsubscribes id) = id
 abbrev pub ids_of_kept : List KeptPublication → List ℕ
 ids_of_kept = map (λ kept. kept.id)
 
--- the identifiers of its publications
+-- the identifiers of a client's publications
 abbrev pub publication_ids : ClientState → List ℕ
 publication_ids state = state.released ++ ids_of_kept state.sent ++ ids_of_kept state.unsent
 
--- those of its requests
+-- the identifiers of a client's requests
 abbrev pub request_ids : ClientState → List ℕ
 request_ids state = map id_of_request state.requests
 
--- all that it uses: publications and requests use one pool
+-- all identifiers that a client uses: publications and requests use one pool
 abbrev pub used_ids : ClientState → List ℕ
 used_ids state = publication_ids state ++ request_ids state
 
@@ -97,6 +97,6 @@ resent state =
 
 -- ---- the end of a connection
 
--- it ends: requests are dropped, all else stays
+-- the connection ends: requests are dropped, all else stays
 abbrev pub lost : ClientState → ClientState
 lost state = record state { requests = []; stage = stages.Closed }

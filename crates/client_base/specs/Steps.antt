@@ -23,7 +23,7 @@ request_refusal state =
     if not (is_online state.stage) then Some errors.NotActive else
     if not (has_free_id state) then Some errors.WindowFull else None
 
--- it is in flight until its answer comes
+-- a request is sent, and is in flight until its answer comes
 abbrev pub asked : Request → Packet → ClientState → ClientOutcome
 asked request packet state =
     going_on (record state { requests = state.requests ++ request ∷ [] }) (packet ∷ [])

@@ -46,7 +46,7 @@ PipeGives =
     → IsPiped written handled s under_way
     → Takes s (Ok (Some p)) t → IsPiped written (handled ++ p ∷ []) t under_way
 
--- it is at its index in what was written
+-- after n packets that were handled, the cutter gives the one that was written at index n
 abbrev pub PipeGivesNext : Type 0
 PipeGivesNext =
     (written handled : List Packet) (s t : Stream) (under_way : List ℕ) (p : Packet)

@@ -4,7 +4,7 @@ use Rattle.packet.specs.Refusals.{decode_number}
 use Rattle.cutter.specs.declared.error.CutError.{CutError}
 use Rattle.cutter.specs.declared.error.CutError.TheVariants as errors
 
--- as in the table of refusals
+-- the number of each error, as in the table of refusals
 abbrev pub cut_number : CutError → Option ℕ
 cut_number (errors.Decode fault) = decode_number fault
 cut_number errors.Memory = Some 12

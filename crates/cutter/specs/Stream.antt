@@ -25,8 +25,7 @@ GoesOnWith bytes packet rest =
 abbrev pub HasNoFront : List ℕ → Type 0
 HasNoFront bytes = (packet : Packet) (rest : List ℕ) → GoesOnWith bytes packet rest → ⊥
 
--- the packets whose spellings, joined, are the longest such front of the bytes, and what follows
--- them
+-- the whole packets with which the bytes begin, as many as there are, and the bytes after them
 abbrev pub CutsInto : List ℕ → List Packet → List ℕ → Type 0
 CutsInto bytes [] rest = (bytes ≡ rest) × HasNoFront rest
 CutsInto bytes (packet ∷ packets) rest =

@@ -27,8 +27,8 @@ pub record AwaitsAnswer (port : Port) (x : ConnectionName) (core : CoreState) : 
   pub named : find (is_open_named x) core.connections ≡ Some connection
   pub none : connection.pending ≡ []
 
--- it stays so when a calm node that keeps leading takes a message for which its replica has no
--- output
+-- a connection still awaits its answer after a calm node that keeps leading took a message for
+-- which its replica has no output
 abbrev pub MessagesKeepItWaiting : Type 0
 MessagesKeepItWaiting =
     (port : Port) (x : ConnectionName) (core : CoreState) (message : Message Command) →
@@ -61,7 +61,7 @@ FirstAwaitsConnect =
     find (is_open_named (first_name core)) core.connections ≡ None →
     AwaitsConnect port (first_name core) (with_first port core)
 
--- it stays so when bytes are handed over, at whichever port
+-- a connection still awaits its CONNECT after bytes were handed over, at whichever port
 abbrev pub HandingKeepsTheConnect : Type 0
 HandingKeepsTheConnect =
     (port other : Port) (x : ConnectionName) (core : CoreState) → AwaitsConnect port x core →

@@ -28,7 +28,7 @@ pub record IsWelcomedBack (list : List Command) (ballot : ℕ) (x : ConnectionNa
       (commands.Connect x c false) ≡ welcome x true ∷ rest
   pub sent : Each (IsSentTo x) rest
 
--- this holds for each client whose session exists and is not clean
+-- each client whose session exists and is not clean is welcomed back
 abbrev pub KeptSessionsAreWelcomed : Type 0
 KeptSessionsAreWelcomed =
     (list : List Command) (ballot : ℕ) (x : ConnectionName) (c : Client) →

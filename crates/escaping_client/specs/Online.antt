@@ -10,13 +10,13 @@ use Rattle.client.specs.packet.Verdict.{verdict}
 use Rattle.client.specs.packet.declared.connack.Connack.TheVariants as connacks
 use Rattle.client.specs.packet.declared.packet.Packet.TheVariants as packets
 
--- its last CONNACK was a 0 with session present, and it is online
+-- the client's last CONNACK was a 0 with session present, and the client is online
 pub record IsServed (core : Core) : Type 0 where
   pub online : is_online core.state.stage ≡ true
   pub present : core.state.present ≡ true
 
--- bytes that are such a CONNACK, on a connection that was opened and on which nothing came yet, are
--- taken unless memory runs out
+-- bytes that are a CONNACK 0 with session present, on a connection that was opened and on which
+-- nothing came yet, are taken unless memory runs out
 abbrev pub ConnackServes : Type 0
 ConnackServes =
     (piece : List ℕ) (old new : Core) (result : Result (Unit {0}) ClientError) →

@@ -60,7 +60,7 @@ pub record CanAsk (a : Moment State Command Output) (n : NodesState) (ballot ind
   pub is_connect : verdict piece ≡ Ok (packets.Connect connect, [])
   pub kept : connect.clean ≡ false
 
--- a sole member queues the answer first when it reads them
+-- a primary that is the sole member queues the CONNACK first when it reads the bytes of the CONNECT
 abbrev pub SoleMemberAnswersTheClient : Type 0
 SoleMemberAnswersTheClient =
     (config : Config) (a : Moment State Command Output)
@@ -74,8 +74,8 @@ SoleMemberAnswersTheClient =
 abbrev pub last_held : ℕ → ℕ → List Command → Message Command
 last_held last ballot log = record { from = last; body = Held ballot (length log + 1) }
 
--- that message was sent to the node at the index, which runs, and queues the answer first when it
--- comes
+-- this message was sent to the node at the index, which runs, and queues the CONNACK first when the
+-- message comes
 pub record PutsOutAtLast (index number : ℕ) (port : Port) (message : Message Command)
     (n : NodesState) : Type 0 where
   pub node : CountedCore
@@ -84,8 +84,8 @@ pub record PutsOutAtLast (index number : ℕ) (port : Port) (message : Message C
   pub comes : slice_get n.sent number ≡ Some (index + 1, message)
   pub puts : PutsOutFirst port (spelling session_present) (node_step (Peer message) node.core).core
 
--- with others: they are sent the command, and answer; once all answers except the last have come,
--- the last one makes the primary queue the answer first
+-- the other members are sent the command, and answer; once all answers except the last have come,
+-- the last one makes the primary queue the CONNACK first
 abbrev pub OthersLetTheClientBeAnswered : Type 0
 OthersLetTheClientBeAnswered =
     (config : Config) (a : Moment State Command Output)

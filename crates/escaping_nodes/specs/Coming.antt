@@ -63,7 +63,7 @@ pub record AreFollowed (ballot : ℕ) (b : Moment State Command Output)
   pub calm : AreCalm ballot new
   pub names : KeepNames n new
 
--- that holds for calm nodes and each way in which the model delivers
+-- whichever way the model delivers messages, calm nodes to which they come are seen as it says
 abbrev pub DeliveriesAreFollowed : Type 0
 DeliveriesAreFollowed =
     (ballot : ℕ) (a b : Moment State Command Output) (ks : List ℕ) → Delivered rules ballot a ks b →

@@ -42,7 +42,8 @@ pub record CanOpen (a : Moment State Command Output) (n : NodesState) (ballot in
   pub free : list_any (is_at port) node.core.connections ≡ false
   pub unnamed : find (is_open_named (first_of ballot)) node.core.connections ≡ None
 
--- it leads the ballot still, and a connection of the first name awaits its CONNECT at this port
+-- the node at an index still leads the ballot, and a connection of the first name awaits its
+-- CONNECT at this port
 pub record IsOpened (a : Moment State Command Output) (n : NodesState) (ballot index : ℕ)
     (others_of : List ℕ) (log : List Command) (port : Port) : Type 0 where
   pub seen : IsSeen a n
@@ -53,7 +54,7 @@ pub record IsOpened (a : Moment State Command Output) (n : NodesState) (ballot i
       (whole a.world.archive (replica_of node.core))
   pub awaits : AwaitsConnect port (first_of ballot) node.core
 
--- that holds once the connection was opened, whatever bytes are handed over then
+-- once it was opened, a connection awaits its CONNECT, whatever bytes are handed over then
 abbrev pub ConnectionsOpenFirst : Type 0
 ConnectionsOpenFirst =
     (a : Moment State Command Output) (n new : NodesState) (ballot index : ℕ) (node : CountedCore)

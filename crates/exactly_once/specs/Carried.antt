@@ -48,7 +48,7 @@ new_numbers connections (place ∷ past) =
     ++ more_by (is_new place.command place.mark) (carries connections place.command past)
 new_numbers connections [] = []
 
--- whether it is QoS 2
+-- whether a QoS is 2
 abbrev pub is_two : QoS → Bool
 is_two levels.AtMostOnce = false
 is_two levels.AtLeastOnce = false

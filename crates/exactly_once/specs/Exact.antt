@@ -20,7 +20,7 @@ pub record IsExact {V : Type 0} (h : Handshake V) : Type 0 where
   pub accepted : h.accepted ≡ map value_of old
   pub rest : Each (λ item. is_over item ≡ false) new
 
--- that holds after every run from the opening
+-- each run from the opening leads to an exact handshake
 abbrev pub RunsAreExact : Type 0 → Type 0
 RunsAreExact V = (h : Handshake V) → Run (opening V) h → IsExact h
 

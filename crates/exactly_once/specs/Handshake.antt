@@ -83,7 +83,7 @@ publishing row = Forward.Publish row.0 row.1
 abbrev pub resend : {V : Type 0} → List ℕ → List (Item V) → List (Forward V)
 resend releases items = map (λ id. Forward.Pubrel id) releases ++ map publishing (sent items)
 
--- what may happen; Packet Identifiers are those of the sender
+-- one move of a handshake; Packet Identifiers are those of the sender
 pub data Moves {V : Type 0} (h : Handshake V) : Handshake V → Type 0 where
   adds : (v : V) → Moves h (with_items (h.items ++ Item.Waits v ∷ []) h.link h)  -- one more waits
   -- the first that waits starts with a free identifier: its PUBLISH is sent (MQTT 4.3.3)
@@ -110,7 +110,7 @@ pub data Moves {V : Type 0} (h : Handshake V) : Handshake V → Type 0 where
       Each (λ id. has_released id h.items ≡ true) releases →
       Moves h (with_items h.items (Link.Joined (resend releases h.items) []) h)
 
--- one after another
+-- moves one after another
 pub data Run {V : Type 0} (h : Handshake V) : Handshake V → Type 0 where
   stays : Run h h  -- nothing happened
   goes_on : {k l : Handshake V} → Run h k → Moves k l → Run h l  -- one more move

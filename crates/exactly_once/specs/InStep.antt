@@ -18,7 +18,7 @@ abbrev pub sessions_begun : Past → Client → ℕ
 sessions_begun (place ∷ past) c = (if begins place past c then 1 else 0) + sessions_begun past c
 sessions_begun [] c = 0
 
--- the places at which they began, the oldest first
+-- the places at which the client's sessions began, the oldest first
 abbrev pub starts_of : Past → Client → List ℕ
 starts_of (place ∷ past) c =
     starts_of past c ++ (if begins place past c then length past ∷ [] else [])

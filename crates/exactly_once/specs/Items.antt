@@ -17,7 +17,7 @@ value_of (Item.Sent v id) = v
 value_of (Item.Released v id) = v
 value_of (Item.Finished v) = v
 
--- identifiers in flight, and those of sent and of released ones
+-- identifiers in flight: those of sent and of released items
 abbrev pub busy : {V : Type 0} → List (Item V) → List ℕ
 busy (Item.Sent v id ∷ items) = id ∷ busy items
 busy (Item.Released v id ∷ items) = id ∷ busy items

@@ -41,7 +41,7 @@ StoriesEnter =
     length (filter (is_from_publish (length below)) (entries_of limits (place ∷ below) d))
     ≡ (if is_queued_at (effective_qos below d (publication_of p)) then 1 else 0)
 
--- this holds in this broker
+-- in this broker clients publish once (`PublishesOnce`)
 abbrev pub StoriesPublishOnce : Type 0
 StoriesPublishOnce = PublishesOnce usual_limits
 
@@ -57,11 +57,12 @@ SteadyStoriesPublishOnce = (limits : Limits) → IsSteady limits → PublishesOn
 abbrev pub SteadyStoriesAcceptInOrder : Type 0
 SteadyStoriesAcceptInOrder = (limits : Limits) → IsSteady limits → AcceptsInOrder limits
 
--- both sides
+-- in this broker clients publish once and accept in order
 abbrev pub UsualStoriesAreExact : Type 0
 UsualStoriesAreExact = StoriesAreExact usual_limits
 
--- both sides, for any such limits
+-- clients publish once and accept in order, for any limits whose window changes only at a new
+-- ballot
 abbrev pub SteadyStoriesAreExact : Type 0
 SteadyStoriesAreExact = (limits : Limits) → IsSteady limits → StoriesAreExact limits
 
@@ -69,14 +70,16 @@ SteadyStoriesAreExact = (limits : Limits) → IsSteady limits → StoriesAreExac
 abbrev pub UsualLivesAccept : Type 0
 UsualLivesAccept = AcceptsInEachSession usual_limits
 
--- what such a client accepts, for any limits whose window changes only at a new ballot
+-- what a client with several sessions accepts, for any limits whose window changes only at a new
+-- ballot
 abbrev pub SteadyLivesAccept : Type 0
 SteadyLivesAccept = (limits : Limits) → IsSteady limits → AcceptsInEachSession limits
 
--- all that such a client is promised
+-- all that a client with several sessions is promised in this broker
 abbrev pub UsualLivesAreExact : Type 0
 UsualLivesAreExact = LivesAreExact usual_limits
 
--- what such a client is promised, for any limits whose window changes only at a new ballot
+-- what a client with several sessions is promised, for any limits whose window changes only at a
+-- new ballot
 abbrev pub SteadyLivesAreExact : Type 0
 SteadyLivesAreExact = (limits : Limits) → IsSteady limits → LivesAreExact limits

@@ -108,12 +108,12 @@ pub record ExactlyOnceOverSessions (limits : Limits) (s : Story) : Type 0 where
       ≡ flat_map (λ start. accepted_in s.past s.keeper.client start s.connections)
       (starts_of s.past s.keeper.client)
 
--- as long as it is in step
+-- as long as a client is in step, it publishes and accepts exactly once over its sessions
 abbrev pub LivesAreExact : Limits → Type 0
 LivesAreExact limits =
     (c : Client) (s : Story) → Lived limits c s → IsInStep s → ExactlyOnceOverSessions limits s
 
--- only the subscribers' part
+-- as long as a client is in step, it accepts in order in each of its sessions
 abbrev pub AcceptsInEachSession : Limits → Type 0
 AcceptsInEachSession limits =
     (c : Client) (s : Story) → Lived limits c s → IsInStep s → (start : ℕ) →

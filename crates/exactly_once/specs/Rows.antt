@@ -15,19 +15,19 @@ use Rattle.broker_base.specs.broker_spec.declared.command.Command.TheVariants as
 abbrev pub writer : Client
 writer = 119 ∷ []
 
--- its connection in the first ballot
+-- the writer's connection in the first ballot
 abbrev pub first_name : ConnectionName
 first_name = record { ballot = 1; count = 1 }
 
--- its connection in the second ballot
+-- the writer's connection in the second ballot
 abbrev pub second_name : ConnectionName
 second_name = record { ballot = 2; count = 1 }
 
--- what it publishes: one byte at QoS 2
+-- what the writer publishes: one byte at QoS 2
 abbrev pub news : Publication
 news = record { retain = false; qos = levels.ExactlyOnce; topic = 110 ∷ []; payload = 1 ∷ [] }
 
--- its SUBSCRIBE to the topic of that
+-- the writer's SUBSCRIBE to the topic of `news`
 abbrev pub asks_for_news : Subscribe
 asks_for_news =
     record { id = 1; filters = record { filter = 110 ∷ []; qos = levels.ExactlyOnce } ∷ [] }

@@ -41,8 +41,8 @@ with_side s others side =
 
 -- ---- what may happen
 
--- It allows more than a world does: any connection's next packet may come next in the list, and any
--- client may be lost at any time.
+-- One step of a client's story. It allows more than a world does: any connection's next packet may
+-- come next in the list, and any client may be lost at any time.
 pub data StoryStep (limits : Limits) (s : Story) : Story → Type 0 where
   -- the next packet that the client wrote on one of its connections comes next in the list
   takes : (i : ℕ) (κ : Connection) (w : Written) → slice_get s.connections i ≡ Some κ →

@@ -33,7 +33,7 @@ is_packet_of (commands.Packet x packet) y = same_connection x y
 is_packet_of (commands.Connect x d clean) y = same_connection x y
 is_packet_of _ y = false
 
--- how many of its packets are in the list
+-- how many packets of a connection are in the list
 abbrev pub count_of : ConnectionName → Past → ℕ
 count_of x (place ∷ past) =
     if is_packet_of place.command x then suc (count_of x past) else count_of x past

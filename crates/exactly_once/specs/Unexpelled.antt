@@ -16,7 +16,7 @@ pub record HasOneSession (s : Story) : Type 0 where
   pub first : IsFirstSession s.past s.keeper.client
   pub in_step : IsInStep s
 
--- that holds for each client that no command expels, with any limits
+-- each client that no command expels has one session at most, and is in step, with any limits
 abbrev pub UnexpelledLivesAreInStep : Type 0
 UnexpelledLivesAreInStep =
     (limits : Limits) (c : Client) (s : Story) → Lived limits c s → IsUnexpelled c s.past →

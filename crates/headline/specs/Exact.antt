@@ -39,7 +39,7 @@ abbrev pub IsExactInStep : List Command → ClientPipes → Type 0
 IsExactInStep agreed c =
     IsInStep (story_of agreed c) → ExactlyOnceOverSessions usual_limits (story_of agreed c)
 
--- one that no Expel names has one session at most, which lasts once it began, and so it is in step
+-- a client that no Expel names has one session at most, which lasts once it began, so it is in step
 abbrev pub IsInOneSession : List Command → ClientPipes → Type 0
 IsInOneSession agreed c =
     IsUnexpelled c.keeper.client (past_of usual_limits agreed) → HasOneSession (story_of agreed c)
@@ -76,7 +76,7 @@ pub record IsExact {nodes : ℕ} {config : Config} {cs : List Client} {w : World
       slice_get w.clients i ≡ Some c → IsShownBy c state →
       Promise c.connections (published_of i (published_on trail)) list state
 
--- for clients with identifiers of their own, and for all steps
+-- each world of clients with identifiers of their own is exact, whatever its steps
 abbrev pub WorldsAreExact : Type 0
 WorldsAreExact =
     (nodes : ℕ) (config : Config) (cs : List Client) (w : World) → AreApart cs →

@@ -31,7 +31,7 @@ pub record PromiseOfOne (c : Client) (published : List Publication) (past : Past
   pub accepted : accepted_once state.accepted ≡ map publication_in old
   pub rest : Each (λ (entry : Entry). is_released entry ≡ false) new
 
--- while its first session lasts the promise of each client says all of it
+-- while a client's first session lasts, its promise over sessions says all of the promise for one
 abbrev pub OneSessionIsPromised : Type 0
 OneSessionIsPromised =
     (c : Client) (published : List Publication) (past : Past) (state : ClientState) →

@@ -34,11 +34,11 @@ use Rattle.byte_world.specs.Accepted.{accepted_once}
 abbrev pub is_at_two : Publication → Bool
 is_at_two p = is_two p.qos
 
--- those at QoS 2
+-- the publications at QoS 2
 abbrev pub at_two : List Publication → List Publication
 at_two = filter is_at_two
 
--- those that it keeps, the oldest first, since neither PUBACK nor PUBREC came to it for them
+-- the publications that the client keeps, the oldest first: no PUBACK or PUBREC came for them yet
 abbrev pub kept_of : ClientState → List Publication
 kept_of state = map (λ (k : KeptPublication). k.publication) (state.sent ++ state.unsent)
 
@@ -48,7 +48,7 @@ new_at c (commands.Packet x (packets.Publish p)) (Mark.Taken d) =
     if same_client d c && is_exactly_once p.delivery then publication_of p ∷ [] else []
 new_at c command mark = []
 
--- those that are new in the list, by place
+-- the client's publications that are new in the list, by place
 abbrev pub new_of : Client → Past → List Publication
 new_of c (place ∷ below) = new_of c below ++ new_at c place.command place.mark
 new_of c [] = []
@@ -62,14 +62,14 @@ pub record IsAnswered (past : Past) (c : Client) (packet : Packet) (place : Plac
   pub command : place.command ≡ commands.Packet on (packets.Publish p)
   pub answer : In (Send on packet) (answers_at usual_limits place below)
 
--- these are new in the order in which it published them, each once: their numbers rise
+-- new ones are in the order in which the client published them, each once: their numbers rise
 pub record AreNewInOrder (published new : List Publication) : Type 0 where
   pub numbers : List ℕ
   pub rise : IsRising numbers
   pub are : map (slice_get published) numbers ≡ map (λ (p : Publication). Some p) new
 
--- none is skipped: it still keeps those that are not yet new, and besides them only some that are
--- new
+-- no publication is skipped: the client still keeps those that are not yet new, and besides them
+-- only some that are new
 pub record AreStillKept (published new kept : List Publication) : Type 0 where
   pub waiting : List Publication
   pub published_are : published ≡ new ++ waiting
@@ -86,8 +86,8 @@ pub record HasBeginning (c : Client) (past : Past) (start : ℕ) : Type 0 where
   pub entries : two_entries (entries_in usual_limits past c start) ≡ old ++ new
   pub rest : Each (λ (entry : Entry). is_released entry ≡ false) new
 
--- Such a prefix of each of its sessions, by the place at which it began; and these are all that it
--- accepted, session after session.
+-- What the client accepted at QoS 2 is, session after session, a prefix of the QoS 2 entries of
+-- each, by the place at which it began.
 pub record AcceptsInOrder (c : Client) (past : Past) (state : ClientState) : Type 0 where
   pub session : (start : ℕ) → HasBeginning c past start
   pub accepted : accepted_once state.accepted

@@ -26,7 +26,7 @@ IsTallyCommand (Start ballot) = ballot < 2 ^ 64
 abbrev pub bytes_of : ℕ → List ℕ
 bytes_of total = to_be_bytes w64 total
 
--- the tally of eight such bytes; no other bytes thaw
+-- the tally of eight bytes; no other bytes thaw
 abbrev pub tally_of : List ℕ → Option Tally
 tally_of bytes =
     if length bytes == 8 then Some (record { total = from_be_bytes w64 bytes }) else None

@@ -23,7 +23,7 @@ pub record LaneKept {T : Type 0}
   pub few : length (view pass).sent ≤ 2 ^ 55
   pub counted : count ≡ length (view pass).sent
 
--- what a receiver keeps: the same, and how many items of each lane it took
+-- what a receiver keeps: its pass knows what it shows, and how many items of each lane it took
 pub record ReceiverKept {T : Type 0}
     (queue : TableId) (room : ℕ) (pass : Pass (ℕ × T) (View T)) (name : TableId) (counts : List ℕ)
     : Type 0 where

@@ -13,7 +13,7 @@ pub record Taking : Type 0 where
   pub earlier : ℕ
   pub later : ℕ
 
--- how many places of its log are not known to be held by every member, while it is the active
+-- how many places of a node's log are not known to be held by every member, while it is the active
 -- primary
 abbrev pub open_places : Option Status → ℕ
 open_places None = 0

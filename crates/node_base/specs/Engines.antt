@@ -8,12 +8,12 @@ use Rattle.node_base.specs.declared.read_outcome.ReadOutcome.TheVariants.{Bytes,
 use Rattle.node_base.specs.declared.write_outcome.WriteOutcome.{WriteOutcome}
 use Rattle.node_base.specs.declared.write_outcome.WriteOutcome.TheVariants as writes
 
--- what was added to the device's bytes is a prefix of these, or all of them
+-- what was added to the device's bytes is a prefix of these bytes, or all of them
 abbrev pub WritesBeginning : Option (List ℕ) → Option (List ℕ) → List ℕ → Type 0
 WritesBeginning old new bytes =
     (count : ℕ) × (count ≤ length bytes) × Appends old new (take count bytes)
 
--- what was added to the device's bytes is a prefix of these, and not all of them
+-- what was added to the device's bytes is a prefix of these bytes, and not all of them
 abbrev pub WritesShort : Option (List ℕ) → Option (List ℕ) → List ℕ → Type 0
 WritesShort old new bytes =
     (count : ℕ) × (count < length bytes) × Appends old new (take count bytes)

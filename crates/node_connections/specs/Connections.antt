@@ -14,14 +14,14 @@ is_over Proposed = false
 is_over Over = true
 is_over Failed = true
 
--- whether its first packet is still to come
+-- whether a connection's first packet is still to come
 abbrev pub is_first : Stage → Bool
 is_first Awaits = true
 is_first Proposed = false
 is_first Over = false
 is_first Failed = false
 
--- whether its CONNECT was proposed, and it is open
+-- whether a connection's CONNECT was proposed, and it is open
 abbrev pub is_proposed : Stage → Bool
 is_proposed Awaits = false
 is_proposed Proposed = true
@@ -39,15 +39,15 @@ is_failed Failed = true
 abbrev pub has_failed : Connection → Bool
 has_failed c = is_failed c.stage
 
--- whether it is a connection of this port, open or closed
+-- whether a connection is one of this port, open or closed
 abbrev pub is_at : Port → Connection → Bool
 is_at port c = c.port.0 == port.0
 
--- whether it is the open connection of a port
+-- whether a connection is the open one of a port
 abbrev pub is_open_at : Port → Connection → Bool
 is_open_at port c = not (is_over c.stage) && is_at port c
 
--- whether it is the open connection of a name
+-- whether a connection is the open one of a name
 abbrev pub is_open_named : ConnectionName → Connection → Bool
 is_open_named name c = not (is_over c.stage) && same_connection c.name name
 
@@ -55,8 +55,8 @@ is_open_named name c = not (is_over c.stage) && same_connection c.name name
 abbrev pub is_listed : Connection → Bool
 is_listed c = not (is_over c.stage) || not (length c.pending == 0)
 
--- it is open, has a keep alive, and no whole packet came for more than one and a half times of it
--- (MQTT 3.1.2.10); a keep alive counts seconds, times count milliseconds
+-- a connection is open, has a keep alive, and no whole packet came for more than one and a half
+-- times of it (MQTT 3.1.2.10); a keep alive counts seconds, times count milliseconds
 abbrev pub is_silent : ℕ → Connection → Bool
 is_silent now c =
     (not (is_over c.stage) && nat_lt 0 c.keep_alive)
@@ -83,7 +83,7 @@ holding piece c = record c { unread = c.unread ++ piece }
 abbrev pub left_with : ℕ → List ℕ → Connection → Connection
 left_with now rest c = record c { unread = rest; last_packet = now }
 
--- its CONNECT, with this keep alive, is proposed
+-- a connection's CONNECT, with this keep alive, is proposed
 abbrev pub asked : ℕ → Connection → Connection
 asked keep_alive c = record c { stage = Proposed; keep_alive = keep_alive }
 

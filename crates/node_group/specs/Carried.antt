@@ -39,7 +39,7 @@ pub record Carries {nodes : ℕ} {config : Config} {g : Group}
       → (written : List Packet) (later : List ℕ) → Joins written (came_up x went ++ later) →
       IsCarried x written (went_down x went) agreed
 
--- that holds for each run of a group
+-- in each run of a group the agreed lists carry its connections (`Carries`)
 abbrev pub GroupsCarryInOrder : Type 0
 GroupsCarryInOrder =
     (nodes : ℕ) (config : Config) (g : Group) (went : GroupTrace nodes config g) → Carries went

@@ -87,7 +87,7 @@ abbrev pub all_put : {nodes : ℕ} {config : Config} {g : Group} → GroupTrace 
 all_put (opened can) = []
 all_put (then_went went step) = all_put went ++ put_in_step step
 
--- the group after each of them, the newest first
+-- the group as it opened and after each step, the newest first
 abbrev pub groups_of : {nodes : ℕ} {config : Config} {g : Group} → GroupTrace nodes config g →
     List Group
 groups_of {g = g} (opened can) = g ∷ []

@@ -58,11 +58,11 @@ abbrev pub told_by_master : Group → MasterOutcome Command → Group
 told_by_master g o =
     record g { sent = g.sent ++ (o.receiver, record { from = master; body = o.body }) ∷ [] }
 
--- with another state of the master
+-- the group with another state of the master
 abbrev pub with_master : Group → MasterState → Group
 with_master g m = record g { master = m }
 
--- with another record of places
+-- the group with another record of places
 abbrev pub with_record : Group → List Command → Group
 with_record g archive = record g { archive = archive }
 

@@ -29,7 +29,7 @@ pub record KeepsOrder (config : Config) (g : Group) (groups : List Group)
       IsAgreed config (moment_of g ∷ of.earlier) xs →
       IsPrefixOf (packets_of x xs) (packets_of x (commands_of put))
 
--- that holds for each run of a group
+-- each run of a group keeps the order of each connection's packets
 abbrev pub GroupsKeepTheOrder : Type 0
 GroupsKeepTheOrder =
     (nodes : ℕ) (config : Config) (g : Group) (went : GroupTrace nodes config g) →

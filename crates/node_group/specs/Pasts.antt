@@ -28,7 +28,7 @@ pub record HasPast (config : Config) (g : Group) (groups : List Group)
   pub taken : (x : ConnectionName) → packets_in x (taken_of past) ≡ packets_in x put
   pub seen : Each (λ (h : Group). In (moment_of h) (moment_of g ∷ earlier)) groups
 
--- each run of a group has such a past
+-- each run of a group has a past (`HasPast`)
 abbrev pub GroupsArePasts : Type 0
 GroupsArePasts =
     (nodes : ℕ) (config : Config) (g : Group) (went : GroupTrace nodes config g) →

@@ -27,7 +27,7 @@ comes_up x (master_hears from ballot sent) = []
 comes_up x (assigns_unheard config) = []
 comes_up x (answers_unheard from ballot sent) = []
 
--- what came up on it in all steps, in order
+-- what came up on a connection in all steps, in order
 abbrev pub came_up : ConnectionName → {nodes : ℕ} {config : Config} {g : Group} →
     GroupTrace nodes config g → List ℕ
 came_up x (opened can) = []
@@ -40,7 +40,7 @@ abbrev pub bytes_named : ConnectionName → Option Connection → List ℕ
 bytes_named x None = []
 bytes_named x (Some c) = if same_connection c.name x then c.pending else []
 
--- what is handed over on it
+-- what is handed over on a connection in a move
 abbrev pub handed_on : ConnectionName → {core : CoreState} {turn : Turn} → Moves core turn → List ℕ
 handed_on x {core = core} (hands port) = bytes_named x (listed_at port core)
 handed_on x _ = []
@@ -51,7 +51,7 @@ abbrev pub handed_in_run : ConnectionName → {core : CoreState} {turn : Turn} �
 handed_in_run x rests = []
 handed_in_run x (goes_on m run) = handed_on x m ++ handed_in_run x run
 
--- if an item is taken with losses nothing is
+-- what is handed over on a connection in a step of a group: nothing if an item is taken with losses
 abbrev pub goes_down : ConnectionName → {g h : Group} → GroupStep g h → List ℕ
 goes_down x (node_acts n core node_call turn run at is first sent) = handed_in_run x run
 goes_down x (node_loses n core item turn kept by at runs sent thinned) = []
@@ -60,7 +60,7 @@ goes_down x (master_hears from ballot sent) = []
 goes_down x (assigns_unheard config) = []
 goes_down x (answers_unheard from ballot sent) = []
 
--- what went down on it in all steps, in order
+-- what went down on a connection in all steps, in order
 abbrev pub went_down : ConnectionName → {nodes : ℕ} {config : Config} {g : Group} →
     GroupTrace nodes config g → List ℕ
 went_down x (opened can) = []

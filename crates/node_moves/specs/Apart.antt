@@ -22,8 +22,8 @@ pub record KeepsNames (core later : CoreState) : Type 0 where
   pub gone : (x : ConnectionName) → IsGiven core.last_name x → listed_named x core ≡ None →
       listed_named x later ≡ None
 
--- that holds from the opening on, in each step, even if memory runs out, and when bytes are handed
--- over
+-- names stay apart from the opening on, in each step, even if memory runs out, and when bytes are
+-- handed over
 pub record NamesStayApart : Type 0 where
   pub opens : (id : ℕ) (config : Config) → IsOrderly (opening_core id config)
   pub steps : (item : Item) (core later : CoreState) (messages : List (Effect Command Output)) →

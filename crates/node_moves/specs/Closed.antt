@@ -38,7 +38,7 @@ pub data IsClosedBy (x : ConnectionName) {core : CoreState} {turn : Turn} (m : M
       IsPrefixOf front (spelled (refusal_in x m ++ sends_to x (outputs_of (given_in m)))) →
       IsClosedBy x m d
 
--- in each move, each connection that is closed after it was closed in one of these ways
+-- each connection that is closed after a move was closed in one of the ways of `IsClosedBy`
 abbrev pub NothingOnClosed : Type 0
 NothingOnClosed =
     (core : CoreState) (turn : Turn) (m : Moves core turn) → IsOrderly core →

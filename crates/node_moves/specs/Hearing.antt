@@ -10,12 +10,12 @@ abbrev pub IsCalm : {core : CoreState} {turn : Turn} → Runs core turn → Type
 IsCalm rests = Unit {0}
 IsCalm (goes_on m run) = (moves_replica m ≡ false) × IsCalm run
 
--- in none except the first
+-- in no move of a run except the first the replica receives something, or stops
 abbrev pub HearsAtFirst : {core : CoreState} {turn : Turn} → Runs core turn → Type 0
 HearsAtFirst rests = Unit {0}
 HearsAtFirst (goes_on m run) = IsCalm run
 
--- each call is such a run
+-- each call is a run in which only the first move may receive something, or stop
 abbrev pub NodeCallsHearAtFirst : Type 0
 NodeCallsHearAtFirst =
     (node_call : NodeCall) (core : CoreState) →

@@ -29,10 +29,10 @@ moves_replica (cuts_log can) = true
 moves_replica crashes = true
 moves_replica _ = false
 
--- This holds from the opening on. Each move preserves it, except that a move in which the replica
--- receives something, cuts its log, or stops preserves it only together with the settling move
--- after it, with which each step of a node ends. And then a node proposes under a name only in the
--- ballot of that name.
+-- `AreOfTheBallot` holds from the opening on. Each move preserves it, except that a move in which
+-- the replica receives something, cuts its log, or stops preserves it only together with the
+-- settling move after it, with which each step of a node ends. And then a node proposes under a
+-- name only in the ballot of that name.
 pub record NamesKeepTheirBallot : Type 0 where
   pub opens : (id : ℕ) (config : Config) → AreOfTheBallot (opening_core id config)
   pub moves : (core : CoreState) (turn : Turn) (m : Moves core turn) → IsOrderly core →

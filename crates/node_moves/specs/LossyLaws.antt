@@ -69,8 +69,8 @@ LossesPutInOrder =
     open_named x turn.core ≡ Some d →
     d.pending ≡ c.pending ++ spelled (sends_to x (outputs_of (given_in m)))
 
--- one that is closed after a move was closed before, with the same bytes to hand over, or was open,
--- and got a prefix of what is sent to it
+-- a connection that is closed after a move was closed before, with the same bytes to hand over, or
+-- was open, and got a prefix of what is sent to it
 pub data IsClosedBy (x : ConnectionName) {core : CoreState} {turn : Turn} (m : LossyMoves core turn)
     (d : Connection) : Type 0 where
   -- it was closed before
@@ -82,7 +82,7 @@ pub data IsClosedBy (x : ConnectionName) {core : CoreState} {turn : Turn} (m : L
       IsPrefixOf front (spelled (refusal_in x m ++ sends_to x (outputs_of (given_in m)))) →
       IsClosedBy x m d
 
--- each connection that is closed after a move is closed in this way
+-- each connection that is closed after a move was closed in one of the ways of `IsClosedBy`
 abbrev pub LossesPutNothingOnClosed : Type 0
 LossesPutNothingOnClosed =
     (core : CoreState) (turn : Turn) (m : LossyMoves core turn) → IsOrderly core →
@@ -102,9 +102,9 @@ LossyNamesAreOfTheBallot =
 abbrev pub AreWhereItServes : CoreState → Type 0
 AreWhereItServes core = serves core ≡ true → AreOfTheBallot core
 
--- This holds after each move in which the replica receives nothing, and after one in which it does,
--- if that move began as a step does. And a node proposes under a name only in the ballot of that
--- name.
+-- `AreWhereItServes` holds after each move in which the replica receives nothing, and after one in
+-- which it does, if that move began as a step does. And a node proposes under a name only in the
+-- ballot of that name.
 pub record LossyNamesKeepTheirBallot : Type 0 where
   pub moves : (core : CoreState) (turn : Turn) (m : LossyMoves core turn) → IsOrderly core →
       hears_in m ≡ false → AreWhereItServes core → AreWhereItServes turn.core

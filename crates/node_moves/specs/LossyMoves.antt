@@ -31,7 +31,7 @@ abbrev pub forgetful : CoreState → CoreState
 forgetful core =
     record core { replica = record core.replica { losses = one_more core.replica.losses } }
 
--- it stops, which it counts
+-- the replica stops, and counts that
 abbrev pub halting : CoreState → CoreState
 halting core =
     record core {

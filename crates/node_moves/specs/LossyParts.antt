@@ -64,19 +64,19 @@ abbrev pub refusal_in : ConnectionName → {core : CoreState} {turn : Turn} → 
 refusal_in x (exactly m) = exact_refusal x m
 refusal_in x _ = []
 
--- whether bytes are handed over in it
+-- whether bytes are handed over in a move
 abbrev pub is_handing : {core : CoreState} {turn : Turn} → LossyMoves core turn → Bool
 is_handing (exactly m) = exact_handing m
 is_handing _ = false
 
--- whether a packet is read in it
+-- whether a packet is read in a move
 abbrev pub is_read : {core : CoreState} {turn : Turn} → LossyMoves core turn → Bool
 is_read (exactly m) = exact_read m
 is_read (first_losing now port c connect rest did at first is taken) = true
 is_read (later_losing now port c packet rest did at later is taken) = true
 is_read _ = false
 
--- what the replica receives in it
+-- what the replica receives in a move
 abbrev pub inputs_of : {core : CoreState} {turn : Turn} → Moves core turn → List (Input Command)
 inputs_of (hears input other) = input ∷ []
 inputs_of _ = []
@@ -88,7 +88,7 @@ inputs_in (exactly m) = inputs_of m
 inputs_in (hears_losing input did other drives) = input ∷ []
 inputs_in _ = []
 
--- whether it receives something, or the node crashes
+-- whether the replica receives something in a move, or the node crashes
 abbrev pub hears_in : {core : CoreState} {turn : Turn} → LossyMoves core turn → Bool
 hears_in (exactly m) = moves_replica m
 hears_in (hears_losing input did other drives) = true

@@ -31,7 +31,7 @@ abbrev pub IsCalm : {core : CoreState} {turn : Turn} → LossyRuns core turn →
 IsCalm rests = Unit {0}
 IsCalm (goes_on m run) = (hears_in m ≡ false) × IsCalm run
 
--- in none except the first
+-- in no move of a run except the first the replica receives something
 abbrev pub HearsAtFirst : {core : CoreState} {turn : Turn} → LossyRuns core turn → Type 0
 HearsAtFirst rests = Unit {0}
 HearsAtFirst (goes_on m run) = IsCalm run
@@ -53,7 +53,7 @@ abbrev pub all_inputs : {core : CoreState} {turn : Turn} → LossyRuns core turn
 all_inputs rests = []
 all_inputs (goes_on m run) = inputs_in m ++ all_inputs run
 
--- nothing is handed over in it
+-- nothing is handed over in a run
 abbrev pub HandsNothing : {core : CoreState} {turn : Turn} → LossyRuns core turn → Type 0
 HandsNothing rests = Unit {0}
 HandsNothing (goes_on m run) = (is_handing m ≡ false) × HandsNothing run
@@ -100,7 +100,7 @@ abbrev pub is_cut : Item → Bool
 is_cut Cut = true
 is_cut _ = false
 
--- Each step that takes an item with losses is a run of such moves. In the first of them the replica
+-- Each step that takes an item with losses is a run of moves. In the first of them the replica
 -- receives what comes with the item. On each connection the bytes of the item come, and nothing is
 -- handed over. No log is cut unless the item is a cut, and what is frozen can be read.
 pub record IsRunOn (item : Item) (core : CoreState) (turn : Turn) : Type 0 where
@@ -112,7 +112,7 @@ pub record IsRunOn (item : Item) (core : CoreState) (turn : Turn) : Type 0 where
   pub cuts : is_cut item ≡ false → CutsNothing run
   pub freezes : AllFreeze run
 
--- each step on an item, with losses or not, is such a run
+-- each step on an item, with losses or not, is a run of moves (`IsRunOn`)
 abbrev pub LossesAreMoves : Type 0
 LossesAreMoves =
     (item : Item) (core later : CoreState) (messages : List (Effect Command Output)) →

@@ -103,7 +103,7 @@ all_done [] core = quiet core
 all_done (node_call ∷ node_calls) core =
     and_then (done node_call core) (all_done node_calls (done node_call core).core)
 
--- all that a node ever does is such a run
+-- all that a node ever does, call after call, is a run of moves
 abbrev pub NodeCallsAreMoves : Type 0
 NodeCallsAreMoves =
     (node_calls : List NodeCall) (core : CoreState) → Runs core (all_done node_calls core)

@@ -45,7 +45,7 @@ abbrev pub spelled : List Packet → List ℕ
 spelled [] = []
 spelled (p ∷ ps) = spelling p ++ spelled ps
 
--- whether bytes are handed over in it
+-- whether bytes are handed over in a move
 abbrev pub is_handing : {core : CoreState} {turn : Turn} → Moves core turn → Bool
 is_handing (hands port) = true
 is_handing _ = false

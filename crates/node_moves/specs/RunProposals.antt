@@ -34,7 +34,7 @@ pub record Proposes (x : ConnectionName) (core : CoreState) (proposals : List Co
   pub front : IsPrefixOf read written
   pub proposed : filter (λ command. is_packet_of command x) proposals ≡ commands_of x 0 read
 
--- that holds in each run of a node from its opening on, and for each name that a connection can
+-- a node proposes in order in each run from its opening on, under each name that a connection can
 -- have
 abbrev pub NodesProposeInOrder : Type 0
 NodesProposeInOrder =

@@ -51,6 +51,6 @@ pub record WorldIsExact (w : World) : Type 0 where
   pub names : (x : ConnectionName) → connects_of x (past_of usual_limits w.agreed) ≤ 1
   pub sessions : EndsWithTheSession usual_limits (past_of usual_limits w.agreed)
 
--- this holds for every world that clients with identifiers of their own reach
+-- each world that clients with identifiers of their own reach is exact
 abbrev pub WorldsAreExact : Type 0
 WorldsAreExact = (cs : List Client) (w : World) → AreApart cs → Reached cs w → WorldIsExact w

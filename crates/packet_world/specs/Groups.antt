@@ -43,8 +43,9 @@ pub record TakesAsRead {rules : Rules State Command Output} {config : Config}
   pub known : (row : ℕ × Command) → In row (taken_of came) → is_of_connection row.1 ≡ true →
       IsOfPipe w row.1
 
--- Then what is agreed at one moment is served by what is agreed at the next: it has grown, and has
--- of each connection a prefix of the packets that were read, in order.
+-- If nodes take what their ends read (`TakesAsRead`), what is agreed at one moment is served by
+-- what is agreed at the next: it has grown, and has of each connection a prefix of the packets that
+-- were read, in order.
 abbrev pub GroupsServe : Type 0
 GroupsServe =
     (rules : Rules State Command Output) →

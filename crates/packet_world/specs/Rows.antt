@@ -11,7 +11,7 @@ use Rattle.packet_world.specs.Goes.{Reached}
 abbrev pub accepted_by : ClientEnds → List Publication
 accepted_by c = accepted_on c.connections
 
--- the list of that story, oldest first, with the same end: what was published once is accepted once
+-- a world reaches the list of the worked example, and what was published once is accepted once
 pub record AcceptsOnce : Type 0 where
   pub end : World
   pub reached : Reached (writer ∷ []) end

@@ -21,7 +21,7 @@ pub record IsOfPipe (w : World) (command : Command) : Type 0 where
   pub named : is_packet_of command connection.name ≡ true
 
 -- The list only grew; for each connection it has a prefix of the packets that the node read and
--- proposed, in order; and it has packets only of such connections.
+-- proposed, in order; and it has packets only of connections of the world.
 pub record IsServed (w : World) (later : List Command) : Type 0 where
   pub grows : IsPrefixOf w.agreed later
   pub order : (i j : ℕ) (c : ClientEnds) (κ : Connection) (e : End) → HasPipe w i c j κ e →
@@ -35,14 +35,14 @@ abbrev pub untaken : ClientEnds → ClientEnds
 untaken c =
     record c { connections = map (λ (κ : Connection). record κ { taken = 0 }) c.connections }
 
--- Then the world comes to this list, command by command, and all else stays as it is.
+-- The world comes to this list, command by command, and all else stays as it is.
 pub record ComesTo (cs : List Client) (w : World) (later : List Command) : Type 0 where
   pub after : World
   pub reached : Reached cs after
   pub agreed : after.agreed ≡ later
   pub clients : map untaken after.clients ≡ map untaken w.clients
 
--- that holds for each reachable world, and each such list
+-- each reachable world comes to each list by which it is served
 abbrev pub WorldsAreServed : Type 0
 WorldsAreServed =
     (cs : List Client) (w : World) (later : List Command) → AreApart cs → Reached cs w →

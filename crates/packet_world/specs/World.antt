@@ -19,7 +19,7 @@ pub record End : Type 0 where
   pub put : List Packet  -- what it sent on the connection
   pub is_open : Bool
 
--- as it opens, at a node that applied this many places of the list
+-- an end as it opens, at a node that applied this many places of the list
 abbrev pub new_end : ℕ → End
 new_end seen = record { read = 0; seen = seen; put = []; is_open = true }
 

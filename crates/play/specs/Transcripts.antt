@@ -45,12 +45,12 @@ new_lines (name ∷ names) old new =
 
 -- ---- one line of a script
 
--- its event had this result, as `World::step` says; a line that names no event is idle
+-- the event of a line had this result, as `World::step` says; a line that names no event is idle
 abbrev pub ComesTo : Option Event → WorldState → Result (Unit {0}) Idle → WorldState → Type 0
 ComesTo None old result new = IsErr result × (new ≡ old)
 ComesTo (Some event) old result new = Happens event old result new
 
--- what its event asked clients to publish
+-- what the event of a line asked clients to publish
 abbrev pub IsAskedIn : Option Event → WorldState → Result (Unit {0}) Idle
     → List (ℕ × Publication) → WorldState → Type 0
 IsAskedIn None old result asked new = asked ≡ []

@@ -18,12 +18,12 @@ abbrev pub body_of : Activation → ℕ → Body Command
 body_of activation.Activated ballot = Activated ballot
 body_of activation.Superseded ballot = Superseded ballot
 
--- what it answers to a message of a node: only an Activate gets an answer
+-- what the master answers to a message of a node: only an Activate gets an answer
 abbrev pub answer_to : MasterState → ℕ → Body Command → Option (MasterOutcome Command)
 answer_to master from (Activate ballot) = Some (activated Command master ballot from master.waiting)
 answer_to master from _ = None
 
--- its state afterwards
+-- the state of the master after an outcome, if there was one
 abbrev pub master_after : MasterState → Option (MasterOutcome Command) → MasterState
 master_after master (Some outcome) = outcome.state
 master_after master None = master
@@ -40,8 +40,8 @@ abbrev pub message_if : Option (MasterOutcome Command) → Option Addressed
 message_if (Some outcome) = Some (message_of outcome)
 message_if None = None
 
--- what it answers, and why: an order that it does not refuse, or an Activate that a step of a node
--- gave for it
+-- what the master answers, and why: an order that it does not refuse, or an Activate that a step of
+-- a node gave for it
 pub data Answers (master : MasterState) : MasterOutcome Command → Type 0 where
   -- it does not refuse the order
   to_order : (config : Config)

@@ -21,7 +21,7 @@ pub data IsPosted (receiver : ℕ) : Item → Type 0 where
   -- an order to end the session of a client
   expels : (client : List ℕ) → IsPosted receiver (Expel client)
 
--- what may be queued for it
+-- what may be queued for a node
 pub data MayQueue (receiver : ℕ) : Item → Type 0 where
   -- what others than the master queue
   posted : {item : Item} → IsPosted receiver item → MayQueue receiver item
@@ -29,6 +29,7 @@ pub data MayQueue (receiver : ℕ) : Item → Type 0 where
   of_master : (message : Message Command)
       → WasAnswered receiver message → MayQueue receiver (Peer message)
 
--- there is such a reason: nothing more is known about a queued item, whichever thread queued it
+-- an item may be queued for a node: nothing more is known about a queued item, whichever thread
+-- queued it
 abbrev pub IsQueued : ℕ → Item → Type 0
 IsQueued receiver item = ∥ MayQueue receiver item ∥₁

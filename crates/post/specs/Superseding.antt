@@ -6,12 +6,12 @@ use Rattle.node.specs.declared.Body.TheVariants.{Held, Commit}
 use Rattle.node.specs.declared.Item.{Item}
 use Rattle.node.specs.declared.Item.TheVariants.{Peer}
 
--- that a member holds no more than this many places, in this ballot
+-- whether a message says that a member holds no more than this many places, in this ballot
 abbrev pub is_held_within : ℕ → ℕ → Body Command → Bool
 is_held_within ballot held (Held earlier fewer) = earlier == ballot && nat_le fewer held
 is_held_within ballot held _ = false
 
--- that no more than this many places are held by all, in this ballot
+-- whether a message says that all members hold no more than this many places, in this ballot
 abbrev pub is_commit_within : ℕ → ℕ → Body Command → Bool
 is_commit_within ballot held (Commit earlier fewer) = earlier == ballot && nat_le fewer held
 is_commit_within ballot held _ = false

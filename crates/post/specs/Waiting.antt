@@ -24,13 +24,13 @@ of_nodes (item ∷ items) = (if is_of_node item then 1 else 0) + of_nodes items
 abbrev pub max_waiting : ℕ
 max_waiting = 524288
 
--- Whether an item may be queued after these: a message of another node while fewer items wait than
--- that, and a message of the master or an order whatever waits.
+-- Whether an item may be queued after these: a message of another node while fewer than
+-- `max_waiting` items wait, and a message of the master or an order whatever waits.
 abbrev pub has_room : Item → List Item → Bool
 has_room item items = not (is_of_node item) || nat_lt (length items) max_waiting
 
--- What may wait for the node of a number: what was queued for it, and at most `max_waiting` messages
--- of other nodes.
+-- What may wait for the node of a number: what was queued for it, and at most `max_waiting`
+-- messages of other nodes.
 pub record Waits (number : ℕ) (items : List Item) : Type 0 where
   pub queued : Each (IsQueued number) items
   pub bounded : of_nodes items ≤ max_waiting

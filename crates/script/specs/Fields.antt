@@ -90,7 +90,7 @@ topic_of text = unless (topic_fault text) text
 unfoldable pub filter_of : Text → Option Text
 filter_of text = unless (filter_fault text) text
 
--- both, if there are both
+-- the first value and the others, if there are both
 abbrev pub with_first : {X : Type 0} → Option X → Option (List X) → Option (List X)
 with_first (Some x) (Some xs) = Some (x ∷ xs)
 with_first (Some x) None = None

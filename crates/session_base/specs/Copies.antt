@@ -12,7 +12,7 @@ copies_left window (p ∷ copies) queue =
     else copies_left window copies queue
 copies_left window [] queue = queue
 
--- of the queue of a client without a connection: those of QoS 1 and 2 wait
+-- of the queue of a client without a connection: copies of QoS 1 and 2 wait
 abbrev pub copies_waiting : List Publication → Queue → Queue
 copies_waiting copies queue =
     record {

@@ -8,12 +8,12 @@ use Rattle.session_base.specs.Queue.{Queue}
 use Rattle.session_base.specs.Session.{SessionState}
 use Rattle.session_base.specs.Form.{state_bytes}
 
--- the entries in flight that have a publication
+-- a publication at QoS 1
 abbrev pub at_least_once : Publication
 at_least_once =
     record { retain = false; qos = levels.AtLeastOnce; topic = codes "t/1"; payload = codes "x" }
 
--- one of QoS 2
+-- a publication at QoS 2
 abbrev pub exactly_once : Publication
 exactly_once =
     record { retain = false; qos = levels.ExactlyOnce; topic = codes "t/1"; payload = codes "y" }

@@ -13,7 +13,7 @@ free_from (suc many) i busy = if has_id i busy then free_from many (suc i) busy 
 abbrev pub least_free : List ℕ → ℕ
 least_free busy = free_from (length busy) 1 busy
 
--- with the identifier, once, in rising order
+-- the identifiers with this one, once, in rising order
 abbrev pub with_id : ℕ → List ℕ → List ℕ
 with_id id ids = insert_key nat_cmp ids id
 

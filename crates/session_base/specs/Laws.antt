@@ -45,20 +45,20 @@ FillKeepsApart =
 
 -- ---- a fill
 
--- after it nothing waits, or the window is full
+-- after a fill nothing waits, or the window is full
 abbrev pub FillIsDone : Type 0
 FillIsDone =
     (window : ℕ) → (flights : List Flight) → (waiting : List Publication) →
     ((fill window flights waiting).waiting ≡ [])
     ⊎ (window ≤ length (fill window flights waiting).in_flight)
 
--- it does not go past the window
+-- a fill does not go past the window
 abbrev pub FillStaysWithin : Type 0
 FillStaysWithin =
     (window : ℕ) → (flights : List Flight) → (waiting : List Publication) →
     length flights ≤ window → length (fill window flights waiting).in_flight ≤ window
 
--- what was in flight stays in front, and no publication is lost or overtaken
+-- a fill leaves what was in flight in front, and loses or overtakes no publication
 abbrev pub FillKeepsOrder : Type 0
 FillKeepsOrder =
     (window : ℕ) → (flights : List Flight) → (waiting : List Publication) →
@@ -67,7 +67,7 @@ FillKeepsOrder =
     ++ (fill window flights waiting).waiting
     ≡ publications_of flights ++ waiting)
 
--- it sends what came into flight, with DUP 0, and nothing else
+-- a fill sends what came into flight, with DUP 0, and nothing else
 abbrev pub FillSendsWhatStarts : Type 0
 FillSendsWhatStarts =
     (window : ℕ) → (flights : List Flight) → (waiting : List Publication) →
@@ -89,7 +89,7 @@ FillsJoin =
 abbrev pub IsQuietQueue : ℕ → List Flight → List Publication → Type 0
 IsQuietQueue window flights waiting = (waiting ≡ []) ⊎ (window ≤ length flights)
 
--- copies that come one by one leave of such a queue what one fill after all of them leaves
+-- copies that come one by one leave of a quiet queue what one fill after all of them leaves
 abbrev pub CopiesAreOneFill : Type 0
 CopiesAreOneFill =
     (window : ℕ) → (flights : List Flight) → (waiting copies : List Publication) →

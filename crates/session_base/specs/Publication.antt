@@ -19,7 +19,7 @@ publication_of p =
       payload = p.payload;
     }
 
--- how it is delivered at this QoS, with DUP and identifier if the QoS has them
+-- how a publication is delivered at this QoS, with DUP and identifier if the QoS has them
 abbrev pub delivery_at : QoS → Bool → ℕ → Delivery
 delivery_at levels.AtMostOnce dup id = deliveries.AtMostOnce
 delivery_at levels.AtLeastOnce dup id = deliveries.AtLeastOnce dup id
@@ -35,7 +35,7 @@ publish_of dup id p =
       payload = p.payload;
     }
 
--- whether it goes into a queue: QoS 1 and 2 are answered
+-- whether a publication of this QoS goes into a queue: QoS 1 and 2 are answered
 abbrev pub is_answered : QoS → Bool
 is_answered levels.AtMostOnce = false
 is_answered levels.AtLeastOnce = true

@@ -34,12 +34,12 @@ abbrev pub is_puback : Awaits → Bool
 is_puback (waits_for.Puback p) = true
 is_puback _ = false
 
--- whether it waits for PUBREC
+-- whether an entry in flight waits for PUBREC
 abbrev pub is_pubrec : Awaits → Bool
 is_pubrec (waits_for.Pubrec p) = true
 is_pubrec _ = false
 
--- whether it waits for PUBCOMP
+-- whether an entry in flight waits for PUBCOMP
 abbrev pub is_pubcomp : Awaits → Bool
 is_pubcomp waits_for.Pubcomp = true
 is_pubcomp _ = false
@@ -56,7 +56,7 @@ awaits_pubrec id flight = (id == flight.0) && is_pubrec flight.1
 abbrev pub awaits_pubcomp : ℕ → Flight → Bool
 awaits_pubcomp id flight = (id == flight.0) && is_pubcomp flight.1
 
--- whether it is released
+-- whether an entry in flight is released
 abbrev pub is_released : Flight → Bool
 is_released flight = is_pubcomp flight.1
 

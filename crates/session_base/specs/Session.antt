@@ -3,14 +3,14 @@ use Rattle.std.specs.Prelude.{ℕ, List, []}
 use Rattle.session_base.specs.Subscriptions.{HeldFilter}
 use Rattle.session_base.specs.Queue.{Flight, Queue, empty_queue}
 
--- its subscriptions, the identifiers of QoS 2 publications that were received and have no PUBREL,
--- in rising order, and what is to be sent
+-- a session's subscriptions, the identifiers of QoS 2 publications that were received and have no
+-- PUBREL, in rising order, and what is to be sent
 pub record SessionState : Type 0 where
   pub subscriptions : List HeldFilter
   pub received : List ℕ
   pub queue : Queue
 
--- nothing is in it
+-- a session with nothing in it
 abbrev pub empty_session : SessionState
 empty_session = record { subscriptions = []; received = []; queue = empty_queue }
 
@@ -19,12 +19,12 @@ abbrev pub with_filters : List HeldFilter → SessionState → SessionState
 with_filters filters old =
     record { subscriptions = filters; received = old.received; queue = old.queue }
 
--- with these received identifiers
+-- a session with these received identifiers, and all else as it was
 abbrev pub with_received : List ℕ → SessionState → SessionState
 with_received ids old =
     record { subscriptions = old.subscriptions; received = ids; queue = old.queue }
 
--- with this queue
+-- a session with this queue, and all else as it was
 abbrev pub with_queue : Queue → SessionState → SessionState
 with_queue queue old =
     record { subscriptions = old.subscriptions; received = old.received; queue = queue }

@@ -21,7 +21,7 @@ with_subscription new (old ∷ others) =
     if bytes_eq new.0 old.0 then (old.0, new.1) ∷ others else old ∷ with_subscription new others
 with_subscription new [] = new ∷ []
 
--- all of these, one by one
+-- the subscriptions after all of these, one by one
 abbrev pub with_subscriptions : List HeldFilter → List HeldFilter → List HeldFilter
 with_subscriptions (new ∷ more) held = with_subscriptions more (with_subscription new held)
 with_subscriptions [] held = held
@@ -30,7 +30,7 @@ with_subscriptions [] held = held
 abbrev pub without_filter : List ℕ → List HeldFilter → List HeldFilter
 without_filter given_up = filter (λ held. not (bytes_eq given_up held.0))
 
--- all of these, one by one
+-- the subscriptions after all of these filters are given up, one by one
 abbrev pub without_filters : List (List ℕ) → List HeldFilter → List HeldFilter
 without_filters (given_up ∷ more) held = without_filters more (without_filter given_up held)
 without_filters [] held = held

@@ -59,7 +59,7 @@ pub record IsCutRight {S C O : Type 0} (rules : Rules S C O) (archive : List C)
   pub snapshot : 0 < r.log.base →
       rules.thawed r.log.snapshot ≡ Some (replay rules (take r.log.base archive))
 
--- this holds for each log of a group
+-- each log of a group is cut right
 abbrev pub LogsAreCutRight : {S C O : Type 0} → Rules S C O → Type 0
 LogsAreCutRight {S} {C} {O} rules =
     (config : Config) (a : Moment S C O) (past : List (Moment S C O)) →
@@ -73,7 +73,7 @@ log_in (State ballot log) = Some log
 log_in (Install ballot log) = Some log
 log_in _ = None
 
--- the log in a message that was sent is cut right, too
+-- the log in a message that was sent is cut right
 pub record IsSentRight {S C O : Type 0} (rules : Rules S C O) (archive : List C)
     (log : Log C) : Type 0 where
   pub recorded : log.base ≤ length archive

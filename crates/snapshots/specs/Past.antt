@@ -9,16 +9,16 @@ use Rattle.agreement.specs.ballot_base.Replica.{ReplicaState, opening}
 use Rattle.snapshots.specs.Steps.{MayHappen}
 use Rattle.snapshots.specs.World.{World, whole_world}
 
--- the master and the world
+-- a moment of a group: the master and the world
 pub record Moment (S C O : Type 0) : Type 0 where
   pub master : MasterState
   pub world : World S C O
 
--- on whole logs
+-- the moment on whole logs
 abbrev pub whole_moment : {S C O : Type 0} → Moment S C O → WholeMoment S C O
 whole_moment a = record { master = a.master; world = whole_world a.world }
 
--- as it opens: no log has a place, and nothing is recorded
+-- the nodes as they open: no log has a place
 abbrev pub opening_nodes : {S C O : Type 0} → Rules S C O → ℕ → Config → List (ReplicaState S C)
 opening_nodes rules zero config = []
 opening_nodes rules (suc n) config =

@@ -22,12 +22,12 @@ proposal_by r (Receives message) = []
 proposal_by r (Proposes command) = (r.joined, command) ∷ []
 proposal_by r Ticks = []
 
--- what the node takes of it: its log has more places after the step
+-- what a node takes of an input: its log has more places after the step
 abbrev pub taken_by : {S C : Type 0} → ReplicaState S C → ReplicaState S C → Input C → List (ℕ × C)
 taken_by old new input =
     if nat_lt (places old.log) (places new.log) then proposal_by old input else []
 
--- in what a node does; a cut proposes nothing
+-- what is proposed to a node in what it does; a cut proposes nothing
 abbrev pub proposed_to : {S C O : Type 0} {rules : Rules S C O} {w v : World S C O} →
     NodeGoes rules w v → List (ℕ × C)
 proposed_to (takes n r input stands runs may loses) = proposal_by r input
@@ -49,7 +49,7 @@ taken_by_node n (takes i r input {new = new} {given = given} stands runs may los
 taken_by_node n (stops i r stands) = []
 taken_by_node n (cuts i r stands runs below reads) = []
 
--- in a step of the group
+-- what is proposed in a step of the group
 abbrev pub proposal_of : {S C O : Type 0} {rules : Rules S C O} {m : MasterState}
     {w : World S C O} {k : MasterState} {v : World S C O} → MayHappen rules m w k v → List (ℕ × C)
 proposal_of (node_goes goes) = proposed_to goes
@@ -67,7 +67,7 @@ taken_in (master_hears from b sent) = []
 taken_in (assignment_lost config) = []
 taken_in (answer_lost from b sent) = []
 
--- what the node at index n takes in it
+-- what the node at index n takes in a step of the group
 abbrev pub takes_at : {S C O : Type 0} {rules : Rules S C O} {m : MasterState} {w : World S C O}
     {k : MasterState} {v : World S C O} → ℕ → MayHappen rules m w k v → List (ℕ × C)
 takes_at n (node_goes goes) = taken_by_node n goes

@@ -6,7 +6,7 @@ use Rattle.node.specs.declared.Port.{Port}
 use Rattle.streams.specs.declared.link.Link.{Link}
 use Rattle.streams.specs.declared.idle_lanes.IdleLanes.{IdleLanes}
 
--- the lane of a port is one of these
+-- the lane of a port is one of these lanes
 abbrev pub is_idle : IdleLanes → Port → Bool
 is_idle lanes port = not (bit_and lanes.0 (2 ^ (port.0 % 64)) == 0)
 

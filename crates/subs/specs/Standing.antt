@@ -28,7 +28,7 @@ IsSound nodes = IsTree (shape nodes).child (shape nodes).used (root_of nodes)
 abbrev pub LeadsTo : Nodes → Levels → ℕ → Type 0
 LeadsTo nodes path at = led (shape nodes).child (root_of nodes) path ≡ Some at
 
--- some levels lead to it
+-- some levels lead to the node
 abbrev pub IsThere : Nodes → ℕ → Type 0
 IsThere nodes at = (path : Levels) × LeadsTo nodes path at
 

@@ -47,7 +47,7 @@ IsWanted content topic =
     (client : List ℕ) × (filter : List ℕ) × (qos : QoS) × (content client filter ≡ Some qos)
     × Matches filter topic
 
--- those rows come after the ones that were there
+-- the granted rows of a topic come after the rows that were there
 abbrev pub AppendsGranted : Content → List ℕ → List Row → List Row → Type 0
 AppendsGranted content topic old new =
     (rows : List Row) × IsGranted content topic rows × (new ≡ old ++ rows)

@@ -17,7 +17,7 @@ use Rattle.topics.specs.declared.malformed.MalformedKind.TheVariants.{
   TooDeep,
 }
 
--- as in the table of refusals
+-- the number of each kind, as in the table of refusals
 abbrev pub number_of : MalformedKind → ℕ
 number_of PacketType = 1
 number_of Flags = 2

@@ -16,7 +16,7 @@ pub record Listening : Type 0 where
 abbrev pub new_listening : List ℕ → ℕ → Listening
 new_listening id count = record { caller = new_called id; count = count; left = count }
 
--- it begins from the start
+-- a client listens from the start: all its publications are still to be printed
 abbrev pub begun : Listening → Listening
 begun listening = record listening { left = listening.count }
 

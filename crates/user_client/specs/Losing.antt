@@ -30,7 +30,7 @@ pub record LosesSession (start end : Called) : Type 0 where
 abbrev pub IsLostBy : Called → Called → ClientFault → Type 0
 IsLostBy start end fault = fault ≡ faults.Lost → LosesSession start end
 
--- over all connections it ends as lost also once it has asked for each of them
+-- over all connections a client ends as lost also once it has asked for each of them
 abbrev pub IsGivenUp :
     {S : Type 0} → (S → S → Type 0) → (S → S → Type 0)
     → ℕ → S → S → Called → Called → ClientFault → Type 0

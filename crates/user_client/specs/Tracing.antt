@@ -16,7 +16,7 @@ pub record Called : Type 0 where
   pub core : Core
   pub was_accepted : Bool
 
--- it has keep alive 0, and was never connected
+-- a new client: it has keep alive 0, and was never connected
 abbrev pub new_called : List ℕ → Called
 new_called id = record { core = new_core id 0; was_accepted = false }
 
@@ -33,7 +33,7 @@ after_bytes core called =
 abbrev pub IsFirst : Called → Core → Type 0
 IsFirst called core = called.was_accepted ≡ false → core.state.present ≡ false
 
--- it was asked for this publication and took it, and nothing changed except its keeper
+-- the client was asked for this publication and took it, and nothing changed except its keeper
 abbrev pub IsAsked : Publication → Called → Called → Type 0
 IsAsked p old new =
     Does (keeper_step (Call.Publishes p) old.core.state) old.core (Ok tt) new.core

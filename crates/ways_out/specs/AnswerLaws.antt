@@ -65,7 +65,7 @@ pub record IsHeldByAll {S C O : Type 0} (rules : Rules S C O) (a : Moment S C O)
   pub each : (m : ℕ) → In m (front ++ last ∷ []) →
       NodeIs (Follows ballot (log ++ c ∷ [])) before.world.nodes m
 
--- the primary of such a ballot answers the next command: at once if it is the only member, and
+-- the primary that serves a ballot answers the next command: at once if it is the only member, and
 -- otherwise when all others have answered
 abbrev pub CommandsAreAnswered : {S C O : Type 0} → Rules S C O → Type 0
 CommandsAreAnswered {S} {C} {O} rules =

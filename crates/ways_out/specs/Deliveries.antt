@@ -53,7 +53,7 @@ pub data Delivered {S C O : Type 0} (rules : Rules S C O) (ballot : ℕ) :
       Delivered rules ballot (after_activate from asked a) ks b →
       Delivered rules ballot a (k ∷ ks) b
 
--- the node of this number exists, and this holds for it
+-- the node of this number exists, and the property holds for it
 pub record NodeIs {S C : Type 0} (P : ℕ → ReplicaState S C → Type 0)
     (nodes : List (ReplicaState S C)) (m : ℕ) : Type 0 where
   pub index : ℕ

@@ -11,12 +11,12 @@ whole_log r = r.log
 pub record Runs {S C : Type 0} (m : ℕ) (r : ReplicaState S C) : Type 0 where
   pub runs : r.stopped ≡ false
 
--- it runs, and its whole log is this one
+-- the node runs, and its whole log is this one
 pub record RunsWith {S C : Type 0} (log : List C) (m : ℕ) (r : ReplicaState S C) : Type 0 where
   pub runs : r.stopped ≡ false
   pub log_is : whole_log r ≡ log
 
--- it runs as a backup of a ballot, and holds this log there
+-- the node runs as a backup of a ballot, and holds this log there
 pub record Follows {S C : Type 0} (ballot : ℕ) (log : List C) (m : ℕ)
     (r : ReplicaState S C) : Type 0 where
   pub runs : r.stopped ≡ false
@@ -26,13 +26,14 @@ pub record Follows {S C : Type 0} (ballot : ℕ) (log : List C) (m : ℕ)
   pub role : r.role ≡ Backup
   pub log_is : whole_log r ≡ log
 
--- it runs as the active primary of a ballot
+-- the node runs as the active primary of a ballot
 pub record LeadsIn {S C : Type 0} (ballot : ℕ) (r : ReplicaState S C) : Type 0 where
   pub runs : r.stopped ≡ false
   pub joined : r.joined ≡ ballot
   pub role : r.role ≡ Active
 
--- it leads the ballot, has applied all of this log, and knows that these others hold all of it
+-- the node leads the ballot, has applied all of this log, and knows that these others hold all of
+-- it
 pub record Serves {S C : Type 0} (ballot : ℕ) (log : List C) (others_of : List ℕ) (m : ℕ)
     (r : ReplicaState S C) : Type 0 where
   pub leads : LeadsIn ballot r

@@ -18,7 +18,7 @@ pub data Body (C : Type 0) : Type 0 where
   Held : ℕ → ℕ → Body C  -- the sender holds so many places
   Commit : ℕ → ℕ → Body C  -- every member holds so many places
 
--- with its sender; node 0 is the master
+-- a message: what is said, with its sender; node 0 is the master
 pub record Message (C : Type 0) : Type 0 where
   pub from : ℕ
   pub body : Body C

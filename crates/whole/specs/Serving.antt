@@ -46,7 +46,7 @@ proposed {O = O} rules r command =
 abbrev pub follows : {S C : Type 0} → ReplicaState S C → ℕ → Bool
 follows r ballot = (r.joined == ballot && r.held_in == ballot) && is_backup r.role
 
--- whether it is the active primary of the ballot
+-- whether a replica is the active primary of the ballot
 abbrev pub leads : {S C : Type 0} → ReplicaState S C → ℕ → Bool
 leads r ballot = r.joined == ballot && is_active r.role
 

@@ -22,7 +22,7 @@ pub record AsksOne (name : List ℕ) (p : Publication) (old : WorldState)
   pub is : new ≡ record (with_piped client.at client.client piped old) { losses = new.losses }
   pub asked_is : asked ≡ (client.at, p) ∷ []
 
--- it ran out of memory before that: nothing was done, and that is counted
+-- memory ran out before a client was asked: nothing was done, and that is counted
 pub record AsksNone (old : WorldState) (asked : List (ℕ × Publication))
     (new : WorldState) : Type 0 where
   pub is : new ≡ record old { losses = one_more old.losses }

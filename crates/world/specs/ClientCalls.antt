@@ -17,17 +17,17 @@ ClientDoes name does old new =
     (c : Named name old) × (piped : Piped) × does c.client.piped piped
     × (new ≡ with_piped c.at c.client piped old)
 
--- what it writes is in transit; if losses are allowed, its connection may be lost instead
+-- what the client writes is in transit; if losses are allowed, its connection may be lost instead
 abbrev pub Asks : Call → Bool → Piped → Piped → Type 0
 Asks call true old new = Calls (keeper_step call old.core.state) old (Ok sendings.Sent) new
 Asks call false old new =
     (sending : Sending) × Calls (keeper_step call old.core.state) old (Ok sending) new
 
--- it is lost: there was no memory for what the client wrote
+-- the client's connection is lost: there was no memory for what the client wrote
 abbrev pub LosesAsking : Call → Piped → Piped → Type 0
 LosesAsking call old new = Calls (keeper_step call old.core.state) old (Ok sendings.Lost) new
 
--- its DISCONNECT is in transit; if losses are allowed, its connection may be lost instead
+-- the client's DISCONNECT is in transit; if losses are allowed, its connection may be lost instead
 abbrev pub Leaves : Bool → Piped → Piped → Type 0
 Leaves true old new =
     TakesLeave (keeper_step Call.Disconnects old.core.state) old (Ok sendings.Sent) new
@@ -35,7 +35,7 @@ Leaves false old new =
     (sending : Sending)
     × TakesLeave (keeper_step Call.Disconnects old.core.state) old (Ok sending) new
 
--- it leaves without one: there was no memory for its DISCONNECT
+-- the client leaves without a DISCONNECT: there was no memory for it
 abbrev pub LosesLeaving : Piped → Piped → Type 0
 LosesLeaving old new =
     TakesLeave (keeper_step Call.Disconnects old.core.state) old (Ok sendings.Lost) new
@@ -44,7 +44,7 @@ LosesLeaving old new =
 abbrev pub Loses : Piped → Piped → Type 0
 Loses old new = new ≡ record old { core = gone old.core }
 
--- whatever it does with the bytes; it runs out of memory only if losses are allowed
+-- whatever the client does with the bytes; it runs out of memory only if losses are allowed
 abbrev pub HearsThem : Bool → ℕ → Piped → Piped → Type 0
 HearsThem whole count old new =
     (result : Result (Unit {0}) ClientError) × (whole ≡ true → result ≡ Err errors.Memory → ⊥)

@@ -29,7 +29,7 @@ core_at (Some at) clients = core_of (slice_get clients at)
 abbrev pub core_named : List ℕ → List WorldClient → Option Core
 core_named name clients = core_at (position (is_named name) clients) clients
 
--- it is found at this index
+-- the first client of this identifier is at this index
 pub record Named (name : List ℕ) (w : WorldState) : Type 0 where
   pub at : ℕ
   pub first : position (is_named name) w.clients ≡ Some at

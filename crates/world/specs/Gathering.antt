@@ -18,7 +18,7 @@ use Rattle.world.specs.World.{WorldState}
 
 -- ---- what a node says about a port, if the node exists
 
--- the bytes that it queued and has not yet handed over
+-- the bytes that the node queued for the port and has not yet handed over
 abbrev pub put_out : Port → Option CountedCore → List ℕ
 put_out port None = []
 put_out port (Some node) = bytes_of (listed_at port node.core)
@@ -28,20 +28,20 @@ abbrev pub is_more : Handed → Bool
 is_more answers.Open = true
 is_more answers.Closed = false
 
--- whether its end is open
+-- whether the node's end of the connection is open
 abbrev pub is_told_open : Port → Option CountedCore → Bool
 is_told_open port None = false
 is_told_open port (Some node) = is_more (answer_of (listed_at port node.core))
 
--- it hands these bytes over
+-- the node hands over the bytes of the port
 abbrev pub Gives : Option CountedCore → ℕ → Port → NodesState → NodesState → Type 0
 Gives None node port old new = new ≡ old
 Gives (Some core) node port old new = new ≡ after_node_call (node - 1) core (gives port) old
 
 -- ---- one connection
 
--- What its node queued for it is in transit down, after what was, and its end there counts as open
--- exactly if the node says that it is.
+-- What a connection's node queued for it is in transit down, after what was, and its end there
+-- counts as open exactly if the node says that it is.
 pub record IsAsked (number : ℕ) (old new : WorldState) : Type 0 where
   pub c : Connected number old
   pub node : Option CountedCore
@@ -56,26 +56,26 @@ pub record IsAsked (number : ℕ) (old new : WorldState) : Type 0 where
             (record c.slot { is_open = is_told_open (port_of number) node });
       }
 
--- whether it leads to this node, and its end there is open
+-- whether a connection leads to this node, and its end there is open
 abbrev pub is_open_at : ℕ → Option ConnectionSlot → Bool
 is_open_at node None = false
 is_open_at node (Some slot) = (slot.node == node) && slot.is_open
 
--- if losses are allowed: or its node ran out of memory, so nothing went down, its end stays as it
--- was, and that is counted
+-- a connection's node is asked for its bytes; if losses are allowed, the node may run out of memory
+-- instead: nothing goes down, its end stays as it was, and that is counted
 abbrev pub MayBeAsked : Bool → ℕ → WorldState → WorldState → Type 0
 MayBeAsked true number old new = IsAsked number old new
 MayBeAsked false number old new =
     IsAsked number old new ⊎ (new ≡ record old { nodes = forgetful old.nodes })
 
--- its node is asked for its bytes if this is true; otherwise nothing changes
+-- a connection's node is asked for its bytes if the second value is true; otherwise nothing changes
 abbrev pub AskedWhere : Bool → Bool → ℕ → WorldState → WorldState → Type 0
 AskedWhere whole true number old new = MayBeAsked whole number old new
 AskedWhere whole false number old new = new ≡ old
 
 -- ---- the connections of a node
 
--- this many connections, from the newest of these to the oldest
+-- of this many connections, from the newest to the oldest, those open at the node are asked
 abbrev pub GathersAmong : Bool → ℕ → ℕ → WorldState → WorldState → Type 0
 GathersAmong whole zero node old new = new ≡ old
 GathersAmong whole (suc before) node old new =

@@ -22,13 +22,13 @@ pub data Goes (g : Group) : Group → Type 0 where
   -- one more step
   goes_on : {h k : Group} → Goes g h → GroupStep h k → Goes g k
 
--- a group moves in this way, and then corresponds to these nodes
+-- a group moves by steps, and then corresponds to these nodes
 pub record GoesTo (g : Group) (new : NodesState) : Type 0 where
   pub after : Group
   pub goes : Goes g after
   pub stands : StandsFor after new
 
--- each group that corresponds to the nodes before moves in this way
+-- each group that corresponds to the nodes before moves, and corresponds to the nodes after
 abbrev pub NodesGo : NodesState → NodesState → Type 0
 NodesGo old new = (g : Group) → StandsFor g old → GoesTo g new
 
@@ -47,7 +47,7 @@ LosesNothing old new = (new.losses ≡ old.losses) × (old.losses < 2 ^ 64 - 1)
 abbrev pub CountsOnce : WorldState → WorldState → Type 0
 CountsOnce old new = (new.losses ≡ old.losses) ⊎ (new.losses ≡ one_more old.losses)
 
--- its count never falls, and its nodes move as a group
+-- a world's count of losses never falls, and its nodes move as a group
 pub record WorldGoesOn (old new : WorldState) : Type 0 where
   pub rises : old.losses ≤ new.losses
   pub goes : NodesGo old.nodes new.nodes

@@ -38,7 +38,7 @@ with_connection {w = w} c piped node =
           } ∷ [];
     }
 
--- its node takes the connection, and what the node queued then goes down
+-- the client's node takes the connection, and what the node queued then goes down
 abbrev pub OpensOne : Bool → List ℕ → ℕ → WorldState → WorldState → Type 0
 OpensOne whole name node old new =
     (c : Named name old) × (piped : Piped) × ConnectsTo node (next_number old) c.client.piped piped
@@ -69,7 +69,7 @@ abbrev pub is_full : Option CountedCore → Bool
 is_full None = false
 is_full (Some node) = not (is_connection_name (next_name node.core))
 
--- if its names are used up nothing changes; otherwise the node takes the connection
+-- if the node's names are used up nothing changes; otherwise it takes the connection
 abbrev pub OpensUnless : Bool → Bool → List ℕ → ℕ → WorldState → WorldState → Type 0
 OpensUnless true whole name node old new = new ≡ old
 OpensUnless false whole name node old new = OpensOne whole name node old new

@@ -9,7 +9,7 @@ use Rattle.world.specs.declared.world.WorldClient.{WorldClient}
 abbrev pub leads : List Way → List (ℕ × Port)
 leads ways = map (λ (way : Way). (way.node, way.port)) ways
 
--- those of each client
+-- where the connections of each client lead
 abbrev pub leads_of : List WorldClient → List (List (ℕ × Port))
 leads_of clients = map (λ (client : WorldClient). leads client.piped.ways) clients
 

@@ -48,7 +48,7 @@ pub record GoesTo (asked : List (ℕ × Publication)) (m : World) (new : WorldSt
   pub asked_is : published_along steps ≡ asked
   pub stands : StandsFor after new
 
--- each reachable world of the model that corresponded to it before moves in this way
+-- each reachable world of the model that corresponded to it before goes to it (`GoesTo`)
 abbrev pub WorldGoesBy : List (ℕ × Publication) → WorldState → WorldState → Type 0
 WorldGoesBy asked old new =
     (nodes : ℕ) (config : Config) (cs : List Client) (m : World) → Reached nodes config cs m →

@@ -8,19 +8,19 @@ use Rattle.node_connections.specs.Connections.{has_failed, closed, changed}
 use Rattle.world_base.specs.Core.{CoreState, Turn}
 use Rattle.world_base.specs.Turns.{quiet, proposes, repeated}
 
--- the first of them is closed for good
+-- the first failed connection is closed for good
 abbrev pub closes_failed : CoreState → CoreState
 closes_failed core = record core { connections = changed has_failed closed core.connections }
 
--- if there is such a connection, it is closed for good, and its loss is proposed
+-- a failed connection, if there is one, is closed for good, and its loss is proposed
 abbrev pub loses_if : Option Connection → CoreState → Turn
 loses_if None core = quiet core
 loses_if (Some c) core = proposes (commands.Lost c.name) (closes_failed core)
 
--- its loss is reported to the broker
+-- the loss of the first failed connection is reported to the broker
 unfoldable pub loses_failed : CoreState → Turn
 loses_failed core = loses_if (find has_failed core.connections) core
 
--- the loss of all of them is reported; what is then sent may close others, which are reported too
+-- the loss of all failed connections is reported; what is then sent may close others, reported too
 abbrev pub loses_all_failed : CoreState → Turn
 loses_all_failed core = repeated (length core.connections) loses_failed core

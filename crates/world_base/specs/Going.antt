@@ -52,7 +52,7 @@ pub record GoesOn (bytes : List ℕ) (c d : Connection) : Type 0 where
   pub refusal : (answer ≡ []) ⊎ IsRefusal answer
   pub put : d.pending ≡ c.pending ++ (front ++ answer)
 
--- each connection of a list changes in this way, in order, and none is added or removed
+-- each connection of a list goes on (`GoesOn`), in order, and none is added or removed
 abbrev pub EachGoesOn : List (Effect Command Output) → List Connection → List Connection → Type 0
 EachGoesOn given [] [] = Unit {0}
 EachGoesOn given [] (d ∷ ds) = ⊥
@@ -77,7 +77,7 @@ pub record GoOn (item : Item) (core : CoreState) (did : Account) : Type 0 where
   pub each : AreNamedApart (core.connections ++ new) →
       EachGoesOn did.given (core.connections ++ new) did.core.connections
 
--- that holds for each item and each step that is allowed, even if memory runs out
+-- connections go on (`GoOn`) in each step that is allowed on an item, even if memory runs out
 abbrev pub AGapIsClosed : Type 0
 AGapIsClosed =
     (item : Item) (core : CoreState) (did : Account) → ActsOn item core did → GoOn item core did

@@ -13,7 +13,7 @@ abbrev pub ends_if : Option Port → CoreState → Turn
 ends_if None core = quiet core
 ends_if (Some port) core = ends port core
 
--- one silent connection is closed so, if there is one at this time
+-- the silent connection with the lowest port is closed, if there is one at this time
 unfoldable pub ends_silent : ℕ → CoreState → Turn
 ends_silent now core = ends_if (lowest_silent now core.connections) core
 

@@ -31,8 +31,8 @@ pub data Declines (core : CoreState) (did : Account) : Type 0 where
 abbrev pub Proposes : Command → CoreState → Account → Type 0
 Proposes command core did = Takes command core did ⊎ Declines core did
 
--- in any case that is a step of the replica, exact or with losses; if the node does not serve
--- clients, no step
+-- a proposal is a step of the replica, exact or with losses; if the node does not serve clients, it
+-- is no step
 abbrev pub ProposalsAreSteps : Type 0
 ProposalsAreSteps =
     (command : Command) (core : CoreState) (did : Account) → Proposes command core did →

@@ -44,7 +44,7 @@ pub data Cuts (core : CoreState) (did : Account) : Type 0 where
       (record core { replica = record core.replica { losses = one_more core.replica.losses } }) →
       Cuts core did
 
--- all of them, one after another
+-- all silent connections are closed, one after another
 abbrev pub EndsAllSilent : ℕ → CoreState → Account → Type 0
 EndsAllSilent now core did = Repeated (length core.connections) (EndsSilent now) core did
 

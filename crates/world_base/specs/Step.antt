@@ -32,7 +32,7 @@ accepts port core =
     (serves core && not (list_any (is_at port) core.connections))
     && is_connection_name (next_name core)
 
--- it gets the next name of the ballot
+-- a connection that is accepted gets the next name of the ballot
 unfoldable pub opens : Port → CoreState → CoreState
 opens port core =
     if accepts port core

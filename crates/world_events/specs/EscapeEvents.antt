@@ -9,12 +9,12 @@ abbrev pub leaving : Bool → List ℕ → List Event
 leaving true name = events.Abandon name ∷ []
 leaving false name = []
 
--- that, and then it opens another one, and its CONNECT reaches the new primary
+-- a client loses the connection that it holds, opens another, and its CONNECT reaches the primary
 abbrev pub client_events : Bool → List ℕ → ℕ → ℕ → ℕ → List Event
 client_events holds name primary number bytes =
     leaving holds name ++ events.Open name primary ∷ events.CarryUp number bytes ∷ []
 
--- the others hold it and answer, and the CONNACK comes down
+-- the other members hold the command and answer, and the CONNACK comes down
 abbrev pub answer_events : ℕ → ℕ → ℕ → List Event
 answer_events sent others number =
     map events.Deliver (asked_and_answered sent others) ++ events.CarryDown number 4 ∷ []

@@ -109,7 +109,7 @@ Comes None old new = ⊥
 Comes (Some (zero, message)) old new = HeardByMaster message.from message.body old new
 Comes (Some (suc at, message)) old new = TakesExactly (suc at) (Peer message) old new
 
--- it reaches no node: none was sent, or its receiver is unknown or has stopped
+-- a message reaches no node: none was sent, or its receiver is unknown or has stopped
 abbrev pub ComesToNobody : Option (ℕ × Message Command) → NodesState → Type 0
 ComesToNobody None n = Unit {0}
 ComesToNobody (Some (zero, message)) n = ⊥

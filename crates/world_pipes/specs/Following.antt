@@ -31,7 +31,7 @@ pub record Follows (published : List Publication) (m : ClientPipes) (new : Piped
 abbrev pub FollowsBy : List Publication → Piped → Piped → Type 0
 FollowsBy published old new = (m : ClientPipes) → StandsFor old m → Follows published m new
 
--- it publishes nothing
+-- each client of the model that corresponded to it before follows, and publishes nothing
 abbrev pub FollowsAll : Piped → Piped → Type 0
 FollowsAll old new = FollowsBy [] old new
 
@@ -41,7 +41,7 @@ FollowsAll old new = FollowsBy [] old new
 abbrev pub after_losing : ClientPipes → ClientPipes
 after_losing m = after_writing (lost m.keeper) m.connections m
 
--- the model's client loses its connection, too, and publishes nothing
+-- the model's client loses its connection, and publishes nothing
 abbrev pub FollowsLosing : Piped → Piped → Type 0
 FollowsLosing old new =
     (m : ClientPipes) → StandsFor old m →
@@ -61,7 +61,8 @@ ConnectingFollows node port old (Err cause) new = FollowsAll old new
 
 -- ---- a call
 
--- one call of the model's client, which publishes this, leads to one that this corresponds to
+-- one call of the model's client, which publishes this, leads to one that the client in code
+-- corresponds to
 pub record FollowsCalling (published : List Publication) (m : ClientPipes)
     (new : Piped) : Type 0 where
   pub story : Story

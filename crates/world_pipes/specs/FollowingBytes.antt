@@ -6,11 +6,11 @@ use Rattle.world_pipes.specs.declared.way.Way.{Way}
 use Rattle.world_pipes.specs.Piped.{Piped}
 use Rattle.world_pipes.specs.Standing.{IsWay, StandsFor}
 
--- if the model has the connection at this index: its newest is the first
+-- the index in the model of the connection at this index: the model has the newest first
 abbrev pub index_in_model : ℕ → Piped → ℕ
 index_in_model at client = length client.ways - 1 - at
 
--- the model's connection for this one, with its pipe
+-- the model's connection for the one at this index, with its pipe
 pub record HasWay (at : ℕ) (old : Piped) (way : Way) (m : ClientPipes) : Type 0 where
   pub connection : Connection
   pub pipe : Pipe
@@ -18,7 +18,7 @@ pub record HasWay (at : ℕ) (old : Piped) (way : Way) (m : ClientPipes) : Type 
   pub piped : slice_get m.pipes (index_in_model at old) ≡ Some pipe
   pub is_way : IsWay way pipe
 
--- this many bytes have come up on it
+-- this many bytes have come up on the model's connection
 pub record FollowsUp (count at : ℕ) (old : Piped) (way : Way) (new : Piped)
     (m : ClientPipes) : Type 0 where
   pub there : HasWay at old way m
@@ -32,7 +32,7 @@ TakingUpFollows at count old new =
     (m : ClientPipes) → StandsFor old m →
     IfSome (slice_get old.ways at) (λ way. FollowsUp count at old way new m)
 
--- these bytes are in transit down on it
+-- these bytes are in transit down on the model's connection
 pub record FollowsDown (bytes : List ℕ) (at : ℕ) (old : Piped) (way : Way) (new : Piped)
     (m : ClientPipes) : Type 0 where
   pub there : HasWay at old way m

@@ -36,7 +36,7 @@ pub data ClientStep (c : ClientPipes) : ClientPipes → Type 0 where
       (after_packet others pipes p left
       (handled packet (record { keeper = c.keeper; connection = κ })) c)
 
--- one after another
+-- steps of a client, one after another
 pub data ClientGoes (c : ClientPipes) : ClientPipes → Type 0 where
   -- no step
   stays : ClientGoes c c
@@ -58,12 +58,13 @@ published_along (ClientGoes.goes_on goes step) = published_along goes ++ publish
 
 -- ---- in a world
 
--- it is a step of every world in which it is a client, and what it publishes is published there
+-- a client's step is a step of the world in which it is a client, and what it publishes is
+-- published there
 pub record StepsIn (w : World) (i : ℕ) {c d : ClientPipes} (step : ClientStep c d) : Type 0 where
   pub is : WorldStep w (with_client i d w)
   pub published : published_in is ≡ from_client i (published_with step)
 
--- that holds for each step of each client
+-- each step of each client is a step of its world
 abbrev pub ClientsStepInWorlds : Type 0
 ClientsStepInWorlds =
     (w : World) (i : ℕ) (c d : ClientPipes) → slice_get w.clients i ≡ Some c →

@@ -17,11 +17,11 @@ pub record Piped : Type 0 where
   pub core : Core
   pub ways : List Way
 
--- a `Piped` of these
+-- a `Piped` of a client and its connections
 abbrev pub piped : Core → List Way → Piped
 piped core ways = record { core = core; ways = ways }
 
--- whether it holds its newest connection
+-- whether a client holds its newest connection
 abbrev pub is_holding : Piped → Bool
 is_holding client = is_open client.core.state.stage
 
@@ -40,7 +40,7 @@ abbrev pub sent_up : Core → List Way → Way → Piped
 sent_up core older way =
     piped (record core { out = [] }) (older ++ record way { up = way.up ++ core.out } ∷ [])
 
--- there was no memory for it: the connection is lost
+-- there was no memory for what the client wrote: the connection is lost
 abbrev pub broken : Core → List Way → Piped
 broken core ways = piped (gone core) ways
 
@@ -72,8 +72,8 @@ TakesLeave outcome old (Ok sending) new =
 TakesLeave outcome old (Err cause) new =
     Leaves outcome old.core (Err cause) new.core × (new.ways ≡ old.ways)
 
--- its CONNECT is all that is in transit on a new connection; only memory may run out, and then
--- there is no connection
+-- a client's CONNECT is all that is in transit on a new connection; only memory may run out, and
+-- then there is no connection
 abbrev pub Connects :
     ℕ → Port → ClientOutcome → Piped → Result (Unit {0}) ClientError → Piped → Type 0
 Connects node port outcome old (Ok done) new =
