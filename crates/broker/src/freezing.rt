@@ -10,7 +10,7 @@ ghost use Rattle.broker_form.specs.Writing.{row_bytes, wide_number};
 ghost use Rattle.broker_tables.specs.Tables.{state_in};
 ghost use Rattle.broker.specs.Inside.{AreRows, ArePayloads};
 
-use broker_tables::broker_spec::ConnectionId;
+use broker_tables::broker_spec::ConnectionName;
 use broker_tables::retained::{RetainedPublication, RetainedStore};
 use broker_tables::{ClientRow, Tables};
 use packet::ClientId;
@@ -81,7 +81,10 @@ fn write_row(client: &ClientId, row: &ClientRow, bytes: &mut Vec<u8>) -> Result<
 }
 
 // Appends whether there is a connection, and which.
-fn write_connection(connection: Option<ConnectionId>, bytes: &mut Vec<u8>) -> Result<(), AllocError>
+fn write_connection(
+    connection: Option<ConnectionName>,
+    bytes: &mut Vec<u8>,
+) -> Result<(), AllocError>
     ensures { OnOk result (bytes.new.items ≡ bytes.old.items ++ connection_bytes connection) }
 {
     match connection {
@@ -97,7 +100,7 @@ fn write_connection(connection: Option<ConnectionId>, bytes: &mut Vec<u8>) -> Re
 }
 
 // Appends the ballot and the number of a connection.
-fn write_name(connection: ConnectionId, bytes: &mut Vec<u8>) -> Result<(), AllocError>
+fn write_name(connection: ConnectionName, bytes: &mut Vec<u8>) -> Result<(), AllocError>
     ensures { OnOk result
         (bytes.new.items
         ≡ bytes.old.items ++ (wide_number connection.ballot ++ wide_number connection.count)) }

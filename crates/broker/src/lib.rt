@@ -10,7 +10,7 @@ mod rows;
 mod thawing;
 
 pub use broker_machine::BrokerMachine;
-pub use broker_tables::broker_spec::{Command, ConnectionId, Output, SizedPacket, Unspellable};
+pub use broker_tables::broker_spec::{Command, ConnectionName, Output, SizedPacket, Unspellable};
 pub use broker_tables::{broker_spec, machine};
 pub use laws::broker_stands_for;
 pub use packet;

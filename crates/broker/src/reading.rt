@@ -9,7 +9,7 @@ ghost use Rattle.broker_form.specs.Form.{client_at, connection_at, head_at, name
 ghost use Rattle.broker_form.specs.Form.{retained_at, row_at, size_at, wide_number_at};
 
 use broker_tables::ClientRow;
-use broker_tables::broker_spec::{ConnectionId, Window};
+use broker_tables::broker_spec::{ConnectionName, Window};
 use broker_tables::retained::RetainedPublication;
 use broker_tables::session::Session;
 use packet::packet_base::{Reader, Stop};
@@ -99,7 +99,7 @@ fn client_of(alloc: Global, text: &str) -> Result<ClientId, Stop>
 
 // Reads whether there is a connection, and which.
 #[tactic(auto, unfolding(broker_form::specs::Form::connection_at))]
-fn read_connection(reader: &mut Reader) -> Result<Option<ConnectionId>, Stop>
+fn read_connection(reader: &mut Reader) -> Result<Option<ConnectionName>, Stop>
     ensures { Reads (λ x. x) result reader.new (connection_at reader.old) }
 {
     if read_flag(reader)? {
@@ -111,12 +111,12 @@ fn read_connection(reader: &mut Reader) -> Result<Option<ConnectionId>, Stop>
 
 // Reads the name of a connection.
 #[tactic(auto, unfolding(broker_form::specs::Form::name_at))]
-fn read_name(reader: &mut Reader) -> Result<Option<ConnectionId>, Stop>
+fn read_name(reader: &mut Reader) -> Result<Option<ConnectionName>, Stop>
     ensures { Reads (λ x. x) result reader.new (name_at reader.old) }
 {
     let ballot = read_wide_number(reader)?;
     let count = read_wide_number(reader)?;
-    match ConnectionId::new(ballot, count) {
+    match ConnectionName::new(ballot, count) {
         Some(name) => Ok(Some(name)),
         None => Err(Stop::Malformed(MalformedKind::Shape)),
     }

@@ -4,7 +4,7 @@ ghost use Rattle.std.specs.Prelude.{◌≡◌, false, true, [], ◌∷◌, ◌++
 ghost use Rattle.packet.specs.packet_base.Outcome.{Reads};
 ghost use Rattle.packet.specs.packet_base.Reading.{number_at};
 ghost use Rattle.session_base.specs.Counted.{counted_at, items_after, last_of, Adds};
-ghost use Rattle.broker_tables.specs.broker_spec.Connection.{ConnectionName};
+ghost use Rattle.broker_tables.specs.broker_spec.Connection.{ConnectionName as SpecName};
 ghost use Rattle.broker_tables.specs.broker_rows.Owners.{owned_by};
 ghost use Rattle.broker_form.specs.Form.{row_at};
 ghost use Rattle.broker_form.specs.Follows.{is_after, is_taken, row_follows};
@@ -12,7 +12,7 @@ ghost use Rattle.broker_tables.specs.Tables.{owners_at};
 ghost use Rattle.broker.specs.Inside.{AreOwned};
 
 use crate::reading::{OUT_OF_MEMORY, read_row};
-use broker_tables::broker_spec::{ConnectionId, Window};
+use broker_tables::broker_spec::{ConnectionName, Window};
 use broker_tables::{ClientRow, MAX_SESSIONS};
 use packet::ClientId;
 use packet::packet_base::{Reader, Stop};
@@ -25,7 +25,7 @@ use std::collections::BTreeMap;
 #[derive(Drop)]
 pub(crate) struct Rows {
     pub(crate) sessions: BTreeMap<ClientId, ClientRow>,
-    pub(crate) owners: BTreeMap<ConnectionId, ClientId>,
+    pub(crate) owners: BTreeMap<ConnectionName, ClientId>,
 }
 
 impl Rows {
@@ -86,7 +86,7 @@ impl Rows {
     }
 
     // Says whether one of them has the connection.
-    fn is_taken(&self, connection: Option<ConnectionId>) -> bool
+    fn is_taken(&self, connection: Option<ConnectionName>) -> bool
         requires { AreOwned self.now }
         ensures { result ≡ is_taken self.now.sessions.entries connection }
     {
@@ -126,12 +126,12 @@ fn read_rows(alloc: Global, window: Window, count: u16, reader: &mut Reader) -> 
 
 // Gives a connection, if there is one, to the client.
 fn own(
-    owners: &mut BTreeMap<ConnectionId, ClientId>,
-    connection: Option<ConnectionId>,
+    owners: &mut BTreeMap<ConnectionName, ClientId>,
+    connection: Option<ConnectionName>,
     client: &ClientId,
 ) -> Result<(), AllocError>
     ensures { OnOk result
-        ((q : ConnectionName) →
+        ((q : SpecName) →
         owners_at owners.new.entries q
         ≡ owned_by connection client.now (owners_at owners.old.entries) q) }
 {

@@ -41,6 +41,6 @@ pub use Rattle.broker_spec.specs.TakenLaws
 pub use Rattle.broker_spec.specs.Times
 pub use Rattle.broker_spec.specs.declared.command.Command
 pub use Rattle.broker_spec.specs.declared.command.Output
-pub use Rattle.broker_spec.specs.declared.connection_id.ConnectionId
+pub use Rattle.broker_spec.specs.declared.connection_name.ConnectionName
 pub use Rattle.broker_spec.specs.declared.sized_packet.SizedPacket
 pub use Rattle.broker_spec.specs as broker_spec

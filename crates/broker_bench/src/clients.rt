@@ -4,7 +4,7 @@ use anyhow::{Result, anyhow};
 use std::alloc::Global;
 use std::collections::VecDeque;
 use world_base::broker::BrokerMachine;
-use world_base::broker_spec::{Command, ConnectionId, Output, SizedPacket};
+use world_base::broker_spec::{Command, ConnectionName, Output, SizedPacket};
 use world_base::machine::Machine;
 use world_base::packet::{
     ClientId, Delivery, Packet, PacketId, PacketList, Payload, Publish, QoS, Subscribe,
@@ -118,7 +118,7 @@ impl Clients {
         Ok(())
     }
 
-    fn answer(&mut self, name: ConnectionId, packet: &Packet) -> Result<()> {
+    fn answer(&mut self, name: ConnectionName, packet: &Packet) -> Result<()> {
         if let Some(answer) = answer_to(packet) {
             let answer = SizedPacket::new(answer)?;
             self.under_way.push_back(Command::Packet(name, answer))?;
@@ -137,8 +137,8 @@ fn publication(alloc: Global, topic: &TopicName, qos: QoS, retain: bool) -> Resu
 }
 
 // Returns the name of a connection of ballot 1.
-fn name_of(count: u64) -> Result<ConnectionId> {
-    ConnectionId::new(1, count).ok_or_else(|| anyhow!("no connection has the number {count}"))
+fn name_of(count: u64) -> Result<ConnectionName> {
+    ConnectionName::new(1, count).ok_or_else(|| anyhow!("no connection has the number {count}"))
 }
 
 fn delivery_at(qos: QoS) -> Delivery {

@@ -3,7 +3,7 @@
 ghost use Rattle.std.specs.Prelude.{◌≡◌, IfOk};
 ghost use Rattle.broker_spec.specs.Logged.{IsBrokerCommand};
 
-use crate::connection_id::ConnectionId;
+use crate::connection_name::ConnectionName;
 use crate::sized_packet::SizedPacket;
 use retained::packet::{ClientId, Packet};
 use std::alloc::AllocError;
@@ -12,11 +12,11 @@ use std::alloc::AllocError;
 #[derive(Debug, Drop)]
 pub enum Command {
     /// A client opens a connection by a CONNECT; the flag is CleanSession (MQTT 3.1.2.4).
-    Connect(ConnectionId, ClientId, bool),
+    Connect(ConnectionName, ClientId, bool),
     /// A packet arrived on a connection, after the CONNECT that is its first packet.
-    Packet(ConnectionId, SizedPacket),
+    Packet(ConnectionName, SizedPacket),
     /// A connection was lost: closed by the client without a DISCONNECT, or by its node.
-    Lost(ConnectionId),
+    Lost(ConnectionName),
     /// A new ballot begins: the connections of earlier ballots have ended.
     Start(u64),
     /// An administrator ends the session of this client, if there is one, and its connection with
@@ -69,7 +69,7 @@ impl Command {
 #[derive(Debug, PartialEq, Eq, Drop)]
 pub enum Output {
     /// The packet goes to the client of this connection.
-    Send(ConnectionId, Packet),
+    Send(ConnectionName, Packet),
     /// The connection is closed, after what was sent on it before.
-    Close(ConnectionId),
+    Close(ConnectionName),
 }

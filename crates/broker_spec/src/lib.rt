@@ -3,7 +3,7 @@
 #![tactic(auto)]
 
 mod command;
-mod connection_id;
+mod connection_name;
 mod endings;
 mod laws;
 mod rows;
@@ -11,7 +11,7 @@ mod sized_packet;
 mod window;
 
 pub use command::{Command, Output};
-pub use connection_id::ConnectionId;
+pub use connection_name::ConnectionName;
 pub use endings::{enters_as_published, enters_where_taken, nothing_after_the_end};
 pub use laws::{
     answers_are_addressed, current_is_last_accepted, enters_once, entries_only_grow,

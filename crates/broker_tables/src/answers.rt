@@ -10,7 +10,7 @@ ghost use Rattle.broker_tables.specs.Tables.{IsConsistent, IsTied, state_in, ste
 
 use crate::sending::send_all;
 use crate::tables::Tables;
-use broker_rows::broker_spec::{ConnectionId, Output, Window};
+use broker_rows::broker_spec::{ConnectionName, Output, Window};
 use machine::Halted;
 use session::Session;
 use session::packet::{ClientId, Packet};
@@ -19,7 +19,7 @@ impl Tables {
     /// Does a step of a handshake of the client that is served on this connection.
     pub(crate) fn handshake(
         &mut self,
-        connection: ConnectionId,
+        connection: ConnectionName,
         client: &ClientId,
         packet: &Packet,
         out: &mut Vec<Output>,

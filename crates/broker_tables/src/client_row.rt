@@ -3,7 +3,7 @@
 ghost use Rattle.std.specs.Prelude.{◌≡◌};
 ghost use Rattle.broker_rows.specs.broker_base.SessionStep.{kept_anew};
 
-use broker_rows::broker_spec::ConnectionId;
+use broker_rows::broker_spec::ConnectionName;
 use session::Session;
 use std::alloc::Global;
 use std::marker::Model;
@@ -15,7 +15,7 @@ pub struct ClientRow {
     /// CleanSession of the CONNECT that opened its connection last (MQTT 3.1.2.4).
     pub clean: bool,
     /// The connection on which the client is served.
-    pub connection: Option<ConnectionId>,
+    pub connection: Option<ConnectionName>,
     /// What is in the session.
     pub state: Session,
 }
@@ -31,7 +31,7 @@ impl Model for ClientRow {
 
 impl ClientRow {
     /// Returns a session that begins on a connection, with nothing in it.
-    pub fn new(alloc: Global, connection: ConnectionId, clean: bool) -> ClientRow
+    pub fn new(alloc: Global, connection: ConnectionName, clean: bool) -> ClientRow
         ensures { result ≡ kept_anew (connection, clean) }
     {
         ClientRow {

@@ -2,7 +2,7 @@
 
 ghost use Rattle.std.specs.Prelude.{◌≡◌, ◌++◌, [], ◌∷◌, true, false, Some, None, OnOk, IsSome, map};
 ghost use Rattle.broker_rows.specs.broker_spec.Answers.{turned_away, closed, welcome};
-ghost use Rattle.broker_rows.specs.broker_spec.Connection.{ConnectionName};
+ghost use Rattle.broker_rows.specs.broker_spec.Connection.{ConnectionName as SpecName};
 ghost use Rattle.broker_rows.specs.broker_spec.Commands.{usual_limits};
 ghost use Rattle.broker_rows.specs.broker_spec.declared.command.Command.TheVariants as commands;
 ghost use Rattle.broker_rows.specs.broker_spec.declared.command.Output.TheVariants as outputs;
@@ -22,7 +22,7 @@ use crate::client_row::ClientRow;
 use crate::limits::MAX_SESSIONS;
 use crate::sending::send_all;
 use crate::tables::Tables;
-use broker_rows::broker_spec::{ConnectionId, Output, Window};
+use broker_rows::broker_spec::{ConnectionName, Output, Window};
 use broker_rows::subs::SubIndex;
 use machine::Halted;
 use session::packet::{ClientId, Connack, Packet, RefusalCode};
@@ -44,7 +44,7 @@ impl Tables {
     /// 3.1.0).
     pub(crate) fn connect(
         &mut self,
-        connection: ConnectionId,
+        connection: ConnectionName,
         client: &ClientId,
         clean: bool,
         out: &mut Vec<Output>,
@@ -102,7 +102,7 @@ impl Tables {
     // Begins an empty session; an old one of the client ends (MQTT 3.1.2.4).
     fn begin(
         &mut self,
-        connection: ConnectionId,
+        connection: ConnectionName,
         client: &ClientId,
         clean: bool,
         out: &mut Vec<Output>,
@@ -130,7 +130,7 @@ impl Tables {
     // (MQTT 3.2.2.2). The connection that it had is closed (MQTT 3.1.4).
     fn welcome(
         &mut self,
-        connection: ConnectionId,
+        connection: ConnectionName,
         client: &ClientId,
         present: bool,
         out: &mut Vec<Output>,
@@ -148,7 +148,7 @@ impl Tables {
     }
 
     /// Returns the connection on which a client is served, if it is.
-    pub(crate) fn connection_of(&self, client: &ClientId) -> Option<ConnectionId>
+    pub(crate) fn connection_of(&self, client: &ClientId) -> Option<ConnectionName>
         ensures { result ≡ connection_of (session_in client.now self.now.sessions.entries) }
     {
         match self.sessions.get(client) {
@@ -161,7 +161,7 @@ impl Tables {
     // starts (MQTT 4.4).
     fn resume(
         &mut self,
-        connection: ConnectionId,
+        connection: ConnectionName,
         client: &ClientId,
         clean: bool,
         out: &mut Vec<Output>,
@@ -187,7 +187,7 @@ impl Tables {
     // Continues the client's session on this connection, and sends what it has for the client.
     fn go_on(
         &mut self,
-        connection: ConnectionId,
+        connection: ConnectionName,
         client: &ClientId,
         out: &mut Vec<Output>,
     ) -> Result<(), Halted>
@@ -212,7 +212,7 @@ impl ClientRow {
     // Continues a session that is not clean on this connection.
     fn come_back(
         &mut self,
-        connection: ConnectionId,
+        connection: ConnectionName,
         window: Window,
         sent: &mut Vec<Packet>,
     ) -> Result<(), Halted>
@@ -230,13 +230,13 @@ impl ClientRow {
 
 // Gives a connection to the client, and takes its old one from it.
 fn take_over(
-    owners: &mut BTreeMap<ConnectionId, ClientId>,
-    left: Option<ConnectionId>,
-    connection: ConnectionId,
+    owners: &mut BTreeMap<ConnectionName, ClientId>,
+    left: Option<ConnectionName>,
+    connection: ConnectionName,
     client: &ClientId,
 ) -> Result<(), Halted>
     ensures { OnOk result
-        ((q : ConnectionName) →
+        ((q : SpecName) →
         owners_at owners.new.entries q
         ≡ with_owner connection client.now (without_owner left (owners_at owners.old.entries)) q) }
 {
@@ -246,8 +246,8 @@ fn take_over(
 }
 
 /// Takes a connection, if there is one, from its client.
-pub(crate) fn release(owners: &mut BTreeMap<ConnectionId, ClientId>, left: Option<ConnectionId>)
-    ensures { (q : ConnectionName) →
+pub(crate) fn release(owners: &mut BTreeMap<ConnectionName, ClientId>, left: Option<ConnectionName>)
+    ensures { (q : SpecName) →
         owners_at owners.new.entries q ≡ without_owner left (owners_at owners.old.entries) q }
 {
     if let Some(left) = left {
@@ -258,8 +258,8 @@ pub(crate) fn release(owners: &mut BTreeMap<ConnectionId, ClientId>, left: Optio
 // Closes the connection that the client had (MQTT 3.1.4), and answers the Connect: whether a
 // session continues (MQTT 3.2.2.2).
 fn greet(
-    left: Option<ConnectionId>,
-    connection: ConnectionId,
+    left: Option<ConnectionName>,
+    connection: ConnectionName,
     present: bool,
     out: &mut Vec<Output>,
 ) -> Result<(), Halted>
@@ -274,7 +274,7 @@ fn greet(
 }
 
 // Appends the answers to a Connect that would begin a session too many (MQTT 3.2.2.3).
-fn turn_away(connection: ConnectionId, out: &mut Vec<Output>) -> Result<(), Halted>
+fn turn_away(connection: ConnectionName, out: &mut Vec<Output>) -> Result<(), Halted>
     ensures { OnOk result
         (out.new.items ≡ out.old.items ++ turned_away connection ∷ outputs.Close connection ∷ []) }
 {

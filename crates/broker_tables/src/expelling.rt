@@ -7,7 +7,7 @@ ghost use Rattle.broker_tables.specs.Tables.{IsConsistent, IsTied, state_in, ste
 
 use crate::connecting::release;
 use crate::tables::Tables;
-use broker_rows::broker_spec::{ConnectionId, Output};
+use broker_rows::broker_spec::{ConnectionName, Output};
 use broker_rows::subs::SubIndex;
 use machine::Halted;
 use session::packet::ClientId;
@@ -39,7 +39,7 @@ impl Tables {
 }
 
 // Closes a connection, if there is one.
-fn shut(left: Option<ConnectionId>, out: &mut Vec<Output>) -> Result<(), Halted>
+fn shut(left: Option<ConnectionName>, out: &mut Vec<Output>) -> Result<(), Halted>
     ensures closes { OnOk result (out.new.items ≡ out.old.items ++ closed left) }
     ensures unsent { OnErr result (out.new.items ≡ out.old.items) }
 {

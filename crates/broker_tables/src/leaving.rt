@@ -7,14 +7,14 @@ ghost use Rattle.broker_rows.specs.broker_spec.declared.command.Output.TheVarian
 ghost use Rattle.broker_tables.specs.Tables.{IsConsistent, IsTied, state_in, stepped};
 
 use crate::tables::Tables;
-use broker_rows::broker_spec::{ConnectionId, Output};
+use broker_rows::broker_spec::{ConnectionName, Output};
 use broker_rows::subs::SubIndex;
 use machine::Halted;
 
 impl Tables {
     /// Ends a connection: its client is no longer served, and a clean session ends with it,
     /// including its subscriptions. A connection that is no client's current one changes nothing.
-    pub(crate) fn lose(&mut self, connection: ConnectionId)
+    pub(crate) fn lose(&mut self, connection: ConnectionName)
         requires { IsConsistent self.old }
         ensures state { state_in self.new ≡ (stepped self.old (commands.Lost connection)).0 }
         ensures tied { IsTied self.new }
@@ -34,7 +34,7 @@ impl Tables {
     /// Closes a connection, which ends then.
     pub(crate) fn close(
         &mut self,
-        connection: ConnectionId,
+        connection: ConnectionName,
         out: &mut Vec<Output>,
     ) -> Result<(), Halted>
         requires { IsConsistent self.old }

@@ -20,7 +20,7 @@ ghost use Rattle.broker_rows.specs.Published.{granted_rows, received_on};
 use crate::client_row::ClientRow;
 use crate::delivering::{deliver, lower, publication_of};
 use crate::tables::Tables;
-use broker_rows::broker_spec::{ConnectionId, Output, Window};
+use broker_rows::broker_spec::{ConnectionName, Output, Window};
 use broker_rows::retained::{RetainedPublication, RetainedStore};
 use broker_rows::subs::SubIndex;
 use machine::Halted;
@@ -35,7 +35,7 @@ impl Tables {
     /// more, one for which there is no room closes the connection, and any other is taken.
     pub(crate) fn publish(
         &mut self,
-        connection: ConnectionId,
+        connection: ConnectionName,
         client: &ClientId,
         publish: &Publish,
         out: &mut Vec<Output>,
@@ -117,7 +117,7 @@ fn is_again(row: &ClientRow, delivery: Delivery) -> bool
 
 // Appends the answer to a PUBLISH, by its QoS (MQTT 3.3.4).
 fn acknowledge(
-    connection: ConnectionId,
+    connection: ConnectionName,
     delivery: Delivery,
     out: &mut Vec<Output>,
 ) -> Result<(), Halted>

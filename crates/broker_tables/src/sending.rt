@@ -3,13 +3,13 @@
 ghost use Rattle.std.specs.Prelude.{◌≡◌, ◌++◌, OnOk, map};
 ghost use Rattle.broker_rows.specs.broker_spec.declared.command.Output.TheVariants as outputs;
 
-use broker_rows::broker_spec::{ConnectionId, Output};
+use broker_rows::broker_spec::{ConnectionName, Output};
 use machine::Halted;
 use session::packet::Packet;
 
 /// Appends the sending of packets on a connection, in order.
 pub(crate) fn send_all(
-    connection: ConnectionId,
+    connection: ConnectionName,
     sent: Vec<Packet>,
     out: &mut Vec<Output>,
 ) -> Result<(), Halted>

@@ -7,7 +7,7 @@ ghost use Rattle.broker_tables.specs.Inside.{is_handshake, is_violation};
 ghost use Rattle.broker_tables.specs.Tables.{IsConsistent, IsTied, state_in, stepped};
 
 use crate::tables::Tables;
-use broker_rows::broker_spec::{ConnectionId, Output};
+use broker_rows::broker_spec::{ConnectionName, Output};
 use machine::Halted;
 use session::packet::{ClientId, Packet};
 use std::alloc::AllocError;
@@ -17,7 +17,7 @@ impl Tables {
     /// it does nothing.
     pub(crate) fn packet(
         &mut self,
-        connection: ConnectionId,
+        connection: ConnectionName,
         packet: &Packet,
         out: &mut Vec<Output>,
     ) -> Result<(), Halted>
@@ -39,7 +39,7 @@ impl Tables {
     // Does a packet of the client that is served on this connection.
     fn serve(
         &mut self,
-        connection: ConnectionId,
+        connection: ConnectionName,
         client: &ClientId,
         packet: &Packet,
         out: &mut Vec<Output>,
@@ -72,7 +72,7 @@ impl Tables {
     }
 
     // Returns the client that is served on a connection, if one is.
-    fn served(&self, connection: ConnectionId) -> Result<Option<ClientId>, AllocError>
+    fn served(&self, connection: ConnectionName) -> Result<Option<ClientId>, AllocError>
         requires { IsTied self.now }
         ensures { IfOk result (λ client. client ≡ owners_in self.now.sessions.entries connection) }
     {

@@ -17,7 +17,7 @@ ghost use Rattle.broker_tables.specs.Tables.{IsConsistent, IsTied, state_in, ste
 use crate::retained_copies::{copies_for, queued, take_copies};
 use crate::sending::send_all;
 use crate::tables::Tables;
-use broker_rows::broker_spec::{ConnectionId, Output, Window};
+use broker_rows::broker_spec::{ConnectionName, Output, Window};
 use broker_rows::retained::RetainedStore;
 use broker_rows::subs::{SubIndex, TreeIndex};
 use machine::Halted;
@@ -30,7 +30,7 @@ impl Tables {
     /// not, SUBACK says which, and what is retained of those that are is sent after it.
     pub(crate) fn subscribe(
         &mut self,
-        connection: ConnectionId,
+        connection: ConnectionName,
         client: &ClientId,
         subscribe: &Subscribe,
         out: &mut Vec<Output>,

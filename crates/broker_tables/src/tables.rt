@@ -6,7 +6,7 @@ ghost use Rattle.broker_rows.specs.broker_spec.Window.{wide_window};
 ghost use Rattle.broker_tables.specs.Tables.{IsTied, state_in};
 
 use crate::client_row::ClientRow;
-use broker_rows::broker_spec::{ConnectionId, Window};
+use broker_rows::broker_spec::{ConnectionName, Window};
 use broker_rows::retained::RetainedStore;
 use broker_rows::subs::{SubIndex, TreeIndex};
 use session::packet::ClientId;
@@ -22,7 +22,7 @@ pub struct Tables {
     /// By client.
     pub sessions: BTreeMap<ClientId, ClientRow>,
     /// The client of each current connection.
-    pub owners: BTreeMap<ConnectionId, ClientId>,
+    pub owners: BTreeMap<ConnectionName, ClientId>,
     /// All clients' subscriptions.
     pub index: TreeIndex,
     /// By topic.

@@ -11,7 +11,7 @@ ghost use Rattle.broker_rows.specs.Owners.{owners_in};
 ghost use Rattle.broker_tables.specs.Tables.{IsConsistent, IsTied, state_in, stepped};
 
 use crate::tables::Tables;
-use broker_rows::broker_spec::{ConnectionId, Output};
+use broker_rows::broker_spec::{ConnectionName, Output};
 use broker_rows::subs::{SubIndex, TreeIndex};
 use machine::Halted;
 use session::Session;
@@ -22,7 +22,7 @@ impl Tables {
     /// Does an UNSUBSCRIBE of the client that is served on this connection.
     pub(crate) fn unsubscribe(
         &mut self,
-        connection: ConnectionId,
+        connection: ConnectionName,
         client: &ClientId,
         unsubscribe: &Unsubscribe,
         out: &mut Vec<Output>,

@@ -1,7 +1,7 @@
 // Rows: what comes to a broker, and what it sends then.
 
 use broker::BrokerMachine;
-use broker::broker_spec::{Command, ConnectionId, Output, SizedPacket};
+use broker::broker_spec::{Command, ConnectionName, Output, SizedPacket};
 use broker::machine::Machine;
 use broker::packet::{ClientId, Packet, Step, decode, encode};
 use std::alloc::Global;
@@ -105,16 +105,16 @@ fn is_done(broker: &mut BrokerMachine, command: &Command, given: &mut Vec<Output
 pub(crate) fn command_of(alloc: Global, event: Event<'_>) -> Option<Command> {
     match event {
         Event::Connect(count, client, clean) => {
-            let name = ConnectionId::new(1, count)?;
+            let name = ConnectionName::new(1, count)?;
             let client = ClientId::new(alloc, client).ok()?;
             Some(Command::Connect(name, client, clean))
         }
         Event::Bytes(count, bytes) => {
-            let name = ConnectionId::new(1, count)?;
+            let name = ConnectionName::new(1, count)?;
             let packet = packet_of(alloc, bytes)?;
             Some(Command::Packet(name, packet))
         }
-        Event::Lost(count) => Some(Command::Lost(ConnectionId::new(1, count)?)),
+        Event::Lost(count) => Some(Command::Lost(ConnectionName::new(1, count)?)),
         Event::Start(ballot) => Some(Command::Start(ballot)),
         Event::Expel(client) => Some(Command::Expel(ClientId::new(alloc, client).ok()?)),
     }

@@ -20,6 +20,6 @@ pub use permit::Permit;
 pub use report::Report;
 pub use running::{Node, Stated};
 pub use world_base::{
-    Body, Command, Config, ConnectionId, Effect, Handed, Item, MAX_NODE, Members, Memory, Message,
-    NodeCore, OpeningError, Output, Piece, Port, Standing, Status, packet,
+    Body, Command, Config, ConnectionName, Effect, Handed, Item, MAX_NODE, Members, Memory,
+    Message, NodeCore, OpeningError, Output, Piece, Port, Standing, Status, packet,
 };

@@ -13,7 +13,7 @@ use crate::handed::Handed;
 use crate::port::Port;
 use crate::standing::Standing;
 use crate::unread::Unread;
-use broker_spec::ConnectionId;
+use broker_spec::ConnectionName;
 use cutter::packet::{Connack, Packet, RefusalCode};
 use cutter::{Memory, Piece};
 use std::alloc::Global;
@@ -57,7 +57,7 @@ pub struct Connection {
     /// Its number at the node.
     pub port: Port,
     /// Its name, which the broker knows it by.
-    pub name: ConnectionId,
+    pub name: ConnectionName,
     /// How far it is: opened, proposed, failed or over.
     pub stage: Stage,
     /// The most seconds between two packets of its client, by its CONNECT; 0 for no limit (MQTT
@@ -73,7 +73,7 @@ pub struct Connection {
 
 impl Connection {
     /// Returns a connection that was just opened.
-    pub fn new(alloc: Global, port: Port, name: ConnectionId) -> Connection
+    pub fn new(alloc: Global, port: Port, name: ConnectionName) -> Connection
         ensures { result ≡ fresh port name }
     {
         Connection {
@@ -102,7 +102,7 @@ impl Connection {
     }
 
     /// Says whether this is the open connection of a name.
-    pub fn is_open_named(&self, name: ConnectionId) -> bool
+    pub fn is_open_named(&self, name: ConnectionName) -> bool
         ensures { result ≡ is_open_named name self.now }
     {
         !self.is_over() && self.name == name

@@ -5,7 +5,7 @@ use crate::matching::is_match;
 use crate::sessions::{Entry, Session};
 use broker_spec::packet::{ClientId, Delivery, Packet, Payload, Publish, QoS, Subscribe};
 use broker_spec::topics::{Filter, TopicName};
-use broker_spec::{Command, ConnectionId};
+use broker_spec::{Command, ConnectionName};
 use std::alloc::Global;
 
 // The last publication with RETAIN of a topic.
@@ -101,7 +101,7 @@ impl ListReading {
     }
 
     // Returns the index of the session whose current connection this is.
-    fn session_index(&self, connection: ConnectionId) -> Option<usize> {
+    fn session_index(&self, connection: ConnectionName) -> Option<usize> {
         self.sessions
             .iter()
             .position(|it| it.connection == Some(connection))
@@ -109,7 +109,7 @@ impl ListReading {
 
     // Takes this connection from its session, or, if none is named, from each session its own. The
     // clean sessions that lose one end.
-    fn ends(&mut self, connection: Option<ConnectionId>) -> Option<()> {
+    fn ends(&mut self, connection: Option<ConnectionName>) -> Option<()> {
         for session in self.sessions.iter_mut() {
             let is_named = connection.is_none() || session.connection == connection;
             if is_named && session.connection.is_some() {
@@ -143,7 +143,12 @@ impl ListReading {
     // Makes a connection the current one of a client. Its session continues if neither that nor the
     // CONNECT is clean; otherwise it ends, and a new one begins. A second CONNECT on a connection
     // is a violation, which ends the connection.
-    fn connects(&mut self, connection: ConnectionId, client: &ClientId, clean: bool) -> Option<()> {
+    fn connects(
+        &mut self,
+        connection: ConnectionName,
+        client: &ClientId,
+        clean: bool,
+    ) -> Option<()> {
         if self.session_index(connection).is_some() {
             return self.ends(Some(connection));
         }

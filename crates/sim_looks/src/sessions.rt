@@ -1,7 +1,7 @@
 // One client's session: what the agreed commands make of it.
 
 use crate::matching::is_match;
-use broker_spec::ConnectionId;
+use broker_spec::ConnectionName;
 use broker_spec::packet::{ClientId, PacketId, Payload, QoS};
 use broker_spec::topics::{Filter, TopicName};
 use std::alloc::Global;
@@ -34,7 +34,7 @@ pub struct Session {
     /// Whether it is about to end.
     pub is_over: bool,
     /// Its current connection.
-    pub connection: Option<ConnectionId>,
+    pub connection: Option<ConnectionName>,
     filters: Vec<(Filter, QoS)>,
     /// The identifiers of PUBLISHes at QoS 2 whose PUBREL did not come yet.
     received: Vec<PacketId>,
@@ -44,7 +44,12 @@ pub struct Session {
 
 impl Session {
     /// Begins a session.
-    pub fn new(alloc: Global, client: ClientId, clean: bool, connection: ConnectionId) -> Session {
+    pub fn new(
+        alloc: Global,
+        client: ClientId,
+        clean: bool,
+        connection: ConnectionName,
+    ) -> Session {
         Session {
             client,
             clean,

@@ -16,8 +16,8 @@ pub use escaping_nodes::master;
 pub use escaping_nodes::world_nodes::Idle;
 pub use headline::ballot;
 pub use headline::world_base::{
-    Command, Config, ConnectionId, Effect, Item, Members, Memory, Message, NodeCore, OpeningError,
-    Port, Status,
+    Command, Config, ConnectionName, Effect, Item, Members, Memory, Message, NodeCore,
+    OpeningError, Port, Status,
 };
 pub use laws::{an_open_past_the_last_changes_nothing, uncounted_is_exact};
 pub use world::World;

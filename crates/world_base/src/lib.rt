@@ -19,7 +19,7 @@ pub use broker;
 pub use broker::BrokerMachine;
 pub use item::Item;
 pub use laws::{a_gap_is_closed, proposals_are_steps};
-pub use node_connections::broker_spec::{Command, ConnectionId, Output};
+pub use node_connections::broker_spec::{Command, ConnectionName, Output};
 pub use node_connections::{
     Connection, Handed, Piece, Port, Stage, Standing, broker_spec, packet, topics,
 };

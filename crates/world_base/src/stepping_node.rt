@@ -18,7 +18,7 @@ ghost use Rattle.world_base.specs.Turns.{changes_named, has_room};
 
 use ballot::{Config, MAX_NODE, MAX_PLACES, OpeningError, Replica, Status};
 use broker::BrokerMachine;
-use node_connections::broker_spec::{Command, ConnectionId};
+use node_connections::broker_spec::{Command, ConnectionName};
 use node_connections::packet::{Packet, RefusalCode};
 use node_connections::{
     Connection, Piece, Port, close_each, has_port, keep_listed, lowest_silent, push,
@@ -155,7 +155,7 @@ impl SteppingNode {
     }
 
     /// Returns the index of the open connection of a name in the list.
-    pub fn index_of(&self, name: ConnectionId) -> Option<usize>
+    pub fn index_of(&self, name: ConnectionName) -> Option<usize>
         ensures { result ≡ position (is_open_named name) self.now.core.connections }
     {
         self.connections.iter().position(|c| c.is_open_named(name))
@@ -241,7 +241,7 @@ impl SteppingNode {
     }
 
     /// Closes the open connection of a name.
-    pub fn close_named(&mut self, name: ConnectionId)
+    pub fn close_named(&mut self, name: ConnectionName)
         ensures { self.new ≡ record self.old {
           core = changes_named name closed self.old.core;
         } }
@@ -253,7 +253,7 @@ impl SteppingNode {
 
     /// Queues a packet on the open connection of a name, which is closed as lost if there is no
     /// room or no memory for it.
-    pub fn put(&mut self, name: ConnectionId, packet: &Packet)
+    pub fn put(&mut self, name: ConnectionName, packet: &Packet)
         ensures does { Does self.old self.new
             (changes_named name (put_out (spelling packet.now)) self.old.core) }
         ensures run { (self.new.core
@@ -281,12 +281,12 @@ impl SteppingNode {
     }
 
     // Returns the name of the next connection, or none if the numbers of this ballot are used up.
-    fn next_name(&self) -> Option<ConnectionId>
+    fn next_name(&self) -> Option<ConnectionName>
         ensures named { IfSome result (λ name. name ≡ next_name self.now.core) }
         ensures some { OnSome result (is_connection_name (next_name self.now.core) ≡ true) }
         ensures none { IfNone result (is_connection_name (next_name self.now.core) ≡ false) }
     {
-        ConnectionId::new(self.replica.status().ballot, self.accepted() + 1)
+        ConnectionName::new(self.replica.status().ballot, self.accepted() + 1)
     }
 
     /// Says whether the numbers of this ballot are used up, so that no connection gets a name.
@@ -297,7 +297,7 @@ impl SteppingNode {
     }
 
     /// Returns the name that a new connection of a port gets, or none if it is not accepted.
-    pub fn name_for(&self, port: Port) -> Option<ConnectionId>
+    pub fn name_for(&self, port: Port) -> Option<ConnectionName>
         ensures named { IfSome result (λ name. name ≡ next_name self.now.core) }
         ensures some { OnSome result (accepts port self.now.core ≡ true) }
         ensures none { IfNone result (accepts port self.now.core ≡ false) }

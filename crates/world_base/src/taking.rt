@@ -21,7 +21,7 @@ ghost use Rattle.world_base.specs.Turns.{proposes, quiet};
 use crate::item::Item;
 use crate::stepping_node::SteppingNode;
 use ballot::{Effect, Message};
-use node_connections::broker_spec::{Command, ConnectionId, Output, SizedPacket};
+use node_connections::broker_spec::{Command, ConnectionName, Output, SizedPacket};
 use node_connections::packet::{ClientId, Connect, Packet};
 use node_connections::{Front, Piece, Port, Stage};
 
@@ -181,7 +181,7 @@ impl SteppingNode {
     fn take(
         &mut self,
         port: Port,
-        name: ConnectionId,
+        name: ConnectionName,
         stage: Stage,
         packet: Packet,
         effects: &mut Vec<Effect<Command, Output>>,
@@ -210,7 +210,7 @@ impl SteppingNode {
     fn connect(
         &mut self,
         port: Port,
-        name: ConnectionId,
+        name: ConnectionName,
         connect: Connect,
         effects: &mut Vec<Effect<Command, Output>>,
     )
@@ -229,7 +229,7 @@ impl SteppingNode {
     fn say(
         &mut self,
         port: Port,
-        name: ConnectionId,
+        name: ConnectionName,
         packet: Packet,
         effects: &mut Vec<Effect<Command, Output>>,
     )
@@ -248,7 +248,12 @@ impl SteppingNode {
     }
 
     // Reports to the broker that a connection is lost, if its CONNECT was proposed.
-    fn lose(&mut self, name: ConnectionId, stage: Stage, effects: &mut Vec<Effect<Command, Output>>)
+    fn lose(
+        &mut self,
+        name: ConnectionName,
+        stage: Stage,
+        effects: &mut Vec<Effect<Command, Output>>,
+    )
         ensures turns { DoesTurn self.old self.new effects.old.items effects.new.items
             (if is_proposed stage
             then proposes (commands.Lost name) self.old.core

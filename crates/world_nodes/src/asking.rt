@@ -9,7 +9,7 @@ ghost use Rattle.world_nodes.specs.Running.{node_of};
 
 use crate::nodes::Nodes;
 use byte_world::packet::{ClientId, Connack, Packet};
-use byte_world::world_base::{BrokerMachine, Command, Config, ConnectionId, Memory, Output};
+use byte_world::world_base::{BrokerMachine, Command, Config, ConnectionName, Memory, Output};
 use master::ballot::Machine;
 use std::alloc::Global;
 
@@ -90,7 +90,7 @@ fn welcomes(alloc: Global, machine: &mut BrokerMachine, client: &ClientId) -> Re
         (rules.gives (rules.after machine.old (Command.Start 1))
         (Command.Connect first_connection client.now false))) }
 {
-    let Some(name) = ConnectionId::new(1, 1) else {
+    let Some(name) = ConnectionName::new(1, 1) else {
         return Err(Memory);
     };
     let mut given = Vec::new(alloc);

@@ -1,7 +1,7 @@
 // What comes to a broker, and what its bytes must be.
 
 use broker::BrokerMachine;
-use broker::broker_spec::{Command, ConnectionId, Output, SizedPacket};
+use broker::broker_spec::{Command, ConnectionName, Output, SizedPacket};
 use broker::machine::Machine;
 use broker::packet::{ClientId, Packet, Step, decode};
 use std::alloc::Global;
@@ -51,16 +51,16 @@ pub(crate) fn is_given(
 fn command_of(alloc: Global, event: Event<'_>) -> Option<Command> {
     match event {
         Event::Connect(count, client, clean) => {
-            let name = ConnectionId::new(1, count)?;
+            let name = ConnectionName::new(1, count)?;
             let client = ClientId::new(alloc, client).ok()?;
             Some(Command::Connect(name, client, clean))
         }
         Event::Bytes(count, bytes) => {
-            let name = ConnectionId::new(1, count)?;
+            let name = ConnectionName::new(1, count)?;
             let packet = packet_of(alloc, bytes)?;
             Some(Command::Packet(name, packet))
         }
-        Event::Lost(count) => Some(Command::Lost(ConnectionId::new(1, count)?)),
+        Event::Lost(count) => Some(Command::Lost(ConnectionName::new(1, count)?)),
         Event::Start(ballot) => Some(Command::Start(ballot)),
     }
 }

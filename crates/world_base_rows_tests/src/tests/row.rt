@@ -2,7 +2,7 @@
 
 use std::alloc::Global;
 use world_base::{
-    Body, Command, Config, ConnectionId, Effect, Handed, Item, Members, NodeCore, Output, Piece,
+    Body, Command, Config, ConnectionName, Effect, Handed, Item, Members, NodeCore, Output, Piece,
     Port,
 };
 
@@ -105,7 +105,7 @@ pub fn bring(
 }
 
 /// Returns the connection whose loss is sent to another node.
-pub fn lost(effect: &Effect<Command, Output>) -> Option<ConnectionId> {
+pub fn lost(effect: &Effect<Command, Output>) -> Option<ConnectionName> {
     match effect {
         Effect::To(_, message) => match &message.body {
             Body::Append(_, _, Command::Lost(name)) => Some(*name),

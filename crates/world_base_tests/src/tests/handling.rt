@@ -2,8 +2,8 @@
 
 use std::alloc::Global;
 use world_base::{
-    Body, Command, Config, ConnectionId, Effect, Handed, Item, Members, Message, NodeCore, Output,
-    Piece, Port,
+    Body, Command, Config, ConnectionName, Effect, Handed, Item, Members, Message, NodeCore,
+    Output, Piece, Port,
 };
 
 /// What a node hands out to others.
@@ -94,7 +94,7 @@ pub fn give(alloc: Global, node: &mut NodeCore, number: u8, effects: Effects) ->
 }
 
 /// Returns the connection whose CONNECT is sent to another node.
-pub fn connecting(effect: &Effect<Command, Output>) -> Option<ConnectionId> {
+pub fn connecting(effect: &Effect<Command, Output>) -> Option<ConnectionName> {
     match effect {
         Effect::To(_, message) => match &message.body {
             Body::Append(_, _, Command::Connect(name, _, _)) => Some(*name),

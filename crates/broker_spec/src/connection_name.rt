@@ -13,12 +13,12 @@ pub const MAX_COUNT: u64 = 0x100_0000_0000;
 /// the connections of that ballot. No two connections of a run have the same name. Names are
 /// ordered by ballot, then by number.
 #[derive(Clone, Copy, Debug, PartialEq, Eq, PartialOrd, Ord)]
-pub struct ConnectionId {
+pub struct ConnectionName {
     ballot: u64,
     count: u64,
 }
 
-impl std::marker::Model for ConnectionId {
+impl std::marker::Model for ConnectionName {
     ghost use Rattle.broker_spec.specs.Connection.{ConnectionName, IsConnectionName};
 
     ghost Value = { ConnectionName };
@@ -30,10 +30,10 @@ impl std::marker::Model for ConnectionId {
     ghost invariant = { λ c. IsConnectionName (record { ballot = c.ballot; count = c.count }) };
 }
 
-impl ConnectionId {
+impl ConnectionName {
     /// Returns the connection with this number in this ballot, or none if one of them is out of
     /// range. The range is 1 to 2^32 for the ballot, 1 to 2^40 for the number.
-    pub fn new(ballot: u64, count: u64) -> Option<ConnectionId>
+    pub fn new(ballot: u64, count: u64) -> Option<ConnectionName>
         ensures named { IfSome result (λ name. name ≡ record { ballot = ballot; count = count }) }
         ensures valid { IsSome result
             ↔ IsConnectionName (record { ballot = ballot; count = count }) }
@@ -41,7 +41,7 @@ impl ConnectionId {
         if ballot == 0 || ballot > MAX_BALLOT || count == 0 || count > MAX_COUNT {
             return None;
         }
-        Some(ConnectionId { ballot, count })
+        Some(ConnectionName { ballot, count })
     }
 
     /// Returns the ballot, 1 to 2^32.
