@@ -1,6 +1,6 @@
 -- Worked examples, computed by the step: full queues, identifiers and the window.
 use Rattle.std.specs.Prelude.{◌≡◌, ℕ, true, false, List, [], ◌∷◌, ◌++◌, Some, codes}
-use Rattle.session_base.specs.packet.declared.qos.QoS.TheVariants as levels
+use Rattle.session_base.specs.packet.declared.qos.QoS.TheVariants as qualities
 use Rattle.session_base.specs.packet.declared.delivery.Delivery.TheVariants as deliveries
 use Rattle.session_base.specs.packet.declared.packet.Packet.TheVariants as packets
 use Rattle.session_base.specs.declared.publication.Publication.{Publication}
@@ -58,7 +58,7 @@ StepsWidenTheWindow =
 -- the publication that waits
 abbrev pub waits_o : Publication
 waits_o =
-    record { retain = false; qos = levels.AtLeastOnce; topic = codes "t/1"; payload = codes "o" }
+    record { retain = false; qos = qualities.AtLeastOnce; topic = codes "t/1"; payload = codes "o" }
 
 -- b is served on connection 1, with this queue
 abbrev pub serves_b : Queue → State

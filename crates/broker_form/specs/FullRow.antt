@@ -2,7 +2,7 @@
 -- session with two filters, two received identifiers, an entry in flight of each kind and two that
 -- wait, and two retained publications.
 use Rattle.std.specs.Prelude.{◌≡◌, ℕ, false, List, [], ◌∷◌, ◌++◌, Some, codes}
-use Rattle.packet.specs.declared.qos.QoS.TheVariants as levels
+use Rattle.packet.specs.declared.qos.QoS.TheVariants as qualities
 use Rattle.session_base.specs.FormRows.{full_session, full_session_by_hand}
 use Rattle.broker_base.specs.State.{State}
 use Rattle.broker_form.specs.Writing.{frozen, frozen_before}
@@ -20,8 +20,8 @@ full_state window = record {
     },
   ) ∷ [];
   retained =
-      (codes "t/1", record { qos = levels.AtMostOnce; payload = codes "x" })
-      ∷ (codes "t/2", record { qos = levels.ExactlyOnce; payload = codes "yz" })
+      (codes "t/1", record { qos = qualities.AtMostOnce; payload = codes "x" })
+      ∷ (codes "t/2", record { qos = qualities.ExactlyOnce; payload = codes "yz" })
       ∷ [];
 }
 

@@ -3,7 +3,7 @@
 -- connection 2 and holds t/1 at QoS 2.
 use Rattle.std.specs.Prelude.{◌≡◌, ℕ, Bool, true, false, List, [], ◌∷◌, Option, Some, None, codes}
 use Rattle.subs.specs.packet.declared.qos.QoS.{QoS}
-use Rattle.subs.specs.packet.declared.qos.QoS.TheVariants as levels
+use Rattle.subs.specs.packet.declared.qos.QoS.TheVariants as qualities
 use Rattle.subs.specs.packet.declared.delivery.Delivery.{Delivery}
 use Rattle.subs.specs.packet.declared.delivery.Delivery.TheVariants as deliveries
 use Rattle.broker_spec.specs.session_base.declared.publication.Publication.{Publication}
@@ -39,11 +39,11 @@ row client clean connection held received queue = (
 
 -- what b and c hold
 abbrev pub of_b : List HeldFilter
-of_b = (codes "t/#", levels.AtLeastOnce) ∷ []
+of_b = (codes "t/#", qualities.AtLeastOnce) ∷ []
 
 -- the subscriptions of c
 abbrev pub of_c : List HeldFilter
-of_c = (codes "t/1", levels.ExactlyOnce) ∷ []
+of_c = (codes "t/1", qualities.ExactlyOnce) ∷ []
 
 -- the sessions of three clients: a and c are connected, b is away
 abbrev pub three : Sessions
@@ -65,23 +65,24 @@ seventh = deliveries.ExactlyOnce false 7
 -- b and c are granted the publication, each at its own QoS
 abbrev pub TwoAreGranted : Type 0
 TwoAreGranted =
-    granted_rows (codes "t/1") three ≡ (b, levels.AtLeastOnce) ∷ (c, levels.ExactlyOnce) ∷ []
+    granted_rows (codes "t/1") three ≡ (b, qualities.AtLeastOnce) ∷ (c, qualities.ExactlyOnce) ∷ []
 
 -- a's session takes note of 7, o waits for b, and c is sent o and owes PUBREC
 abbrev pub EachGetsItsCopy : Type 0
 EachGetsItsCopy =
-    all_delivered 16 (o_at levels.ExactlyOnce) (granted_rows (codes "t/1") three)
+    all_delivered 16 (o_at qualities.ExactlyOnce) (granted_rows (codes "t/1") three)
     (changed a (received_on seventh) three)
     ≡ row a true (Some (nth 1)) [] (7 ∷ []) empty_queue
-    ∷ row b false None of_b [] (record { in_flight = []; waiting = o_at levels.AtLeastOnce ∷ [] })
+    ∷ row b false None of_b []
+    (record { in_flight = []; waiting = o_at qualities.AtLeastOnce ∷ [] })
     ∷ row c true (Some (nth 2)) of_c []
-    (record { in_flight = (1, waits_for.Pubrec (o_at levels.ExactlyOnce)) ∷ []; waiting = [] })
+    (record { in_flight = (1, waits_for.Pubrec (o_at qualities.ExactlyOnce)) ∷ []; waiting = [] })
     ∷ []
 
 -- only c is sent o at once
 abbrev pub OneIsAnswered : Type 0
 OneIsAnswered =
-    answered_in_turn 16 (o_at levels.ExactlyOnce) (granted_rows (codes "t/1") three)
+    answered_in_turn 16 (o_at qualities.ExactlyOnce) (granted_rows (codes "t/1") three)
     (changed a (received_on seventh) three)
     ≡ sends 2 (publish (deliveries.ExactlyOnce false 1) false (codes "o")) ∷ []
 
@@ -99,15 +100,15 @@ EachOwnsItsConnection =
 -- a filter is held character by character, replaced, given up, and dropped with its client
 abbrev pub EachHoldsItsFilters : Type 0
 EachHoldsItsFilters =
-    (content_in three b (codes "t/#") ≡ Some levels.AtLeastOnce)
+    (content_in three b (codes "t/#") ≡ Some qualities.AtLeastOnce)
     × (content_in three b (codes "t/1") ≡ None)
     × (content_in three a (codes "t/#") ≡ None)
-    × (all_set b ((codes "t/#", levels.ExactlyOnce) ∷ []) (content_in three) b (codes "t/#")
-    ≡ Some levels.ExactlyOnce)
+    × (all_set b ((codes "t/#", qualities.ExactlyOnce) ∷ []) (content_in three) b (codes "t/#")
+    ≡ Some qualities.ExactlyOnce)
     × (all_cleared b (codes "t/#" ∷ []) (content_in three) b (codes "t/#") ≡ None)
     × (all_dropped (clean_clients three) (content_in three) c (codes "t/1") ≡ None)
     × (all_dropped (clean_clients three) (content_in three) b (codes "t/#")
-    ≡ Some levels.AtLeastOnce)
+    ≡ Some qualities.AtLeastOnce)
 
 -- a Start leaves only b's session
 abbrev pub OneIsLeftByAStart : Type 0

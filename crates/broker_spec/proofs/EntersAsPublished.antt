@@ -1,7 +1,7 @@
 -- At the place where it is taken a publication enters a session as it was published, at the effective QoS.
 use Rattle.std.proofs.Common.{◌≡◌, ℕ, Bool, true, false, not, ◌&&◌, ◌==◌, nat_lt, if◌then◌else◌, List, [], ◌∷◌, ◌++◌, length, map, filter, Option, Some, None, refl, sym, ◌∙◌, ap, ap₂, arith}
 use Rattle.retained.specs.packet.declared.qos.QoS.{QoS}
-use Rattle.retained.specs.packet.declared.qos.QoS.TheVariants as levels
+use Rattle.retained.specs.packet.declared.qos.QoS.TheVariants as qualities
 use Rattle.retained.specs.packet.declared.publish.Publish.{Publish}
 use Rattle.session_base.specs.declared.publication.Publication.{Publication}
 use Rattle.session_base.specs.Publication.{publication_of}
@@ -63,9 +63,9 @@ new_alone n (e ∷ es) more h =
 -- the copy
 from_copy : (n : ℕ) (p : Publication) (qos : Option QoS) → from_place n (map (Entry.Waits n) (queued (copy_of p qos))) ≡ queued_at p qos
 from_copy n p None = refl
-from_copy n p (Some levels.AtMostOnce) = refl
-from_copy n p (Some levels.AtLeastOnce) = rw (same_number n) refl
-from_copy n p (Some levels.ExactlyOnce) = rw (same_number n) refl
+from_copy n p (Some qualities.AtMostOnce) = refl
+from_copy n p (Some qualities.AtLeastOnce) = rw (same_number n) refl
+from_copy n p (Some qualities.ExactlyOnce) = rw (same_number n) refl
 
 enters_in : (limits : Limits) (past : Past) (x : ConnectionName) (p : Publish) (d c : Client) (session : Option Bool) → session_of (taken x p d ∷ past) c ≡ session
     → from_place (length past) (entries_of limits (taken x p d ∷ past) c) ≡ queued_at (publication_of p) (effective_qos past c (publication_of p))

@@ -2,7 +2,7 @@
 use Rattle.std.proofs.Common.{◌≡◌, ℕ, Bool, true, false, ◌&&◌, ◌==◌, if◌then◌else◌, [], ◌∷◌, ◌++◌, length, map, Option, Some, None, refl, sym, ◌∙◌, ap, arith}
 use Rattle.std.specs.Prelude.{option_map}
 use Rattle.retained.specs.packet.declared.qos.QoS.{QoS}
-use Rattle.retained.specs.packet.declared.qos.QoS.TheVariants as levels
+use Rattle.retained.specs.packet.declared.qos.QoS.TheVariants as qualities
 use Rattle.retained.specs.packet.declared.publish.Publish.{Publish}
 use Rattle.session_base.specs.declared.publication.Publication.{Publication}
 use Rattle.session_base.specs.Publication.{publication_of, lower_qos}
@@ -59,9 +59,9 @@ same_number n = grind arith
 -- the copy is of this place, and has RETAIN 0
 times_copy : (n : ℕ) (p : Publication) (qos : Option QoS) → times n (map (Entry.Waits n) (queued (copy_of p qos))) ≡ (if is_queued_at qos then 1 else 0)
 times_copy n p None = refl
-times_copy n p (Some levels.AtMostOnce) = refl
-times_copy n p (Some levels.AtLeastOnce) = rw (same_number n) refl
-times_copy n p (Some levels.ExactlyOnce) = rw (same_number n) refl
+times_copy n p (Some qualities.AtMostOnce) = refl
+times_copy n p (Some qualities.AtLeastOnce) = rw (same_number n) refl
+times_copy n p (Some qualities.ExactlyOnce) = rw (same_number n) refl
 
 times_taken : (limits : Limits) (past : Past) (x : ConnectionName) (p : Publish) (d c : Client) (session : Option Bool)
     → session_of (taken x p d ∷ past) c ≡ session

@@ -2,7 +2,7 @@
 use Rattle.std.proofs.Common.{◌≡◌, ℕ, suc, ◌+◌, Bool, true, false, nat_lt, if◌then◌else◌, List, [], ◌∷◌, length, map, Option, Some, None, refl, ◌∙◌, ap, length-append}
 use Rattle.std.specs.Prelude.{is_some}
 use Rattle.retained.specs.packet.declared.qos.QoS.{QoS}
-use Rattle.retained.specs.packet.declared.qos.QoS.TheVariants as levels
+use Rattle.retained.specs.packet.declared.qos.QoS.TheVariants as qualities
 use Rattle.broker_spec.specs.Connection.{ConnectionName}
 use Rattle.broker_spec.specs.Past.{current_connection, session_of, in_session}
 use Rattle.session_base.specs.declared.publication.Publication.{Publication}
@@ -32,9 +32,9 @@ started-length w n (Some x) es = start-length w n [] es
 
 queued-length : (p : Publication) (qos : Option QoS) (n : ℕ) → length (map (Entry.Waits n) (queued (copy_of p qos))) ≡ (if is_queued_at qos then 1 else 0)
 queued-length p None n = refl
-queued-length p (Some levels.AtMostOnce) n = refl
-queued-length p (Some levels.AtLeastOnce) n = refl
-queued-length p (Some levels.ExactlyOnce) n = refl
+queued-length p (Some qualities.AtMostOnce) n = refl
+queued-length p (Some qualities.AtLeastOnce) n = refl
+queued-length p (Some qualities.ExactlyOnce) n = refl
 
 in-session : (session : Option Bool) (es : List Entry) → is_some session ≡ true → in_session session false [] es ≡ es
 in-session (Some clean) es s = refl

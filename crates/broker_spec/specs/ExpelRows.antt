@@ -1,7 +1,7 @@
 -- Worked examples: a client is expelled, and all that was kept for it is removed (MQTT 3.1.2.4,
 -- 4.1).
 use Rattle.std.specs.Prelude.{◌≡◌, true, false, List, [], ◌∷◌, ◌++◌, codes, Some, None}
-use Rattle.retained.specs.packet.declared.qos.QoS.TheVariants as levels
+use Rattle.retained.specs.packet.declared.qos.QoS.TheVariants as qualities
 use Rattle.retained.specs.packet.declared.delivery.Delivery.TheVariants as deliveries
 use Rattle.retained.specs.packet.declared.packet.Packet.TheVariants as packets
 use Rattle.broker_spec.specs.Past.{current_connection, session_of, session_start}
@@ -18,7 +18,7 @@ use Rattle.broker_spec.specs.declared.command.Output.TheVariants.{Close}
 -- b subscribes, and a publishes x at QoS 2, which starts for b
 abbrev pub x_is_under_way : List Command
 x_is_under_way =
-    subscribed_at levels.ExactlyOnce
+    subscribed_at qualities.ExactlyOnce
     ++ gets 2 (publish (deliveries.ExactlyOnce false 1) false (codes "x")) ∷ []
 
 -- b's connection is closed, once; what a publishes then reaches no client; b comes back and a new

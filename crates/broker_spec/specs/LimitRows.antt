@@ -3,9 +3,9 @@
 use Rattle.std.specs.Prelude.{◌≡◌, ℕ, true, false, List, [], ◌∷◌, codes}
 use Rattle.retained.specs.packet.RefusalCode.TheVariants as refusals
 use Rattle.retained.specs.packet.declared.connack.Connack.TheVariants as connacks
-use Rattle.retained.specs.packet.declared.qos.QoS.TheVariants as levels
+use Rattle.retained.specs.packet.declared.qos.QoS.TheVariants as qualities
 use Rattle.retained.specs.packet.declared.delivery.Delivery.TheVariants as deliveries
-use Rattle.retained.specs.packet.declared.suback.SubackCode.TheVariants as answers
+use Rattle.retained.specs.packet.declared.suback.SubackCode.TheVariants as return_codes
 use Rattle.retained.specs.packet.declared.packet.Packet.TheVariants as packets
 use Rattle.broker_spec.specs.Place.{Past}
 use Rattle.broker_spec.specs.Commands.{limits_with, usual_limits}
@@ -59,7 +59,7 @@ FifthSessionIsRefused =
 abbrev pub four_filters : List Command
 four_filters =
     connect 1 b
-    ∷ gets 1 (asks 1 (asked_at levels.AtLeastOnce
+    ∷ gets 1 (asks 1 (asked_at qualities.AtLeastOnce
     (codes "f/1" ∷ codes "f/2" ∷ codes "f/3" ∷ codes "f/4" ∷ []))) ∷ connect 2 a ∷ []
 
 -- a fifth filter is answered 0x80 and is not set; an identical one is replaced, and is granted with
@@ -67,13 +67,13 @@ four_filters =
 abbrev pub FifthFilterIsRefused : Type 0
 FifthFilterIsRefused =
     Gives (small 3 16) four_filters
-    (gets 1 (asks 2 (asked_at levels.AtMostOnce (codes "f/5" ∷ codes "f/2" ∷ [])))
+    (gets 1 (asks 2 (asked_at qualities.AtMostOnce (codes "f/5" ∷ codes "f/2" ∷ [])))
     ∷ gets 2 (publish_on (codes "f/5") (deliveries.AtLeastOnce false 1) false (codes "x"))
     ∷ gets 2 (publish_on (codes "f/2") (deliveries.AtLeastOnce false 2) false (codes "x")) ∷ [])
     ((sends 1
     (packets.Suback (record {
       id = 2;
-      codes = answers.Failure ∷ answers.Granted levels.AtMostOnce ∷ [];
+      codes = return_codes.Failure ∷ return_codes.Granted qualities.AtMostOnce ∷ [];
     })) ∷ [])
     ∷ (sends 2 (packets.Puback 1) ∷ [])
     ∷ (sends 2 (packets.Puback 2)
@@ -82,7 +82,7 @@ FifthFilterIsRefused =
 -- four topics are retained, at QoS 1
 abbrev pub four_topics : List Command
 four_topics =
-    connect 2 a ∷ published_on levels.AtLeastOnce
+    connect 2 a ∷ published_on qualities.AtLeastOnce
     (codes "t/1" ∷ codes "t/2" ∷ codes "t/3" ∷ codes "t/4" ∷ [])
 
 -- a fifth is refused and its connection closed; an existing one is replaced, and an empty payload

@@ -1,6 +1,6 @@
 -- More worked examples: full queues, violations, identifiers and the window.
 use Rattle.std.specs.Prelude.{◌≡◌, ℕ, Bool, true, false, List, [], ◌∷◌, ◌++◌, map, codes}
-use Rattle.retained.specs.packet.declared.qos.QoS.TheVariants as levels
+use Rattle.retained.specs.packet.declared.qos.QoS.TheVariants as qualities
 use Rattle.retained.specs.packet.declared.delivery.Delivery.TheVariants as deliveries
 use Rattle.retained.specs.packet.declared.packet.Packet.{Packet}
 use Rattle.retained.specs.packet.declared.packet.Packet.TheVariants as packets
@@ -16,7 +16,7 @@ use Rattle.broker_spec.specs.declared.command.Output.TheVariants.{Close}
 
 -- b is offline and holds two entries
 abbrev pub held_two : List Command
-held_two = subscribed_at levels.ExactlyOnce ++ commands.Lost (nth 1) ∷ publications 2
+held_two = subscribed_at qualities.ExactlyOnce ++ commands.Lost (nth 1) ∷ publications 2
 
 -- a sends x, y and z at QoS 2 on the nth connection
 abbrev pub publishes_xyz : ℕ → Bool → List Command
@@ -60,7 +60,7 @@ FullQueueKeepsTheOrder =
 -- (MQTT 3.10.4, 3.12.4)
 abbrev pub PingAndUnsubscribe : Type 0
 PingAndUnsubscribe =
-    Gives usual_limits (subscribed_at levels.ExactlyOnce)
+    Gives usual_limits (subscribed_at qualities.ExactlyOnce)
     (gets 1 packets.Pingreq ∷ gets 1 (unsubscribe 3) ∷ gets 1 (unsubscribe 3) ∷ [])
     ((sends 1 packets.Pingresp ∷ []) ∷ (sends 1 (packets.Unsuback 3) ∷ [])
     ∷ (sends 1 (packets.Unsuback 3) ∷ []) ∷ [])
@@ -68,7 +68,7 @@ PingAndUnsubscribe =
 -- a packet closes b's connection, and what comes after it has no effect
 abbrev pub Closes : Packet → Type 0
 Closes packet =
-    Gives usual_limits (subscribed_at levels.ExactlyOnce)
+    Gives usual_limits (subscribed_at qualities.ExactlyOnce)
     (gets 1 packet ∷ gets 1 packets.Pingreq ∷ [])
     ((Close (nth 1) ∷ []) ∷ [] ∷ [])
 
@@ -76,14 +76,14 @@ Closes packet =
 abbrev pub ViolationsClose : Type 0
 ViolationsClose =
     Closes (packets.Connect (record { client = b; clean = false; keep_alive = 60 }))
-    × Closes packets.Disconnect × Closes (connack false) × Closes (suback 1 levels.ExactlyOnce)
+    × Closes packets.Disconnect × Closes (connack false) × Closes (suback 1 qualities.ExactlyOnce)
     × Closes (packets.Unsuback 1) × Closes packets.Pingresp
 
 -- ---- identifiers and the window
 
 -- b has subscribed at QoS 1, and a has sent this many publications
 abbrev pub routed : ℕ → List Command
-routed many = subscribed_at levels.AtLeastOnce ++ publications many
+routed many = subscribed_at qualities.AtLeastOnce ++ publications many
 
 -- with a window of 16 the 17th publication waits, is sent with the identifier that PUBACK frees,
 -- and comes last when b connects again (MQTT 4.4, 4.6)
@@ -103,7 +103,7 @@ WideWindowSendsAll =
 
 -- b is offline, and has 70 entries
 abbrev pub seventy : List Command
-seventy = subscribed_at levels.AtLeastOnce ++ commands.Lost (nth 1) ∷ publications 70
+seventy = subscribed_at qualities.AtLeastOnce ++ commands.Lost (nth 1) ∷ publications 70
 
 -- of 70 entries 64 are sent, and PUBACK 1 sends the next with identifier 1
 abbrev pub WindowOf64 : Type 0

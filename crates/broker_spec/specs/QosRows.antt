@@ -2,7 +2,7 @@
 -- with which DUP flag (MQTT 3.3.1, 3.3.5, 3.8.4, 4.3, 4.4).
 use Rattle.std.specs.Prelude.{ℕ, Bool, true, false, List, [], ◌∷◌, ◌++◌, codes}
 use Rattle.retained.specs.packet.declared.qos.QoS.{QoS}
-use Rattle.retained.specs.packet.declared.qos.QoS.TheVariants as levels
+use Rattle.retained.specs.packet.declared.qos.QoS.TheVariants as qualities
 use Rattle.retained.specs.packet.declared.delivery.Delivery.{Delivery}
 use Rattle.retained.specs.packet.declared.delivery.Delivery.TheVariants as deliveries
 use Rattle.retained.specs.packet.declared.packet.Packet.TheVariants as packets
@@ -29,20 +29,20 @@ to_b delivery = sends 1 (publish delivery false (codes "x"))
 -- the publication and the subscription
 abbrev pub LowerQosIsDelivered : Type 0
 LowerQosIsDelivered =
-    Delivers levels.AtMostOnce deliveries.AtMostOnce (to_b deliveries.AtMostOnce ∷ [])
-    × Delivers levels.AtMostOnce (deliveries.AtLeastOnce false 7)
+    Delivers qualities.AtMostOnce deliveries.AtMostOnce (to_b deliveries.AtMostOnce ∷ [])
+    × Delivers qualities.AtMostOnce (deliveries.AtLeastOnce false 7)
     (sends 2 (packets.Puback 7) ∷ to_b deliveries.AtMostOnce ∷ [])
-    × Delivers levels.AtMostOnce (deliveries.ExactlyOnce false 8)
+    × Delivers qualities.AtMostOnce (deliveries.ExactlyOnce false 8)
     (sends 2 (packets.Pubrec 8) ∷ to_b deliveries.AtMostOnce ∷ [])
-    × Delivers levels.AtLeastOnce deliveries.AtMostOnce (to_b deliveries.AtMostOnce ∷ [])
-    × Delivers levels.AtLeastOnce (deliveries.AtLeastOnce false 7)
+    × Delivers qualities.AtLeastOnce deliveries.AtMostOnce (to_b deliveries.AtMostOnce ∷ [])
+    × Delivers qualities.AtLeastOnce (deliveries.AtLeastOnce false 7)
     (sends 2 (packets.Puback 7) ∷ to_b (deliveries.AtLeastOnce false 1) ∷ [])
-    × Delivers levels.AtLeastOnce (deliveries.ExactlyOnce false 8)
+    × Delivers qualities.AtLeastOnce (deliveries.ExactlyOnce false 8)
     (sends 2 (packets.Pubrec 8) ∷ to_b (deliveries.AtLeastOnce false 1) ∷ [])
-    × Delivers levels.ExactlyOnce deliveries.AtMostOnce (to_b deliveries.AtMostOnce ∷ [])
-    × Delivers levels.ExactlyOnce (deliveries.AtLeastOnce false 7)
+    × Delivers qualities.ExactlyOnce deliveries.AtMostOnce (to_b deliveries.AtMostOnce ∷ [])
+    × Delivers qualities.ExactlyOnce (deliveries.AtLeastOnce false 7)
     (sends 2 (packets.Puback 7) ∷ to_b (deliveries.AtLeastOnce false 1) ∷ [])
-    × Delivers levels.ExactlyOnce (deliveries.ExactlyOnce false 8)
+    × Delivers qualities.ExactlyOnce (deliveries.ExactlyOnce false 8)
     (sends 2 (packets.Pubrec 8) ∷ to_b (deliveries.ExactlyOnce false 1) ∷ [])
 
 -- ---- what is retained (MQTT 3.3.1.3)
@@ -65,28 +65,28 @@ retained_to_b delivery payload = sends 1 (publish delivery true payload) ∷ []
 -- QoS that is asked for
 abbrev pub RetainedAtTheLowerQos : Type 0
 RetainedAtTheLowerQos =
-    Retains (sent_by_a (deliveries.ExactlyOnce false 1) true (codes "x") ∷ []) levels.AtLeastOnce
+    Retains (sent_by_a (deliveries.ExactlyOnce false 1) true (codes "x") ∷ []) qualities.AtLeastOnce
     (retained_to_b (deliveries.AtLeastOnce false 1) (codes "x"))
-    × Retains (sent_by_a (deliveries.AtLeastOnce false 1) true (codes "x") ∷ []) levels.ExactlyOnce
-    (retained_to_b (deliveries.AtLeastOnce false 1) (codes "x"))
-    × Retains (sent_by_a deliveries.AtMostOnce true (codes "x") ∷ []) levels.ExactlyOnce
+    × Retains (sent_by_a (deliveries.AtLeastOnce false 1) true (codes "x") ∷ [])
+    qualities.ExactlyOnce (retained_to_b (deliveries.AtLeastOnce false 1) (codes "x"))
+    × Retains (sent_by_a deliveries.AtMostOnce true (codes "x") ∷ []) qualities.ExactlyOnce
     (retained_to_b deliveries.AtMostOnce (codes "x"))
-    × Retains (sent_by_a (deliveries.ExactlyOnce false 1) true (codes "x") ∷ []) levels.AtMostOnce
-    (retained_to_b deliveries.AtMostOnce (codes "x"))
+    × Retains (sent_by_a (deliveries.ExactlyOnce false 1) true (codes "x") ∷ [])
+    qualities.AtMostOnce (retained_to_b deliveries.AtMostOnce (codes "x"))
 
 -- the last publication with RETAIN 1 is retained, none with RETAIN 0; an empty payload removes it
 abbrev pub LastIsRetained : Type 0
 LastIsRetained =
-    Retains (sent_by_a deliveries.AtMostOnce false (codes "x") ∷ []) levels.AtMostOnce []
+    Retains (sent_by_a deliveries.AtMostOnce false (codes "x") ∷ []) qualities.AtMostOnce []
     × Retains (sent_by_a deliveries.AtMostOnce true (codes "x")
     ∷ sent_by_a deliveries.AtMostOnce false (codes "y") ∷ [])
-    levels.AtMostOnce (retained_to_b deliveries.AtMostOnce (codes "x"))
+    qualities.AtMostOnce (retained_to_b deliveries.AtMostOnce (codes "x"))
     × Retains (sent_by_a deliveries.AtMostOnce true (codes "x")
     ∷ sent_by_a deliveries.AtMostOnce true (codes "y") ∷ [])
-    levels.AtMostOnce (retained_to_b deliveries.AtMostOnce (codes "y"))
+    qualities.AtMostOnce (retained_to_b deliveries.AtMostOnce (codes "y"))
     × Retains (sent_by_a deliveries.AtMostOnce true (codes "x")
     ∷ sent_by_a deliveries.AtMostOnce true [] ∷ [])
-    levels.AtMostOnce []
+    qualities.AtMostOnce []
 
 -- ---- resending (MQTT 3.3.1.1, 4.4)
 
@@ -94,7 +94,7 @@ LastIsRetained =
 -- then PUBREL
 abbrev pub ExactlyOnceIsSentAgain : Type 0
 ExactlyOnceIsSentAgain =
-    Gives usual_limits (subscribed_at levels.ExactlyOnce)
+    Gives usual_limits (subscribed_at qualities.ExactlyOnce)
     (gets 2 (publish (deliveries.ExactlyOnce false 9) false (codes "x")) ∷ connect 3 b
     ∷ gets 3 (packets.Pubrec 1)
     ∷ connect 4 b ∷ gets 4 (packets.Pubrec 1) ∷ gets 4 (packets.Pubcomp 1) ∷ connect 5 b ∷ [])
@@ -113,7 +113,7 @@ ExactlyOnceIsSentAgain =
 abbrev pub CopiesComeByClient : Type 0
 CopiesComeByClient =
     Gives usual_limits
-    (subscribed_at levels.AtMostOnce ++ gets 2 (subscribe 4 levels.AtLeastOnce) ∷ [])
+    (subscribed_at qualities.AtMostOnce ++ gets 2 (subscribe 4 qualities.AtLeastOnce) ∷ [])
     (gets 2 (publish (deliveries.AtLeastOnce false 7) false (codes "x")) ∷ [])
     ((sends 2 (packets.Puback 7)
     ∷ sends 2 (publish (deliveries.AtLeastOnce false 1) false (codes "x"))

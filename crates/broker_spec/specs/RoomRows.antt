@@ -1,8 +1,8 @@
 -- Worked example: the room that is left for retained copies to the later filters of a SUBSCRIBE.
 use Rattle.std.specs.Prelude.{true, false, [], ◌∷◌, ◌++◌, codes}
-use Rattle.retained.specs.packet.declared.qos.QoS.TheVariants as levels
+use Rattle.retained.specs.packet.declared.qos.QoS.TheVariants as qualities
 use Rattle.retained.specs.packet.declared.delivery.Delivery.TheVariants as deliveries
-use Rattle.retained.specs.packet.declared.suback.SubackCode.TheVariants as answers
+use Rattle.retained.specs.packet.declared.suback.SubackCode.TheVariants as return_codes
 use Rattle.retained.specs.packet.declared.packet.Packet.TheVariants as packets
 use Rattle.broker_spec.specs.RowWords.{Gives, a, b, connect, gets, sends, small, publish_on, asks}
 use Rattle.broker_spec.specs.RowWords.{asked_at, published_on}
@@ -11,16 +11,16 @@ use Rattle.broker_spec.specs.RowWords.{asked_at, published_on}
 abbrev pub RoomIsLessWhatEarlierFiltersNeed : Type 0
 RoomIsLessWhatEarlierFiltersNeed =
     Gives (small 3 16) (connect 2 a
-    ∷ published_on levels.AtLeastOnce (codes "t/1" ∷ codes "t/2" ∷ []) ++ connect 1 b ∷ [])
-    (gets 1 (asks 1 (asked_at levels.AtLeastOnce (codes "t/1" ∷ codes "t/#" ∷ codes "t/2" ∷ [])
-    ++ asked_at levels.AtMostOnce (codes "t/2" ∷ []))) ∷ [])
+    ∷ published_on qualities.AtLeastOnce (codes "t/1" ∷ codes "t/2" ∷ []) ++ connect 1 b ∷ [])
+    (gets 1 (asks 1 (asked_at qualities.AtLeastOnce (codes "t/1" ∷ codes "t/#" ∷ codes "t/2" ∷ [])
+    ++ asked_at qualities.AtMostOnce (codes "t/2" ∷ []))) ∷ [])
     ((sends 1
     (packets.Suback
     (record {
       id = 1;
       codes =
-          answers.Granted levels.AtLeastOnce ∷ answers.Granted levels.AtLeastOnce
-          ∷ answers.Failure ∷ answers.Granted levels.AtMostOnce ∷ [];
+          return_codes.Granted qualities.AtLeastOnce ∷ return_codes.Granted qualities.AtLeastOnce
+          ∷ return_codes.Failure ∷ return_codes.Granted qualities.AtMostOnce ∷ [];
     }))
     ∷ sends 1 (publish_on (codes "t/1") (deliveries.AtLeastOnce false 1) true (codes "x"))
     ∷ sends 1 (publish_on (codes "t/1") (deliveries.AtLeastOnce false 2) true (codes "x"))

@@ -4,7 +4,7 @@ use Rattle.retained.specs.packet.declared.qos.QoS.{QoS}
 use Rattle.retained.specs.packet.declared.delivery.Delivery.{Delivery}
 use Rattle.retained.specs.packet.declared.delivery.Delivery.TheVariants as deliveries
 use Rattle.retained.specs.packet.declared.connack.Connack.TheVariants as connacks
-use Rattle.retained.specs.packet.declared.suback.SubackCode.TheVariants as answers
+use Rattle.retained.specs.packet.declared.suback.SubackCode.TheVariants as return_codes
 use Rattle.retained.specs.packet.declared.subscribe.Subscription.{Subscription}
 use Rattle.retained.specs.packet.declared.packet.Packet.{Packet}
 use Rattle.retained.specs.packet.declared.packet.Packet.TheVariants as packets
@@ -64,7 +64,7 @@ subscribe id qos =
 
 -- a SUBACK that grants this QoS
 abbrev pub suback : ℕ → QoS → Packet
-suback id qos = packets.Suback (record { id = id; codes = answers.Granted qos ∷ [] })
+suback id qos = packets.Suback (record { id = id; codes = return_codes.Granted qos ∷ [] })
 
 -- an UNSUBSCRIBE of the filter t/#
 abbrev pub unsubscribe : ℕ → Packet

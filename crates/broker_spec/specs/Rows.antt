@@ -1,9 +1,9 @@
 -- Worked examples: lists of commands, and the answers that the standard and this broker's profile
 -- give.
 use Rattle.std.specs.Prelude.{true, false, List, [], ◌∷◌, ◌++◌, codes}
-use Rattle.retained.specs.packet.declared.qos.QoS.TheVariants as levels
+use Rattle.retained.specs.packet.declared.qos.QoS.TheVariants as qualities
 use Rattle.retained.specs.packet.declared.delivery.Delivery.TheVariants as deliveries
-use Rattle.retained.specs.packet.declared.suback.SubackCode.TheVariants as answers
+use Rattle.retained.specs.packet.declared.suback.SubackCode.TheVariants as return_codes
 use Rattle.retained.specs.packet.declared.packet.Packet.TheVariants as packets
 use Rattle.broker_spec.specs.Commands.{usual_limits}
 use Rattle.broker_spec.specs.RowWords.{Gives, a, b, nth, connect, gets, sends, connack, publish}
@@ -31,19 +31,19 @@ OlderConnectionIsSilent =
 -- SUBACK has the QoS that was asked for (MQTT 3.9.3)
 abbrev pub SubscribeIsGranted : Type 0
 SubscribeIsGranted =
-    Gives usual_limits (connect 1 b ∷ []) (gets 1 (subscribe 1 levels.ExactlyOnce) ∷ [])
-    ((sends 1 (suback 1 levels.ExactlyOnce) ∷ []) ∷ [])
+    Gives usual_limits (connect 1 b ∷ []) (gets 1 (subscribe 1 qualities.ExactlyOnce) ∷ [])
+    ((sends 1 (suback 1 qualities.ExactlyOnce) ∷ []) ∷ [])
 
 -- b has subscribed to t/# at QoS 2, and a has sent the publication x with identifier 1
 abbrev pub published_x : List Command
 published_x =
-    subscribed_at levels.ExactlyOnce
+    subscribed_at qualities.ExactlyOnce
     ++ gets 2 (publish (deliveries.ExactlyOnce false 1) false (codes "x")) ∷ []
 
 -- a publication at QoS 2: PUBREC to its publisher, PUBLISH to the subscriber (MQTT 4.3.3)
 abbrev pub PublishReachesTheSubscriber : Type 0
 PublishReachesTheSubscriber =
-    Gives usual_limits (subscribed_at levels.ExactlyOnce)
+    Gives usual_limits (subscribed_at qualities.ExactlyOnce)
     (gets 2 (publish (deliveries.ExactlyOnce false 1) false (codes "x")) ∷ [])
     ((sends 2 (packets.Pubrec 1)
     ∷ sends 1 (publish (deliveries.ExactlyOnce false 1) false (codes "x")) ∷ []) ∷ [])
@@ -74,32 +74,34 @@ PubrelTwice =
 -- 1 to those who subscribe after (MQTT 3.3.1.3)
 abbrev pub RetainedAtSubscribe : Type 0
 RetainedAtSubscribe =
-    Gives usual_limits (subscribed_at levels.ExactlyOnce)
+    Gives usual_limits (subscribed_at qualities.ExactlyOnce)
     (gets 2 (publish (deliveries.ExactlyOnce false 1) true (codes "x")) ∷ gets 1 (packets.Pubrec 1)
-    ∷ gets 1 (packets.Pubcomp 1) ∷ gets 1 (subscribe 2 levels.ExactlyOnce) ∷ [])
+    ∷ gets 1 (packets.Pubcomp 1) ∷ gets 1 (subscribe 2 qualities.ExactlyOnce) ∷ [])
     ((sends 2 (packets.Pubrec 1)
     ∷ sends 1 (publish (deliveries.ExactlyOnce false 1) false (codes "x")) ∷ [])
     ∷ (sends 1 (packets.Pubrel 1) ∷ []) ∷ []
-    ∷ (sends 1 (suback 2 levels.ExactlyOnce)
+    ∷ (sends 1 (suback 2 qualities.ExactlyOnce)
     ∷ sends 1 (publish (deliveries.ExactlyOnce false 1) true (codes "x")) ∷ []) ∷ [])
 
 -- two filters of one client match: one PUBLISH, at the greater QoS (MQTT 3.3.5)
 abbrev pub TwoFiltersOnePublication : Type 0
 TwoFiltersOnePublication =
-    Gives usual_limits (subscribed_at levels.ExactlyOnce)
+    Gives usual_limits (subscribed_at qualities.ExactlyOnce)
     (gets 1
     (packets.Subscribe
     (record {
       id = 1;
       filters =
-          record { filter = codes "t/#"; qos = levels.AtMostOnce }
-          ∷ record { filter = codes "t/1"; qos = levels.ExactlyOnce } ∷ [];
+          record { filter = codes "t/#"; qos = qualities.AtMostOnce }
+          ∷ record { filter = codes "t/1"; qos = qualities.ExactlyOnce } ∷ [];
     }))
     ∷ gets 2 (publish (deliveries.ExactlyOnce false 1) false (codes "x")) ∷ [])
     ((sends 1
     (packets.Suback (record {
       id = 1;
-      codes = answers.Granted levels.AtMostOnce ∷ answers.Granted levels.ExactlyOnce ∷ [];
+      codes =
+          return_codes.Granted qualities.AtMostOnce
+          ∷ return_codes.Granted qualities.ExactlyOnce ∷ [];
     })) ∷ [])
     ∷ (sends 2 (packets.Pubrec 1)
     ∷ sends 1 (publish (deliveries.ExactlyOnce false 1) false (codes "x")) ∷ []) ∷ [])

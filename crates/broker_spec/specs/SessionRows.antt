@@ -1,7 +1,7 @@
 -- Worked examples: where a session begins and ends, and the places at which an entry is made,
 -- starts, is released and finishes (MQTT 3.1.2.4, 4.1, 4.3).
 use Rattle.std.specs.Prelude.{◌≡◌, ℕ, Bool, true, false, List, [], ◌∷◌, ◌++◌, map, codes, Option, Some, None}
-use Rattle.retained.specs.packet.declared.qos.QoS.TheVariants as levels
+use Rattle.retained.specs.packet.declared.qos.QoS.TheVariants as qualities
 use Rattle.retained.specs.packet.declared.delivery.Delivery.TheVariants as deliveries
 use Rattle.retained.specs.packet.declared.packet.Packet.TheVariants as packets
 use Rattle.broker_spec.specs.Place.{Client}
@@ -72,10 +72,10 @@ PlacesStandInSessions =
 -- b subscribes again at place 5, answers x and y, and does not answer the retained copy
 abbrev pub three_entries : List Command
 three_entries =
-    subscribed_at levels.ExactlyOnce
+    subscribed_at qualities.ExactlyOnce
     ++ gets 2 (publish (deliveries.AtLeastOnce false 1) false (codes "x"))
     ∷ gets 2 (publish (deliveries.ExactlyOnce false 2) true (codes "y"))
-    ∷ gets 1 (subscribe 2 levels.ExactlyOnce)
+    ∷ gets 1 (subscribe 2 qualities.ExactlyOnce)
     ∷ gets 1 (packets.Puback 1) ∷ gets 1 (packets.Pubrec 2) ∷ gets 1 (packets.Pubcomp 2) ∷ []
 
 -- the entries of b after these commands

@@ -2,7 +2,7 @@
 use Rattle.std.specs.Prelude.{◌≡◌, Bool, true, false, List, [], ◌∷◌, length, filter, map}
 use Rattle.std.specs.Prelude.{Option, Some}
 use Rattle.retained.specs.packet.declared.qos.QoS.{QoS}
-use Rattle.retained.specs.packet.declared.qos.QoS.TheVariants as levels
+use Rattle.retained.specs.packet.declared.qos.QoS.TheVariants as qualities
 use Rattle.retained.specs.packet.declared.publish.Publish.{Publish}
 use Rattle.session_base.specs.declared.publication.Publication.{Publication}
 use Rattle.session_base.specs.Publication.{publication_of}
@@ -26,10 +26,12 @@ takes_publication _ _ = false
 -- a publication as a session gets it at this QoS, if it is queued: its topic and payload, and
 -- RETAIN 0 (MQTT 3.3.1.3)
 abbrev pub queued_at : Publication → Option QoS → List Publication
-queued_at p (Some levels.AtLeastOnce) =
-    record { retain = false; qos = levels.AtLeastOnce; topic = p.topic; payload = p.payload } ∷ []
-queued_at p (Some levels.ExactlyOnce) =
-    record { retain = false; qos = levels.ExactlyOnce; topic = p.topic; payload = p.payload } ∷ []
+queued_at p (Some qualities.AtLeastOnce) =
+    record { retain = false; qos = qualities.AtLeastOnce; topic = p.topic; payload = p.payload }
+    ∷ []
+queued_at p (Some qualities.ExactlyOnce) =
+    record { retain = false; qos = qualities.ExactlyOnce; topic = p.topic; payload = p.payload }
+    ∷ []
 queued_at p _ = []
 
 -- at the place where it is taken a publication enters as it was published, at the effective QoS

@@ -4,7 +4,7 @@ ghost use Rattle.std.specs.Prelude.{◌≡◌, ◌≤◌, ◌++◌, [], ◌∷�
 ghost use Rattle.session.specs.packet.declared.packet.Packet.TheVariants as packets;
 ghost use Rattle.session.specs.session_base.Publication.{publish_of, lower_qos};
 ghost use Rattle.session.specs.session_base.Publication.{publication_of, is_answered};
-ghost use Rattle.session.specs.packet.declared.qos.QoS.TheVariants as levels;
+ghost use Rattle.session.specs.packet.declared.qos.QoS.TheVariants as qualities;
 ghost use Rattle.session.specs.session_base.Queue.{room};
 ghost use Rattle.session.specs.session_base.Copies.{copies_left};
 ghost use Rattle.session.specs.session_base.Sending.{copies_sent};
@@ -85,7 +85,7 @@ pub(crate) fn take_copy(
 
 // Returns the PUBLISH at QoS 0.
 fn unanswered(copy: Publication) -> Packet
-    ensures { copy.qos ≡ levels.AtMostOnce → result ≡ packets.Publish (publish_of false 0 copy) }
+    ensures { copy.qos ≡ qualities.AtMostOnce → result ≡ packets.Publish (publish_of false 0 copy) }
 {
     Packet::Publish(Publish {
         topic: copy.topic,

@@ -3,7 +3,7 @@
 ghost use Rattle.std.specs.Prelude.{◌≡◌, false, true, IfOk};
 ghost use Rattle.cutter.specs.packet.declared.delivery.Delivery.TheVariants as deliveries;
 ghost use Rattle.cutter.specs.packet.declared.packet.Packet.TheVariants as packets;
-ghost use Rattle.cutter.specs.packet.declared.qos.QoS.TheVariants as levels;
+ghost use Rattle.cutter.specs.packet.declared.qos.QoS.TheVariants as qualities;
 ghost use Rattle.client_base.specs.session_base.Publication.{is_answered};
 ghost use Rattle.client_base.specs.State.{publish_kept};
 ghost use Rattle.client_base.specs.Publishing.{is_over_limit};
@@ -53,7 +53,7 @@ impl ClientCore {
 
     // Publishes at QoS 0.
     fn publish_once(&mut self, publication: Publication) -> Result<(), ClientError>
-        requires { publication.qos ≡ levels.AtMostOnce }
+        requires { publication.qos ≡ qualities.AtMostOnce }
         ensures { Does (keeper_step (Call.Publishes publication) self.old.state)
             self.old result self.new }
     {

@@ -4,7 +4,7 @@ use Rattle.std.specs.Prelude.{slice_get}
 use Rattle.std.proofs.lemmas.List.{drop-append-le}
 use Rattle.std.proofs.lemmas.Bool.{both_ways, cases_Bool}
 use Rattle.client_base.specs.packet.declared.qos.QoS.{QoS}
-use Rattle.client_base.specs.packet.declared.qos.QoS.TheVariants as levels
+use Rattle.client_base.specs.packet.declared.qos.QoS.TheVariants as qualities
 use Rattle.client_base.specs.packet.declared.delivery.Delivery.{Delivery}
 use Rattle.client_base.specs.packet.declared.delivery.Delivery.TheVariants as deliveries
 use Rattle.client_base.specs.packet.declared.packet.Packet.{Packet}
@@ -45,14 +45,14 @@ OwnAnswered (Own.Done k p ∷ own) = OwnAnswered own
 OwnAnswered [] = Unit {0}
 
 two_not_one : (q : QoS) → is_two q ≡ true → is_acknowledged q ≡ false
-two_not_one levels.AtMostOnce e = absurd (both_ways false refl e)
-two_not_one levels.AtLeastOnce e = absurd (both_ways false refl e)
-two_not_one levels.ExactlyOnce e = refl
+two_not_one qualities.AtMostOnce e = absurd (both_ways false refl e)
+two_not_one qualities.AtLeastOnce e = absurd (both_ways false refl e)
+two_not_one qualities.ExactlyOnce e = refl
 
 not_two_one : (q : QoS) → is_answered q ≡ true → is_two q ≡ false → is_acknowledged q ≡ true
-not_two_one levels.AtMostOnce a e = absurd (both_ways false refl a)
-not_two_one levels.AtLeastOnce a e = refl
-not_two_one levels.ExactlyOnce a e = absurd (both_ways true e refl)
+not_two_one qualities.AtMostOnce a e = absurd (both_ways false refl a)
+not_two_one qualities.AtLeastOnce a e = refl
+not_two_one qualities.ExactlyOnce a e = absurd (both_ways true e refl)
 
 own_map : (i : ℕ) (p : Publication) (x y : Item ℕ) (es fs : List (Item ℕ)) → y ≡ releasing i x → fs ≡ map (releasing i) es → own_item p y fs ≡ map (releasing i) (own_item p x es)
 own_map i p x y es fs e f = by (is_two p.qos)

@@ -2,7 +2,7 @@
 use Rattle.std.proofs.Common.{◌≡◌, ℕ, Bool, true, false, not, ◌==◌, if◌then◌else◌, List, [], ◌∷◌, ◌++◌, map, refl, ap, ap₂, inl, inr, ◌⊎◌}
 use Rattle.std.proofs.lemmas.Bool.{both_ways, cases_Bool}
 use Rattle.client_base.specs.packet.declared.qos.QoS.{QoS}
-use Rattle.client_base.specs.packet.declared.qos.QoS.TheVariants as levels
+use Rattle.client_base.specs.packet.declared.qos.QoS.TheVariants as qualities
 use Rattle.client_base.specs.session_base.declared.publication.Publication.{Publication}
 use Rattle.client_base.specs.session_base.Publication.{is_acknowledged, is_answered}
 use Rattle.broker_base.specs.broker_spec.Entries.{Entry}
@@ -19,19 +19,19 @@ IsQueued (Entry.Released made p id start release) = is_answered p.qos ≡ true
 IsQueued (Entry.Finished made p id start release finish) = is_answered p.qos ≡ true
 
 two_or_one : (q : QoS) → is_answered q ≡ true → is_two q ≡ not (is_acknowledged q)
-two_or_one levels.AtMostOnce e = e
-two_or_one levels.AtLeastOnce e = refl
-two_or_one levels.ExactlyOnce e = refl
+two_or_one qualities.AtMostOnce e = e
+two_or_one qualities.AtLeastOnce e = refl
+two_or_one qualities.ExactlyOnce e = refl
 
 two_not_one : (q : QoS) → is_two q ≡ true → is_acknowledged q ≡ false
-two_not_one levels.AtMostOnce e = absurd (both_ways false refl e)
-two_not_one levels.AtLeastOnce e = absurd (both_ways false refl e)
-two_not_one levels.ExactlyOnce e = refl
+two_not_one qualities.AtMostOnce e = absurd (both_ways false refl e)
+two_not_one qualities.AtLeastOnce e = absurd (both_ways false refl e)
+two_not_one qualities.ExactlyOnce e = refl
 
 not_two_one : (q : QoS) → is_answered q ≡ true → is_two q ≡ false → is_acknowledged q ≡ true
-not_two_one levels.AtMostOnce a e = absurd (both_ways false refl a)
-not_two_one levels.AtLeastOnce a e = refl
-not_two_one levels.ExactlyOnce a e = absurd (both_ways true e refl)
+not_two_one qualities.AtMostOnce a e = absurd (both_ways false refl a)
+not_two_one qualities.AtLeastOnce a e = refl
+not_two_one qualities.ExactlyOnce a e = absurd (both_ways true e refl)
 
 abbrev pub AllQueued : List Entry → Type 0
 AllQueued (e ∷ es) = IsQueued e × AllQueued es

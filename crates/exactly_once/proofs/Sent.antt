@@ -1,7 +1,7 @@
 -- The packets that a place sends for the entries that start there are the PUBLISHes of the handshake's starts.
 use Rattle.std.proofs.Common.{◌≡◌, ℕ, Bool, true, false, ◌==◌, nat_lt, if◌then◌else◌, List, [], ◌∷◌, ◌++◌, length, map, refl, ap, ◌∙◌, arith}
 use Rattle.client_base.specs.packet.declared.qos.QoS.{QoS}
-use Rattle.client_base.specs.packet.declared.qos.QoS.TheVariants as levels
+use Rattle.client_base.specs.packet.declared.qos.QoS.TheVariants as qualities
 use Rattle.client_base.specs.packet.declared.packet.Packet.{Packet}
 use Rattle.client_base.specs.packet.declared.packet.Packet.TheVariants as packets
 use Rattle.client_base.specs.session_base.declared.publication.Publication.{Publication}
@@ -29,9 +29,9 @@ NoneStartedAt n [] = Unit {0}
 forward_fields : (dup : Bool) (id : ℕ) (retain : Bool) (q : QoS) (topic payload : List ℕ) (rest : List Packet)
     → forward_of (packets.Publish (publish_of dup id (record { retain = retain; qos = q; topic = topic; payload = payload })) ∷ rest)
     ≡ (if is_two q then Forward.Publish id (record { retain = retain; qos = q; topic = topic; payload = payload }) ∷ forward_of rest else forward_of rest)
-forward_fields dup id retain levels.AtMostOnce topic payload rest = refl
-forward_fields dup id retain levels.AtLeastOnce topic payload rest = refl
-forward_fields dup id retain levels.ExactlyOnce topic payload rest = refl
+forward_fields dup id retain qualities.AtMostOnce topic payload rest = refl
+forward_fields dup id retain qualities.AtLeastOnce topic payload rest = refl
+forward_fields dup id retain qualities.ExactlyOnce topic payload rest = refl
 
 pub forward_publish : (dup : Bool) (id : ℕ) (p : Publication) (rest : List Packet)
     → forward_of (packets.Publish (publish_of dup id p) ∷ rest) ≡ (if is_two p.qos then Forward.Publish id p ∷ forward_of rest else forward_of rest)

@@ -2,7 +2,7 @@
 -- its j-th written packet.
 use Rattle.std.specs.Prelude.{ℕ, Bool, true, false, if◌then◌else◌, List, [], ◌∷◌, ◌++◌, map, Option, Some, None, slice_get}
 use Rattle.client_base.specs.packet.declared.qos.QoS.{QoS}
-use Rattle.client_base.specs.packet.declared.qos.QoS.TheVariants as levels
+use Rattle.client_base.specs.packet.declared.qos.QoS.TheVariants as qualities
 use Rattle.client_base.specs.packet.declared.packet.Packet.TheVariants as packets
 use Rattle.broker_base.specs.broker_spec.Connection.{ConnectionName, same_connection}
 use Rattle.broker_base.specs.broker_spec.Place.{Past}
@@ -50,9 +50,9 @@ new_numbers connections [] = []
 
 -- whether a QoS is 2
 abbrev pub is_two : QoS → Bool
-is_two levels.AtMostOnce = false
-is_two levels.AtLeastOnce = false
-is_two levels.ExactlyOnce = true
+is_two qualities.AtMostOnce = false
+is_two qualities.AtLeastOnce = false
+is_two qualities.ExactlyOnce = true
 
 -- the number of a publication: how many the client published before it
 abbrev pub number_in : Own → ℕ

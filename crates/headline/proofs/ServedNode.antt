@@ -6,7 +6,7 @@ use Rattle.std.proofs.Common.{◌≡◌, ℕ, false, List, [], ◌∷◌, ◌++�
 use Rattle.byte_world.specs.packet.declared.connack.Connack.TheVariants as connacks
 use Rattle.byte_world.specs.packet.declared.packet.Packet.{Packet}
 use Rattle.byte_world.specs.packet.declared.packet.Packet.TheVariants as packets
-use Rattle.byte_world.specs.packet.declared.qos.QoS.TheVariants as levels
+use Rattle.byte_world.specs.packet.declared.qos.QoS.TheVariants as qualities
 use Rattle.byte_world.specs.packet.declared.suback.SubackCode.TheVariants as codes
 use Rattle.byte_world.specs.packet.Connect.{connect_of}
 use Rattle.byte_world.specs.packet.Delivery.{delivery_at}
@@ -66,7 +66,7 @@ abbrev pub subscribe : Packet
 subscribe = packets.Subscribe asks_for_news
 
 abbrev pub suback : Packet
-suback = packets.Suback (record { id = 1; codes = codes.Granted levels.ExactlyOnce ∷ [] })
+suback = packets.Suback (record { id = 1; codes = codes.Granted qualities.ExactlyOnce ∷ [] })
 
 abbrev pub publish : Packet
 publish = packets.Publish (publish_of false 1 news)

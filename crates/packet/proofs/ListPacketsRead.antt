@@ -14,11 +14,11 @@ use Rattle.packet_base.proofs.FieldsFound.{IsBytes, Splits, Splits-then, byte_fo
 use Rattle.packet_base.proofs.FieldsAgain.{id_again, filter_again}
 use Rattle.packet_base.proofs.ListsRead.{IsItem, list_found, list_again}
 use Rattle.packet.specs.declared.qos.QoS.{QoS}
-use Rattle.packet.specs.declared.qos.QoS.TheVariants as levels
+use Rattle.packet.specs.declared.qos.QoS.TheVariants as qualities
 use Rattle.packet.specs.declared.subscribe.Subscription.{Subscription}
 use Rattle.packet.specs.declared.subscribe.Subscribe.{Subscribe}
 use Rattle.packet.specs.declared.suback.SubackCode.{SubackCode}
-use Rattle.packet.specs.declared.suback.SubackCode.TheVariants as answers
+use Rattle.packet.specs.declared.suback.SubackCode.TheVariants as return_codes
 use Rattle.packet.specs.declared.suback.Suback.{Suback}
 use Rattle.packet.specs.declared.unsubscribe.Unsubscribe.{Unsubscribe}
 use Rattle.packet.specs.QoS.{qos_number, qos_of}
@@ -66,13 +66,13 @@ granted_found bytes fits =
     (subst (λ (n : ℕ). Splits bytes (n ∷ []) byte.1) is h.0, tt)))
 
 granted_of_again : (code : SubackCode) → granted_of (granted_number code) ≡ Ok code
-granted_of_again (answers.Granted qos) = at_level qos
+granted_of_again (return_codes.Granted qos) = at_level qos
   where
-    at_level : (qos : QoS) → granted_of (qos_number qos) ≡ Ok (answers.Granted qos)
-    at_level levels.AtMostOnce = refl
-    at_level levels.AtLeastOnce = refl
-    at_level levels.ExactlyOnce = refl
-granted_of_again answers.Failure = refl
+    at_level : (qos : QoS) → granted_of (qos_number qos) ≡ Ok (return_codes.Granted qos)
+    at_level qualities.AtMostOnce = refl
+    at_level qualities.AtLeastOnce = refl
+    at_level qualities.ExactlyOnce = refl
+granted_of_again return_codes.Failure = refl
 
 granted_again : (code : SubackCode) (rest : List ℕ) → Unit {0} → granted_at (granted code ++ rest) ≡ Ok (code, rest)
 unfolding granted_at

@@ -6,15 +6,15 @@ use Rattle.packet_base.specs.declared.header.DeliveryFlags.TheVariants as flags
 use Rattle.packet_base.specs.Spelling.{number, IsId}
 use Rattle.packet_base.specs.Reading.{◌>>=◌, id_at}
 use Rattle.packet.specs.declared.qos.QoS.{QoS}
-use Rattle.packet.specs.declared.qos.QoS.TheVariants as levels
+use Rattle.packet.specs.declared.qos.QoS.TheVariants as qualities
 use Rattle.packet.specs.declared.delivery.Delivery.{Delivery}
 use Rattle.packet.specs.declared.delivery.Delivery.TheVariants as deliveries
 
 -- the QoS of a delivery
 abbrev pub delivery_qos : Delivery → QoS
-delivery_qos deliveries.AtMostOnce = levels.AtMostOnce
-delivery_qos (deliveries.AtLeastOnce dup id) = levels.AtLeastOnce
-delivery_qos (deliveries.ExactlyOnce dup id) = levels.ExactlyOnce
+delivery_qos deliveries.AtMostOnce = qualities.AtMostOnce
+delivery_qos (deliveries.AtLeastOnce dup id) = qualities.AtLeastOnce
+delivery_qos (deliveries.ExactlyOnce dup id) = qualities.ExactlyOnce
 
 -- the identifier, if the QoS has one
 abbrev pub id_of : Delivery → Option ℕ

@@ -4,17 +4,17 @@ use Rattle.packet_base.specs.topics.declared.malformed.MalformedKind.TheVariants
 use Rattle.packet_base.specs.declared.stop.Stop.{Stop}
 use Rattle.packet_base.specs.Reading.{malformed}
 use Rattle.packet.specs.declared.qos.QoS.{QoS}
-use Rattle.packet.specs.declared.qos.QoS.TheVariants as levels
+use Rattle.packet.specs.declared.qos.QoS.TheVariants as qualities
 
 -- the number of a level
 abbrev pub qos_number : QoS → ℕ
-qos_number levels.AtMostOnce = 0
-qos_number levels.AtLeastOnce = 1
-qos_number levels.ExactlyOnce = 2
+qos_number qualities.AtMostOnce = 0
+qos_number qualities.AtLeastOnce = 1
+qos_number qualities.ExactlyOnce = 2
 
--- the level of a number; there are three levels
+-- the QoS of a number; there are three
 abbrev pub qos_of : ℕ → Result QoS Stop
 qos_of number =
-    if number == 0 then Ok levels.AtMostOnce else
-    if number == 1 then Ok levels.AtLeastOnce else
-    if number == 2 then Ok levels.ExactlyOnce else malformed kinds.Qos
+    if number == 0 then Ok qualities.AtMostOnce else
+    if number == 1 then Ok qualities.AtLeastOnce else
+    if number == 2 then Ok qualities.ExactlyOnce else malformed kinds.Qos

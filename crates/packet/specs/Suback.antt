@@ -6,14 +6,14 @@ use Rattle.packet_base.specs.Spelling.{number, IsId}
 use Rattle.packet_base.specs.Reading.{◌>>=◌, byte_at, id_at}
 use Rattle.packet_base.specs.Lists.{list_of}
 use Rattle.packet.specs.declared.suback.SubackCode.{SubackCode}
-use Rattle.packet.specs.declared.suback.SubackCode.TheVariants as answers
+use Rattle.packet.specs.declared.suback.SubackCode.TheVariants as return_codes
 use Rattle.packet.specs.declared.suback.Suback.{Suback}
 use Rattle.packet.specs.QoS.{qos_number, qos_of}
 
 -- the granted QoS, or 0x80 for a failure (MQTT 3.9.3)
 abbrev pub granted_number : SubackCode → ℕ
-granted_number (answers.Granted qos) = qos_number qos
-granted_number answers.Failure = 0x80
+granted_number (return_codes.Granted qos) = qos_number qos
+granted_number return_codes.Failure = 0x80
 
 -- an answer as a byte
 abbrev pub granted : SubackCode → List ℕ
@@ -30,8 +30,8 @@ FitsSuback s = IsId s.id
 -- the answer of a byte
 abbrev pub granted_of : ℕ → Result SubackCode Stop
 granted_of byte =
-    if byte == 0x80 then Ok answers.Failure else
-    qos_of byte >>= (λ qos. Ok (answers.Granted qos))
+    if byte == 0x80 then Ok return_codes.Failure else
+    qos_of byte >>= (λ qos. Ok (return_codes.Granted qos))
 
 -- an answer, and the bytes after it
 unfoldable pub granted_at : List ℕ → Result (SubackCode × List ℕ) Stop

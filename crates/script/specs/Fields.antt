@@ -10,7 +10,7 @@ use Rattle.session_base.specs.topics.declared.malformed.MalformedKind.{Malformed
 use Rattle.session_base.specs.topics.Text.{filter_fault, topic_fault}
 use Rattle.session_base.specs.packet.ClientId.{client_fault}
 use Rattle.session_base.specs.packet.declared.qos.QoS.{QoS}
-use Rattle.session_base.specs.packet.declared.qos.QoS.TheVariants as levels
+use Rattle.session_base.specs.packet.declared.qos.QoS.TheVariants as qualities
 use Rattle.script.specs.declared.script_line.Amount.{Amount}
 use Rattle.script.specs.declared.script_line.Amount.TheVariants as amounts
 
@@ -39,13 +39,13 @@ unfoldable pub number_of : Text → Option ℕ
 number_of text = if is_decimal text && nat_lt (digits_value 10 text) (2 ^ 64)
     then Some (digits_value 10 text) else None
 
--- the level of a number; there are three levels
+-- the QoS of a number; there are three
 abbrev pub level_of : Option ℕ → Option QoS
 level_of None = None
 level_of (Some number) =
-    if number == 0 then Some levels.AtMostOnce else
-    if number == 1 then Some levels.AtLeastOnce else
-    if number == 2 then Some levels.ExactlyOnce else None
+    if number == 0 then Some qualities.AtMostOnce else
+    if number == 1 then Some qualities.AtLeastOnce else
+    if number == 2 then Some qualities.ExactlyOnce else None
 
 -- a QoS is written as its number (MQTT 4.3)
 unfoldable pub qos_of : Text → Option QoS

@@ -13,7 +13,7 @@ use Rattle.packet_base.proofs.FieldsFound.{IsBytes, Splits, byte_found, front_fo
 use Rattle.packet.specs.Spelling.{max_body}
 use Rattle.packet.specs.QoS.{qos_of}
 use Rattle.packet.specs.declared.qos.QoS.{QoS}
-use Rattle.packet.specs.declared.qos.QoS.TheVariants as levels
+use Rattle.packet.specs.declared.qos.QoS.TheVariants as qualities
 use Rattle.session_base.specs.declared.publication.Publication.{Publication}
 use Rattle.session_base.specs.declared.awaits.Awaits.{Awaits}
 use Rattle.session_base.specs.declared.awaits.Awaits.TheVariants as waits_for
@@ -81,9 +81,9 @@ sent_of p topic h = by p.qos h
 
     by : (q : QoS) → 2 + length p.topic + (if is_answered q then 2 else 0) + length p.payload ≤ max_body →
         CanBeSent (record { retain = p.retain; qos = q; topic = p.topic; payload = p.payload })
-    by levels.AtMostOnce k = ((topic, tt), tt, without_id k)
-    by levels.AtLeastOnce k = ((topic, (omega arith, omega arith)), tt, with_id k)
-    by levels.ExactlyOnce k = ((topic, (omega arith, omega arith)), tt, with_id k)
+    by qualities.AtMostOnce k = ((topic, tt), tt, without_id k)
+    by qualities.AtLeastOnce k = ((topic, (omega arith, omega arith)), tt, with_id k)
+    by qualities.ExactlyOnce k = ((topic, (omega arith, omega arith)), tt, with_id k)
 
 pub sized_found : (p : Publication) → is_topic p.topic ≡ true → IfOk (sized p) CanBeSent
 sized_found p topic = check_if (nat_le (body_length p) max_body) _ _ CanBeSent (λ test. sent_of p topic (leb-true _ _ test))
@@ -121,15 +121,15 @@ a_held_one bytes fits =
 abbrev Awaiting : Awaits → Type 0
 Awaiting awaits = (id : ℕ) → IsId id → IsInFlight (id, awaits)
 
-of_qos_1 : (q : QoS) → is_acknowledged q ≡ true → is_answered q ≡ true → q ≡ levels.AtLeastOnce
-of_qos_1 levels.AtMostOnce e f = absurd (cc)
-of_qos_1 levels.AtLeastOnce e f = refl
-of_qos_1 levels.ExactlyOnce e f = absurd (cc)
+of_qos_1 : (q : QoS) → is_acknowledged q ≡ true → is_answered q ≡ true → q ≡ qualities.AtLeastOnce
+of_qos_1 qualities.AtMostOnce e f = absurd (cc)
+of_qos_1 qualities.AtLeastOnce e f = refl
+of_qos_1 qualities.ExactlyOnce e f = absurd (cc)
 
-of_qos_2 : (q : QoS) → not (is_acknowledged q) ≡ true → is_answered q ≡ true → q ≡ levels.ExactlyOnce
-of_qos_2 levels.AtMostOnce e f = absurd (cc)
-of_qos_2 levels.AtLeastOnce e f = absurd (cc)
-of_qos_2 levels.ExactlyOnce e f = refl
+of_qos_2 : (q : QoS) → not (is_acknowledged q) ≡ true → is_answered q ≡ true → q ≡ qualities.ExactlyOnce
+of_qos_2 qualities.AtMostOnce e f = absurd (cc)
+of_qos_2 qualities.AtLeastOnce e f = absurd (cc)
+of_qos_2 qualities.ExactlyOnce e f = refl
 
 a_sent_one : (acknowledged : Bool) → IsFound (sent_at acknowledged) Awaiting
 unfolding sent_at

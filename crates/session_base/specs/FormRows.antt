@@ -1,7 +1,7 @@
 -- A worked example with something in every part of a session, each byte by hand: two filters, two
 -- received identifiers, an entry in flight of each kind, two that wait.
 use Rattle.std.specs.Prelude.{◌≡◌, ℕ, true, false, List, [], ◌∷◌, ◌++◌, codes}
-use Rattle.packet.specs.declared.qos.QoS.TheVariants as levels
+use Rattle.packet.specs.declared.qos.QoS.TheVariants as qualities
 use Rattle.session_base.specs.declared.publication.Publication.{Publication}
 use Rattle.session_base.specs.declared.awaits.Awaits.TheVariants as waits_for
 use Rattle.session_base.specs.Queue.{Queue}
@@ -11,22 +11,22 @@ use Rattle.session_base.specs.Form.{state_bytes}
 -- a publication at QoS 1
 abbrev pub at_least_once : Publication
 at_least_once =
-    record { retain = false; qos = levels.AtLeastOnce; topic = codes "t/1"; payload = codes "x" }
+    record { retain = false; qos = qualities.AtLeastOnce; topic = codes "t/1"; payload = codes "x" }
 
 -- a publication at QoS 2
 abbrev pub exactly_once : Publication
 exactly_once =
-    record { retain = false; qos = levels.ExactlyOnce; topic = codes "t/1"; payload = codes "y" }
+    record { retain = false; qos = qualities.ExactlyOnce; topic = codes "t/1"; payload = codes "y" }
 
 -- what waits: a retained copy at QoS 1, and a publication without a payload
 abbrev pub retained_copy : Publication
 retained_copy =
-    record { retain = true; qos = levels.AtLeastOnce; topic = codes "t/2"; payload = codes "z" }
+    record { retain = true; qos = qualities.AtLeastOnce; topic = codes "t/2"; payload = codes "z" }
 
 -- a publication without a payload
 abbrev pub without_payload : Publication
 without_payload =
-    record { retain = false; qos = levels.ExactlyOnce; topic = codes "t/1"; payload = [] }
+    record { retain = false; qos = qualities.ExactlyOnce; topic = codes "t/1"; payload = [] }
 
 -- three entries in flight, and two that wait
 abbrev pub full_queue : Queue
@@ -40,7 +40,7 @@ full_queue = record {
 -- a session with something in each part
 abbrev pub full_session : SessionState
 full_session = record {
-  subscriptions = (codes "t/#", levels.AtMostOnce) ∷ (codes "t/1", levels.ExactlyOnce) ∷ [];
+  subscriptions = (codes "t/#", qualities.AtMostOnce) ∷ (codes "t/1", qualities.ExactlyOnce) ∷ [];
   received = 1 ∷ 258 ∷ [];
   queue = full_queue;
 }

@@ -6,7 +6,7 @@ use Rattle.packet_base.specs.topics.Text.{is_filter}
 use Rattle.packet_base.specs.Spelling.{IsId}
 use Rattle.packet.specs.Spelling.{IsPacket}
 use Rattle.packet.specs.declared.packet.Packet.TheVariants as packets
-use Rattle.packet.specs.declared.qos.QoS.TheVariants as levels
+use Rattle.packet.specs.declared.qos.QoS.TheVariants as qualities
 use Rattle.session_base.specs.declared.publication.Publication.{Publication}
 use Rattle.session_base.specs.declared.awaits.Awaits.TheVariants as waits_for
 use Rattle.session_base.specs.Publication.{publish_of, is_answered}
@@ -23,8 +23,8 @@ IsWaiting p = IsTrue (is_answered p.qos) × CanBeSent p
 
 -- an entry in flight: PUBACK answers QoS 1, PUBREC answers QoS 2 (MQTT 4.3)
 abbrev pub IsInFlight : Flight → Type 0
-IsInFlight (id, waits_for.Puback p) = IsId id × (p.qos ≡ levels.AtLeastOnce) × CanBeSent p
-IsInFlight (id, waits_for.Pubrec p) = IsId id × (p.qos ≡ levels.ExactlyOnce) × CanBeSent p
+IsInFlight (id, waits_for.Puback p) = IsId id × (p.qos ≡ qualities.AtLeastOnce) × CanBeSent p
+IsInFlight (id, waits_for.Pubrec p) = IsId id × (p.qos ≡ qualities.ExactlyOnce) × CanBeSent p
 IsInFlight (id, waits_for.Pubcomp) = IsId id
 
 -- a subscription: a filter that is lawful

@@ -2,7 +2,7 @@
 use Rattle.std.specs.Prelude.{◌≡◌, ℕ, true, false, ◌⊎◌, List, [], ◌∷◌, ◌++◌, length, filter}
 use Rattle.std.specs.List.{list_any}
 use Rattle.packet.specs.declared.packet.Packet.TheVariants as packets
-use Rattle.packet.specs.declared.qos.QoS.TheVariants as levels
+use Rattle.packet.specs.declared.qos.QoS.TheVariants as qualities
 use Rattle.session_base.specs.declared.publication.Publication.{Publication}
 use Rattle.session_base.specs.declared.awaits.Awaits.TheVariants as waits_for
 use Rattle.session_base.specs.Publication.{publish_of}
@@ -81,10 +81,10 @@ ResendsInOrder =
 abbrev pub AnswersFitTheQoS : Type 0
 AnswersFitTheQoS =
     (id : ℕ) → (p : Publication) →
-    (p.qos ≡ levels.AtLeastOnce →
+    (p.qos ≡ qualities.AtLeastOnce →
     (on_puback id ((id, awaited p) ∷ []) ≡ [])
     × (on_pubrec id ((id, awaited p) ∷ []) ≡ (id, awaited p) ∷ []))
-    × (p.qos ≡ levels.ExactlyOnce →
+    × (p.qos ≡ qualities.ExactlyOnce →
     (on_puback id ((id, awaited p) ∷ []) ≡ (id, awaited p) ∷ [])
     × (on_pubrec id ((id, awaited p) ∷ []) ≡ (id, waits_for.Pubcomp) ∷ [])
     × (on_pubcomp id (on_pubrec id ((id, awaited p) ∷ [])) ≡ []))

@@ -1,7 +1,7 @@
 -- Publications, and the packets that carry them (MQTT 3.3).
 use Rattle.std.specs.Prelude.{ℕ, Bool, true, false, if◌then◌else◌, nat_lt, Option, Some, None}
 use Rattle.packet.specs.declared.qos.QoS.{QoS}
-use Rattle.packet.specs.declared.qos.QoS.TheVariants as levels
+use Rattle.packet.specs.declared.qos.QoS.TheVariants as qualities
 use Rattle.packet.specs.declared.delivery.Delivery.{Delivery}
 use Rattle.packet.specs.declared.delivery.Delivery.TheVariants as deliveries
 use Rattle.packet.specs.declared.publish.Publish.{Publish}
@@ -21,9 +21,9 @@ publication_of p =
 
 -- how a publication is delivered at this QoS, with DUP and identifier if the QoS has them
 abbrev pub delivery_at : QoS → Bool → ℕ → Delivery
-delivery_at levels.AtMostOnce dup id = deliveries.AtMostOnce
-delivery_at levels.AtLeastOnce dup id = deliveries.AtLeastOnce dup id
-delivery_at levels.ExactlyOnce dup id = deliveries.ExactlyOnce dup id
+delivery_at qualities.AtMostOnce dup id = deliveries.AtMostOnce
+delivery_at qualities.AtLeastOnce dup id = deliveries.AtLeastOnce dup id
+delivery_at qualities.ExactlyOnce dup id = deliveries.ExactlyOnce dup id
 
 -- the PUBLISH that carries it
 abbrev pub publish_of : Bool → ℕ → Publication → Publish
@@ -37,15 +37,15 @@ publish_of dup id p =
 
 -- whether a publication of this QoS goes into a queue: QoS 1 and 2 are answered
 abbrev pub is_answered : QoS → Bool
-is_answered levels.AtMostOnce = false
-is_answered levels.AtLeastOnce = true
-is_answered levels.ExactlyOnce = true
+is_answered qualities.AtMostOnce = false
+is_answered qualities.AtLeastOnce = true
+is_answered qualities.ExactlyOnce = true
 
 -- whether PUBACK is the whole answer
 abbrev pub is_acknowledged : QoS → Bool
-is_acknowledged levels.AtMostOnce = false
-is_acknowledged levels.AtLeastOnce = true
-is_acknowledged levels.ExactlyOnce = false
+is_acknowledged qualities.AtMostOnce = false
+is_acknowledged qualities.AtLeastOnce = true
+is_acknowledged qualities.ExactlyOnce = false
 
 -- the lower QoS of two
 abbrev pub lower_qos : QoS → QoS → QoS

@@ -2,7 +2,7 @@
 use Rattle.std.proofs.Common.{◌≡◌, ℕ, Bool, true, List, Option, Some, None, is_some, refl, ap, ap₂, subst}
 use Rattle.std.proofs.lemmas.Bool.{both_ways}
 use Rattle.client.specs.packet.declared.qos.QoS.{QoS}
-use Rattle.client.specs.packet.declared.qos.QoS.TheVariants as levels
+use Rattle.client.specs.packet.declared.qos.QoS.TheVariants as qualities
 use Rattle.client.specs.packet.declared.publish.Publish.{Publish}
 use Rattle.client.specs.session_base.declared.publication.Publication.{Publication}
 use Rattle.client.specs.session_base.Publication.{is_answered}
@@ -29,19 +29,19 @@ kept_first id p new (does, was) = kept_unless id p (publish_refusal p (new_clien
 pub has_kept : (id : List ℕ) (retain : Bool) (qos : QoS) (topic payload : List ℕ) (caller new : Called) → is_answered qos ≡ true
     → caller ≡ new_called id → IsAsked (publication_with retain qos topic payload) caller new
     → HasPublication qos id (publication_with retain qos topic payload) (made_of new None)
-has_kept id retain levels.AtMostOnce topic payload caller new answered is asked = absurd cc
-has_kept id retain levels.AtLeastOnce topic payload caller new answered is asked =
-    let p = publication_with retain levels.AtLeastOnce topic payload in
+has_kept id retain qualities.AtMostOnce topic payload caller new answered is asked = absurd cc
+has_kept id retain qualities.AtLeastOnce topic payload caller new answered is asked =
+    let p = publication_with retain qualities.AtLeastOnce topic payload in
     (kept_first id p new (subst (λ (c : Called). IsAsked p c new) is asked), refl)
-has_kept id retain levels.ExactlyOnce topic payload caller new answered is asked =
-    let p = publication_with retain levels.ExactlyOnce topic payload in
+has_kept id retain qualities.ExactlyOnce topic payload caller new answered is asked =
+    let p = publication_with retain qualities.ExactlyOnce topic payload in
     (kept_first id p new (subst (λ (c : Called). IsAsked p c new) is asked), refl)
 
 -- a publisher that has it itself
 pub has_unkept : (id : List ℕ) (retain : Bool) (qos : QoS) (topic payload : List ℕ) (caller : Called) (publish : Publish)
-    → qos ≡ levels.AtMostOnce → caller ≡ new_called id → publish ≡ unkept (publication_with retain qos topic payload)
+    → qos ≡ qualities.AtMostOnce → caller ≡ new_called id → publish ≡ unkept (publication_with retain qos topic payload)
     → HasPublication qos id (publication_with retain qos topic payload) (made_of caller (Some publish))
-has_unkept id retain levels.AtMostOnce topic payload caller publish is new same =
+has_unkept id retain qualities.AtMostOnce topic payload caller publish is new same =
     ap₂ (λ (c : Called) (p : Publish). made_of c (Some p)) new same
-has_unkept id retain levels.AtLeastOnce topic payload caller publish is new same = absurd cc
-has_unkept id retain levels.ExactlyOnce topic payload caller publish is new same = absurd cc
+has_unkept id retain qualities.AtLeastOnce topic payload caller publish is new same = absurd cc
+has_unkept id retain qualities.ExactlyOnce topic payload caller publish is new same = absurd cc

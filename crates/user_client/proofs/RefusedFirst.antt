@@ -6,7 +6,7 @@ use Rattle.std.specs.Io.KnownBytes.{Appends}
 use Rattle.client.specs.packet.declared.packet.Packet.{Packet}
 use Rattle.client.specs.packet.declared.packet.Packet.TheVariants as packets
 use Rattle.client.specs.packet.declared.qos.QoS.{QoS}
-use Rattle.client.specs.packet.declared.qos.QoS.TheVariants as levels
+use Rattle.client.specs.packet.declared.qos.QoS.TheVariants as qualities
 use Rattle.client.specs.packet.declared.publish.Publish.{Publish}
 use Rattle.client.specs.packet.declared.delivery.Delivery.TheVariants as deliveries
 use Rattle.client.specs.packet.Spelling.{AppendsSpelling}
@@ -47,13 +47,13 @@ pub refuses_first : (id : List ℕ) (retain : Bool) (qos : QoS) (topic payload :
     → is_answered qos ≡ true → caller ≡ new_called id
     → IsRefusedFor (keeper_step (Call.Publishes (publication_with retain qos topic payload)) caller.core.state).refusal it
     → RefusesPacket (first_publish id (publication_with retain qos topic payload)) it
-refuses_first id retain levels.AtMostOnce topic payload caller it answered is refused = absurd cc
-refuses_first id retain levels.AtLeastOnce topic payload caller it answered is refused =
-    let p = publication_with retain levels.AtLeastOnce topic payload in
+refuses_first id retain qualities.AtMostOnce topic payload caller it answered is refused = absurd cc
+refuses_first id retain qualities.AtLeastOnce topic payload caller it answered is refused =
+    let p = publication_with retain qualities.AtLeastOnce topic payload in
     large_only (is_over_limit (first_publish id p)) (published p (new_client id 0)) (new_client id 0) it refl
     (subst (λ (c : Called). IsRefusedFor (keeper_step (Call.Publishes p) c.core.state).refusal it) is refused)
-refuses_first id retain levels.ExactlyOnce topic payload caller it answered is refused =
-    let p = publication_with retain levels.ExactlyOnce topic payload in
+refuses_first id retain qualities.ExactlyOnce topic payload caller it answered is refused =
+    let p = publication_with retain qualities.ExactlyOnce topic payload in
     large_only (is_over_limit (first_publish id p)) (published p (new_client id 0)) (new_client id 0) it refl
     (subst (λ (c : Called). IsRefusedFor (keeper_step (Call.Publishes p) c.core.state).refusal it) is refused)
 
@@ -61,23 +61,23 @@ refuses_first id retain levels.ExactlyOnce topic payload caller it answered is r
 pub fits_first : (id : List ℕ) (retain : Bool) (qos : QoS) (topic payload : List ℕ) (caller new : Called)
     → is_answered qos ≡ true → caller ≡ new_called id → IsAsked (publication_with retain qos topic payload) caller new
     → is_over_limit (first_publish id (publication_with retain qos topic payload)) ≡ false
-fits_first id retain levels.AtMostOnce topic payload caller new answered is asked = absurd cc
-fits_first id retain levels.AtLeastOnce topic payload caller new answered is asked =
-    let p = publication_with retain levels.AtLeastOnce topic payload in
+fits_first id retain qualities.AtMostOnce topic payload caller new answered is asked = absurd cc
+fits_first id retain qualities.AtLeastOnce topic payload caller new answered is asked =
+    let p = publication_with retain qualities.AtLeastOnce topic payload in
     not_large (is_over_limit (first_publish id p)) (published p (new_client id 0)) (new_client id 0)
     (subst (λ (c : Called). IsAsked p c new) is asked).0.0
-fits_first id retain levels.ExactlyOnce topic payload caller new answered is asked =
-    let p = publication_with retain levels.ExactlyOnce topic payload in
+fits_first id retain qualities.ExactlyOnce topic payload caller new answered is asked =
+    let p = publication_with retain qualities.ExactlyOnce topic payload in
     not_large (is_over_limit (first_publish id p)) (published p (new_client id 0)) (new_client id 0)
     (subst (λ (c : Called). IsAsked p c new) is asked).0.0
 
 -- the PUBLISH at QoS 0 has no identifier
-pub first_unkept : (id : List ℕ) (retain : Bool) (qos : QoS) (topic payload : List ℕ) → qos ≡ levels.AtMostOnce
-    → packets.Publish (unkept (publication_with retain levels.AtMostOnce topic payload))
+pub first_unkept : (id : List ℕ) (retain : Bool) (qos : QoS) (topic payload : List ℕ) → qos ≡ qualities.AtMostOnce
+    → packets.Publish (unkept (publication_with retain qualities.AtMostOnce topic payload))
     ≡ first_publish id (publication_with retain qos topic payload)
-first_unkept id retain levels.AtMostOnce topic payload is = refl
-first_unkept id retain levels.AtLeastOnce topic payload is = absurd cc
-first_unkept id retain levels.ExactlyOnce topic payload is = absurd cc
+first_unkept id retain qualities.AtMostOnce topic payload is = refl
+first_unkept id retain qualities.AtLeastOnce topic payload is = absurd cc
+first_unkept id retain qualities.ExactlyOnce topic payload is = absurd cc
 
 -- a publication at QoS 0 is refused while the client is offline, or as too large
 abbrev once_refusal : Bool → Bool → Option ClientError
@@ -99,11 +99,11 @@ once_written false large state other packet out new taken writes = absurd (both_
 
 -- a client that took a publication at QoS 0 wrote its PUBLISH
 pub wrote_once : (retain : Bool) (topic payload : List ℕ) (old new : Called)
-    → IsAsked (publication_with retain levels.AtMostOnce topic payload) old new
+    → IsAsked (publication_with retain qualities.AtMostOnce topic payload) old new
     → AppendsSpelling old.core.out new.core.out
-    (packets.Publish (unkept (publication_with retain levels.AtMostOnce topic payload)))
+    (packets.Publish (unkept (publication_with retain qualities.AtMostOnce topic payload)))
 wrote_once retain topic payload old new (does, was) =
-    let p = publication_with retain levels.AtMostOnce topic payload in
+    let p = publication_with retain qualities.AtMostOnce topic payload in
     let state = old.core.state in
     once_written (is_online state.stage) (is_over_limit (publish_packet p state)) state
     (record state { unsent = state.unsent ++ record { id = next_id state; publication = p } ∷ [] }) (publish_packet p state)
@@ -112,7 +112,7 @@ wrote_once retain topic payload old new (does, was) =
 -- what a client wrote of a publication at QoS 0 was taken as a whole
 pub taken_once : {D : Type 0} (contents : D → Option (List ℕ)) (before after : D) (publish : Publish) (old new : Called)
     (topic payload : List ℕ) → topic ≡ publish.topic → payload ≡ publish.payload
-    → IsAsked (publication_with publish.retain levels.AtMostOnce topic payload) old new
+    → IsAsked (publication_with publish.retain qualities.AtMostOnce topic payload) old new
     → Appends (contents before) (contents after) new.core.out → WasTaken contents publish
 taken_once contents before after publish old new topic payload same_topic same_payload asked taken =
     record {

@@ -6,7 +6,7 @@ use Rattle.client.specs.packet.declared.delivery.Delivery.TheVariants as deliver
 use Rattle.client.specs.packet.declared.packet.Packet.TheVariants as packets
 use Rattle.client.specs.packet.declared.publish.Publish.{Publish}
 use Rattle.client.specs.packet.declared.qos.QoS.{QoS}
-use Rattle.client.specs.packet.declared.qos.QoS.TheVariants as levels
+use Rattle.client.specs.packet.declared.qos.QoS.TheVariants as qualities
 use Rattle.client.specs.session_base.declared.publication.Publication.{Publication}
 use Rattle.client.specs.client_base.State.{ClientState, kept_count, new_client}
 use Rattle.user_client.specs.Tracing.{Called, new_called}
@@ -32,11 +32,11 @@ unkept p =
 
 -- A publisher as it is made has its publication and no other: at QoS 1 and 2 its client keeps it.
 abbrev pub HasPublication : QoS → List ℕ → Publication → Publishing → Type 0
-HasPublication levels.AtMostOnce id p it =
+HasPublication qualities.AtMostOnce id p it =
     it ≡ record { caller = new_called id; once = Some (unkept p) }
-HasPublication levels.AtLeastOnce id p it =
+HasPublication qualities.AtLeastOnce id p it =
     (it.caller.core.state ≡ keeping id p) × (it.once ≡ None)
-HasPublication levels.ExactlyOnce id p it =
+HasPublication qualities.ExactlyOnce id p it =
     (it.caller.core.state ≡ keeping id p) × (it.once ≡ None)
 
 -- a stream took this PUBLISH at QoS 0 as a whole, after the bytes that its client wrote before it

@@ -5,7 +5,7 @@ ghost use Rattle.client.specs.Core.{publication_with};
 ghost use Rattle.client.specs.client_base.State.{kept_count};
 ghost use Rattle.client.specs.client_base.Publishing.{is_over_limit};
 ghost use Rattle.client.specs.packet.declared.packet.Packet.TheVariants as packets;
-ghost use Rattle.client.specs.packet.declared.qos.QoS.TheVariants as levels;
+ghost use Rattle.client.specs.packet.declared.qos.QoS.TheVariants as qualities;
 ghost use Rattle.client.specs.session_base.Publication.{is_answered};
 ghost use Rattle.user_client.specs.Losing.{IsGivenUp, IsLostBy};
 ghost use Rattle.user_client.specs.Tracing.{Trace};
@@ -197,7 +197,7 @@ fn unkept(
     retain: bool,
     payload: Payload,
 ) -> Result<Publisher, ClientFault>
-    requires { qos ≡ levels.AtMostOnce }
+    requires { qos ≡ qualities.AtMostOnce }
     ensures made { IfOk result
         (HasPublication qos id (publication_with retain qos topic payload)) }
     ensures fits { OnOk result
@@ -295,11 +295,11 @@ fn after(news: News) -> Progress
 // Returns a publication at QoS 0. It is refused if its packet would be too large.
 fn unanswered(topic: TopicName, retain: bool, payload: Payload) -> Result<Publish, ClientFault>
     ensures made { IfOk result (λ publish. publish ≡
-        unkept (publication_with retain levels.AtMostOnce topic payload)) }
+        unkept (publication_with retain qualities.AtMostOnce topic payload)) }
     ensures fits { OnOk result (is_over_limit (packets.Publish
-        (unkept (publication_with retain levels.AtMostOnce topic payload))) ≡ false) }
+        (unkept (publication_with retain qualities.AtMostOnce topic payload))) ≡ false) }
     ensures err { IfErr result (RefusesPacket (packets.Publish
-        (unkept (publication_with retain levels.AtMostOnce topic payload)))) }
+        (unkept (publication_with retain qualities.AtMostOnce topic payload)))) }
 {
     let publish = Publish {
         topic,

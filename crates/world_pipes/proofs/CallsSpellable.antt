@@ -13,7 +13,7 @@ use Rattle.client.specs.packet.Subscribe.{FitsSubscription}
 use Rattle.client.specs.packet.declared.packet.Packet.{Packet}
 use Rattle.client.specs.packet.declared.packet.Packet.TheVariants as packets
 use Rattle.client.specs.packet.declared.qos.QoS.{QoS}
-use Rattle.client.specs.packet.declared.qos.QoS.TheVariants as levels
+use Rattle.client.specs.packet.declared.qos.QoS.TheVariants as qualities
 use Rattle.client.specs.session_base.declared.publication.Publication.{Publication}
 use Rattle.client.specs.session_base.Publication.{delivery_at, is_answered}
 use Rattle.client.proofs.of_session_base.IdentifiersOfFills.{least_free_is}
@@ -64,9 +64,9 @@ unsubscribe_is id filter one good = ((one, all_one (λ f. IsTrue (is_filter f)) 
         let goal : suc (suc (suc (suc (length (filter ++ []))))) ≤ max_body = omega (arith, e, few) in goal
 
 delivery_fits : (qos : QoS) (id : ℕ) → (is_answered qos ≡ true → IsId id) → FitsDelivery (delivery_at qos false id)
-delivery_fits levels.AtMostOnce id named = tt
-delivery_fits levels.AtLeastOnce id named = named refl
-delivery_fits levels.ExactlyOnce id named = named refl
+delivery_fits qualities.AtMostOnce id named = tt
+delivery_fits qualities.AtLeastOnce id named = named refl
+delivery_fits qualities.ExactlyOnce id named = named refl
 
 publish_is : (p : Publication) (state : ClientState) → IsTrue (is_topic p.topic) → publish_refusal p state ≡ None → IsPacket (publish_packet p state)
 publish_is p state good taken =

@@ -7,7 +7,7 @@ use Rattle.client.specs.packet.declared.delivery.Delivery.{Delivery}
 use Rattle.client.specs.packet.declared.delivery.Delivery.TheVariants as deliveries
 use Rattle.client.specs.packet.declared.publish.Publish.{Publish}
 use Rattle.client.specs.packet.declared.qos.QoS.{QoS}
-use Rattle.client.specs.packet.declared.qos.QoS.TheVariants as levels
+use Rattle.client.specs.packet.declared.qos.QoS.TheVariants as qualities
 use Rattle.client.specs.packet.declared.packet.Packet.{Packet}
 use Rattle.client.specs.packet.declared.packet.Packet.TheVariants as packets
 use Rattle.client.specs.packet.Spelling.{Fits, IsPacket}
@@ -47,9 +47,9 @@ answers_fit id fits = ((fits, tt, omega arith), (fits, tt, omega arith), (fits, 
 dup_fits_at : (qos : QoS) (id : ℕ) (retain : Bool) (topic payload : List ℕ) →
     IsPacket (publish_kept false (record { id = id; publication = record { retain = retain; qos = qos; topic = topic; payload = payload } })) →
     IsPacket (publish_kept true (record { id = id; publication = record { retain = retain; qos = qos; topic = topic; payload = payload } }))
-dup_fits_at levels.AtMostOnce id retain topic payload fits = fits
-dup_fits_at levels.AtLeastOnce id retain topic payload fits = fits
-dup_fits_at levels.ExactlyOnce id retain topic payload fits = fits
+dup_fits_at qualities.AtMostOnce id retain topic payload fits = fits
+dup_fits_at qualities.AtLeastOnce id retain topic payload fits = fits
+dup_fits_at qualities.ExactlyOnce id retain topic payload fits = fits
 
 pub dup_fits : (kept : KeptPublication) → IsPacket (publish_kept false kept) → IsPacket (publish_kept true kept)
 dup_fits kept fits = dup_fits_at kept.publication.qos kept.id kept.publication.retain kept.publication.topic kept.publication.payload fits

@@ -2,7 +2,7 @@
 use Rattle.std.proofs.Common.{◌≡◌, ◌+◌, ℕ, suc, Bool, true, false, not, ◌&&◌, ◌==◌, if◌then◌else◌, List, [], ◌∷◌, ◌++◌, map, Option, Some, None, refl, ap, ap₂, sym, ◌∙◌, subst, arith, length}
 use Rattle.std.specs.Prelude.{slice_get}
 use Rattle.client_base.specs.packet.declared.qos.QoS.{QoS}
-use Rattle.client_base.specs.packet.declared.qos.QoS.TheVariants as levels
+use Rattle.client_base.specs.packet.declared.qos.QoS.TheVariants as qualities
 use Rattle.client_base.specs.packet.Delivery.{delivery_qos}
 use Rattle.client_base.specs.packet.declared.packet.Packet.{Packet}
 use Rattle.client_base.specs.packet.declared.packet.Packet.TheVariants as packets
@@ -48,9 +48,9 @@ pub carried_is : (dup : Bool) (id : ℕ) (p : Publication) → publication_of (p
 carried_is dup id p = λ i. record { retain = p.retain; qos = level p.qos i; topic = p.topic; payload = p.payload }
   where
     level : (q : QoS) → delivery_qos (delivery_at q dup id) ≡ q
-    level levels.AtMostOnce = refl
-    level levels.AtLeastOnce = refl
-    level levels.ExactlyOnce = refl
+    level qualities.AtMostOnce = refl
+    level qualities.AtLeastOnce = refl
+    level qualities.ExactlyOnce = refl
 
 -- ---- answers change none of it
 

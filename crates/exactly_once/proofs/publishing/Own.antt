@@ -2,7 +2,7 @@
 use Rattle.std.proofs.Common.{◌≡◌, ℕ, Bool, true, false, not, ◌&&◌, ◌||◌, ◌==◌, if◌then◌else◌, List, [], ◌∷◌, map, refl, ap, ap₂, sym, ◌∙◌, inl, inr, ◌⊎◌}
 use Rattle.std.proofs.lemmas.Bool.{both_ways, cases_Bool}
 use Rattle.client_base.specs.packet.declared.qos.QoS.{QoS}
-use Rattle.client_base.specs.packet.declared.qos.QoS.TheVariants as levels
+use Rattle.client_base.specs.packet.declared.qos.QoS.TheVariants as qualities
 use Rattle.client_base.specs.session_base.declared.publication.Publication.{Publication}
 use Rattle.client_base.specs.session_base.Publication.{is_acknowledged}
 use Rattle.exactly_once.specs.Items.{Item, releasing, finishing, has_sent}
@@ -13,9 +13,9 @@ use Rattle.exactly_once.specs.Carried.{is_two}
 use Rattle.exactly_once.specs.Inside.Projections.{items_of_own, own_item}
 
 two_unacknowledged : (q : QoS) → is_two q ≡ true → is_acknowledged q ≡ false
-two_unacknowledged levels.AtMostOnce e = refl
-two_unacknowledged levels.AtLeastOnce e = absurd (both_ways false refl e)
-two_unacknowledged levels.ExactlyOnce e = refl
+two_unacknowledged qualities.AtMostOnce e = refl
+two_unacknowledged qualities.AtLeastOnce e = absurd (both_ways false refl e)
+two_unacknowledged qualities.ExactlyOnce e = refl
 
 -- one item changes, and the others change as a map does
 own_map : (g : Item ℕ → Item ℕ) (p : Publication) (x y : Item ℕ) (es fs : List (Item ℕ)) → y ≡ g x → fs ≡ map g es → own_item p y fs ≡ map g (own_item p x es)

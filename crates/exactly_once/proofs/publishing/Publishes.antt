@@ -1,7 +1,7 @@
 -- A PUBLISH that the client writes belongs to the handshake if it is at QoS 2.
 use Rattle.std.proofs.Common.{◌≡◌, ℕ, Bool, if◌then◌else◌, List, ◌∷◌, Some, refl}
 use Rattle.client_base.specs.packet.declared.qos.QoS.{QoS}
-use Rattle.client_base.specs.packet.declared.qos.QoS.TheVariants as levels
+use Rattle.client_base.specs.packet.declared.qos.QoS.TheVariants as qualities
 use Rattle.client_base.specs.session_base.declared.publication.Publication.{Publication}
 use Rattle.client_base.specs.session_base.Publication.{delivery_at}
 use Rattle.exactly_once.specs.Handshake.{Forward}
@@ -15,6 +15,6 @@ pub forward_publishes : (dup : Bool) (k id : ℕ) (p : Publication) (ws : List W
 forward_publishes dup k id p ws = by p.qos
   where
     by : (q : QoS) → carried_by (delivery_at q dup id) (Some k) (forward_of_own ws) ≡ (if is_two q then Forward.Publish id k ∷ forward_of_own ws else forward_of_own ws)
-    by levels.AtMostOnce = refl
-    by levels.AtLeastOnce = refl
-    by levels.ExactlyOnce = refl
+    by qualities.AtMostOnce = refl
+    by qualities.AtLeastOnce = refl
+    by qualities.ExactlyOnce = refl

@@ -2,7 +2,7 @@
 use Rattle.std.proofs.Common.{◌≡◌, ◌≤◌, ℕ, Bool, true, false, ◌==◌, nat_lt, if◌then◌else◌, List, [], ◌∷◌, ◌++◌, length, map, take, drop, refl, ap, sym, ◌∙◌, ◌⊎◌, inl, inr, arith}
 use Rattle.std.proofs.lemmas.Bool.{both_ways, cases_Bool}
 use Rattle.client_base.specs.packet.declared.qos.QoS.{QoS}
-use Rattle.client_base.specs.packet.declared.qos.QoS.TheVariants as levels
+use Rattle.client_base.specs.packet.declared.qos.QoS.TheVariants as qualities
 use Rattle.client_base.specs.session_base.declared.publication.Publication.{Publication}
 use Rattle.client_base.specs.session_base.Publication.{is_answered}
 use Rattle.client_base.specs.session_base.Identifiers.{least_free}
@@ -26,9 +26,9 @@ use Rattle.exactly_once.proofs.Sent.{forward_publish, sends_publish}
 
 -- QoS 0 is not of the handshake
 none_two : (q : QoS) → is_answered q ≡ false → is_two q ≡ false
-none_two levels.AtMostOnce e = refl
-none_two levels.AtLeastOnce e = absurd (both_ways true e refl)
-none_two levels.ExactlyOnce e = absurd (both_ways true e refl)
+none_two qualities.AtMostOnce e = refl
+none_two qualities.AtLeastOnce e = absurd (both_ways true e refl)
+none_two qualities.ExactlyOnce e = absurd (both_ways true e refl)
 
 -- a full window
 shut : (k w : ℕ) → w ≤ k → nat_lt k w ≡ false

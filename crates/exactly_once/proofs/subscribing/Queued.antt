@@ -2,7 +2,7 @@
 use Rattle.std.proofs.Common.{◌≡◌, ℕ, Bool, true, false, not, ◌&&◌, ◌==◌, nat_lt, if◌then◌else◌, List, [], ◌∷◌, ◌++◌, length, map, Option, Some, None, refl, ◌⊎◌, inl, inr}
 use Rattle.std.proofs.lemmas.Bool.{both_ways, cases_Bool}
 use Rattle.client_base.specs.packet.declared.qos.QoS.{QoS}
-use Rattle.client_base.specs.packet.declared.qos.QoS.TheVariants as levels
+use Rattle.client_base.specs.packet.declared.qos.QoS.TheVariants as qualities
 use Rattle.client_base.specs.packet.declared.packet.Packet.TheVariants as packets
 use Rattle.client_base.specs.session_base.declared.publication.Publication.{Publication}
 use Rattle.client_base.specs.session_base.Publication.{is_acknowledged, is_answered}
@@ -26,15 +26,15 @@ AreKept [] = Unit {0}
 
 -- what is answered otherwise than by a PUBACK is of QoS 2
 two_of : (q : QoS) → is_answered q ≡ true → is_acknowledged q ≡ false → is_two q ≡ true
-two_of levels.AtMostOnce a e = absurd (both_ways false refl a)
-two_of levels.AtLeastOnce a e = absurd (both_ways true e refl)
-two_of levels.ExactlyOnce a e = refl
+two_of qualities.AtMostOnce a e = absurd (both_ways false refl a)
+two_of qualities.AtLeastOnce a e = absurd (both_ways true e refl)
+two_of qualities.ExactlyOnce a e = refl
 
 -- QoS 2 is answered
 pub two_answered : (q : QoS) → is_two q ≡ true → is_answered q ≡ true
-two_answered levels.AtMostOnce e = absurd (both_ways false refl e)
-two_answered levels.AtLeastOnce e = refl
-two_answered levels.ExactlyOnce e = refl
+two_answered qualities.AtMostOnce e = absurd (both_ways false refl e)
+two_answered qualities.AtLeastOnce e = refl
+two_answered qualities.ExactlyOnce e = refl
 
 -- PUBACK leaves it so
 kept_puback : (n i : ℕ) (es : List Entry) → AreKept es → AreKept (map (at_puback n i) es)

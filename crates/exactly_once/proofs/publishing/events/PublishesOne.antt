@@ -3,7 +3,7 @@ use Rattle.std.proofs.Common.{◌≡◌, ℕ, Bool, true, false, if◌then◌els
 use Rattle.std.proofs.lemmas.List.{append-nil}
 use Rattle.std.proofs.lemmas.Bool.{cases_Bool, both_ways}
 use Rattle.client_base.specs.packet.declared.qos.QoS.{QoS}
-use Rattle.client_base.specs.packet.declared.qos.QoS.TheVariants as levels
+use Rattle.client_base.specs.packet.declared.qos.QoS.TheVariants as qualities
 use Rattle.client_base.specs.session_base.declared.publication.Publication.{Publication}
 use Rattle.client_base.specs.session_base.Publication.{is_answered}
 use Rattle.client_base.specs.session_base.Identifiers.{least_free}
@@ -31,9 +31,9 @@ use Rattle.exactly_once.proofs.publishing.Calls.{holds_of}
 
 -- one of QoS 2 is answered
 two_answered : (q : QoS) → is_answered q ≡ false → is_two q ≡ false
-two_answered levels.AtMostOnce e = refl
-two_answered levels.AtLeastOnce e = refl
-two_answered levels.ExactlyOnce e = e
+two_answered qualities.AtMostOnce e = refl
+two_answered qualities.AtLeastOnce e = refl
+two_answered qualities.ExactlyOnce e = e
 
 -- what the new publication is as an item, if it is sent and if it is not
 sent_item : (a : Bool) (n id : ℕ) (p : Publication) → (a ≡ false → is_two p.qos ≡ false)

@@ -2,7 +2,7 @@
 use Rattle.std.proofs.Common.{◌≡◌, ℕ, suc, Bool, true, false, not, ◌&&◌, ◌||◌, ◌==◌, if◌then◌else◌, List, [], ◌∷◌, ◌++◌, map, None, refl, ap, sym, ◌∙◌, ◌⊎◌, inl, inr}
 use Rattle.std.proofs.lemmas.Bool.{both_ways, cases_Bool}
 use Rattle.client_base.specs.packet.declared.qos.QoS.{QoS}
-use Rattle.client_base.specs.packet.declared.qos.QoS.TheVariants as levels
+use Rattle.client_base.specs.packet.declared.qos.QoS.TheVariants as qualities
 use Rattle.client_base.specs.session_base.declared.publication.Publication.{Publication}
 use Rattle.client_base.specs.session_base.Publication.{is_acknowledged}
 use Rattle.client_base.specs.lists.Lists.{has_id}
@@ -30,9 +30,9 @@ two_not : (p : Publication) → is_two p.qos ≡ true → is_acknowledged p.qos 
 two_not p e = by p.qos e
   where
     by : (q : QoS) → is_two q ≡ true → is_acknowledged q ≡ false
-    by levels.AtMostOnce e = absurd (both_ways false refl e)
-    by levels.AtLeastOnce e = absurd (both_ways false refl e)
-    by levels.ExactlyOnce e = refl
+    by qualities.AtMostOnce e = absurd (both_ways false refl e)
+    by qualities.AtLeastOnce e = absurd (both_ways false refl e)
+    by qualities.ExactlyOnce e = refl
 
 -- an item more in front
 one_more : (p : Publication) (x : Item Publication) (es fs : List (Item Publication)) → es ≡ fs → two_item p x es ≡ two_item p x fs

@@ -3,7 +3,7 @@ use Rattle.std.specs.Option.{is_some}
 use Rattle.std.proofs.lemmas.Option.{same_Some}
 use Rattle.escaping_client.specs.client.Core.{Core}
 use Rattle.escaping_client.specs.client_base.Steps.{request_refusal}
-use Rattle.escaping_client.specs.packet.declared.qos.QoS.TheVariants as levels
+use Rattle.escaping_client.specs.packet.declared.qos.QoS.TheVariants as qualities
 use Rattle.world.specs.declared.world.WorldClient.{WorldClient}
 use Rattle.escaping_nodes.proofs.of_master.Counting.{get_there}
 use Rattle.escaping_client.specs.client_base.Steps.{Call}
@@ -51,7 +51,7 @@ returns-clause-meets c =
     let before = get_there c.self.inside.clients.items c.in-Some.at c.index.result.now few c.index.ensures in
     let is : c.core.result.now ≡ c.index_mut.result.now.piped.core =
     c.core.ensures ∙ ap (λ (k : WorldClient). k.piped.core) (same_Some c.index.result.now c.index_mut.result.now (sym before ∙ found)) in
-    let can = takes_filter c.args.filter.now levels.AtMostOnce c.index_mut.result.now.piped.core (subst (λ (k : Core). is_some (request_refusal k.state) ≡ false) is (sym c.refuses_requests.ensures ∙ c.if-refuses_requests.false)) in
+    let can = takes_filter c.args.filter.now qualities.AtMostOnce c.index_mut.result.now.piped.core (subst (λ (k : Core). is_some (request_refusal k.state) ≡ false) is (sym c.refuses_requests.ensures ∙ c.if-refuses_requests.false)) in
     let first = rw (← c.self.view_is) at c.in-Some.ensures.exact in
     let old : WorldState = record {
       nodes = c.self.inside.nodes;
@@ -79,5 +79,5 @@ returns-then-refuses_requests-clause-meets c =
       connections = c.self.inside.connections.items;
       losses = c.self.inside.losses;
     } in
-    let refuses = refuses_filter c.args.filter.now levels.AtMostOnce c.index.result.now.piped.core (subst (λ (k : Core). is_some (request_refusal k.state) ≡ true) c.core.ensures (sym c.refuses_requests.ensures ∙ c.if-refuses_requests.true)) in
+    let refuses = refuses_filter c.args.filter.now qualities.AtMostOnce c.index.result.now.piped.core (subst (λ (k : Core). is_some (request_refusal k.state) ≡ true) c.core.ensures (sym c.refuses_requests.ensures ∙ c.if-refuses_requests.true)) in
     rw (← c.self.view_is) (asked_before c.args.client.now (Refuses (Call.Unsubscribes c.args.filter.now)) old c.in-Some.at c.index.result.now (sym first) found refuses.1)
