@@ -12,14 +12,14 @@ use Rattle.command_line.specs.declared.fault.TableFault.{TableFault}
 use Rattle.command_line.specs.declared.fault.TableFault.TheVariants as tables
 use Rattle.command_line.specs.declared.fault.LineFault.{LineFault}
 use Rattle.command_line.specs.declared.fault.LineFault.TheVariants as lines
-use Rattle.play.specs.user_client.declared.fault.ClientFault.{ClientFault}
-use Rattle.play.specs.user_client.declared.fault.ClientFault.TheVariants as clients
-use Rattle.jobs.specs.declared.fault.Fault.{Fault}
-use Rattle.jobs.specs.declared.fault.Fault.TheVariants as faults
+use Rattle.play.specs.user_client.declared.user_client_error.UserClientError.{UserClientError}
+use Rattle.play.specs.user_client.declared.user_client_error.UserClientError.TheVariants as clients
+use Rattle.jobs.specs.declared.job_error.JobError.{JobError}
+use Rattle.jobs.specs.declared.job_error.JobError.TheVariants as faults
 
 -- 1 for file, network and memory, 2 for the command line, 3 for a table, a script or another
 -- argument
-abbrev pub status_of : Fault → ℕ
+abbrev pub status_of : JobError → ℕ
 status_of faults.Memory = 1
 status_of faults.Input = 1
 status_of faults.Output = 1
@@ -51,26 +51,26 @@ line_status lines.Incomplete = status_of faults.Words
 line_status lines.Memory = status_of faults.Memory
 
 -- for a script that was not played as it should be
-abbrev pub played_fault_of : PlayError → Fault
+abbrev pub played_fault_of : PlayError → JobError
 played_fault_of (plays.Line number) = faults.Script number
 played_fault_of plays.Memory = faults.Memory
 played_fault_of plays.Losses = faults.Losses
 played_fault_of plays.Idle = faults.Idle
 
 -- for nodes that were not served
-abbrev pub served_fault_of : ServeError → Fault
+abbrev pub served_fault_of : ServeError → JobError
 served_fault_of serves.BadMembers = faults.Config
 served_fault_of serves.Memory = faults.Memory
 served_fault_of serves.Clock = faults.Clock
 served_fault_of serves.Threads = faults.Threads
 
 -- for a table of nodes that could not be read
-abbrev pub table_fault_of : TableFault → Fault
+abbrev pub table_fault_of : TableFault → JobError
 table_fault_of tables.Shape = faults.Config
 table_fault_of tables.Memory = faults.Memory
 
 -- for a client that did not do its job
-abbrev pub client_fault_of : ClientFault → Fault
+abbrev pub client_fault_of : UserClientError → JobError
 client_fault_of (clients.Refused number) = faults.Refused number
 client_fault_of clients.SessionPresent = faults.SessionPresent
 client_fault_of clients.Lost = faults.Lost

@@ -1,7 +1,7 @@
 //! What the program does for each of its subcommands, over one reader and two writers.
 #![tactic(auto)]
 
-mod fault;
+mod job_error;
 mod obeying;
 mod performing;
 mod reading;
@@ -12,7 +12,7 @@ mod talking;
 
 pub use command_line;
 pub use command_line::packet;
-pub use fault::Fault;
+pub use job_error::JobError;
 pub use performing::{perform, print_fault};
 pub use refusing::refuse;
 pub use scripts::{escape_text, play_text};

@@ -5,7 +5,7 @@ ghost use Rattle.command_line.specs.packet.ClientId.{client_fault};
 ghost use Rattle.jobs.specs.Orders.{IsRefusedBy};
 ghost use Rattle.jobs.specs.declared.obeying.Order.TheVariants as orders;
 
-use crate::fault::Fault;
+use crate::job_error::JobError;
 use command_line::ListeningNode;
 use command_line::packet::ClientId;
 use server::{Cluster, Config, Members, Memory, Status};
@@ -43,7 +43,7 @@ pub(crate) fn obey<R, I, O>(
     nodes: &[ListeningNode],
     input: &mut I,
     output: &mut O,
-) -> Result<(), Fault>
+) -> Result<(), JobError>
 where
     R: AllocGlobal + Wait + Clock,
     I: BufRead,
@@ -62,7 +62,7 @@ where
 
 // Returns what the next line orders, or the number by which it is refused. The end of the input
 // orders to quit.
-fn next_order<I: BufRead>(alloc: Global, input: &mut I) -> Result<Result<Order, u8>, Fault> {
+fn next_order<I: BufRead>(alloc: Global, input: &mut I) -> Result<Result<Order, u8>, JobError> {
     let mut line = String::new(alloc);
     match input.read_line(&mut line) {
         Ok(0) => Ok(Ok(Order::Quit)),
@@ -71,10 +71,10 @@ fn next_order<I: BufRead>(alloc: Global, input: &mut I) -> Result<Result<Order, 
             ErrorKind::InvalidData => Ok(Err(NO_ORDER)),
             ErrorKind::OutOfMemory => {
                 // The rest of the line is no order.
-                input.skip_until(b'\n').ok().ok_or(Fault::Input)?;
+                input.skip_until(b'\n').ok().ok_or(JobError::Input)?;
                 Ok(Err(Memory.number()))
             }
-            _ => Err(Fault::Input),
+            _ => Err(JobError::Input),
         },
     }
 }

@@ -3,7 +3,7 @@
 ghost use Rattle.std.specs.Prelude.{◌≡◌};
 ghost use Rattle.jobs.specs.Faults.{status_of};
 
-use crate::fault::Fault;
+use crate::job_error::JobError;
 use crate::{scripts, serving, talking};
 use command_line::Job;
 use std::io::{BufRead, Write};
@@ -42,7 +42,7 @@ where
 }
 
 /// Prints a fault in one line, and returns its exit status.
-pub fn print_fault<E: Write>(faults: &mut E, fault: &Fault) -> u8
+pub fn print_fault<E: Write>(faults: &mut E, fault: &JobError) -> u8
     ensures { result ≡ status_of fault.now }
 {
     // There is nowhere else to print it.

@@ -4,7 +4,7 @@ ghost use Rattle.std.specs.Prelude.{◌≡◌};
 ghost use Rattle.clap.specs.Values.{kind_of};
 ghost use Rattle.jobs.specs.Faults.{line_status, words_status};
 
-use crate::fault::Fault;
+use crate::job_error::JobError;
 use crate::performing::print_fault;
 use clap::Error;
 use clap::error::ErrorKind;
@@ -21,8 +21,8 @@ pub fn refuse<O: Write, E: Write>(fault: &LineFault, output: &mut O, faults: &mu
             print(error, output, faults);
             status_of_words(error.kind())
         }
-        LineFault::Incomplete => print_fault(faults, &Fault::Words),
-        LineFault::Memory => print_fault(faults, &Fault::Memory),
+        LineFault::Incomplete => print_fault(faults, &JobError::Words),
+        LineFault::Memory => print_fault(faults, &JobError::Memory),
     }
 }
 

@@ -3,13 +3,13 @@
 ghost use Rattle.std.specs.Prelude.{◌≡◌, ◌<◌, ℕ, None, IfErr, IfOk, OnOk, OnErr, IsErrOf};
 ghost use Rattle.std.specs.Io.KnownBytes.{Appends};
 ghost use Rattle.play.specs.script.Scripts.{Refuses, lines_of};
-ghost use Rattle.play.specs.script.declared.error.ScriptError.TheVariants.{Line};
+ghost use Rattle.play.specs.script.declared.error.ScriptFault.TheVariants.{Line};
 ghost use Rattle.command_line.specs.packet.ClientId.{client_fault};
 ghost use Rattle.play.specs.Ways.{HasNoWay};
 ghost use Rattle.jobs.specs.Orders.{IsRefusedBy};
 ghost use Rattle.jobs.specs.Transcripts.{Prints, PrintsWay};
 
-use crate::fault::Fault;
+use crate::job_error::JobError;
 use crate::obeying::members_of;
 use crate::reading::{bytes_of, rest_of};
 use command_line::packet::ClientId;
@@ -30,7 +30,7 @@ pub(crate) fn run<R, I, O>(
     job: &Play<'_>,
     input: &mut I,
     output: &mut O,
-) -> Result<(), Fault>
+) -> Result<(), JobError>
 where
     R: Files + AllocGlobal,
     I: BufRead,
@@ -53,16 +53,16 @@ fn print_way<O: Write>(
     text: &[u8],
     job: &Escape<'_>,
     output: &mut O,
-) -> Result<(), Fault> {
+) -> Result<(), JobError> {
     let members = match members_of(alloc, job.members) {
         Ok(members) => members,
-        Err(number) if number == Memory.number() => return Err(Fault::Memory),
-        Err(_) => return Err(Fault::Refused(BAD_MEMBERS)),
+        Err(number) if number == Memory.number() => return Err(JobError::Memory),
+        Err(_) => return Err(JobError::Refused(BAD_MEMBERS)),
     };
     let client = match client_of(alloc, job.client) {
         Ok(client) => client,
-        Err(number) if number == Memory.number() => return Err(Fault::Memory),
-        Err(number) => return Err(Fault::Refused(number)),
+        Err(number) if number == Memory.number() => return Err(JobError::Memory),
+        Err(number) => return Err(JobError::Refused(number)),
     };
     escape_text(alloc, text, members.as_slice(), &client, output)
 }
@@ -86,41 +86,41 @@ pub fn escape_text<O: Write>(
     members: &[u8],
     client: &ClientId,
     output: &mut O,
-) -> Result<(), Fault>
+) -> Result<(), JobError>
     ensures told { OnOk result (PrintsWay text.now members.now client.now
         (O.contents output.old) (O.contents output.new)) }
 
     // If there is none, nothing is written.
-    ensures idle { IsErrOf result Fault.Idle → HasNoWay text.now members.now client.now }
-    ensures untouched { IsErrOf result Fault.Idle
+    ensures idle { IsErrOf result JobError.Idle → HasNoWay text.now members.now client.now }
+    ensures untouched { IsErrOf result JobError.Idle
         → O.contents output.new ≡ O.contents output.old }
 
     // A text that is no script is refused for its first line that does not have its form; nothing
     // of it is written.
-    ensures refused { (number : ℕ) → IsErrOf result (Fault.Script number)
+    ensures refused { (number : ℕ) → IsErrOf result (JobError.Script number)
         → Refuses (lines_of text.now) (Line number) }
 {
     let mut way = Vec::new(alloc);
     match escape(alloc, text, members, client, &mut way) {
         Ok(()) => write(way.as_slice(), output),
-        Err(error) => Err(Fault::from(error)),
+        Err(error) => Err(JobError::from(error)),
     }
 }
 
 /// Plays a script, and writes its transcript if that is complete.
-pub fn play_text<O: Write>(alloc: Global, text: &[u8], output: &mut O) -> Result<(), Fault>
+pub fn play_text<O: Write>(alloc: Global, text: &[u8], output: &mut O) -> Result<(), JobError>
     ensures played { OnOk result
         (Prints text.now (O.contents output.old) (O.contents output.new) 0) }
 
     // If memory ran out in the world, the transcript is still written.
-    ensures out_of_memory { IsErrOf result Fault.Losses → (losses : ℕ) × ((0 < losses)
+    ensures out_of_memory { IsErrOf result JobError.Losses → (losses : ℕ) × ((0 < losses)
         × Prints text.now (O.contents output.old) (O.contents output.new) losses) }
 
     // A text that is no script is refused for its first line that does not have its form; nothing
     // of it is written.
-    ensures refused { (number : ℕ) → IsErrOf result (Fault.Script number)
+    ensures refused { (number : ℕ) → IsErrOf result (JobError.Script number)
         → Refuses (lines_of text.now) (Line number) }
-    ensures untouched { (number : ℕ) → IsErrOf result (Fault.Script number)
+    ensures untouched { (number : ℕ) → IsErrOf result (JobError.Script number)
         → O.contents output.new ≡ O.contents output.old }
 {
     let mut transcript = Vec::new(alloc);
@@ -130,17 +130,17 @@ pub fn play_text<O: Write>(alloc: Global, text: &[u8], output: &mut O) -> Result
             if error == PlayError::Losses {
                 write(transcript.as_slice(), output)?;
             }
-            Err(Fault::from(error))
+            Err(JobError::from(error))
         }
     }
 }
 
 // Writes all of the bytes.
-fn write<O: Write>(bytes: &[u8], output: &mut O) -> Result<(), Fault>
+fn write<O: Write>(bytes: &[u8], output: &mut O) -> Result<(), JobError>
     ensures whole { OnOk result
         (Appends (O.contents output.old) (O.contents output.new) bytes.now) }
-    ensures fault { OnErr result (IsErrOf result Fault.Output) }
+    ensures fault { OnErr result (IsErrOf result JobError.Output) }
 {
-    output.write_all(bytes).ok().ok_or(Fault::Output)?;
-    output.flush().ok().ok_or(Fault::Output)
+    output.write_all(bytes).ok().ok_or(JobError::Output)?;
+    output.flush().ok().ok_or(JobError::Output)
 }

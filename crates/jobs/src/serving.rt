@@ -1,6 +1,6 @@
 // Nodes that serve clients over TCP.
 
-use crate::fault::Fault;
+use crate::job_error::JobError;
 use crate::obeying::obey;
 use crate::reading::bytes_of;
 use command_line::{ListeningNode, NodeTable, Serve, table};
@@ -26,7 +26,7 @@ pub(crate) fn run<R, I, O, E>(
     input: &mut I,
     output: &mut O,
     faults: &mut E,
-) -> Result<(), Fault>
+) -> Result<(), JobError>
 where
     R: Files + Threads + Wait + Clock + Sync + AllocGlobal,
     R: Net<Listener = TcpListener, Stream = TcpStream>,
@@ -35,19 +35,21 @@ where
     E: Write,
 {
     let bytes = bytes_of(rt, job.config)?;
-    let text = str::from_utf8(bytes.as_slice()).ok().ok_or(Fault::Config)?;
+    let text = str::from_utf8(bytes.as_slice())
+        .ok()
+        .ok_or(JobError::Config)?;
     let read = table(rt.alloc(), text)?;
     find_files(rt, read.nodes.len().saturating_mul(FILES))?;
     serve_nodes(rt, &read, input, output, faults)
 }
 
 // Checks whether this many files can be open at once.
-fn find_files<R: Files + AllocGlobal>(rt: &R, count: usize) -> Result<(), Fault> {
+fn find_files<R: Files + AllocGlobal>(rt: &R, count: usize) -> Result<(), JobError> {
     let mut files = Vec::with_capacity(rt.alloc(), count)?;
     for _ in 0..count {
         match File::open(rt, "/dev/null") {
             Ok(file) => files.push(file)?,
-            Err(_) => return Err(Fault::Files(count.saturating_sub(files.len()))),
+            Err(_) => return Err(JobError::Files(count.saturating_sub(files.len()))),
         }
     }
     Ok(())
@@ -62,7 +64,7 @@ pub fn serve_table<R, I, O, E>(
     input: &mut I,
     output: &mut O,
     faults: &mut E,
-) -> Result<(), Fault>
+) -> Result<(), JobError>
 where
     R: Threads + Wait + Clock + Sync + AllocGlobal,
     R: Net<Listener = TcpListener, Stream = TcpStream>,
@@ -80,7 +82,7 @@ fn serve_nodes<R, I, O, E>(
     input: &mut I,
     output: &mut O,
     faults: &mut E,
-) -> Result<(), Fault>
+) -> Result<(), JobError>
 where
     R: Threads + Wait + Clock + Sync + AllocGlobal,
     R: Net<Listener = TcpListener, Stream = TcpStream>,
@@ -97,11 +99,15 @@ where
         &read.config,
         |cluster| { obey(rt, cluster, nodes, input, output) },
     )??;
-    writeln!(output, "bye").ok().ok_or(Fault::Output)
+    writeln!(output, "bye").ok().ok_or(JobError::Output)
 }
 
 // Listens where each node has to listen, and then prints it.
-fn listen_all<R, E>(rt: &R, nodes: &[ListeningNode], faults: &mut E) -> Result<Vec<Listener>, Fault>
+fn listen_all<R, E>(
+    rt: &R,
+    nodes: &[ListeningNode],
+    faults: &mut E,
+) -> Result<Vec<Listener>, JobError>
 where
     R: AllocGlobal + Net<Listener = TcpListener, Stream = TcpStream>,
     E: Write,
@@ -117,7 +123,7 @@ where
 }
 
 // Opens the listener of a node; a fault names its address.
-fn listen<R>(rt: &R, node: &ListeningNode) -> Result<TcpListener, Fault>
+fn listen<R>(rt: &R, node: &ListeningNode) -> Result<TcpListener, JobError>
 where
     R: AllocGlobal + Net<Listener = TcpListener, Stream = TcpStream>,
 {
@@ -126,7 +132,7 @@ where
         Ok(listener) => Ok(listener),
         Err(error) => {
             let named = String::from_str(rt.alloc(), address)?;
-            Err(Fault::Address(named, error.kind()))
+            Err(JobError::Address(named, error.kind()))
         }
     }
 }

@@ -1,6 +1,6 @@
 // The two clients, over TCP.
 
-use crate::fault::Fault;
+use crate::job_error::JobError;
 use command_line::{Publish, Subscribe};
 use play::user_client::{Publisher, Servers, Subscriber};
 use std::io::Write;
@@ -43,7 +43,7 @@ impl<'a, R: Net<Stream = TcpStream> + Clock> Servers for TcpServers<'a, R> {
 }
 
 /// Publishes once, and waits until it is acknowledged. The addresses are tried one after another.
-pub fn publish<R>(rt: &R, job: &Publish<'_>) -> Result<(), Fault>
+pub fn publish<R>(rt: &R, job: &Publish<'_>) -> Result<(), JobError>
 where
     R: Clock + AllocGlobal + Net<Stream = TcpStream>,
 {
@@ -65,7 +65,7 @@ where
 
 /// Prints what is published, a line each, until as many came as were asked for. The addresses are
 /// tried one after another.
-pub fn subscribe<R, O>(rt: &R, job: &Subscribe<'_>, output: &mut O) -> Result<(), Fault>
+pub fn subscribe<R, O>(rt: &R, job: &Subscribe<'_>, output: &mut O) -> Result<(), JobError>
 where
     R: Clock + AllocGlobal + Net<Stream = TcpStream>,
     O: Write + Drop,

@@ -1,15 +1,15 @@
 -- How other errors become those of a played script.
 use Rattle.world.specs.ballot.declared.error.OpeningError.{OpeningError}
 use Rattle.world.specs.ballot.declared.error.OpeningError.TheVariants as openings
-use Rattle.script.specs.declared.error.ScriptError.{ScriptError}
-use Rattle.script.specs.declared.error.ScriptError.TheVariants as scripts
+use Rattle.script.specs.declared.error.ScriptFault.{ScriptFault}
+use Rattle.script.specs.declared.error.ScriptFault.TheVariants as scripts
 use Rattle.world.specs.world_events.declared.escape_error.EscapeError.{EscapeError}
 use Rattle.world.specs.world_events.declared.escape_error.EscapeError.TheVariants as escapes
 use Rattle.play.specs.declared.error.PlayError.{PlayError}
 use Rattle.play.specs.declared.error.PlayError.TheVariants as faults
 
 -- for a text that is no script
-abbrev pub fault_of : ScriptError → PlayError
+abbrev pub fault_of : ScriptFault → PlayError
 fault_of (scripts.Line number) = faults.Line number
 fault_of scripts.Memory = faults.Memory
 

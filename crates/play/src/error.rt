@@ -1,6 +1,6 @@
 // Why a script was not played as it should be.
 
-use script::ScriptError;
+use script::ScriptFault;
 use std::alloc::{AllocError, AllocFailed};
 use std::error::Error;
 use std::fmt;
@@ -33,16 +33,16 @@ impl fmt::Display for PlayError {
 
 impl Error for PlayError {}
 
-impl From<ScriptError> for PlayError {
+impl From<ScriptFault> for PlayError {
     ghost use Rattle.std.specs.Prelude.{◌≡◌};
     ghost use Rattle.play.specs.Faults.{fault_of};
 
     ghost from_gives = { λ error fault. fault ≡ fault_of error };
 
-    fn from(error: ScriptError) -> PlayError {
+    fn from(error: ScriptFault) -> PlayError {
         match error {
-            ScriptError::Line(number) => PlayError::Line(number),
-            ScriptError::Memory => PlayError::Memory,
+            ScriptFault::Line(number) => PlayError::Line(number),
+            ScriptFault::Memory => PlayError::Memory,
         }
     }
 }

@@ -1,7 +1,7 @@
 // The way out of the world in which a script ends.
 
 ghost use Rattle.std.specs.Prelude.{◌≡◌, ◌++◌, ℕ, OnOk, OnErr, IsErrOf};
-ghost use Rattle.script.specs.declared.error.ScriptError.TheVariants.{Line};
+ghost use Rattle.script.specs.declared.error.ScriptFault.TheVariants.{Line};
 ghost use Rattle.script.specs.Scripts.{Refuses, lines_of};
 ghost use Rattle.play.specs.Ways.{HasNoWay, TellsWay, event_lines};
 

@@ -3,8 +3,8 @@ use Rattle.std.proofs.Common.{◌≡◌, ◌<◌, ◌≤◌, ◌+◌, Bor, ℕ, 
 use Rattle.std.proofs.Math.ListN.{get_or-map}
 use Rattle.std.proofs.lemmas.List.{length-map, take_more}
 use Rattle.std.specs.Result.{IsErrOf}
-use Rattle.script.specs.declared.error.ScriptError.{ScriptError}
-use Rattle.script.specs.declared.error.ScriptError.TheVariants as errors
+use Rattle.script.specs.declared.error.ScriptFault.{ScriptFault}
+use Rattle.script.specs.declared.error.ScriptFault.TheVariants as errors
 use Rattle.script.specs.declared.opening.Opening.{Opening}
 use Rattle.script.specs.declared.script_line.ScriptLine.{ScriptLine}
 use Rattle.script.specs.Fields.{Text, texts}
@@ -44,13 +44,13 @@ first_bad_at (t ∷ ts) (suc i) d [] within before bad = absurd before
 first_bad_at (t ∷ ts) (suc i) d (o ∷ os) within before bad =
     ((o, before.0), first_bad_at ts i d os (omega arith) before.1 bad)
 
-number_in : {T : Type 0} → Result T ScriptError → ℕ
+number_in : {T : Type 0} → Result T ScriptFault → ℕ
 number_in (Ok x) = 0
 number_in (Err (errors.Line n)) = n
 number_in (Err errors.Memory) = 0
 
 -- a refusal has one number
-pub one_number : {T : Type 0} (x : Result T ScriptError) (a b : ℕ) → x ≡ Err (errors.Line a) → x ≡ Err (errors.Line b) → b ≡ a
+pub one_number : {T : Type 0} (x : Result T ScriptFault) (a b : ℕ) → x ≡ Err (errors.Line a) → x ≡ Err (errors.Line b) → b ≡ a
 unfolding number_in
 one_number x a b one other = sym (ap number_in other) ∙ ap number_in one
 
@@ -63,7 +63,7 @@ first_bad lines i d os within before bad =
     (λ has. bad (subst HasForm here has))
 
 -- a line after the first is refused by its number
-pub bad_after : {T : Type 0} (first : Text) (rest : List Text) (error : ScriptError) (o : Opening) → IsOpeningLine first o
+pub bad_after : {T : Type 0} (first : Text) (rest : List Text) (error : ScriptFault) (o : Opening) → IsOpeningLine first o
     → ((bad : ℕ) → IsErrOf {T = T} (Err error) (errors.Line bad) → (index : ℕ) × (bad ≡ index + 2) × IsFirstBad rest index)
     → Refuses (first ∷ rest) error
 bad_after first rest errors.Memory o is refused = tt

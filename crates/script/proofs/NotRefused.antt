@@ -2,7 +2,7 @@
 use Rattle.std.proofs.Common.{ℕ, suc, zero, List, [], ◌∷◌, inl, inr}
 use Rattle.script.specs.Fields.{Text}
 use Rattle.script.specs.Scripts.{AreLines, IsFirstBad, IsScript, Refuses}
-use Rattle.script.specs.declared.error.ScriptError.TheVariants as errors
+use Rattle.script.specs.declared.error.ScriptFault.TheVariants as errors
 use Rattle.script.specs.declared.script_line.ScriptLine.{ScriptLine}
 use Rattle.script.specs.declared.reading.Script.{Script}
 

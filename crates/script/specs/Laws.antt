@@ -3,7 +3,7 @@ use Rattle.std.specs.Prelude.{◌≡◌, ℕ, List}
 use Rattle.script.specs.Fields.{Text}
 use Rattle.script.specs.Lines.{IsLine}
 use Rattle.script.specs.Scripts.{IsScript, Refuses}
-use Rattle.script.specs.declared.error.ScriptError.TheVariants as errors
+use Rattle.script.specs.declared.error.ScriptFault.TheVariants as errors
 use Rattle.script.specs.declared.script_line.ScriptLine.{ScriptLine}
 use Rattle.script.specs.declared.reading.Script.{Script}
 

@@ -5,8 +5,8 @@ use Rattle.std.specs.Str.{IsUtf8}
 use Rattle.ballot_base.specs.LawfulConfig.{is_lawful}
 use Rattle.script.specs.Fields.{Text, clients_of, fields_of, number_of, numbers_of}
 use Rattle.script.specs.Lines.{IsLine}
-use Rattle.script.specs.declared.error.ScriptError.{ScriptError}
-use Rattle.script.specs.declared.error.ScriptError.TheVariants as errors
+use Rattle.script.specs.declared.error.ScriptFault.{ScriptFault}
+use Rattle.script.specs.declared.error.ScriptFault.TheVariants as errors
 use Rattle.script.specs.declared.opening.Opening.{Opening}
 use Rattle.script.specs.declared.script_line.ScriptLine.{ScriptLine}
 use Rattle.script.specs.declared.reading.Script.{Script}
@@ -85,7 +85,7 @@ IsFirstBad (line ∷ lines) zero = ¬ (HasForm line)
 IsFirstBad (line ∷ lines) (suc index) = HasForm line × IsFirstBad lines index
 
 -- lines are refused by the number of the first without its form, or because memory ran out
-abbrev pub Refuses : List Text → ScriptError → Type 0
+abbrev pub Refuses : List Text → ScriptFault → Type 0
 Refuses lines errors.Memory = Unit {0}
 Refuses [] (errors.Line number) = number ≡ 1
 Refuses (first ∷ lines) (errors.Line number) = ((number ≡ 1) × ¬ (HasOpening first))

@@ -7,43 +7,43 @@ use std::fmt;
 
 /// Why a text was not read as a script.
 #[derive(Clone, Copy, Debug, PartialEq, Eq)]
-pub enum ScriptError {
+pub enum ScriptFault {
     /// The first line that does not have its form, counted from 1.
     Line(u64),
     /// Memory ran out.
     Memory,
 }
 
-impl fmt::Display for ScriptError {
+impl fmt::Display for ScriptFault {
     fn fmt<W: fmt::Write>(&self, f: &mut fmt::Formatter<W>) -> fmt::Result {
         match self {
-            ScriptError::Line(number) => write!(f, "script line {number}"),
-            ScriptError::Memory => write!(f, "out of memory"),
+            ScriptFault::Line(number) => write!(f, "script line {number}"),
+            ScriptFault::Memory => write!(f, "out of memory"),
         }
     }
 }
 
-impl Error for ScriptError {}
+impl Error for ScriptFault {}
 
-impl From<AllocError> for ScriptError {
+impl From<AllocError> for ScriptFault {
     ghost use Rattle.std.specs.Prelude.{◌≡◌};
-    ghost use Rattle.script.specs.declared.error.ScriptError.TheVariants.{Memory};
+    ghost use Rattle.script.specs.declared.error.ScriptFault.TheVariants.{Memory};
 
     ghost from_gives = { λ _ error. error ≡ Memory };
 
-    fn from(_error: AllocError) -> ScriptError {
-        ScriptError::Memory
+    fn from(_error: AllocError) -> ScriptFault {
+        ScriptFault::Memory
     }
 }
 
-impl<T: Drop> From<AllocFailed<T>> for ScriptError {
+impl<T: Drop> From<AllocFailed<T>> for ScriptFault {
     ghost use Rattle.std.specs.Prelude.{◌≡◌};
-    ghost use Rattle.script.specs.declared.error.ScriptError.TheVariants.{Memory};
+    ghost use Rattle.script.specs.declared.error.ScriptFault.TheVariants.{Memory};
 
     ghost from_gives = { λ _ error. error ≡ Memory };
 
-    fn from(_error: AllocFailed<T>) -> ScriptError {
-        ScriptError::Memory
+    fn from(_error: AllocFailed<T>) -> ScriptFault {
+        ScriptFault::Memory
     }
 }
 

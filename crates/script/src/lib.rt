@@ -14,7 +14,7 @@ mod script_line;
 mod values;
 
 pub use ballot_base;
-pub use error::ScriptError;
+pub use error::ScriptFault;
 pub use laws::{no_script_is_refused, one_meaning_a_line};
 pub use numbers::Numbers;
 pub use opening::Opening;

@@ -6,7 +6,7 @@ ghost use Rattle.script.specs.declared.script_line.ScriptLine.{ScriptLine};
 ghost use Rattle.script.specs.Fields.{texts};
 ghost use Rattle.script.specs.Scripts.{AreLines, HasForm, HasOpening, IsFirstBad, IsOpeningLine, IsOtherLine, IsScript, Refuses, lines_of};
 
-use crate::error::{FieldFault, ScriptError};
+use crate::error::{FieldFault, ScriptFault};
 use crate::fields::fields_of;
 use crate::line_reading::line_of;
 use crate::lines::lines_of;
@@ -26,7 +26,7 @@ pub struct Script {
 
 /// Reads a whole script. Unless memory runs out, it is refused exactly if a line does not have its
 /// form, by the number of the first such line.
-pub fn read(alloc: Global, text: &[u8]) -> Result<Script, ScriptError>
+pub fn read(alloc: Global, text: &[u8]) -> Result<Script, ScriptFault>
     ensures script { IfOk result (IsScript (lines_of text.now)) }
     ensures refused { IfErr result (Refuses (lines_of text.now)) }
 {
@@ -35,25 +35,25 @@ pub fn read(alloc: Global, text: &[u8]) -> Result<Script, ScriptError>
 }
 
 // Returns the script of all lines.
-fn script_of(alloc: Global, lines: &[&[u8]]) -> Result<Script, ScriptError>
+fn script_of(alloc: Global, lines: &[&[u8]]) -> Result<Script, ScriptFault>
     ensures script { IfOk result (IsScript (texts lines.now)) }
     ensures refused { IfErr result (Refuses (texts lines.now)) }
 {
     match lines {
-        [] => Err(ScriptError::Line(1)),
+        [] => Err(ScriptFault::Line(1)),
         [first, others @ ..] => script_after(alloc, first, others),
     }
 }
 
 // Returns the script of the first line and the others.
-fn script_after(alloc: Global, first: &[u8], others: &[&[u8]]) -> Result<Script, ScriptError>
+fn script_after(alloc: Global, first: &[u8], others: &[&[u8]]) -> Result<Script, ScriptFault>
     ensures script { IfOk result (IsScript (first.now ∷ texts others.now)) }
     ensures refused { IfErr result (Refuses (first.now ∷ texts others.now)) }
 {
     let opening = match opening_line(alloc, first) {
         Ok(opening) => opening,
-        Err(FieldFault::Form) => return Err(ScriptError::Line(1)),
-        Err(FieldFault::Memory) => return Err(ScriptError::Memory),
+        Err(FieldFault::Form) => return Err(ScriptFault::Line(1)),
+        Err(FieldFault::Memory) => return Err(ScriptFault::Memory),
     };
     match other_lines(alloc, others) {
         Ok(lines) => Ok(Script { opening, lines }),
@@ -86,17 +86,17 @@ fn other_line(alloc: Global, line: &[u8]) -> Result<ScriptLine, FieldFault>
 }
 
 // Returns what the lines after the first say. They are counted from the second line of the text.
-fn other_lines(alloc: Global, lines: &[&[u8]]) -> Result<Vec<ScriptLine>, ScriptError>
+fn other_lines(alloc: Global, lines: &[&[u8]]) -> Result<Vec<ScriptLine>, ScriptFault>
     ensures said { IfOk result (λ said. AreLines (texts lines.now) said.items) }
-    ensures refused { (bad : ℕ) → IsErrOf result (ScriptError.Line bad)
+    ensures refused { (bad : ℕ) → IsErrOf result (ScriptFault.Line bad)
         → (index : ℕ) × (bad ≡ index + 2) × IsFirstBad (texts lines.now) index }
 {
     let mut script_lines = Vec::new(alloc);
     for (index, line) in lines.iter().enumerate() {
         match other_line(alloc, line) {
             Ok(script_line) => script_lines.push(script_line)?,
-            Err(FieldFault::Form) => return Err(ScriptError::Line(index as u64 + 2)),
-            Err(FieldFault::Memory) => return Err(ScriptError::Memory),
+            Err(FieldFault::Form) => return Err(ScriptFault::Line(index as u64 + 2)),
+            Err(FieldFault::Memory) => return Err(ScriptFault::Memory),
         }
     }
     Ok(script_lines)

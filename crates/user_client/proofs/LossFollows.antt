@@ -7,8 +7,8 @@ use Rattle.client.specs.client_base.declared.error.ClientError.{ClientError}
 use Rattle.client.specs.client_base.declared.error.ClientError.TheVariants as errors
 use Rattle.client.specs.Core.{Core}
 use Rattle.client.specs.Reading.{OnBytes}
-use Rattle.user_client.specs.declared.fault.ClientFault.{ClientFault}
-use Rattle.user_client.specs.declared.fault.ClientFault.TheVariants as faults
+use Rattle.user_client.specs.declared.user_client_error.UserClientError.{UserClientError}
+use Rattle.user_client.specs.declared.user_client_error.UserClientError.TheVariants as faults
 use Rattle.user_client.specs.Losing.{IsGivenUp, IsLostBy, LosesSession}
 use Rattle.user_client.specs.Refusals.{IsRefusedFor, fault_of_call}
 use Rattle.user_client.specs.Tracing.{Called, Trace}
@@ -42,29 +42,29 @@ loses_later {taken = taken} trace loses =
     }
 
 -- the same of a result
-pub lost_later : {T : Type 0} {start middle : Called} {taken : List Accepted} (end : Called) (r : Result T ClientFault)
+pub lost_later : {T : Type 0} {start middle : Called} {taken : List Accepted} (end : Called) (r : Result T UserClientError)
     → Trace start taken middle → IfErr r (IsLostBy middle end) → IfErr r (IsLostBy start end)
 lost_later end (Ok x) trace loses = tt
 lost_later end (Err e) trace loses = λ lost. loses_later trace (loses lost)
 
 -- the same of an error that is passed on
-pub passed_later : {T : Type 0} {start middle : Called} {taken : List Accepted} (end : Called) (r : Result T ClientFault)
-    (fault : ClientFault) → IsErrAnd r (λ (it : ClientFault). it ≡ fault)
+pub passed_later : {T : Type 0} {start middle : Called} {taken : List Accepted} (end : Called) (r : Result T UserClientError)
+    (fault : UserClientError) → IsErrAnd r (λ (it : UserClientError). it ≡ fault)
     → Trace start taken middle → IsLostBy middle end fault → IfErr r (IsLostBy start end)
 passed_later end (Ok x) fault is trace loses = tt
 passed_later end (Err e) fault is trace loses = λ lost. loses_later trace (loses (sym is ∙ lost))
 
 -- the same of the end of all connections
 pub gives_up_later : {S T : Type 0} (opens rests : S → S → Type 0) (tries : ℕ) (first last : S) {start middle : Called}
-    {taken : List Accepted} (end : Called) (r : Result T ClientFault) (fault : ClientFault)
-    → IsErrAnd r (λ (it : ClientFault). it ≡ fault) → Trace start taken middle → IsLostBy middle end fault
+    {taken : List Accepted} (end : Called) (r : Result T UserClientError) (fault : UserClientError)
+    → IsErrAnd r (λ (it : UserClientError). it ≡ fault) → Trace start taken middle → IsLostBy middle end fault
     → IfErr r (IsGivenUp opens rests tries first last start end)
 gives_up_later opens rests tries first last end (Ok x) fault is trace loses = tt
 gives_up_later opens rests tries first last end (Err e) fault is trace loses = λ lost. inr (loses_later trace (loses (sym is ∙ lost)))
 
 -- an error that is another one
-pub never_lost : {T : Type 0} (start end : Called) (r : Result T ClientFault)
-    → IfErr r (λ (it : ClientFault). it ≢ faults.Lost) → IfErr r (IsLostBy start end)
+pub never_lost : {T : Type 0} (start end : Called) (r : Result T UserClientError)
+    → IfErr r (λ (it : UserClientError). it ≢ faults.Lost) → IfErr r (IsLostBy start end)
 never_lost start end (Ok x) other = tt
 never_lost start end (Err e) other = λ lost. absurd (other lost)
 
@@ -78,10 +78,10 @@ call_not_lost errors.TooLarge = λ is. absurd cc
 call_not_lost errors.WindowFull = λ is. absurd cc
 call_not_lost errors.SessionLost = λ is. absurd cc
 
-pub cause_not_lost : (cause : ClientError) (it : ClientFault) → it ≡ fault_of_call cause → it ≢ faults.Lost
+pub cause_not_lost : (cause : ClientError) (it : UserClientError) → it ≡ fault_of_call cause → it ≢ faults.Lost
 cause_not_lost cause it is lost = call_not_lost cause (sym is ∙ lost)
 
-pub refused_not_lost : (cause : Option ClientError) (it : ClientFault) → IsRefusedFor cause it → it ≢ faults.Lost
+pub refused_not_lost : (cause : Option ClientError) (it : UserClientError) → IsRefusedFor cause it → it ≢ faults.Lost
 refused_not_lost cause it (inr memory) = λ lost. absurd cc
 refused_not_lost None it (inl is) = λ lost. absurd (both_ways true (ap is_some (sym is)) refl)
 refused_not_lost (Some cause) it (inl is) = λ lost. call_not_lost cause cc

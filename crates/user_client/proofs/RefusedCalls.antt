@@ -6,18 +6,18 @@ use Rattle.client.specs.client_base.declared.error.ClientError.TheVariants as er
 use Rattle.client.specs.client_base.Answered.{ClientOutcome}
 use Rattle.client.specs.client_base.Steps.{Call, keeper_step}
 use Rattle.client.specs.Core.{Core, Does}
-use Rattle.user_client.specs.declared.fault.ClientFault.{ClientFault}
+use Rattle.user_client.specs.declared.user_client_error.UserClientError.{UserClientError}
 use Rattle.user_client.specs.Refusals.{IsRefusedFor, fault_of_call}
 use Rattle.user_client.specs.Tracing.{Called}
 use Rattle.user_client.proofs.CallsAreSteps.{parts}
 
 -- the fault of the step's own cause
-caused : (outcome : ClientOutcome) (cause : ClientError) (it : ClientFault) → it ≡ fault_of_call cause
+caused : (outcome : ClientOutcome) (cause : ClientError) (it : UserClientError) → it ≡ fault_of_call cause
     → outcome.refusal ≡ Some cause → IsRefusedFor outcome.refusal it
 caused outcome cause it is refused = inl (ap (option_map fault_of_call) refused ∙ ap Some (sym is))
 
 -- the fault says why
-refused_for : (outcome : ClientOutcome) (old new : Core) (cause : ClientError) (it : ClientFault) → it ≡ fault_of_call cause
+refused_for : (outcome : ClientOutcome) (old new : Core) (cause : ClientError) (it : UserClientError) → it ≡ fault_of_call cause
     → Does outcome old (Err cause) new → IsRefusedFor outcome.refusal it
 refused_for outcome old new errors.Memory it is same = inr is
 refused_for outcome old new (errors.Malformed kind) it is refused = caused outcome (errors.Malformed kind) it is refused.0
@@ -38,7 +38,7 @@ unchanged outcome old new errors.WindowFull refused = refused.1
 unchanged outcome old new errors.SessionLost refused = refused.1
 
 -- the same of a client that is seen as this one
-pub refused_seen : (call : Call) (core : Core) (was : Bool) {seen : Called} (new : Core) (cause : ClientError) (it : ClientFault)
+pub refused_seen : (call : Call) (core : Core) (was : Bool) {seen : Called} (new : Core) (cause : ClientError) (it : UserClientError)
     → parts core was ≡ seen → it ≡ fault_of_call cause → Does (keeper_step call core.state) core (Err cause) new
     → IsRefusedFor (keeper_step call seen.core.state).refusal it
 refused_seen call core was new cause it seen_so is does =

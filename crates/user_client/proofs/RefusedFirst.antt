@@ -18,8 +18,8 @@ use Rattle.client.specs.client_base.Answered.{ClientOutcome, going_on}
 use Rattle.client.specs.client_base.Publishing.{is_over_limit, next_id, published, publish_packet}
 use Rattle.client.specs.client_base.Steps.{Call, keeper_step, unless_refused}
 use Rattle.client.specs.Core.{AppendsAll, publication_with}
-use Rattle.user_client.specs.declared.fault.ClientFault.{ClientFault}
-use Rattle.user_client.specs.declared.fault.ClientFault.TheVariants as faults
+use Rattle.user_client.specs.declared.user_client_error.UserClientError.{UserClientError}
+use Rattle.user_client.specs.declared.user_client_error.UserClientError.TheVariants as faults
 use Rattle.user_client.specs.Refusals.{IsRefusedFor, RefusesPacket, fault_of_call, first_publish}
 use Rattle.user_client.specs.Publishing.{WasTaken, unkept}
 use Rattle.user_client.specs.Tracing.{Called, IsAsked, new_called}
@@ -29,11 +29,11 @@ abbrev size_refusal : Bool → Option ClientError
 size_refusal large = if large then Some errors.TooLarge else None
 
 -- it is too large, or memory ran out
-large_only : (large : Bool) (outcome : ClientOutcome) (state : ClientState) (it : ClientFault) → outcome.refusal ≡ None
+large_only : (large : Bool) (outcome : ClientOutcome) (state : ClientState) (it : UserClientError) → outcome.refusal ≡ None
     → IsRefusedFor (unless_refused (size_refusal large) outcome state).refusal it
     → ((large ≡ true) × (it ≡ fault_of_call errors.TooLarge)) ⊎ (it ≡ faults.Memory)
 large_only large outcome state it kept (inr memory) = inr memory
-large_only true outcome state it kept (inl is) = inl (refl, sym (ap (λ (o : Option ClientFault). unwrap_or o it) is))
+large_only true outcome state it kept (inl is) = inl (refl, sym (ap (λ (o : Option UserClientError). unwrap_or o it) is))
 large_only false outcome state it kept (inl is) =
     absurd (both_ways true (ap is_some (sym is ∙ ap (option_map fault_of_call) kept)) refl)
 
@@ -43,7 +43,7 @@ not_large true outcome state taken = absurd (both_ways true (ap is_some taken) r
 not_large false outcome state taken = refl
 
 -- a new client refuses a publication at QoS 1 or 2 only for its size
-pub refuses_first : (id : List ℕ) (retain : Bool) (qos : QoS) (topic payload : List ℕ) (caller : Called) (it : ClientFault)
+pub refuses_first : (id : List ℕ) (retain : Bool) (qos : QoS) (topic payload : List ℕ) (caller : Called) (it : UserClientError)
     → is_answered qos ≡ true → caller ≡ new_called id
     → IsRefusedFor (keeper_step (Call.Publishes (publication_with retain qos topic payload)) caller.core.state).refusal it
     → RefusesPacket (first_publish id (publication_with retain qos topic payload)) it

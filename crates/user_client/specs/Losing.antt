@@ -3,8 +3,8 @@ use Rattle.std.specs.Prelude.{◌≡◌, ℕ, ◌+◌, ◌⊎◌, List, Err, suc
 use Rattle.client.specs.client_base.declared.accepted.Accepted.{Accepted}
 use Rattle.client.specs.client_base.declared.error.ClientError.TheVariants as errors
 use Rattle.client.specs.Reading.{OnBytes}
-use Rattle.user_client.specs.declared.fault.ClientFault.{ClientFault}
-use Rattle.user_client.specs.declared.fault.ClientFault.TheVariants as faults
+use Rattle.user_client.specs.declared.user_client_error.UserClientError.{UserClientError}
+use Rattle.user_client.specs.declared.user_client_error.UserClientError.TheVariants as faults
 use Rattle.user_client.specs.Tracing.{Called, Trace}
 
 -- one more connection is asked for, after a rest if this is not the first
@@ -27,12 +27,12 @@ pub record LosesSession (start end : Called) : Type 0 where
   pub lost : OnBytes piece before.core.state.stage before.core (Err errors.SessionLost) end.core
 
 -- on one connection a client ends as lost only if the server lost the session
-abbrev pub IsLostBy : Called → Called → ClientFault → Type 0
+abbrev pub IsLostBy : Called → Called → UserClientError → Type 0
 IsLostBy start end fault = fault ≡ faults.Lost → LosesSession start end
 
 -- over all connections a client ends as lost also once it has asked for each of them
 abbrev pub IsGivenUp :
     {S : Type 0} → (S → S → Type 0) → (S → S → Type 0)
-    → ℕ → S → S → Called → Called → ClientFault → Type 0
+    → ℕ → S → S → Called → Called → UserClientError → Type 0
 IsGivenUp opens rests tries first last start end fault =
     fault ≡ faults.Lost → Asks opens rests first tries last ⊎ LosesSession start end

@@ -12,30 +12,30 @@ use Rattle.client.specs.topics.Refusals.{number_of}
 use Rattle.client.specs.topics.Text.{filter_fault, topic_fault}
 use Rattle.client.specs.topics.declared.malformed.MalformedKind.{MalformedKind}
 use Rattle.client.specs.topics.declared.malformed.MalformedKind.TheVariants as kinds
-use Rattle.user_client.specs.declared.fault.ClientFault.{ClientFault}
-use Rattle.user_client.specs.declared.fault.ClientFault.TheVariants as faults
+use Rattle.user_client.specs.declared.user_client_error.UserClientError.{UserClientError}
+use Rattle.user_client.specs.declared.user_client_error.UserClientError.TheVariants as faults
 
 -- the fault of a malformed text
-abbrev pub fault_of : MalformedKind → ClientFault
+abbrev pub fault_of : MalformedKind → UserClientError
 fault_of kinds.Memory = faults.Memory
 fault_of kind = faults.Refused (number_of kind)
 
 -- the fault of a call that is refused
-abbrev pub fault_of_call : ClientError → ClientFault
+abbrev pub fault_of_call : ClientError → UserClientError
 fault_of_call errors.Memory = faults.Memory
 fault_of_call cause = faults.Refused (client_number cause)
 
 -- a call is refused for this cause, if there is one, or because memory ran out
-abbrev pub IsRefusedFor : Option ClientError → ClientFault → Type 0
+abbrev pub IsRefusedFor : Option ClientError → UserClientError → Type 0
 IsRefusedFor cause it = (option_map fault_of_call cause ≡ Some it) ⊎ (it ≡ faults.Memory)
 
 -- a text is refused by its first fault; without one, only because memory ran out
-abbrev pub IsRefusedBy : Option MalformedKind → ClientFault → Type 0
+abbrev pub IsRefusedBy : Option MalformedKind → UserClientError → Type 0
 IsRefusedBy fault it =
     (option_map fault_of fault ≡ Some it) ⊎ ((fault ≡ None) × (it ≡ faults.Memory))
 
 -- a client that prints is refused for its identifier, and only then for its filter
-abbrev pub RefusesListener : List ℕ → List ℕ → ClientFault → Type 0
+abbrev pub RefusesListener : List ℕ → List ℕ → UserClientError → Type 0
 RefusesListener id filter it =
     IsRefusedBy (client_fault id) it
     ⊎ ((client_fault id ≡ None) × IsRefusedBy (filter_fault filter) it)
@@ -45,13 +45,13 @@ abbrev pub first_publish : List ℕ → Publication → Packet
 first_publish id p = publish_packet p (new_client id 0)
 
 -- a packet is refused if it is over the limit; if it is not, only because memory ran out
-abbrev pub RefusesPacket : Packet → ClientFault → Type 0
+abbrev pub RefusesPacket : Packet → UserClientError → Type 0
 RefusesPacket packet it =
     ((is_over_limit packet ≡ true) × (it ≡ fault_of_call errors.TooLarge)) ⊎ (it ≡ faults.Memory)
 
 -- a client that publishes is refused for its identifier, only then for its topic, and only then for
 -- the size of its packet
-abbrev pub RefusesPublisher : List ℕ → Publication → ClientFault → Type 0
+abbrev pub RefusesPublisher : List ℕ → Publication → UserClientError → Type 0
 RefusesPublisher id p it =
     IsRefusedBy (client_fault id) it
     ⊎ (((client_fault id ≡ None) × IsRefusedBy (topic_fault p.topic) it)

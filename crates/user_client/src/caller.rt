@@ -9,7 +9,7 @@ ghost use Rattle.user_client.specs.Losing.{IsLostBy};
 ghost use Rattle.user_client.specs.Refusals.{IsRefusedFor};
 ghost use Rattle.user_client.specs.Tracing.{IsAsked, IsFirst, Trace, new_called};
 
-use crate::fault::ClientFault;
+use crate::user_client_error::UserClientError;
 use client::packet::{ClientId, Payload, QoS};
 use client::topics::{Filter, TopicName};
 use client::{Accepted, ClientCore, ClientError};
@@ -57,9 +57,9 @@ impl Caller {
 
     /// Writes a CONNECT for a new connection. One that is still open is lost first. The only error
     /// is that memory ran out.
-    pub(crate) fn open(&mut self) -> Result<(), ClientFault>
+    pub(crate) fn open(&mut self) -> Result<(), UserClientError>
         ensures trace { OnOk result (Trace self.old [] self.new) }
-        ensures err { IfErr result (λ fault. fault ≡ ClientFault.Memory) }
+        ensures err { IfErr result (λ fault. fault ≡ UserClientError.Memory) }
     {
         Ok(self.core.open()?)
     }
@@ -72,7 +72,7 @@ impl Caller {
         qos: QoS,
         retain: bool,
         payload: Payload,
-    ) -> Result<(), ClientFault>
+    ) -> Result<(), UserClientError>
         ensures trace { OnOk result (Trace self.old [] self.new) }
         ensures asked { OnOk result
             (IsAsked (publication_with retain qos topic payload) self.old self.new) }
@@ -87,9 +87,9 @@ impl Caller {
 
     /// Asks the server for a filter's publications, at this QoS at most. The error says why it does
     /// not.
-    pub(crate) fn subscribe(&mut self, filter: &Filter, qos: QoS) -> Result<(), ClientFault>
+    pub(crate) fn subscribe(&mut self, filter: &Filter, qos: QoS) -> Result<(), UserClientError>
         ensures trace { OnOk result (Trace self.old [] self.new) }
-        ensures lost { IfErr result (λ fault. fault ≢ ClientFault.Lost) }
+        ensures lost { IfErr result (λ fault. fault ≢ UserClientError.Lost) }
     {
         Ok(self.core.subscribe(filter.clone()?, qos)?)
     }
@@ -102,11 +102,11 @@ impl Caller {
     }
 
     /// Hands over what the client wrote and has not yet handed over.
-    pub(crate) fn outgoing(&mut self, out: &mut Vec<u8>) -> Result<(), ClientFault>
+    pub(crate) fn outgoing(&mut self, out: &mut Vec<u8>) -> Result<(), UserClientError>
         ensures trace { Trace self.old [] self.new }
         ensures kept { self.new.core.state ≡ self.old.core.state }
         ensures bytes { OnOk result (out.new.items ≡ out.old.items ++ self.old.core.out) }
-        ensures err { IfErr result (λ fault. fault ≡ ClientFault.Memory) }
+        ensures err { IfErr result (λ fault. fault ≡ UserClientError.Memory) }
     {
         Ok(self.core.outgoing(out)?)
     }
@@ -121,7 +121,7 @@ impl Caller {
 
     /// Takes what the server sent. It is a fault if a server had a session before the first
     /// accepted connection, or lost it later.
-    pub(crate) fn take_in(&mut self, piece: &[u8]) -> Result<News, ClientFault>
+    pub(crate) fn take_in(&mut self, piece: &[u8]) -> Result<News, UserClientError>
         ensures trace { OnOk result (Trace self.old [] self.new) }
         ensures lost { IfErr result (IsLostBy self.old self.new) }
     {
@@ -134,12 +134,12 @@ impl Caller {
     }
 
     // Checks that before the first accepted connection the server has no session of the client.
-    fn is_first(&self) -> Result<(), ClientFault>
+    fn is_first(&self) -> Result<(), UserClientError>
         ensures ok { OnOk result (IsFirst self.now self.now.core) }
-        ensures err { IfErr result (λ fault. fault ≡ ClientFault.SessionPresent) }
+        ensures err { IfErr result (λ fault. fault ≡ UserClientError.SessionPresent) }
     {
         if !self.was_accepted && self.core.present() {
-            return Err(ClientFault::SessionPresent);
+            return Err(UserClientError::SessionPresent);
         }
         Ok(())
     }
@@ -147,15 +147,15 @@ impl Caller {
 
 // Says whether the connection stays open after this answer to a piece. A lost session is a fault,
 // and it is a fault too if memory ran out.
-fn goes_on(heard: Result<(), ClientError>) -> Result<bool, ClientFault>
+fn goes_on(heard: Result<(), ClientError>) -> Result<bool, UserClientError>
     ensures ok { OnOk result (heard ≢ Err errors.SessionLost) }
     ensures lost { IfErr result (λ fault.
-        fault ≡ ClientFault.Lost → heard ≡ Err errors.SessionLost) }
+        fault ≡ UserClientError.Lost → heard ≡ Err errors.SessionLost) }
 {
     match heard {
         Ok(()) => Ok(true),
-        Err(ClientError::Memory) => Err(ClientFault::Memory),
-        Err(ClientError::SessionLost) => Err(ClientFault::Lost),
+        Err(ClientError::Memory) => Err(UserClientError::Memory),
+        Err(ClientError::SessionLost) => Err(UserClientError::Lost),
         Err(_) => Ok(false),
     }
 }

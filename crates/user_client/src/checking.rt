@@ -5,43 +5,43 @@ ghost use Rattle.client.specs.packet.ClientId.{client_fault};
 ghost use Rattle.client.specs.topics.Text.{filter_fault, topic_fault};
 ghost use Rattle.user_client.specs.Refusals.{IsRefusedBy};
 
-use crate::fault::ClientFault;
+use crate::user_client_error::UserClientError;
 use client::packet::ClientId;
 use client::topics::{Filter, TopicName};
 use std::alloc::Global;
 
 /// Returns the Client Identifier of a text, or how the text is refused.
-pub(crate) fn checked_id(alloc: Global, text: &str) -> Result<ClientId, ClientFault>
+pub(crate) fn checked_id(alloc: Global, text: &str) -> Result<ClientId, UserClientError>
     ensures value { IfOk result (λ id. id ≡ text.now) }
     ensures ok { OnOk result (client_fault text.now ≡ None) }
     ensures err { IfErr result (IsRefusedBy (client_fault text.now)) }
 {
     match ClientId::new(alloc, text) {
         Ok(id) => Ok(id),
-        Err(kind) => Err(ClientFault::from(kind)),
+        Err(kind) => Err(UserClientError::from(kind)),
     }
 }
 
 /// Returns the Topic Name of a text, or how the text is refused.
-pub(crate) fn checked_topic(alloc: Global, text: &str) -> Result<TopicName, ClientFault>
+pub(crate) fn checked_topic(alloc: Global, text: &str) -> Result<TopicName, UserClientError>
     ensures value { IfOk result (λ topic. topic ≡ text.now) }
     ensures ok { OnOk result (topic_fault text.now ≡ None) }
     ensures err { IfErr result (IsRefusedBy (topic_fault text.now)) }
 {
     match TopicName::new(alloc, text) {
         Ok(topic) => Ok(topic),
-        Err(kind) => Err(ClientFault::from(kind)),
+        Err(kind) => Err(UserClientError::from(kind)),
     }
 }
 
 /// Returns the Topic Filter of a text, or how the text is refused.
-pub(crate) fn checked_filter(alloc: Global, text: &str) -> Result<Filter, ClientFault>
+pub(crate) fn checked_filter(alloc: Global, text: &str) -> Result<Filter, UserClientError>
     ensures value { IfOk result (λ filter. filter ≡ text.now) }
     ensures ok { OnOk result (filter_fault text.now ≡ None) }
     ensures err { IfErr result (IsRefusedBy (filter_fault text.now)) }
 {
     match Filter::new(alloc, text) {
         Ok(filter) => Ok(filter),
-        Err(kind) => Err(ClientFault::from(kind)),
+        Err(kind) => Err(UserClientError::from(kind)),
     }
 }

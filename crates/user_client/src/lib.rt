@@ -4,17 +4,17 @@
 
 mod caller;
 mod checking;
-mod fault;
 mod printing;
 mod publisher;
 mod servers;
 mod subscriber;
+mod user_client_error;
 mod visiting;
 
 pub use client;
 pub use client::{client_base, packet, topics};
-pub use fault::ClientFault;
 pub use printing::{print_line, print_text};
 pub use publisher::Publisher;
 pub use servers::Servers;
 pub use subscriber::Subscriber;
+pub use user_client_error::UserClientError;

@@ -14,8 +14,8 @@ ghost use Rattle.user_client.specs.Refusals.{IsPublishable, RefusesPacket, Refus
 
 use crate::caller::{Caller, News};
 use crate::checking::{checked_id, checked_topic};
-use crate::fault::ClientFault;
 use crate::servers::Servers;
+use crate::user_client_error::UserClientError;
 use crate::visiting::{disconnect, exchange, next_stream, send};
 use client::ClientError;
 use client::packet::{ClientId, Delivery, Packet, Payload, Publish, QoS};
@@ -66,7 +66,7 @@ impl Publisher {
         qos: QoS,
         retain: bool,
         message: &str,
-    ) -> Result<Publisher, ClientFault>
+    ) -> Result<Publisher, UserClientError>
         ensures ok { OnOk result
             (IsPublishable id.now (publication_with retain qos topic.now message.now)) }
         ensures made { IfOk result (HasPublication qos id.now
@@ -84,7 +84,7 @@ impl Publisher {
     /// Publishes over the connections of these servers, at most `tries` of them. It tries at QoS 1
     /// and 2 until the handshake has ended, at QoS 0 until a connection has taken the bytes. The
     /// fate of the DISCONNECT does not matter.
-    pub fn run<S: Servers>(&mut self, servers: &mut S, tries: u32) -> Result<(), ClientFault>
+    pub fn run<S: Servers>(&mut self, servers: &mut S, tries: u32) -> Result<(), UserClientError>
         ensures acknowledged { OnOk result (IsAcknowledged S.Stream.contents self.new) }
         ensures trace { OnOk result (Trace self.old.caller [] self.new.caller) }
         ensures same { self.new.once ≡ self.old.once }
@@ -101,11 +101,11 @@ impl Publisher {
                 return Ok(());
             }
         }
-        Err(ClientFault::Lost)
+        Err(UserClientError::Lost)
     }
 
     // Uses one connection. Returns whether the publication was acknowledged, or written.
-    fn visit<D: Read + Write + Drop>(&mut self, stream: D) -> Result<bool, ClientFault>
+    fn visit<D: Read + Write + Drop>(&mut self, stream: D) -> Result<bool, UserClientError>
         ensures acknowledged { IfOk result (λ done.
             done ≡ true → IsAcknowledged D.contents self.new) }
         ensures trace { OnOk result (Trace self.old.caller [] self.new.caller) }
@@ -133,7 +133,7 @@ impl Publisher {
         &mut self,
         stream: &mut Counted<D>,
         room: &mut [u8],
-    ) -> Result<Progress, ClientFault>
+    ) -> Result<Progress, UserClientError>
         ensures acknowledged { IfOk result (λ progress.
             progress ≡ Progress.Done → IsAcknowledged D.contents self.new) }
         ensures trace { OnOk result (Trace self.old.caller [] self.new.caller) }
@@ -149,12 +149,12 @@ impl Publisher {
         &mut self,
         news: News,
         stream: &mut Counted<D>,
-    ) -> Result<Progress, ClientFault>
+    ) -> Result<Progress, UserClientError>
         ensures acknowledged { IfOk result (λ progress.
             progress ≡ Progress.Done → IsAcknowledged D.contents self.new) }
         ensures trace { OnOk result (Trace self.old.caller [] self.new.caller) }
         ensures same { self.new.once ≡ self.old.once }
-        ensures lost { IfErr result (λ fault. fault ≢ ClientFault.Lost) }
+        ensures lost { IfErr result (λ fault. fault ≢ UserClientError.Lost) }
     {
         match &self.once {
             None => Ok(kept_on(news, &self.caller)),
@@ -174,7 +174,7 @@ fn publisher_of(
     qos: QoS,
     retain: bool,
     payload: Payload,
-) -> Result<Publisher, ClientFault>
+) -> Result<Publisher, UserClientError>
     ensures made { IfOk result
         (HasPublication qos id (publication_with retain qos topic payload)) }
     ensures fits { OnOk result
@@ -196,7 +196,7 @@ fn unkept(
     qos: QoS,
     retain: bool,
     payload: Payload,
-) -> Result<Publisher, ClientFault>
+) -> Result<Publisher, UserClientError>
     requires { qos ≡ qualities.AtMostOnce }
     ensures made { IfOk result
         (HasPublication qos id (publication_with retain qos topic payload)) }
@@ -222,7 +222,7 @@ fn kept(
     qos: QoS,
     retain: bool,
     payload: Payload,
-) -> Result<Publisher, ClientFault>
+) -> Result<Publisher, UserClientError>
     requires { is_answered qos ≡ true }
     ensures made { IfOk result
         (HasPublication qos id (publication_with retain qos topic payload)) }
@@ -257,11 +257,11 @@ fn send_once<D: Read + Write>(
     publish: &Publish,
     stream: &mut Counted<D>,
     caller: &mut Caller,
-) -> Result<Progress, ClientFault>
+) -> Result<Progress, UserClientError>
     ensures trace { OnOk result (Trace caller.old [] caller.new) }
     ensures taken { IfOk result (λ progress.
         progress ≡ Progress.Done → WasTaken D.contents publish.now) }
-    ensures lost { IfErr result (λ fault. fault ≢ ClientFault.Lost) }
+    ensures lost { IfErr result (λ fault. fault ≢ UserClientError.Lost) }
 {
     let topic = publish.topic.clone()?;
     let payload = publish.payload.clone()?;
@@ -293,7 +293,7 @@ fn after(news: News) -> Progress
 }
 
 // Returns a publication at QoS 0. It is refused if its packet would be too large.
-fn unanswered(topic: TopicName, retain: bool, payload: Payload) -> Result<Publish, ClientFault>
+fn unanswered(topic: TopicName, retain: bool, payload: Payload) -> Result<Publish, UserClientError>
     ensures made { IfOk result (λ publish. publish ≡
         unkept (publication_with retain qualities.AtMostOnce topic payload)) }
     ensures fits { OnOk result (is_over_limit (packets.Publish
@@ -308,7 +308,7 @@ fn unanswered(topic: TopicName, retain: bool, payload: Payload) -> Result<Publis
         payload,
     };
     if Packet::Publish(publish.clone()?).is_too_large() {
-        return Err(ClientFault::from(ClientError::TooLarge));
+        return Err(UserClientError::from(ClientError::TooLarge));
     }
     Ok(publish)
 }

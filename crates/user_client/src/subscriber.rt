@@ -11,9 +11,9 @@ ghost use Rattle.user_client.specs.Refusals.{RefusesListener};
 
 use crate::caller::{Caller, News};
 use crate::checking::{checked_filter, checked_id};
-use crate::fault::ClientFault;
 use crate::printing::print_line;
 use crate::servers::Servers;
+use crate::user_client_error::UserClientError;
 use crate::visiting::{disconnect, exchange, next_stream};
 use client::Accepted;
 use client::packet::QoS;
@@ -54,7 +54,7 @@ impl Subscriber {
         filter: &str,
         qos: QoS,
         count: u32,
-    ) -> Result<Subscriber, ClientFault>
+    ) -> Result<Subscriber, UserClientError>
         ensures made { IfOk result (λ subscriber. subscriber ≡ new_listening id.now count) }
         ensures ok { OnOk result
             ((client_fault id.now ≡ None) × (filter_fault filter.now ≡ None)) }
@@ -80,7 +80,7 @@ impl Subscriber {
         servers: &mut S,
         output: &mut W,
         tries: u32,
-    ) -> Result<(), ClientFault>
+    ) -> Result<(), UserClientError>
         ensures printed { OnOk result
             (Hears (begun self.old) (W.contents output.old) self.new (W.contents output.new)) }
         ensures all { OnOk result (self.new.left ≡ 0) }
@@ -98,7 +98,7 @@ impl Subscriber {
                 return Ok(());
             }
         }
-        Err(ClientFault::Lost)
+        Err(UserClientError::Lost)
     }
 
     // Uses one connection. Returns whether everything was printed.
@@ -106,7 +106,7 @@ impl Subscriber {
         &mut self,
         stream: D,
         output: &mut W,
-    ) -> Result<bool, ClientFault>
+    ) -> Result<bool, UserClientError>
         ensures printed { OnOk result
             (Hears self.old (W.contents output.old) self.new (W.contents output.new)) }
         ensures all { IfOk result (λ done. done ≡ true → self.new.left ≡ 0) }
@@ -134,7 +134,7 @@ impl Subscriber {
         stream: &mut Counted<D>,
         room: &mut [u8],
         output: &mut W,
-    ) -> Result<bool, ClientFault>
+    ) -> Result<bool, UserClientError>
         ensures printed { OnOk result
             (Hears self.old (W.contents output.old) self.new (W.contents output.new)) }
         ensures lost { IfErr result (IsLostBy self.old.caller self.new.caller) }
@@ -145,10 +145,10 @@ impl Subscriber {
     }
 
     // Subscribes to the filter on a new connection, and prints what was accepted.
-    fn go_on<W: Write>(&mut self, news: News, output: &mut W) -> Result<(), ClientFault>
+    fn go_on<W: Write>(&mut self, news: News, output: &mut W) -> Result<(), UserClientError>
         ensures printed { OnOk result
             (Hears self.old (W.contents output.old) self.new (W.contents output.new)) }
-        ensures lost { IfErr result (λ fault. fault ≢ ClientFault.Lost) }
+        ensures lost { IfErr result (λ fault. fault ≢ UserClientError.Lost) }
     {
         self.ask(news)?;
         self.print_accepted(output)
@@ -156,9 +156,9 @@ impl Subscriber {
 
     // Subscribes to the filter if a connection was accepted: until something is printed, the
     // subscription may have been lost with the connection before.
-    fn ask(&mut self, news: News) -> Result<(), ClientFault>
+    fn ask(&mut self, news: News) -> Result<(), UserClientError>
         ensures asked { OnOk result (Asks self.old self.new) }
-        ensures lost { IfErr result (λ fault. fault ≢ ClientFault.Lost) }
+        ensures lost { IfErr result (λ fault. fault ≢ UserClientError.Lost) }
     {
         if !is_to_ask(news, self.left, self.count) {
             return Ok(());
@@ -167,10 +167,10 @@ impl Subscriber {
     }
 
     // Prints what was accepted, as much as is to be printed.
-    fn print_accepted<W: Write>(&mut self, output: &mut W) -> Result<(), ClientFault>
+    fn print_accepted<W: Write>(&mut self, output: &mut W) -> Result<(), UserClientError>
         ensures printed { OnOk result
             (Hears self.old (W.contents output.old) self.new (W.contents output.new)) }
-        ensures lost { IfErr result (λ fault. fault ≢ ClientFault.Lost) }
+        ensures lost { IfErr result (λ fault. fault ≢ UserClientError.Lost) }
     {
         let accepted = self.caller.take_accepted();
         self.left = print_all(self.alloc, accepted.as_slice(), self.left, output)?;
@@ -189,10 +189,10 @@ fn print_all<W: Write>(
     accepted: &[Accepted],
     left: u32,
     output: &mut W,
-) -> Result<u32, ClientFault>
+) -> Result<u32, UserClientError>
     ensures printed { IfOk result (λ rest.
         Shows accepted.now left rest (W.contents output.old) (W.contents output.new)) }
-    ensures lost { IfErr result (λ fault. fault ≢ ClientFault.Lost) }
+    ensures lost { IfErr result (λ fault. fault ≢ UserClientError.Lost) }
 {
     let mut rest = left;
     for one in accepted {
@@ -207,10 +207,10 @@ fn print_next<W: Write>(
     accepted: &Accepted,
     left: u32,
     output: &mut W,
-) -> Result<u32, ClientFault>
+) -> Result<u32, UserClientError>
     ensures printed { IfOk result (λ rest.
         Shows (accepted.now ∷ []) left rest (W.contents output.old) (W.contents output.new)) }
-    ensures lost { IfErr result (λ fault. fault ≢ ClientFault.Lost) }
+    ensures lost { IfErr result (λ fault. fault ≢ UserClientError.Lost) }
 {
     if left == 0 {
         return Ok(0);
@@ -220,15 +220,19 @@ fn print_next<W: Write>(
 }
 
 // Prints one line, and flushes it.
-fn print<W: Write>(alloc: Global, accepted: &Accepted, output: &mut W) -> Result<(), ClientFault>
+fn print<W: Write>(
+    alloc: Global,
+    accepted: &Accepted,
+    output: &mut W,
+) -> Result<(), UserClientError>
     ensures printed { OnOk result
         (Appends (W.contents output.old) (W.contents output.new) (line_of accepted.now)) }
-    ensures lost { IfErr result (λ fault. fault ≢ ClientFault.Lost) }
+    ensures lost { IfErr result (λ fault. fault ≢ UserClientError.Lost) }
 {
     let mut line = Vec::new(alloc);
     print_line(accepted, &mut line)?;
     if output.write_all(line.as_slice()).is_err() || output.flush().is_err() {
-        return Err(ClientFault::Output);
+        return Err(UserClientError::Output);
     }
     Ok(())
 }

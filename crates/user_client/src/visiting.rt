@@ -7,8 +7,8 @@ ghost use Rattle.user_client.specs.Losing.{AsksNext, IsLostBy};
 ghost use Rattle.user_client.specs.Tracing.{Trace};
 
 use crate::caller::{Caller, News};
-use crate::fault::ClientFault;
 use crate::servers::Servers;
+use crate::user_client_error::UserClientError;
 use node_base::{Counted, ReadOutcome, Written};
 use std::alloc::Global;
 use std::io::{Read, Write};
@@ -29,7 +29,7 @@ pub(crate) fn exchange<D: Read + Write>(
     stream: &mut Counted<D>,
     room: &mut [u8],
     caller: &mut Caller,
-) -> Result<News, ClientFault>
+) -> Result<News, UserClientError>
     ensures trace { OnOk result (Trace caller.old [] caller.new) }
     ensures lost { IfErr result (IsLostBy caller.old caller.new) }
 {
@@ -73,12 +73,12 @@ pub(crate) fn send<D: Read + Write>(
     alloc: Global,
     stream: &mut Counted<D>,
     caller: &mut Caller,
-) -> Result<bool, ClientFault>
+) -> Result<bool, UserClientError>
     ensures trace { Trace caller.old [] caller.new }
     ensures kept { caller.new.core.state ≡ caller.old.core.state }
     ensures written { IfOk result (λ whole. whole ≡ true →
         Appends (D.contents stream.old.device) (D.contents stream.new.device) caller.old.core.out) }
-    ensures err { IfErr result (λ fault. fault ≡ ClientFault.Memory) }
+    ensures err { IfErr result (λ fault. fault ≡ UserClientError.Memory) }
 {
     let mut out = Vec::new(alloc);
     caller.outgoing(&mut out)?;

@@ -7,7 +7,7 @@ mod standard_error;
 ghost use Rattle.std.specs.Prelude.{◌≡◌, ◌≢◌};
 
 use jobs::command_line::line;
-use jobs::{Fault, perform, print_fault, refuse};
+use jobs::{JobError, perform, print_fault, refuse};
 use standard_error::StandardError;
 use std::io::ErrorKind;
 use std::net::{Net, TcpListener, TcpStream};
@@ -46,7 +46,7 @@ where
 }
 
 // Returns the words of the command line.
-fn words<R: Env + AllocGlobal>(rt: &R) -> Result<Vec<String>, Fault> {
+fn words<R: Env + AllocGlobal>(rt: &R) -> Result<Vec<String>, JobError> {
     match env::args(rt) {
         Ok(words) => Ok(words.collect(rt.alloc())?),
         Err(error) => Err(fault_of(error.kind())),
@@ -54,12 +54,12 @@ fn words<R: Env + AllocGlobal>(rt: &R) -> Result<Vec<String>, Fault> {
 }
 
 // Returns why there are no words: memory ran out, or one of them is not UTF-8.
-fn fault_of(kind: ErrorKind) -> Fault
-    ensures memory { kind ≡ ErrorKind.OutOfMemory → result ≡ Fault.Memory }
-    ensures words { kind ≢ ErrorKind.OutOfMemory → result ≡ Fault.Words }
+fn fault_of(kind: ErrorKind) -> JobError
+    ensures memory { kind ≡ ErrorKind.OutOfMemory → result ≡ JobError.Memory }
+    ensures words { kind ≢ ErrorKind.OutOfMemory → result ≡ JobError.Words }
 {
     match kind {
-        ErrorKind::OutOfMemory => Fault::Memory,
-        _ => Fault::Words,
+        ErrorKind::OutOfMemory => JobError::Memory,
+        _ => JobError::Words,
     }
 }

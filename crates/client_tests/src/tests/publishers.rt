@@ -5,9 +5,9 @@ use std::alloc::Global;
 use std::cell::RefCell;
 use std::test::Fail;
 use user_client::packet::QoS;
-use user_client::{ClientFault, Publisher};
+use user_client::{Publisher, UserClientError};
 
-fn publish(alloc: Global, qos: QoS, servers: &mut Scripted<'_>) -> Result<(), ClientFault> {
+fn publish(alloc: Global, qos: QoS, servers: &mut Scripted<'_>) -> Result<(), UserClientError> {
     let mut publisher = Publisher::new(alloc, "a", "t/1", qos, false, "x")?;
     publisher.run(servers, 3)
 }
@@ -19,7 +19,7 @@ fn fault_of_publishing(
     qos: QoS,
     connections: &[Pieces],
     written: &[&[u8]],
-    ended: Result<(), ClientFault>,
+    ended: Result<(), UserClientError>,
     rests: u32,
 ) -> Option<Wrong> {
     fault_within(alloc, qos, usize::MAX, connections, written, ended, rests)
@@ -32,7 +32,7 @@ fn fault_within(
     room: usize,
     connections: &[Pieces],
     written: &[&[u8]],
-    ended: Result<(), ClientFault>,
+    ended: Result<(), UserClientError>,
     rests: u32,
 ) -> Option<Wrong> {
     let log = RefCell::new(Vec::new(alloc));
@@ -70,10 +70,12 @@ fn a_publication_is_sent_again(rt: HostRuntime) {
 
 #[test]
 fn a_publication_is_given_up(rt: HostRuntime) {
-    let lost = Err(ClientFault::Lost);
-    let fault = fault_of_publishing(rt.alloc(), QoS::AtLeastOnce, &[], &[], lost, 2);
-    assert_eq!(rt; fault, None);
-    let present = Err(ClientFault::SessionPresent);
+    let lost = Err(UserClientError::Lost);
+    assert_eq!(rt;
+        fault_of_publishing(rt.alloc(), QoS::AtLeastOnce, &[], &[], lost, 2),
+        None
+    );
+    let present = Err(UserClientError::SessionPresent);
     let pieces: &[Pieces] = &[&[SESSION_PRESENT]];
     let fault = fault_of_publishing(rt.alloc(), QoS::ExactlyOnce, pieces, &[CONNECT], present, 0);
     assert_eq!(rt; fault, None);
@@ -114,7 +116,7 @@ fn what_comes_after_the_last_answer_does_not_matter(rt: HostRuntime) {
 fn a_publication_at_qos_0_is_written(rt: HostRuntime) {
     let alloc = rt.alloc();
     let pieces: &[Pieces] = &[&[CONNACK], &[CONNACK]];
-    let lost = Err(ClientFault::Lost);
+    let lost = Err(UserClientError::Lost);
     let room = CONNECT.len();
     let written: &[&[u8]] = &[CONNECT, CONNECT];
     let fault = fault_within(alloc, QoS::AtMostOnce, room, pieces, written, lost, 1);
@@ -131,7 +133,7 @@ fn a_publication_at_qos_0_is_written(rt: HostRuntime) {
 
 fn refuses_to_publish(alloc: Global, id: &str, topic: &str, number: u8) -> bool {
     let refused = Publisher::new(alloc, id, topic, QoS::AtMostOnce, false, "x").err();
-    refused == Some(ClientFault::Refused(number))
+    refused == Some(UserClientError::Refused(number))
 }
 
 // An empty identifier; an empty topic, and one with a wildcard.
@@ -147,7 +149,7 @@ fn words_of_a_publisher_are_refused(rt: HostRuntime) {
 
 fn is_too_long(alloc: Global, message: &str, qos: QoS) -> bool {
     let refused = Publisher::new(alloc, "a", "t", qos, false, message).err();
-    refused == Some(ClientFault::Refused(4))
+    refused == Some(UserClientError::Refused(4))
 }
 
 // Two bytes of length, the topic's one byte, and one byte too many.

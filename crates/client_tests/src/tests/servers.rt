@@ -3,7 +3,7 @@
 use std::cell::RefCell;
 use std::io;
 use std::io::{ErrorKind, Read, Write};
-use user_client::{ClientFault, Servers};
+use user_client::{Servers, UserClientError};
 
 /// The pieces that a server sends on a connection, one a read. Then it closes.
 pub type Pieces = &'static [&'static [u8]];
@@ -149,7 +149,7 @@ pub const SUBSCRIBE: &[u8] = &[0x82, 8, 0, 1, 0, 3, b't', b'/', b'#', 2];
 #[derive(Clone, Copy, Debug, PartialEq, Eq)]
 pub enum Wrong {
     /// How it ended.
-    End(Result<(), ClientFault>),
+    End(Result<(), UserClientError>),
     /// How often it waited.
     Rests(u32),
     /// The first packet that was not written, or, by their number, the bytes after all.

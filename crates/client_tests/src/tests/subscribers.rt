@@ -5,14 +5,14 @@ use std::alloc::Global;
 use std::cell::RefCell;
 use std::test::Fail;
 use user_client::packet::QoS;
-use user_client::{ClientFault, Subscriber, print_text};
+use user_client::{Subscriber, UserClientError, print_text};
 
 fn subscribe(
     alloc: Global,
     count: u32,
     servers: &mut Scripted<'_>,
     output: &mut Vec<u8>,
-) -> Result<(), ClientFault> {
+) -> Result<(), UserClientError> {
     let mut subscriber = Subscriber::new(alloc, "a", "t/#", QoS::ExactlyOnce, count)?;
     subscriber.run(servers, output, 2)
 }
@@ -87,7 +87,7 @@ fn a_subscription_is_asked_for_again(rt: HostRuntime) {
 
 fn refuses_to_subscribe(alloc: Global, id: &str, filter: &str, number: u8) -> bool {
     let refused = Subscriber::new(alloc, id, filter, QoS::AtMostOnce, 1).err();
-    refused == Some(ClientFault::Refused(number))
+    refused == Some(UserClientError::Refused(number))
 }
 
 // An empty identifier; an empty filter, and one in which `#` is not the last level.

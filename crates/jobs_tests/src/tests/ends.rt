@@ -2,7 +2,7 @@
 
 use crate::tests::hand::{does, ends};
 use jobs::command_line::LineFault;
-use jobs::{Fault, print_fault, refuse, serve_table};
+use jobs::{JobError, print_fault, refuse, serve_table};
 use std::alloc::Global;
 use std::net::{Net, TcpListener, TcpStream};
 use std::rt::Files;
@@ -193,7 +193,7 @@ where
 }
 
 // Says whether a fault has this text and this exit status.
-fn is_told(alloc: Global, fault: Fault, text: &str, status: u8) -> bool {
+fn is_told(alloc: Global, fault: JobError, text: &str, status: u8) -> bool {
     let mut faults = Vec::new(alloc);
     print_fault(&mut faults, &fault) == status && faults.as_slice() == text.as_bytes()
 }
@@ -202,21 +202,21 @@ fn is_told(alloc: Global, fault: Fault, text: &str, status: u8) -> bool {
 fn faults_are_told_so(rt: HostRuntime) {
     let alloc = rt.alloc();
     let text = "vbroker: out of memory\n";
-    assert!(rt; is_told(alloc, Fault::Memory, text, 1), "{text}");
+    assert!(rt; is_told(alloc, JobError::Memory, text, 1), "{text}");
     let text = "vbroker: standard input could not be read\n";
-    assert!(rt; is_told(alloc, Fault::Input, text, 1), "{text}");
+    assert!(rt; is_told(alloc, JobError::Input, text, 1), "{text}");
     let text = "vbroker: standard output could not be written\n";
-    assert!(rt; is_told(alloc, Fault::Output, text, 1), "{text}");
+    assert!(rt; is_told(alloc, JobError::Output, text, 1), "{text}");
     let text = "vbroker: the clock could not be read\n";
-    assert!(rt; is_told(alloc, Fault::Clock, text, 1), "{text}");
+    assert!(rt; is_told(alloc, JobError::Clock, text, 1), "{text}");
     let text = "vbroker: too few threads could be started: a node needs 63\n";
-    assert!(rt; is_told(alloc, Fault::Threads, text, 1), "{text}");
+    assert!(rt; is_told(alloc, JobError::Threads, text, 1), "{text}");
     let text = "vbroker: the words of the command line could not be read; try vbroker --help\n";
-    assert!(rt; is_told(alloc, Fault::Words, text, 2), "{text}");
+    assert!(rt; is_told(alloc, JobError::Words, text, 2), "{text}");
     let text = "vbroker: script line 3\n";
-    assert!(rt; is_told(alloc, Fault::Script(3), text, 3), "{text}");
+    assert!(rt; is_told(alloc, JobError::Script(3), text, 3), "{text}");
     let text = "vbroker: out of memory: the transcript shows a world that lost something\n";
-    assert!(rt; is_told(alloc, Fault::Losses, text, 1), "{text}");
+    assert!(rt; is_told(alloc, JobError::Losses, text, 1), "{text}");
     let text = "vbroker: session present\n";
-    assert!(rt; is_told(alloc, Fault::SessionPresent, text, 1), "{text}");
+    assert!(rt; is_told(alloc, JobError::SessionPresent, text, 1), "{text}");
 }

@@ -3,7 +3,7 @@
 use super::orders::{Served, free_port, serve};
 use jobs::command_line::Subscribe;
 use jobs::packet::QoS;
-use jobs::{Fault, subscribe};
+use jobs::{JobError, subscribe};
 use std::io::{PipeWriter, Write};
 use std::net::{Net, TcpListener, TcpStream};
 use std::rt::Files;
@@ -63,7 +63,7 @@ where
         addresses,
     };
     let mut output = Vec::new(rt.alloc());
-    matches!(subscribe(rt, &job, &mut output), Err(Fault::Lost)) && output.is_empty()
+    matches!(subscribe(rt, &job, &mut output), Err(JobError::Lost)) && output.is_empty()
 }
 
 // Gives these lines after this many milliseconds. Says whether that succeeds.

@@ -2,7 +2,7 @@
 
 use crate::tests::worlds::World;
 use play::packet::{ClientId, Payload, QoS};
-use play::script::{Amount, Numbers, Opening, Script, ScriptError, ScriptLine, read};
+use play::script::{Amount, Numbers, Opening, Script, ScriptFault, ScriptLine, read};
 use play::session_base::Publication;
 use play::topics::Filter;
 use std::alloc::{AllocError, Global};
@@ -24,7 +24,7 @@ pub enum Outcome<'a> {
 
 /// Says whether reading a text has this outcome.
 pub fn comes(alloc: Global, text: &[u8], outcome: Outcome<'_>) -> bool {
-    let read: Result<Script, ScriptError> = read(alloc, text);
+    let read: Result<Script, ScriptFault> = read(alloc, text);
     match read {
         Ok(script) => is_script(alloc, &script, outcome),
         Err(error) => is_refusal(error, outcome),
@@ -42,10 +42,10 @@ fn is_script(alloc: Global, script: &Script, outcome: Outcome<'_>) -> bool {
     }
 }
 
-fn is_refusal(error: ScriptError, outcome: Outcome<'_>) -> bool {
+fn is_refusal(error: ScriptFault, outcome: Outcome<'_>) -> bool {
     match (error, outcome) {
-        (ScriptError::Line(_), Outcome::Refused) => true,
-        (ScriptError::Line(line), Outcome::Bad(number)) => line == number,
+        (ScriptFault::Line(_), Outcome::Refused) => true,
+        (ScriptFault::Line(line), Outcome::Bad(number)) => line == number,
         _ => false,
     }
 }

@@ -3,7 +3,7 @@
 use crate::tests::hand::outcome_of;
 use crate::tests::reading::{Outcome, comes};
 use play::PlayError;
-use play::script::ScriptError;
+use play::script::ScriptFault;
 use std::alloc::{AllocError, Global};
 
 // First lines that open no world.
@@ -179,8 +179,8 @@ fn lines_that_are_no_text_are_refused(rt: HostRuntime) {
 }
 
 fn told(alloc: Global) -> Result<String, AllocError> {
-    let line = ScriptError::Line(7);
-    let memory = ScriptError::Memory;
+    let line = ScriptFault::Line(7);
+    let memory = ScriptFault::Memory;
     format!(in alloc; "{line}; {memory}")
 }
 

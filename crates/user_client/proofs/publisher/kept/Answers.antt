@@ -1,6 +1,6 @@
 use Rattle.std.proofs.Common.{◌≡◌, sym, subst}
 use Rattle.client.specs.Core.{publication_with}
-use Rattle.user_client.specs.declared.fault.ClientFault.{ClientFault}
+use Rattle.user_client.specs.declared.user_client_error.UserClientError.{UserClientError}
 use Rattle.user_client.specs.Refusals.{RefusesPacket, first_publish}
 use Rattle.user_client.proofs.RefusedCalls.{told}
 use Rattle.user_client.proofs.FirstPublication.{has_kept}
@@ -22,7 +22,7 @@ returns-in_err-publish-clause-err c =
     let fault = c.in_err-publish.field-0.0 in
     let refuses = RefusesPacket
     (first_publish c.args.id (publication_with c.args.retain c.args.qos c.args.topic c.args.payload)) in
-    told c.from_residual.result (λ (it : ClientFault). it ≡ fault) refuses c.from_residual.ensures.1
-    (λ (it : ClientFault) is. subst refuses (sym is)
+    told c.from_residual.result (λ (it : UserClientError). it ≡ fault) refuses c.from_residual.ensures.1
+    (λ (it : UserClientError) is. subst refuses (sym is)
     (refuses_first c.args.id c.args.retain c.args.qos c.args.topic c.args.payload c.new-caller.result fault c.requires
     c.new-caller.ensures c.in_err-publish.ensures.refused))

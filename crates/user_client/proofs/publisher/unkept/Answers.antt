@@ -2,7 +2,7 @@ use Rattle.std.proofs.Common.{◌≡◌, false, sym, subst}
 use Rattle.client.specs.client_base.Publishing.{is_over_limit}
 use Rattle.client.specs.packet.declared.packet.Packet.{Packet}
 use Rattle.client.specs.Core.{publication_with}
-use Rattle.user_client.specs.declared.fault.ClientFault.{ClientFault}
+use Rattle.user_client.specs.declared.user_client_error.UserClientError.{UserClientError}
 use Rattle.user_client.specs.Refusals.{RefusesPacket, first_publish}
 use Rattle.user_client.proofs.RefusedCalls.{told}
 use Rattle.user_client.proofs.FirstPublication.{has_unkept}
@@ -24,7 +24,7 @@ returns-in_err-publish-clause-err c =
     let fault = c.in_err-publish.field-0.0 in
     let refuses = RefusesPacket
     (first_publish c.args.id (publication_with c.args.retain c.args.qos c.args.topic c.args.payload)) in
-    told c.from_residual.result (λ (it : ClientFault). it ≡ fault) refuses c.from_residual.ensures.1
-    (λ (it : ClientFault) is. subst refuses (sym is)
+    told c.from_residual.result (λ (it : UserClientError). it ≡ fault) refuses c.from_residual.ensures.1
+    (λ (it : UserClientError) is. subst refuses (sym is)
     (subst (λ (packet : Packet). RefusesPacket packet fault)
     (first_unkept c.args.id c.args.retain c.args.qos c.args.topic c.args.payload c.requires) c.in_err-publish.ensures.err))

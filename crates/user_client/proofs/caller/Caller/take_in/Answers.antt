@@ -1,8 +1,8 @@
 use Rattle.std.proofs.Common.{◌≡◌, Bool, ◌||◌, sym, ap, ◌∙◌}
 use Rattle.client.specs.client_base.State.{is_online}
 use Rattle.user_client.specs.Losing.{IsLostBy}
-use Rattle.user_client.specs.declared.fault.ClientFault.{ClientFault}
-use Rattle.user_client.specs.declared.fault.ClientFault.TheVariants as faults
+use Rattle.user_client.specs.declared.user_client_error.UserClientError.{UserClientError}
+use Rattle.user_client.specs.declared.user_client_error.UserClientError.TheVariants as faults
 use Rattle.user_client.proofs.CallsAreSteps.{heard, parts}
 use Rattle.user_client.proofs.LossFollows.{lost_here}
 use Rattle.user_client.proofs.RefusedCalls.{told}
@@ -22,8 +22,8 @@ returns-clause-trace c =
 pub returns-in_err-goes_on-clause-lost : goal.returns-in_err-goes_on-clause-lost
 returns-in_err-goes_on-clause-lost c =
     let fault = c.in_err-goes_on.field-0.0 in
-    told c.from_residual.result (λ (it : ClientFault). it ≡ fault)
+    told c.from_residual.result (λ (it : UserClientError). it ≡ fault)
     (IsLostBy c.args.self.now (parts c.on_bytes.new.self c.self.inside.was_accepted)) c.from_residual.ensures.1
-    (λ (it : ClientFault) is. λ (lost : it ≡ faults.Lost). lost_here c.self.inside.core c.self.inside.was_accepted
+    (λ (it : UserClientError) is. λ (lost : it ≡ faults.Lost). lost_here c.self.inside.core c.self.inside.was_accepted
     c.args.piece.now c.on_bytes.result c.on_bytes.new.self c.self.view_is c.on_bytes.ensures
     (c.in_err-goes_on.ensures.lost (sym is ∙ lost)))

@@ -8,7 +8,7 @@ use std::alloc::{AllocError, AllocFailed};
 
 /// Why a client did not do what it was asked for.
 #[derive(Clone, Copy, Debug, PartialEq, Eq)]
-pub enum ClientFault {
+pub enum UserClientError {
     /// The identifier, the topic, the filter or the message was refused, by this number. No
     /// connection was opened.
     Refused(u8),
@@ -22,48 +22,48 @@ pub enum ClientFault {
     Output,
 }
 
-impl From<MalformedKind> for ClientFault {
+impl From<MalformedKind> for UserClientError {
     ghost use Rattle.user_client.specs.Refusals.{fault_of};
 
     ghost from_gives = { λ kind fault. fault ≡ fault_of kind };
 
-    fn from(kind: MalformedKind) -> ClientFault {
+    fn from(kind: MalformedKind) -> UserClientError {
         match kind {
-            MalformedKind::Memory => ClientFault::Memory,
-            other => ClientFault::Refused(other.number()),
+            MalformedKind::Memory => UserClientError::Memory,
+            other => UserClientError::Refused(other.number()),
         }
     }
 }
 
-impl From<ClientError> for ClientFault {
+impl From<ClientError> for UserClientError {
     ghost use Rattle.user_client.specs.Refusals.{fault_of_call};
 
     ghost from_gives = { λ error fault. fault ≡ fault_of_call error };
 
-    fn from(error: ClientError) -> ClientFault {
+    fn from(error: ClientError) -> UserClientError {
         match error {
-            ClientError::Memory => ClientFault::Memory,
-            other => ClientFault::Refused(other.number()),
+            ClientError::Memory => UserClientError::Memory,
+            other => UserClientError::Refused(other.number()),
         }
     }
 }
 
-impl From<AllocError> for ClientFault {
-    ghost use Rattle.user_client.specs.declared.fault.ClientFault.TheVariants.{Memory};
+impl From<AllocError> for UserClientError {
+    ghost use Rattle.user_client.specs.declared.user_client_error.UserClientError.TheVariants.{Memory};
 
     ghost from_gives = { λ _ fault. fault ≡ Memory };
 
-    fn from(_error: AllocError) -> ClientFault {
-        ClientFault::Memory
+    fn from(_error: AllocError) -> UserClientError {
+        UserClientError::Memory
     }
 }
 
-impl<T: Drop> From<AllocFailed<T>> for ClientFault {
-    ghost use Rattle.user_client.specs.declared.fault.ClientFault.TheVariants.{Memory};
+impl<T: Drop> From<AllocFailed<T>> for UserClientError {
+    ghost use Rattle.user_client.specs.declared.user_client_error.UserClientError.TheVariants.{Memory};
 
     ghost from_gives = { λ _ fault. fault ≡ Memory };
 
-    fn from(_error: AllocFailed<T>) -> ClientFault {
-        ClientFault::Memory
+    fn from(_error: AllocFailed<T>) -> UserClientError {
+        UserClientError::Memory
     }
 }

@@ -5,7 +5,7 @@ ghost use Rattle.jobs.specs.Faults.{status_of};
 
 use command_line::TableFault;
 use play::PlayError;
-use play::user_client::ClientFault;
+use play::user_client::UserClientError;
 use server::{Memory, ServeError, THREADS};
 use std::alloc::{AllocError, AllocFailed};
 use std::io::ErrorKind;
@@ -13,7 +13,7 @@ use thiserror::Error;
 
 /// Why the program ends with another status than 0. Its text is for the user.
 #[derive(Debug, Drop, Error)]
-pub enum Fault {
+pub enum JobError {
     /// Memory ran out.
     #[error("out of memory")]
     Memory,
@@ -66,103 +66,103 @@ pub enum Fault {
     Lost,
 }
 
-impl Fault {
+impl JobError {
     /// Returns the exit status: 1 for a fault of file, network or memory, 2 for a command line that
     /// is refused, 3 for a refused table, script or argument.
     pub fn status(&self) -> u8
         ensures { result ≡ status_of self.now }
     {
         match self {
-            Fault::Memory
-            | Fault::Input
-            | Fault::Output
-            | Fault::Clock
-            | Fault::Threads
-            | Fault::Files(_)
-            | Fault::File(_, _)
-            | Fault::Address(_, _)
-            | Fault::Losses
-            | Fault::SessionPresent
-            | Fault::Lost => 1,
-            Fault::Words => 2,
-            Fault::Config | Fault::Script(_) | Fault::Idle | Fault::Refused(_) => 3,
+            JobError::Memory
+            | JobError::Input
+            | JobError::Output
+            | JobError::Clock
+            | JobError::Threads
+            | JobError::Files(_)
+            | JobError::File(_, _)
+            | JobError::Address(_, _)
+            | JobError::Losses
+            | JobError::SessionPresent
+            | JobError::Lost => 1,
+            JobError::Words => 2,
+            JobError::Config | JobError::Script(_) | JobError::Idle | JobError::Refused(_) => 3,
         }
     }
 }
 
-impl From<AllocError> for Fault {
-    fn from(_error: AllocError) -> Fault {
-        Fault::Memory
+impl From<AllocError> for JobError {
+    fn from(_error: AllocError) -> JobError {
+        JobError::Memory
     }
 }
 
-impl<T: Drop> From<AllocFailed<T>> for Fault {
-    fn from(_error: AllocFailed<T>) -> Fault {
-        Fault::Memory
+impl<T: Drop> From<AllocFailed<T>> for JobError {
+    fn from(_error: AllocFailed<T>) -> JobError {
+        JobError::Memory
     }
 }
 
-impl From<Memory> for Fault {
-    fn from(_error: Memory) -> Fault {
-        Fault::Memory
+impl From<Memory> for JobError {
+    fn from(_error: Memory) -> JobError {
+        JobError::Memory
     }
 }
 
-impl From<ServeError> for Fault {
+impl From<ServeError> for JobError {
     ghost use Rattle.jobs.specs.Faults.{served_fault_of};
 
     ghost from_gives = { λ error fault. fault ≡ served_fault_of error };
 
-    fn from(error: ServeError) -> Fault {
+    fn from(error: ServeError) -> JobError {
         match error {
-            ServeError::BadMembers => Fault::Config,
-            ServeError::Memory => Fault::Memory,
-            ServeError::Clock => Fault::Clock,
-            ServeError::Threads => Fault::Threads,
+            ServeError::BadMembers => JobError::Config,
+            ServeError::Memory => JobError::Memory,
+            ServeError::Clock => JobError::Clock,
+            ServeError::Threads => JobError::Threads,
         }
     }
 }
 
-impl From<TableFault> for Fault {
+impl From<TableFault> for JobError {
     ghost use Rattle.jobs.specs.Faults.{table_fault_of};
 
     ghost from_gives = { λ error fault. fault ≡ table_fault_of error };
 
-    fn from(fault: TableFault) -> Fault {
+    fn from(fault: TableFault) -> JobError {
         match fault {
-            TableFault::Shape => Fault::Config,
-            TableFault::Memory => Fault::Memory,
+            TableFault::Shape => JobError::Config,
+            TableFault::Memory => JobError::Memory,
         }
     }
 }
 
-impl From<ClientFault> for Fault {
+impl From<UserClientError> for JobError {
     ghost use Rattle.jobs.specs.Faults.{client_fault_of};
 
     ghost from_gives = { λ error fault. fault ≡ client_fault_of error };
 
-    fn from(fault: ClientFault) -> Fault {
+    fn from(fault: UserClientError) -> JobError {
         match fault {
-            ClientFault::Refused(number) => Fault::Refused(number),
-            ClientFault::SessionPresent => Fault::SessionPresent,
-            ClientFault::Lost => Fault::Lost,
-            ClientFault::Memory => Fault::Memory,
-            ClientFault::Output => Fault::Output,
+            UserClientError::Refused(number) => JobError::Refused(number),
+            UserClientError::SessionPresent => JobError::SessionPresent,
+            UserClientError::Lost => JobError::Lost,
+            UserClientError::Memory => JobError::Memory,
+            UserClientError::Output => JobError::Output,
         }
     }
 }
 
-impl From<PlayError> for Fault {
+impl From<PlayError> for JobError {
     ghost use Rattle.jobs.specs.Faults.{played_fault_of};
 
     ghost from_gives = { λ error fault. fault ≡ played_fault_of error };
 
-    fn from(error: PlayError) -> Fault {
+    fn from(error: PlayError) -> JobError {
         match error {
-            PlayError::Line(number) => Fault::Script(number),
-            PlayError::Memory => Fault::Memory,
-            PlayError::Losses => Fault::Losses,
-            PlayError::Idle => Fault::Idle,
+            PlayError::Line(number) => JobError::Script(number),
+            PlayError::Memory => JobError::Memory,
+            PlayError::Losses => JobError::Losses,
+            PlayError::Idle => JobError::Idle,
         }
     }
 }
