@@ -6,8 +6,8 @@ use Rattle.whole.specs.Applying.{outputs_between}
 use Rattle.whole.specs.Config.{Config}
 use Rattle.whole.specs.Replica.{ReplicaState, is_active}
 use Rattle.agreement.specs.MasterState.{MasterState}
-use Rattle.agreement.specs.Past.{Learns, Moment, Past}
-use Rattle.agreement.specs.Past.Past.{began, went_on, learned}
+use Rattle.agreement.specs.Moments.{Learns, Moment, Moments}
+use Rattle.agreement.specs.Moments.Moments.{began, went_on, learned}
 use Rattle.agreement.specs.Primaries.{IsPrimary}
 use Rattle.agreement.specs.Steps.{MayHappen}
 use Rattle.agreement.specs.Steps.MayHappen.{node_takes, node_stops, master_assigns, master_hears}
@@ -27,7 +27,7 @@ given_in n (answer_lost from b sent) = []
 
 -- all that it gave in a past, in order
 abbrev pub given_of : {S C O : Type 0} {rules : Rules S C O} {config : Config}
-    {past : List (Moment S C O)} → ℕ → Past rules config past → List (ℕ × O)
+    {past : List (Moment S C O)} → ℕ → Moments rules config past → List (ℕ × O)
 given_of n (began nodes lawful is) = []
 given_of n (went_on came step) = given_of n came ++ given_in n step
 given_of n (learned came learns) = given_of n came
@@ -50,18 +50,18 @@ pub record GivesNext {S C O : Type 0} (rules : Rules S C O) (old new : ReplicaSt
 -- a past continues from a moment, by steps and by nodes that learn, and the node at index n is the
 -- active primary of a ballot at that moment and at each later one
 pub data LeadsOn {S C O : Type 0} {rules : Rules S C O} {config : Config} (n ballot : ℕ)
-    {a : Moment S C O} {past : List (Moment S C O)} (came : Past rules config (a ∷ past)) :
-    (b : Moment S C O) (later : List (Moment S C O)) → Past rules config (b ∷ later) →
+    {a : Moment S C O} {past : List (Moment S C O)} (came : Moments rules config (a ∷ past)) :
+    (b : Moment S C O) (later : List (Moment S C O)) → Moments rules config (b ∷ later) →
     Type 0 where
   -- it is so at the moment itself
   leads_there : IsPrimary a.world n ballot → LeadsOn n ballot came a past came
   -- it is so after one more step
   leads_still : {b c : Moment S C O} {later : List (Moment S C O)}
-      {more : Past rules config (b ∷ later)} → LeadsOn n ballot came b later more →
+      {more : Moments rules config (b ∷ later)} → LeadsOn n ballot came b later more →
       (step : MayHappen rules b.master b.world c.master c.world) → IsPrimary c.world n ballot →
       LeadsOn n ballot came c (b ∷ later) (went_on more step)
   -- it is so after a node learned something
   leads_beside : {b c : Moment S C O} {later : List (Moment S C O)}
-      {more : Past rules config (b ∷ later)} → LeadsOn n ballot came b later more →
+      {more : Moments rules config (b ∷ later)} → LeadsOn n ballot came b later more →
       (learns : Learns rules (b ∷ later) b c) → IsPrimary c.world n ballot →
       LeadsOn n ballot came c (b ∷ later) (learned more learns)

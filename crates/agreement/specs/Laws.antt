@@ -10,7 +10,7 @@ use Rattle.agreement.specs.Agreement.{Agrees, Holds}
 use Rattle.agreement.specs.Giving.{GivesNext, LeadsOn, given_in, given_of}
 use Rattle.agreement.specs.Leaving.{LeftInOrder}
 use Rattle.agreement.specs.MasterState.{MasterState}
-use Rattle.agreement.specs.Past.{Moment, Past, IsAgreed}
+use Rattle.agreement.specs.Moments.{Moment, Moments, IsAgreed}
 use Rattle.agreement.specs.Primaries.{IsPrimary}
 use Rattle.agreement.specs.Proposals.{IsOfBallot, IsPartOf, IsTaken, commands_of, proposal_of}
 use Rattle.agreement.specs.Proposals.{proposals_of, rows_in, taken_at, taken_in, taken_of, takes_at}
@@ -22,14 +22,14 @@ use Rattle.agreement.specs.World.{World, log_of, outputs}
 abbrev pub HasAgreed : {S C O : Type 0} → Rules S C O → Type 0
 HasAgreed {S} {C} {O} rules =
     (config : Config) (a : Moment S C O) (past : List (Moment S C O)) →
-    Past rules config (a ∷ past) → (xs : List C) × IsAgreed config (a ∷ past) xs
+    Moments rules config (a ∷ past) → (xs : List C) × IsAgreed config (a ∷ past) xs
 
 -- the nodes agree on each agreed list, a member of the active ballot holds it, and what left is its
 -- answers in order
 abbrev pub NodesAgree : {S C O : Type 0} → Rules S C O → Type 0
 NodesAgree {S} {C} {O} rules =
     (config : Config) (a : Moment S C O) (past : List (Moment S C O)) (xs : List C) →
-    Past rules config (a ∷ past) → IsAgreed config (a ∷ past) xs →
+    Moments rules config (a ∷ past) → IsAgreed config (a ∷ past) xs →
     Agrees rules a.master a.world xs × Holds a.master a.world xs
     × LeftInOrder rules (a ∷ past) a.world xs
 
@@ -43,14 +43,14 @@ AgreedGrows {S} {C} {O} rules =
 abbrev pub MachinesReplay : {S C O : Type 0} → Rules S C O → Type 0
 MachinesReplay {S} {C} {O} rules =
     (config : Config) (a : Moment S C O) (past : List (Moment S C O)) →
-    Past rules config (a ∷ past) → AreReplays rules a.world
+    Moments rules config (a ∷ past) → AreReplays rules a.world
 
 -- of the commands that were taken only in one ballot, each log has a prefix in the order of
 -- proposing
 abbrev pub KeepsTheOrder : {S C O : Type 0} → Rules S C O → Type 0
 KeepsTheOrder {S} {C} {O} rules =
     (config : Config) (a : Moment S C O) (past : List (Moment S C O)) →
-    (came : Past rules config (a ∷ past)) →
+    (came : Moments rules config (a ∷ past)) →
     IsPartOf (taken_of came) (proposals_of came)
     × ((names : C → Bool) (ballot : ℕ) → IsOfBallot rules.start_of names ballot (taken_of came) →
     (n : ℕ) (r : ReplicaState S C) → slice_get a.world.nodes n ≡ Some r →
@@ -75,7 +75,7 @@ TakenStandAtOnce {S} {C} {O} rules =
 abbrev pub OnePrimaryABallot : {S C O : Type 0} → Rules S C O → Type 0
 OnePrimaryABallot {S} {C} {O} rules =
     (config : Config) (a : Moment S C O) (past : List (Moment S C O)) →
-    Past rules config (a ∷ past) →
+    Moments rules config (a ∷ past) →
     (c d : Moment S C O) (m n ballot : ℕ) → In c (a ∷ past) → In d (a ∷ past) →
     IsPrimary c.world m ballot → IsPrimary d.world n ballot → m ≡ n
 
@@ -83,7 +83,7 @@ OnePrimaryABallot {S} {C} {O} rules =
 abbrev pub OneNodeTakesABallot : {S C O : Type 0} → Rules S C O → Type 0
 OneNodeTakesABallot {S} {C} {O} rules =
     (config : Config) (a : Moment S C O) (past : List (Moment S C O)) →
-    (came : Past rules config (a ∷ past)) →
+    (came : Moments rules config (a ∷ past)) →
     (c : Moment S C O) (n ballot : ℕ) → In c (a ∷ past) → IsPrimary c.world n ballot →
     rows_in ballot (taken_of came) ≡ rows_in ballot (taken_at n came)
 
@@ -91,7 +91,7 @@ OneNodeTakesABallot {S} {C} {O} rules =
 abbrev pub AnswersAtTheNextPlaces : {S C O : Type 0} → Rules S C O → Type 0
 AnswersAtTheNextPlaces {S} {C} {O} rules =
     (config : Config) (a b : Moment S C O) (past : List (Moment S C O)) (xs : List C) →
-    Past rules config (a ∷ past) → IsAgreed config (b ∷ a ∷ past) xs →
+    Moments rules config (a ∷ past) → IsAgreed config (b ∷ a ∷ past) xs →
     (step : MayHappen rules a.master a.world b.master b.world) →
     (n : ℕ) (old new : ReplicaState S C) → slice_get a.world.nodes n ≡ Some old →
     slice_get b.world.nodes n ≡ Some new → GivesNext rules old new xs (given_in n step)
@@ -101,7 +101,7 @@ AnswersAtTheNextPlaces {S} {C} {O} rules =
 abbrev pub AnswersWhileItLeads : {S C O : Type 0} → Rules S C O → Type 0
 AnswersWhileItLeads {S} {C} {O} rules =
     (config : Config) (a b : Moment S C O) (past later : List (Moment S C O)) (xs : List C) →
-    (came : Past rules config (a ∷ past)) (more : Past rules config (b ∷ later)) →
+    (came : Moments rules config (a ∷ past)) (more : Moments rules config (b ∷ later)) →
     IsAgreed config (b ∷ later) xs → (n ballot : ℕ) → LeadsOn n ballot came b later more →
     (old new : ReplicaState S C) → slice_get a.world.nodes n ≡ Some old →
     slice_get b.world.nodes n ≡ Some new →

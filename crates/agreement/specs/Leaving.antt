@@ -4,7 +4,7 @@ use Rattle.std.specs.List.{flat_map}
 use Rattle.whole.specs.machine.Machine.{Rules}
 use Rattle.whole.specs.lists.Lists.{In}
 use Rattle.whole.specs.Applying.{outputs_between}
-use Rattle.agreement.specs.Past.{Moment, WasActive}
+use Rattle.agreement.specs.Moments.{Moment, WasActive}
 use Rattle.agreement.specs.World.{World, outputs}
 
 -- the places whose outputs one commit gave: by which ballot's primary, from where to where

@@ -4,7 +4,7 @@ pub mod Inside
 pub mod Laws
 pub mod Leaving
 pub mod MasterState
-pub mod Past
+pub mod Moments
 pub mod Primaries
 pub mod Proposals
 pub mod Replays

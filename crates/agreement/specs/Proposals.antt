@@ -8,8 +8,8 @@ use Rattle.whole.specs.Protocol.{Input}
 use Rattle.whole.specs.Protocol.Input.{Receives, Proposes, Ticks}
 use Rattle.whole.specs.Replica.{ReplicaState}
 use Rattle.agreement.specs.MasterState.{MasterState}
-use Rattle.agreement.specs.Past.{Moment, Past}
-use Rattle.agreement.specs.Past.Past.{began, went_on, learned}
+use Rattle.agreement.specs.Moments.{Moment, Moments}
+use Rattle.agreement.specs.Moments.Moments.{began, went_on, learned}
 use Rattle.agreement.specs.Primaries.{IsPrimary}
 use Rattle.agreement.specs.Steps.{MayHappen}
 use Rattle.agreement.specs.Steps.MayHappen.{node_takes, node_stops, master_assigns, master_hears}
@@ -34,7 +34,7 @@ proposal_of (answer_lost from b sent) = []
 
 -- all proposals of a past, in order
 abbrev pub proposals_of : {S C O : Type 0} {rules : Rules S C O} {config : Config}
-    {past : List (Moment S C O)} → Past rules config past → List (ℕ × C)
+    {past : List (Moment S C O)} → Moments rules config past → List (ℕ × C)
 proposals_of (began nodes lawful is) = []
 proposals_of (went_on came step) = proposals_of came ++ proposal_of step
 proposals_of (learned came learns) = proposals_of came
@@ -57,7 +57,7 @@ taken_in (answer_lost from b sent) = []
 
 -- all that was taken in a past, in order
 abbrev pub taken_of : {S C O : Type 0} {rules : Rules S C O} {config : Config}
-    {past : List (Moment S C O)} → Past rules config past → List (ℕ × C)
+    {past : List (Moment S C O)} → Moments rules config past → List (ℕ × C)
 taken_of (began nodes lawful is) = []
 taken_of (went_on came step) = taken_of came ++ taken_in step
 taken_of (learned came learns) = taken_of came
@@ -75,7 +75,7 @@ takes_at n (answer_lost from b sent) = []
 
 -- what the node at index n took in a past
 abbrev pub taken_at : {S C O : Type 0} {rules : Rules S C O} {config : Config}
-    {past : List (Moment S C O)} → ℕ → Past rules config past → List (ℕ × C)
+    {past : List (Moment S C O)} → ℕ → Moments rules config past → List (ℕ × C)
 taken_at n (began nodes lawful is) = []
 taken_at n (went_on came step) = taken_at n came ++ takes_at n step
 taken_at n (learned came learns) = taken_at n came

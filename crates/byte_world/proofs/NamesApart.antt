@@ -11,7 +11,7 @@ use Rattle.node_group.specs.broker_spec.declared.command.Command.{Command}
 use Rattle.node_group.specs.broker_spec.declared.command.Output.{Output}
 use Rattle.node_group.specs.broker_spec.Connection.{ConnectionName}
 use Rattle.node_group.specs.agreement.MasterState.{refusal}
-use Rattle.node_group.specs.snapshots.Past.{Moment, Past}
+use Rattle.node_group.specs.snapshots.Moments.{Moment, Moments}
 use Rattle.node_group.proofs.of_snapshots.PastsAgree.{one_primary_a_ballot}
 use Rattle.node_group.specs.world_base.declared.Connection.{Connection}
 use Rattle.node_group.specs.world_base.Core.{CoreState, Turn, rules}
@@ -54,12 +54,12 @@ led_later : {moments more : List (Moment State Command Output)} {n ballot : ℕ}
     → Led more n ballot
 led_later kept led = record { moment = led.moment; among = kept led.moment led.among; primary = led.primary }
 
-record LedOn {config : Config} (g : Group) {earlier : List (Moment State Command Output)} (came : Past rules config (moment_of g ∷ earlier)) (h : Group) (put : List (ℕ × Command)) : Type 0 where
+record LedOn {config : Config} (g : Group) {earlier : List (Moment State Command Output)} (came : Moments rules config (moment_of g ∷ earlier)) (h : Group) (put : List (ℕ × Command)) : Type 0 where
   further : Further came (moment_of h) put
   led : AreLed g (moment_of g ∷ earlier) → AreLed h (moment_of h ∷ further.before)
 
 move_led : {config : Config} (g : Group) (n : ℕ) (core : CoreState) (turn : Turn) (m : LossyMoves core turn) (kept : Given) → slice_get g.nodes n ≡ Some core → WereSent g n (inputs_in m)
-    → Freezes m → Thinned kept turn.messages → IsOrderly core → {earlier : List (Moment State Command Output)} (came : Past rules config (moment_of g ∷ earlier))
+    → Freezes m → Thinned kept turn.messages → IsOrderly core → {earlier : List (Moment State Command Output)} (came : Moments rules config (moment_of g ∷ earlier))
     → LedOn g came (after_turn (with_record g (recorded_by g.archive m)) n (keeping kept turn) (given_in m)) (put_in_move m)
 move_led {config = config} g n core turn m kept at sent frozen t o {earlier = earlier} came =
     let f = (losses_happen g n core turn m kept at sent frozen t config earlier came).further in
@@ -78,7 +78,7 @@ move_led {config = config} g n core turn m kept at sent frozen t o {earlier = ea
     on before x k has (inr stood) = before x k (record { core = has.core; stands = stood; connection = has.connection; listed = has.listed })
 
 run_led : {config : Config} (g : Group) (n : ℕ) (core : CoreState) (turn : Turn) (run : LossyRuns core turn) (kept : Given) → IsOrderly core → slice_get g.nodes n ≡ Some core
-    → WereSent g n (all_inputs run) → AllFreeze run → Thinned kept turn.messages → {earlier : List (Moment State Command Output)} (came : Past rules config (moment_of g ∷ earlier))
+    → WereSent g n (all_inputs run) → AllFreeze run → Thinned kept turn.messages → {earlier : List (Moment State Command Output)} (came : Moments rules config (moment_of g ∷ earlier))
     → LedOn g came (after_turn (with_record g (recorded_in g.archive run)) n (keeping kept turn) (all_given run)) (put_in_run run)
 run_led g n core turn rests kept o at sent frozen t came =
     subst (λ (h : Group). LedOn g came h [])
@@ -102,7 +102,7 @@ nodes_led g h same kept before x n has =
     led_later kept (before x n (record { core = has.core; stands = ap (λ l. slice_get l n) (sym same) ∙ has.stands; connection = has.connection; listed = has.listed }))
 
 step_led : {nodes : ℕ} {config : Config} (g h : Group) → GroupTrace nodes config g → (step : GroupStep g h) → {earlier : List (Moment State Command Output)}
-    (came : Past rules config (moment_of g ∷ earlier)) → LedOn g came h (put_in_step step)
+    (came : Moments rules config (moment_of g ∷ earlier)) → LedOn g came h (put_in_step step)
 step_led {nodes = nodes} {config = config} g h went (node_acts n core node_call turn run at is first sent) came =
     subst (λ l. LedOn g came h l) (same_put run)
     (subst (λ l. LedOn g came (after_turn (with_record g (recorded_exactly g.archive run)) n turn l) (put_in_run (losing_none run))) (same_given run)
@@ -127,7 +127,7 @@ step_led {config = config} g h went (answers_unheard from ballot sent) {earlier 
 -- a past of the group, and in it each earlier group's nodes led the ballots of their names
 record SoFar {nodes : ℕ} {config : Config} {g : Group} (went : GroupTrace nodes config g) : Type 0 where
   earlier : List (Moment State Command Output)
-  past : Past rules config (moment_of g ∷ earlier)
+  past : Moments rules config (moment_of g ∷ earlier)
   now : AreLed g (moment_of g ∷ earlier)
   ever : (e : Group) → In e (groups_of went) → AreLed e (moment_of g ∷ earlier)
 

@@ -8,7 +8,7 @@ use Rattle.node_group.specs.broker_spec.declared.command.Command.{Command}
 use Rattle.node_group.specs.broker_spec.Place.{Client}
 use Rattle.node_group.specs.lists.Lists.{Each, IsPrefixOf}
 use Rattle.node_group.specs.exactly_once.Sides.{Connection}
-use Rattle.node_group.specs.snapshots.Past.{IsAgreed}
+use Rattle.node_group.specs.snapshots.Moments.{IsAgreed}
 use Rattle.node_group.specs.node_moves.Ends.{commands_of}
 use Rattle.node_group.specs.node_moves.Puts.{spelled}
 use Rattle.node_group.specs.Group.{moment_of}

@@ -9,7 +9,7 @@ use Rattle.node_group.specs.broker_spec.Commands.{past_of, usual_limits}
 use Rattle.node_group.specs.broker_spec.Connection.{ConnectionName}
 use Rattle.node_group.specs.broker_spec.Past.{session_of}
 use Rattle.node_group.specs.broker_spec.Place.{Client}
-use Rattle.node_group.specs.snapshots.Past.{IsAgreed}
+use Rattle.node_group.specs.snapshots.Moments.{IsAgreed}
 use Rattle.node_group.specs.Group.{moment_of}
 use Rattle.node_group.specs.Goes.{all_put, groups_of}
 use Rattle.node_group.specs.Pasts.{HasPast}

@@ -30,7 +30,7 @@ use Rattle.escaping.specs.Waiting.{AwaitsAnswer}
 use Rattle.escaping.specs.Welcome.{IsWelcomedBack}
 use Rattle.world_nodes.specs.node_group.Group.{replica_of}
 use Rattle.escaping.specs.node_moves.Moves.NodeCall.{takes, gives}
-use Rattle.ways_out.specs.snapshots.Past.{Moment, Past, whole_moment}
+use Rattle.ways_out.specs.snapshots.Moments.{Moment, Moments, whole_moment}
 use Rattle.ways_out.specs.snapshots.World.{messages, outputs}
 use Rattle.escaping.specs.world_base.declared.Connection.{Connection}
 use Rattle.escaping.specs.world_base.declared.item.Item.TheVariants.{Bytes, Peer}
@@ -165,7 +165,7 @@ short_spelled : length (spelling session_present) ≤ max_pending
 unfolding spelling
 short_spelled = omega arith
 
-module _ (config : Config) (a : Moment State Command Output) (past : List (Moment State Command Output)) (came : Past rules config (a ∷ past)) (n : NodesState) (ballot index : ℕ) (node : CountedCore)
+module _ (config : Config) (a : Moment State Command Output) (past : List (Moment State Command Output)) (came : Moments rules config (a ∷ past)) (n : NodesState) (ballot index : ℕ) (node : CountedCore)
     (os : List ℕ) (port : Port) (x : ConnectionName) (list : List Command) (start now : ℕ) (piece : List ℕ) (connect : Connect)
     (can : CanAsk a n ballot index node os port x list start piece connect) where
   abbrev core : CoreState
@@ -318,7 +318,7 @@ others_let_the_client_be_answered config a past came n new ballot index node fro
     with_others config a past came n ballot index node (front ++ last ∷ []) port x list start now piece connect can front last h new comes
 
 -- and meanwhile the connection waits
-pub others_are_awaited : (config : Config) (a : Moment State Command Output) (past : List (Moment State Command Output)) → Past rules config (a ∷ past) → (n : NodesState) (ballot index : ℕ)
+pub others_are_awaited : (config : Config) (a : Moment State Command Output) (past : List (Moment State Command Output)) → Moments rules config (a ∷ past) → (n : NodesState) (ballot index : ℕ)
     (node : CountedCore) (front : List ℕ) (last : ℕ) (port : Port) (x : ConnectionName) (list : List Command) (start now : ℕ) (piece : List ℕ) (connect : Connect) →
     CanAsk a n ballot index node (front ++ last ∷ []) port x list start piece connect → AreApart (front ++ last ∷ []) → (In (index + 1) (front ++ last ∷ []) → ⊥) →
     ((m : ℕ) → In m (front ++ last ∷ []) → NodeIs (Follows ballot (begun list start)) (whole_moment a).world.nodes m) →

@@ -9,7 +9,7 @@ use Rattle.escaping.specs.broker_base.State.{State}
 use Rattle.world_nodes.specs.node_group.Group.{replica_of}
 use Rattle.ways_out.specs.agreement.MasterState.{MasterState, assigning}
 use Rattle.ways_out.specs.snapshots.Masters.{assigned}
-use Rattle.ways_out.specs.snapshots.Past.{Moment, Past, whole_moment}
+use Rattle.ways_out.specs.snapshots.Moments.{Moment, Moments, whole_moment}
 use Rattle.ways_out.specs.snapshots.Whole.{whole}
 use Rattle.escaping.specs.world_base.Core.{CountedCore, rules}
 use Rattle.ways_out.proofs.of_snapshots.PastsKept.{StandsFor, past_stands}
@@ -41,7 +41,7 @@ assigned_seen a n new s =
     }
 
 -- no node has joined a ballot that is given next
-pub low_before : (config : Config) (a : Moment State Command Output) (past : List (Moment State Command Output)) → Past rules config (a ∷ past) → (n : NodesState) → IsSeen a n →
+pub low_before : (config : Config) (a : Moment State Command Output) (past : List (Moment State Command Output)) → Moments rules config (a ∷ past) → (n : NodesState) → IsSeen a n →
     (at : ℕ) (node : CountedCore) → slice_get n.nodes at ≡ Some node → node.core.replica.state.joined < a.master.given + 1
 low_before config a past came n s at node there =
     joined_below rules config (whole_moment a) stands.earlier stands.kept.came at (whole a.world.archive (replica_of node.core))
@@ -51,7 +51,7 @@ low_before config a past came n s at node there =
     stands = past_stands rules config a past came
 
 -- and there is a way out
-pub way_of : (config : Config) (a : Moment State Command Output) (past : List (Moment State Command Output)) → Past rules config (a ∷ past) → (new : Config) (index source : ℕ)
+pub way_of : (config : Config) (a : Moment State Command Output) (past : List (Moment State Command Output)) → Moments rules config (a ∷ past) → (new : Config) (index source : ℕ)
     (log : List Command) → CanBeLed (whole_moment a) new index source log → LeadsOut rules config (a ∷ past) a new index log
 way_of config a past came new index source log can = cut_groups_have_ways_out rules starts_give_nothing config a past came new index source log can
 

@@ -20,7 +20,7 @@ use Rattle.escaping.specs.node_moves.Moves.{NodeCall, done}
 use Rattle.escaping.specs.node_moves.Moves.NodeCall.{takes, gives}
 use Rattle.ways_out.specs.agreement.MasterState.{MasterState}
 use Rattle.ways_out.specs.snapshots.Masters.{activated}
-use Rattle.ways_out.specs.snapshots.Past.{Moment}
+use Rattle.ways_out.specs.snapshots.Moments.{Moment}
 use Rattle.ways_out.specs.snapshots.World.{messages, outputs}
 use Rattle.escaping.specs.world_base.declared.Connection.{Connection}
 use Rattle.escaping.specs.world_base.declared.item.Item.TheVariants.{Peer}

@@ -15,7 +15,7 @@ use Rattle.escaping.specs.Opening.{first_name, with_first}
 use Rattle.escaping.specs.Waiting.{AwaitsConnect}
 use Rattle.world_nodes.specs.node_group.Group.{replica_of}
 use Rattle.escaping.specs.node_moves.Moves.NodeCall.{takes, gives}
-use Rattle.ways_out.specs.snapshots.Past.{Moment}
+use Rattle.ways_out.specs.snapshots.Moments.{Moment}
 use Rattle.ways_out.specs.snapshots.Whole.{whole}
 use Rattle.ways_out.specs.snapshots.World.{messages}
 use Rattle.escaping.specs.world_base.declared.item.Item.TheVariants.{Opened}

@@ -22,7 +22,7 @@ use Rattle.escaping.specs.Answering.{PutsOutFirst}
 use Rattle.escaping.specs.Waiting.{AwaitsConnect}
 use Rattle.world_nodes.specs.node_group.Group.{replica_of}
 use Rattle.escaping.specs.node_moves.Moves.NodeCall.{takes}
-use Rattle.ways_out.specs.snapshots.Past.{Moment, Past, whole_moment}
+use Rattle.ways_out.specs.snapshots.Moments.{Moment, Moments, whole_moment}
 use Rattle.ways_out.specs.snapshots.Whole.{whole}
 use Rattle.escaping.specs.world_base.declared.item.Item.TheVariants.{Bytes, Peer}
 use Rattle.escaping.specs.world_base.declared.Port.{Port}
@@ -64,7 +64,7 @@ pub record CanAsk (a : Moment State Command Output) (n : NodesState) (ballot ind
 abbrev pub SoleMemberAnswersTheClient : Type 0
 SoleMemberAnswersTheClient =
     (config : Config) (a : Moment State Command Output)
-    (past : List (Moment State Command Output)) → Past rules config (a ∷ past) →
+    (past : List (Moment State Command Output)) → Moments rules config (a ∷ past) →
     (n : NodesState) (ballot index : ℕ) (node : CountedCore) (port : Port) (x : ConnectionName)
     (list : List Command) (start now : ℕ) (piece : List ℕ) (connect : Connect) →
     CanAsk a n ballot index node [] port x list start piece connect →
@@ -89,7 +89,7 @@ pub record PutsOutAtLast (index number : ℕ) (port : Port) (message : Message C
 abbrev pub OthersLetTheClientBeAnswered : Type 0
 OthersLetTheClientBeAnswered =
     (config : Config) (a : Moment State Command Output)
-    (past : List (Moment State Command Output)) → Past rules config (a ∷ past) →
+    (past : List (Moment State Command Output)) → Moments rules config (a ∷ past) →
     (n new : NodesState) (ballot index : ℕ) (node : CountedCore) (front : List ℕ) (last : ℕ)
     (port : Port) (x : ConnectionName) (list : List Command) (start now : ℕ) (piece : List ℕ)
     (connect : Connect) →

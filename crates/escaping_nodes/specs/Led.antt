@@ -4,7 +4,7 @@ use Rattle.escaping.specs.ballot.Config.{Config}
 use Rattle.escaping.specs.broker_spec.declared.command.Command.{Command}
 use Rattle.escaping.specs.broker_spec.declared.command.Output.{Output}
 use Rattle.escaping.specs.broker_base.State.{State}
-use Rattle.ways_out.specs.snapshots.Past.{Moment, Past, whole_moment}
+use Rattle.ways_out.specs.snapshots.Moments.{Moment, Moments, whole_moment}
 use Rattle.escaping.specs.world_base.Core.{rules}
 use Rattle.world_nodes.specs.Goes.{after_giving}
 use Rattle.world_nodes.specs.Nodes.{NodesState}
@@ -28,7 +28,7 @@ pub record AreLedOut (config : Config) (past : List (Moment State Command Output
 abbrev pub NodesAreLedOut : Type 0
 NodesAreLedOut =
     (config : Config) (a : Moment State Command Output)
-    (past : List (Moment State Command Output)) → Past rules config (a ∷ past) →
+    (past : List (Moment State Command Output)) → Moments rules config (a ∷ past) →
     (new : Config) (index source : ℕ) (log : List Command) →
     CanBeLed (whole_moment a) new index source log → (n end : NodesState) → IsSeen a n →
     Come (after_giving new n)

@@ -11,7 +11,7 @@ use Rattle.escaping.specs.broker_base.State.{State}
 use Rattle.escaping.specs.Waiting.{AwaitsConnect}
 use Rattle.world_nodes.specs.node_group.Group.{replica_of}
 use Rattle.escaping.specs.node_moves.Moves.NodeCall.{takes}
-use Rattle.ways_out.specs.snapshots.Past.{Moment}
+use Rattle.ways_out.specs.snapshots.Moments.{Moment}
 use Rattle.ways_out.specs.snapshots.Whole.{whole}
 use Rattle.escaping.specs.world_base.declared.item.Item.TheVariants.{Opened}
 use Rattle.escaping.specs.world_base.declared.Port.{Port}

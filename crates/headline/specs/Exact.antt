@@ -16,7 +16,7 @@ use Rattle.byte_world.specs.exactly_once.Lives.{ExactlyOnceOverSessions}
 use Rattle.byte_world.specs.exactly_once.Unexpelled.{HasOneSession, IsUnexpelled}
 use Rattle.byte_world.specs.exactly_once.Sides.{Connection}
 use Rattle.byte_world.specs.exactly_once.Story.{Story}
-use Rattle.byte_world.specs.snapshots.Past.{IsAgreed}
+use Rattle.byte_world.specs.snapshots.Moments.{IsAgreed}
 use Rattle.byte_world.specs.packet_world.World.{AreApart}
 use Rattle.byte_world.specs.node_group.Group.{moment_of}
 use Rattle.byte_world.specs.node_group.Goes.{all_put, groups_of}

@@ -14,7 +14,7 @@ use Rattle.snapshots.specs.whole.Messages.{Body}
 use Rattle.snapshots.specs.whole.Messages.Body.{NewBallot, Join, State, Install, Installed, Activate, Activated, Superseded, Append, Held, Commit}
 use Rattle.snapshots.specs.whole.Replica.{ReplicaState}
 use Rattle.snapshots.specs.agreement.World.{World, log_of}
-use Rattle.snapshots.specs.agreement.Past.{Moment, Past, IsAgreed}
+use Rattle.snapshots.specs.agreement.Moments.{Moment, Moments, IsAgreed}
 use Rattle.snapshots.specs.agreement.Agreement.{Holds}
 use Rattle.snapshots.specs.agreement.Inside.Ballots.{Given, History, IsChain, Line}
 use Rattle.snapshots.specs.agreement.Inside.Ballots.Told.{told_as_primary}
@@ -208,7 +208,7 @@ prefix_both {X = X} {xs = xs} {ys = ys} p q =
     whole (x ∷ us) = ap (λ vs. x ∷ vs) (whole us)
 
 agreed_front : {S C O : Type 0} (rules : Rules S C O) (config : Config) (a : Moment S C O) (past : List (Moment S C O)) (xs : List C) →
-    Past rules config (a ∷ past) → IsAgreed config (a ∷ past) xs → IsFront rules a xs
+    Moments rules config (a ∷ past) → IsAgreed config (a ∷ past) xs → IsFront rules a xs
 agreed_front {S = S} {C = C} {O = O} rules config a past xs came agreed =
     let q = past_known rules config a past came in
     let s = q.serves.sound in
@@ -269,7 +269,7 @@ told_within rules a xs f m i =
 
 -- with two members and more, the agreed list is as long as what all but the primary acknowledged
 pub counted_length : {S C O : Type 0} (rules : Rules S C O) (config : Config) (a : Moment S C O) (past : List (Moment S C O)) (xs : List C) (told : ToldIn) (top : ℕ) →
-    Past rules config (a ∷ past) → IsAgreed config (a ∷ past) xs → told.ballot ≡ a.master.active → ((m : ℕ) → m < 16 → get_or told.held m 0 ≡ max_told m told.ballot a.world.sent) →
+    Moments rules config (a ∷ past) → IsAgreed config (a ∷ past) xs → told.ballot ≡ a.master.active → ((m : ℕ) → m < 16 → get_or told.held m 0 ≡ max_told m told.ballot a.world.sent) →
     ((m : ℕ) → get_or told.held m 0 ≤ top) → (length a.master.members ≡ 1 → ⊥) →
     least_but_one told.held top top a.master.members ≡ length xs
 counted_length {S = S} {C = C} {O = O} rules config a past xs told top came agreed active counted bound several =
@@ -417,7 +417,7 @@ only_one k m (there j) = elim j [ ]
 
 -- with a sole member, the agreed list is its log
 pub sole_length : {S C O : Type 0} (rules : Rules S C O) (config : Config) (a : Moment S C O) (past : List (Moment S C O)) (xs : List C) →
-    Past rules config (a ∷ past) → IsAgreed config (a ∷ past) xs → (m : ℕ) → a.master.members ≡ m ∷ [] →
+    Moments rules config (a ∷ past) → IsAgreed config (a ∷ past) xs → (m : ℕ) → a.master.members ≡ m ∷ [] →
     length (log_of (slice_get a.world.nodes (m - 1))) ≡ length xs
 sole_length {S = S} {C = C} {O = O} rules config a past xs came agreed m sole = by_node holds
   where
@@ -451,7 +451,7 @@ sole_length {S = S} {C = C} {O = O} rules config a past xs came agreed m sole = 
 
 -- the front of a member's log, if it is long enough
 pub member_front : {S C O : Type 0} (rules : Rules S C O) (config : Config) (a : Moment S C O) (past : List (Moment S C O)) (k m : ℕ) →
-    Past rules config (a ∷ past) → ((xs : List C) → IsAgreed config (a ∷ past) xs → k ≡ length xs) → In m a.master.members →
+    Moments rules config (a ∷ past) → ((xs : List C) → IsAgreed config (a ∷ past) xs → k ≡ length xs) → In m a.master.members →
     k ≤ length (log_of (slice_get a.world.nodes (m - 1))) → IsAgreed config (a ∷ past) (take k (log_of (slice_get a.world.nodes (m - 1))))
 member_front {S = S} {C = C} {O = O} rules config a past k m came is i within = by_node (slice_get a.world.nodes (m - 1)) refl within
   where
@@ -485,7 +485,7 @@ member_front {S = S} {C = C} {O = O} rules config a past k m came is i within = 
 
 -- some member's log is long enough
 pub some_long : {S C O : Type 0} (rules : Rules S C O) (config : Config) (a : Moment S C O) (past : List (Moment S C O)) (k : ℕ) →
-    Past rules config (a ∷ past) → ((xs : List C) → IsAgreed config (a ∷ past) xs → k ≡ length xs) →
+    Moments rules config (a ∷ past) → ((xs : List C) → IsAgreed config (a ∷ past) xs → k ≡ length xs) →
     ((m : ℕ) → In m a.master.members → (r : ReplicaState S C) → slice_get a.world.nodes (m - 1) ≡ Some r → length r.log < k) → ⊥
 some_long rules config a past k came is short =
     let xs = has_agreed rules config a past came in

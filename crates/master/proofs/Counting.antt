@@ -16,7 +16,7 @@ use Rattle.ballot.specs.Logs.{places}
 use Rattle.master.specs.declared.event.Event.{Event}
 use Rattle.master.specs.declared.event.Event.TheVariants.{Assign, Deliver}
 use Rattle.snapshots.specs.World.{World, moved}
-use Rattle.snapshots.specs.Past.{Moment}
+use Rattle.snapshots.specs.Moments.{Moment}
 use Rattle.ballot.specs.Config.{Config}
 use Rattle.ballot.specs.lists.Lists.{In}
 use Rattle.ballot.proofs.of_lists.Members.{in_at}

@@ -24,11 +24,11 @@ use Rattle.ballot.proofs.ChangeRows.{on_install-answers, on_install-stays, on_in
 use Rattle.ballot.proofs.MessageRows.{on_append-elsewhere, on_append-gap, on_append-takes}
 use Rattle.snapshots.specs.agreement.Inside.Ballots.{Given, History}
 use Rattle.snapshots.specs.agreement.Inside.Saying.{IsOf, Says}
-use Rattle.snapshots.specs.agreement.Past.{Moment as WholeMoment, Past as WholePast}
+use Rattle.snapshots.specs.agreement.Moments.{Moment as WholeMoment, Moments as WholeMoments}
 use Rattle.snapshots.specs.agreement.World.{World as WholeWorld}
 use Rattle.snapshots.specs.whole.Messages.Body.{NewBallot as whole_new_ballot}
 use Rattle.snapshots.proofs.of_agreement.Agreed.PastKnown.{past_known}
-use Rattle.snapshots.specs.Past.{Moment, Past, whole_moment}
+use Rattle.snapshots.specs.Moments.{Moment, Moments, whole_moment}
 use Rattle.snapshots.specs.World.{whole_sent}
 use Rattle.snapshots.proofs.PastsKept.{past_stands}
 use Rattle.snapshots.proofs.Views.{in_whole}
@@ -49,7 +49,7 @@ said_some w h to from b p members old led (g, is_of, master, primary, own, befor
 
 -- on whole logs
 whole_some : {S C O : Type 0} (rules : Rules S C O) (config : Config) (a : WholeMoment S C O) (past : List (WholeMoment S C O)) →
-    WholePast rules config (a ∷ past) → (to from b p : ℕ) (members old : List ℕ) →
+    WholeMoments rules config (a ∷ past) → (to from b p : ℕ) (members old : List ℕ) →
     In (to, record { from = from; body = whole_new_ballot b members p old }) a.world.sent → old ≡ [] → ⊥
 whole_some rules config a past came to from b p members old sent =
     let k = past_known rules config a past came in
@@ -71,7 +71,7 @@ NamesSome (Held b held) = Unit {0}
 NamesSome (Commit b held) = Unit {0}
 
 -- each that was sent does
-pub names_some : {S C O : Type 0} (rules : Rules S C O) (config : Config) (a : Moment S C O) (past : List (Moment S C O)) → Past rules config (a ∷ past) →
+pub names_some : {S C O : Type 0} (rules : Rules S C O) (config : Config) (a : Moment S C O) (past : List (Moment S C O)) → Moments rules config (a ∷ past) →
     (to : ℕ) (message : Message C) → In (to, message) a.world.sent → NamesSome message.body
 names_some {S = S} {C = C} {O = O} rules config a past came to message sent = by_body message.from message.body sent
   where

@@ -18,13 +18,13 @@ use Rattle.snapshots.specs.World.{World, messages, moved, outputs}
 use Rattle.snapshots.specs.agreement.World.{can_open}
 use Rattle.snapshots.specs.agreement.MasterState.{MasterState, assigning, activating, refusal}
 use Rattle.snapshots.specs.Masters.{assigned, activated}
-use Rattle.snapshots.specs.Past.{Moment, Past, opening_moment}
-use Rattle.snapshots.specs.Past.Past.{began, went_on}
+use Rattle.snapshots.specs.Moments.{Moment, Moments, opening_moment}
+use Rattle.snapshots.specs.Moments.Moments.{began, went_on}
 use Rattle.snapshots.specs.Steps.{tells_from_master}
 use Rattle.master.specs.ToldLengths.{max_told, told_by, told_in}
 use Rattle.master.proofs.Untold.{whole_untold}
 use Rattle.master.proofs.WholeTold.{max_told_whole}
-use Rattle.snapshots.specs.Past.{whole_moment}
+use Rattle.snapshots.specs.Moments.{whole_moment}
 use Rattle.snapshots.proofs.PastsKept.{past_stands}
 use Rattle.std.specs.Bool.{OnTrue, OnFalse}
 use Rattle.ballot.specs.Losses.{Loses, Thinned, halted, one_more}
@@ -90,7 +90,7 @@ answer_silent C from ballot true m b = silent {C = C} m b from (Activated ballot
 answer_silent C from ballot false m b = silent {C = C} m b from (Superseded ballot) refl
 
 -- nothing was acknowledged in the ballot that comes next
-pub untold_next : {S C O : Type 0} (rules : Rules S C O) (config : Config) (a : Moment S C O) (past : List (Moment S C O)) → Past rules config (a ∷ past) →
+pub untold_next : {S C O : Type 0} (rules : Rules S C O) (config : Config) (a : Moment S C O) (past : List (Moment S C O)) → Moments rules config (a ∷ past) →
     (m : ℕ) → max_told m (a.master.given + 1) a.world.sent ≡ 0
 untold_next {S = S} {C = C} {O = O} rules config a past came m =
     let q = past_stands rules config a past came in

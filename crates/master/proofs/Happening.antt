@@ -17,7 +17,7 @@ use Rattle.ballot.specs.Sending.{Outcome}
 use Rattle.ballot.proofs.ThinnedEffects.{Thinned-same}
 use Rattle.snapshots.specs.agreement.MasterState.{AssignRefusal, MasterState, refusal, master_after}
 use Rattle.snapshots.specs.Masters.{MasterOutcome, activated, assigned}
-use Rattle.snapshots.specs.Past.{Moment}
+use Rattle.snapshots.specs.Moments.{Moment}
 use Rattle.snapshots.specs.Steps.{MayHappen, tells_from_master, world_after}
 use Rattle.snapshots.specs.World.{MayTake}
 use Rattle.snapshots.specs.Steps.MayHappen.{node_goes as node_moves, master_assigns, master_hears, assignment_lost, answer_lost}

@@ -9,8 +9,8 @@ use Rattle.ballot.specs.lists.Lists.In.{here, there}
 use Rattle.ballot.specs.Config.{Config}
 use Rattle.ballot.specs.LawfulConfig.{are_rising, is_lawful}
 use Rattle.snapshots.specs.agreement.MasterState.{AssignRefusal, MasterState, activated, refusal, master_after}
-use Rattle.snapshots.specs.agreement.Past.{Moment, Past}
-use Rattle.snapshots.specs.agreement.Past.Past.{began, went_on, learned}
+use Rattle.snapshots.specs.agreement.Moments.{Moment, Moments}
+use Rattle.snapshots.specs.agreement.Moments.Moments.{began, went_on, learned}
 use Rattle.snapshots.specs.agreement.Steps.{MayHappen}
 use Rattle.snapshots.specs.agreement.Steps.MayHappen.{node_takes, node_stops, master_assigns, master_hears, assignment_lost, answer_lost}
 use Rattle.snapshots.specs.agreement.World.{World}
@@ -56,7 +56,7 @@ lawful_step rules m w k v (assignment_lost config) s = lawful_assigned m config 
 
 -- of every past
 pub past_lawful : {S C O : Type 0} (rules : Rules S C O) (config : Config) (a : Moment S C O) (past : List (Moment S C O)) →
-    Past rules config (a ∷ past) → AreLawful a.master
+    Moments rules config (a ∷ past) → AreLawful a.master
 past_lawful {S = S} {C = C} {O = O} rules config a past (began nodes lawful is) =
     subst (λ (u : Moment S C O). AreLawful u.master) (sym is)
     (record { active = rises config (can_open_is nodes config lawful).0; waiting = λ b c f. cc })

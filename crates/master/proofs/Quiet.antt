@@ -17,7 +17,7 @@ use Rattle.ballot.specs.Serving.{max_places}
 use Rattle.ballot.proofs.TicksTaken.{ticked-state}
 use Rattle.snapshots.specs.agreement.MasterState.{AssignRefusal, refusal}
 use Rattle.snapshots.specs.Masters.{MasterOutcome}
-use Rattle.snapshots.specs.Past.{Moment}
+use Rattle.snapshots.specs.Moments.{Moment}
 use Rattle.snapshots.specs.World.{World, moved}
 use Rattle.master.specs.declared.event.Event.{Event}
 use Rattle.master.specs.declared.event.Event.TheVariants.{Assign, Cut, Deliver, Tick, Crash}

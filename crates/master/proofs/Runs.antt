@@ -6,10 +6,10 @@ use Rattle.ballot.specs.Config.{Config}
 use Rattle.ballot.specs.Losses.{one_more}
 use Rattle.ballot.specs.lists.Lists.{IsPrefixOf}
 use Rattle.ballot.proofs.of_lists.Beginnings.{prefix_then}
-use Rattle.snapshots.specs.Past.{Moment, Past, whole_moment}
-use Rattle.snapshots.specs.agreement.Past.{IsAgreed, IsChosen, WasActive}
-use Rattle.snapshots.specs.agreement.Past.{Moment as WholeMoment}
-use Rattle.snapshots.specs.Past.Past.{went_on}
+use Rattle.snapshots.specs.Moments.{Moment, Moments, whole_moment}
+use Rattle.snapshots.specs.agreement.Moments.{IsAgreed, IsChosen, WasActive}
+use Rattle.snapshots.specs.agreement.Moments.{Moment as WholeMoment}
+use Rattle.snapshots.specs.Moments.Moments.{went_on}
 use Rattle.snapshots.proofs.PastsAgree.{agreed_grows, has_agreed, nodes_agree}
 use Rattle.master.specs.declared.event.Event.{Event}
 use Rattle.master.specs.Group.{GroupState}
@@ -81,7 +81,7 @@ pub record Went {S C O : Type 0} (rules : Rules S C O) (config : Config) (past :
   pub earlier : List (Moment S C O)
   pub between : List (Moment S C O)
   pub goes_on : a ∷ earlier ≡ between ++ past
-  pub came : Past rules config (a ∷ earlier)
+  pub came : Moments rules config (a ∷ earlier)
   pub grown : (xs ys : List C) → IsAgreed config (map whole_moment past) xs → IsAgreed config (map whole_moment (a ∷ earlier)) ys → IsPrefixOf xs ys
 
 -- the agreed list is the longest, so there is one
@@ -93,11 +93,11 @@ one_agreed {S = S} {C = C} {O = O} config past xs ys x y = by_chosen x.chosen
     by_chosen (inr (b, active, chosen)) = y.longest b xs active chosen
 
 went : {S C O : Type 0} (rules : Rules S C O) (config : Config) (w v : GroupState S C O) (past : List (Moment S C O)) (events : List (Event C)) →
-    Past rules config (w.moment ∷ past) → Run rules w events v → Went rules config (w.moment ∷ past) v.moment
+    Moments rules config (w.moment ∷ past) → Run rules w events v → Went rules config (w.moment ∷ past) v.moment
 went rules config w v past events came ends =
     record { earlier = past; between = []; goes_on = refl; came = came; grown = λ xs ys before after. one_agreed config (map whole_moment (w.moment ∷ past)) xs ys before after }
 went {S = S} {C = C} {O = O} rules config w v past events came (goes_on {next = u} {e = e} {events = rest} s r) =
-    let now : Past rules config (u.moment ∷ (w.moment ∷ past)) = went_on came (step_may rules w u e s) in
+    let now : Moments rules config (u.moment ∷ (w.moment ∷ past)) = went_on came (step_may rules w u e s) in
     let q = went rules config u v (w.moment ∷ past) rest now r in
     let mid = has_agreed rules config u.moment (w.moment ∷ past) now in
     record {
@@ -110,7 +110,7 @@ went {S = S} {C = C} {O = O} rules config w v past events came (goes_on {next = 
 
 -- so the nodes agree after a run
 pub agrees_after : {S C O : Type 0} (rules : Rules S C O) (config : Config) (first last : GroupState S C O) (past : List (Moment S C O)) (events : List (Event C)) →
-    Past rules config (first.moment ∷ past) → Run rules first events last → AgreesAfter rules config (first.moment ∷ past) last.moment
+    Moments rules config (first.moment ∷ past) → Run rules first events last → AgreesAfter rules config (first.moment ∷ past) last.moment
 agrees_after {S = S} {C = C} rules config first last past events came r =
     let q = went rules config first last past events came r in
     let xs = has_agreed rules config last.moment q.earlier q.came in
@@ -131,5 +131,5 @@ agrees_after {S = S} {C = C} rules config first last past events came r =
 
 -- and after one event
 pub agrees_next : {S C O : Type 0} (rules : Rules S C O) (config : Config) (first last : GroupState S C O) (past : List (Moment S C O)) (event : Event C) →
-    Past rules config (first.moment ∷ past) → StepsBy rules first event last → AgreesAfter rules config (first.moment ∷ past) last.moment
+    Moments rules config (first.moment ∷ past) → StepsBy rules first event last → AgreesAfter rules config (first.moment ∷ past) last.moment
 agrees_next rules config first last past event came s = agrees_after rules config first last past (event ∷ []) came (goes_on s ends)

@@ -13,11 +13,11 @@ use Rattle.ballot.specs.Sending.{Outcome}
 use Rattle.ballot.specs.Protocol.{Input, replica_step}
 use Rattle.ballot.specs.Config.{Config}
 use Rattle.snapshots.specs.agreement.MasterState.{MasterState, opening_master}
-use Rattle.snapshots.specs.Past.{Moment, opening_moment}
+use Rattle.snapshots.specs.Moments.{Moment, opening_moment}
 use Rattle.ballot.specs.Status.{Status}
 use Rattle.snapshots.specs.World.{World, messages, outputs, moved, recorded}
 use Rattle.ballot.specs.Cutting.{cut}
-use Rattle.snapshots.specs.Past.{opening_nodes, opening_world}
+use Rattle.snapshots.specs.Moments.{opening_nodes, opening_world}
 use Rattle.master.specs.Turns.{NodeOutcome, cut_turn, running, unless_stopped}
 use Rattle.master.specs.Group.{GroupState}
 use Rattle.master.proofs.Archived.{recorded_by}

@@ -11,7 +11,7 @@ use Rattle.snapshots.specs.whole.Messages.Body.{NewBallot, Join, State, Install,
 use Rattle.snapshots.specs.agreement.Inside.Ballots.{Given, History}
 use Rattle.snapshots.specs.agreement.Inside.Saying.{Says}
 use Rattle.snapshots.specs.agreement.Inside.ToldLengths.{max_told, told_by, told_in}
-use Rattle.snapshots.specs.agreement.Past.{Moment, Past}
+use Rattle.snapshots.specs.agreement.Moments.{Moment, Moments}
 use Rattle.snapshots.specs.agreement.World.{World}
 use Rattle.snapshots.proofs.of_agreement.Agreed.PastKnown.{past_known}
 
@@ -48,7 +48,7 @@ untold_body w h given to from (Held b held) says low =
     ap (λ k. cond k held 0) (ne_eqb b (given + 1) (λ e. omega (arith, e, z)))
 untold_body w h given to from (Commit b held) says low = refl
 
-pub whole_untold : {S C O : Type 0} (rules : Rules S C O) (config : Config) (a : Moment S C O) (past : List (Moment S C O)) → Past rules config (a ∷ past) →
+pub whole_untold : {S C O : Type 0} (rules : Rules S C O) (config : Config) (a : Moment S C O) (past : List (Moment S C O)) → Moments rules config (a ∷ past) →
     (m : ℕ) → max_told m (a.master.given + 1) a.world.sent ≡ 0
 whole_untold {S = S} {C = C} {O = O} rules config a past came m =
     let q = past_known rules config a past came in

@@ -14,9 +14,9 @@ use Rattle.ballot.specs.Sending.{nothing_done}
 use Rattle.ballot.specs.Unread.{is_unread}
 use Rattle.ballot.specs.Replica.{ReplicaState}
 use Rattle.snapshots.specs.whole.Replica.{ReplicaState as WholeState}
-use Rattle.snapshots.specs.agreement.Past.{IsAgreed}
+use Rattle.snapshots.specs.agreement.Moments.{IsAgreed}
 use Rattle.snapshots.specs.agreement.World.{log_of}
-use Rattle.snapshots.specs.Past.{Moment, Past, whole_moment}
+use Rattle.snapshots.specs.Moments.{Moment, Moments, whole_moment}
 use Rattle.snapshots.specs.Whole.{whole, whole_log}
 use Rattle.snapshots.specs.World.{MayTake}
 use Rattle.snapshots.proofs.Continues.{agreed_back, agreed_in}
@@ -32,7 +32,7 @@ use Rattle.master.proofs.WholeTold.{counted_whole}
 
 -- with two members and more
 pub counted_as_seen : {S C O : Type 0} (rules : Rules S C O) (config : Config) (a : Moment S C O) (past : List (Moment S C O)) (xs : List C) (told : ToldIn) (top : ℕ) →
-    Past rules config (a ∷ past) → IsAgreed config (map whole_moment (a ∷ past)) xs → told.ballot ≡ a.master.active → HasCounted a.world.sent told →
+    Moments rules config (a ∷ past) → IsAgreed config (map whole_moment (a ∷ past)) xs → told.ballot ≡ a.master.active → HasCounted a.world.sent told →
     ((m : ℕ) → get_or told.held m 0 ≤ top) → (length a.master.members ≡ 1 → ⊥) →
     least_but_one told.held top top a.master.members ≡ length xs
 counted_as_seen rules config a past xs told top came agreed active counted bound several =
@@ -49,13 +49,13 @@ held_whole archive [] n within = refl
 held_whole archive (r ∷ nodes) zero within = sym (whole_long archive r.log (within r refl))
 held_whole archive (r ∷ nodes) (suc n) within = held_whole archive nodes n within
 
-pub within_of : {S C O : Type 0} (rules : Rules S C O) (config : Config) (a : Moment S C O) (past : List (Moment S C O)) → Past rules config (a ∷ past) →
+pub within_of : {S C O : Type 0} (rules : Rules S C O) (config : Config) (a : Moment S C O) (past : List (Moment S C O)) → Moments rules config (a ∷ past) →
     (n : ℕ) (r : ReplicaState S C) → slice_get a.world.nodes n ≡ Some r → r.log.base ≤ length a.world.archive
 within_of rules config a past came n r stands = ((past_stands rules config a past came).kept.nodes n r stands).0.within
 
 -- with a sole member
 pub sole_as_seen : {S C O : Type 0} (rules : Rules S C O) (config : Config) (a : Moment S C O) (past : List (Moment S C O)) (xs : List C) →
-    Past rules config (a ∷ past) → IsAgreed config (map whole_moment (a ∷ past)) xs → (m : ℕ) → a.master.members ≡ m ∷ [] →
+    Moments rules config (a ∷ past) → IsAgreed config (map whole_moment (a ∷ past)) xs → (m : ℕ) → a.master.members ≡ m ∷ [] →
     held_by (slice_get a.world.nodes (m - 1)) ≡ length xs
 sole_as_seen rules config a past xs came agreed m sole =
     let q = past_stands rules config a past came in
@@ -70,7 +70,7 @@ get_back f (x ∷ xs) zero y e = let g : f x ≡ y = cc in (x, refl, g)
 get_back f (x ∷ xs) (suc n) y e = get_back f xs n y e
 
 pub some_as_seen : {S C O : Type 0} (rules : Rules S C O) (config : Config) (a : Moment S C O) (past : List (Moment S C O)) (k : ℕ) →
-    Past rules config (a ∷ past) → ((xs : List C) → IsAgreed config (map whole_moment (a ∷ past)) xs → k ≡ length xs) →
+    Moments rules config (a ∷ past) → ((xs : List C) → IsAgreed config (map whole_moment (a ∷ past)) xs → k ≡ length xs) →
     ((m : ℕ) → In m a.master.members → IsShort (slice_get a.world.nodes (m - 1)) k) → ⊥
 some_as_seen {S = S} {C = C} {O = O} rules config a past k came is short =
     some_long rules config (whole_moment a) q.earlier k q.kept.came
@@ -110,7 +110,7 @@ front_kept archive log k within high =
 
 -- so it is the agreed list, if the log is a member's and as long as that
 pub front_agreed : {S C O : Type 0} (rules : Rules S C O) (config : Config) (a : Moment S C O) (past : List (Moment S C O)) (k at : ℕ) →
-    Past rules config (a ∷ past) → ((xs : List C) → IsAgreed config (map whole_moment (a ∷ past)) xs → k ≡ length xs) →
+    Moments rules config (a ∷ past) → ((xs : List C) → IsAgreed config (map whole_moment (a ∷ past)) xs → k ≡ length xs) →
     (h : HoldsAt a.world.nodes a.master.members k at) →
     IsAgreed config (map whole_moment (a ∷ past)) (take k (whole_log a.world.archive h.replica.log))
 front_agreed {S = S} {C = C} {O = O} rules config a past k at came is h =
@@ -147,21 +147,21 @@ heeded {S = S} {C = C} {O = O} rules r seen message heeds same read exactly = by
     by_state (off, on) = (λ e. (off e).0, λ e. on (e, read))
 
 -- so whatever a node takes is read
-pub taken_is_read : {S C O : Type 0} (rules : Rules S C O) (config : Config) (a : Moment S C O) (past : List (Moment S C O)) → Past rules config (a ∷ past) →
+pub taken_is_read : {S C O : Type 0} (rules : Rules S C O) (config : Config) (a : Moment S C O) (past : List (Moment S C O)) → Moments rules config (a ∷ past) →
     (n : ℕ) (input : Input C) (r : ReplicaState S C) → MayTake a.world n input → IsRead rules r input
 taken_is_read rules config a past came n (Receives message) r sent = snapshots_are_read rules config a past came (n + 1) message sent r
 taken_is_read rules config a past came n (Proposes command) r may = tt
 taken_is_read rules config a past came n Ticks r may = tt
 
 -- the members that the master has are lawful
-pub group_lawful : {S C O : Type 0} (rules : Rules S C O) (config : Config) (a : Moment S C O) (past : List (Moment S C O)) → Past rules config (a ∷ past) →
+pub group_lawful : {S C O : Type 0} (rules : Rules S C O) (config : Config) (a : Moment S C O) (past : List (Moment S C O)) → Moments rules config (a ∷ past) →
     AreLawful a.master
 group_lawful rules config a past came =
     let q = past_stands rules config a past came in past_lawful rules config (whole_moment a) q.earlier q.kept.came
 
 -- so it is in two parts, as it is read
 pub agreed_recorded : {S C O : Type 0} (rules : Rules S C O) (config : Config) (a : Moment S C O) (past : List (Moment S C O)) (k at : ℕ) →
-    Past rules config (a ∷ past) → ((xs : List C) → IsAgreed config (map whole_moment (a ∷ past)) xs → k ≡ length xs) →
+    Moments rules config (a ∷ past) → ((xs : List C) → IsAgreed config (map whole_moment (a ∷ past)) xs → k ≡ length xs) →
     (h : HoldsAt a.world.nodes a.master.members k at) → k ≤ h.replica.log.base →
     IsAgreed config (map whole_moment (a ∷ past)) (take k a.world.archive ++ [])
 agreed_recorded {S = S} {C = C} {O = O} rules config a past k at came is h low =
@@ -171,7 +171,7 @@ agreed_recorded {S = S} {C = C} {O = O} rules config a past k at came is h low =
     (front_agreed rules config a past k at came is h)
 
 pub agreed_kept : {S C O : Type 0} (rules : Rules S C O) (config : Config) (a : Moment S C O) (past : List (Moment S C O)) (k at : ℕ) →
-    Past rules config (a ∷ past) → ((xs : List C) → IsAgreed config (map whole_moment (a ∷ past)) xs → k ≡ length xs) →
+    Moments rules config (a ∷ past) → ((xs : List C) → IsAgreed config (map whole_moment (a ∷ past)) xs → k ≡ length xs) →
     (h : HoldsAt a.world.nodes a.master.members k at) → h.replica.log.base ≤ k →
     IsAgreed config (map whole_moment (a ∷ past))
     (take h.replica.log.base a.world.archive ++ take (k - h.replica.log.base) h.replica.log.rest)
@@ -181,7 +181,7 @@ agreed_kept {S = S} {C = C} {O = O} rules config a past k at came is h high =
     (front_agreed rules config a past k at came is h)
 
 pub agreed_read : {S C O : Type 0} (rules : Rules S C O) (config : Config) (a : Moment S C O) (past : List (Moment S C O)) (k at base : ℕ) (read : List C) →
-    Past rules config (a ∷ past) → ((xs : List C) → IsAgreed config (map whole_moment (a ∷ past)) xs → k ≡ length xs) →
+    Moments rules config (a ∷ past) → ((xs : List C) → IsAgreed config (map whole_moment (a ∷ past)) xs → k ≡ length xs) →
     (h : HoldsAt a.world.nodes a.master.members k at) → base ≡ h.replica.log.base → k ≤ base → read ≡ a.world.archive →
     IsAgreed config (map whole_moment (a ∷ past)) (take k read ++ [])
 agreed_read {S = S} {C = C} {O = O} rules config a past k at base read came is h same low seen =
@@ -189,7 +189,7 @@ agreed_read {S = S} {C = C} {O = O} rules config a past k at base read came is h
     (agreed_recorded rules config a past k at came is h (omega (arith, same, low)))
 
 pub agreed_read_on : {S C O : Type 0} (rules : Rules S C O) (config : Config) (a : Moment S C O) (past : List (Moment S C O)) (k at base : ℕ) (read rest : List C) →
-    Past rules config (a ∷ past) → ((xs : List C) → IsAgreed config (map whole_moment (a ∷ past)) xs → k ≡ length xs) →
+    Moments rules config (a ∷ past) → ((xs : List C) → IsAgreed config (map whole_moment (a ∷ past)) xs → k ≡ length xs) →
     (h : HoldsAt a.world.nodes a.master.members k at) → base ≡ h.replica.log.base → base < k → read ≡ a.world.archive → rest ≡ h.replica.log.rest →
     IsAgreed config (map whole_moment (a ∷ past)) (take base read ++ take (k - base) rest)
 agreed_read_on {S = S} {C = C} {O = O} rules config a past k at base read rest came is h same high seen kept =

@@ -4,7 +4,7 @@ use Rattle.ballot.specs.machine.Machine.{Rules}
 use Rattle.ballot.specs.lists.Lists.{IsPrefixOf}
 use Rattle.ballot.specs.Config.{Config}
 use Rattle.snapshots.specs.Agreeing.{Agrees, Holds, LeftInOrder}
-use Rattle.snapshots.specs.Past.{IsAgreed, Moment, Past}
+use Rattle.snapshots.specs.Moments.{IsAgreed, Moment, Moments}
 
 -- the past has continued up to a moment in which the nodes agree on the list that is agreed there.
 -- The outputs that left are its answers in order, and what was agreed before is a prefix of it. A
@@ -14,7 +14,7 @@ pub record AgreesAfter {S C O : Type 0} (rules : Rules S C O) (config : Config)
   pub earlier : List (Moment S C O)
   pub between : List (Moment S C O)
   pub goes_on : a ∷ earlier ≡ between ++ past
-  pub came : Past rules config (a ∷ earlier)
+  pub came : Moments rules config (a ∷ earlier)
   pub list : List C
   pub agreed : IsAgreed config (a ∷ earlier) list
   pub agrees : Agrees rules a.master a.world list

@@ -9,7 +9,7 @@ use Rattle.ballot.specs.Protocol.{Input}
 use Rattle.ballot.specs.Protocol.Input.{Receives, Proposes, Ticks}
 use Rattle.snapshots.specs.agreement.MasterState.{AssignRefusal, MasterState, refusal}
 use Rattle.snapshots.specs.Masters.{activated, assigned}
-use Rattle.snapshots.specs.Past.{Moment}
+use Rattle.snapshots.specs.Moments.{Moment}
 use Rattle.snapshots.specs.Steps.{tells_from_master}
 use Rattle.snapshots.specs.World.{World, moved, recorded}
 use Rattle.master.specs.declared.event.Event.{Event}

@@ -13,7 +13,7 @@ use Rattle.ballot.specs.lists.Lists.{Each, In}
 use Rattle.ballot.specs.Replica.{ReplicaState, CountedReplica}
 use Rattle.master.specs.ToldLengths.{max_told}
 use Rattle.snapshots.specs.agreement.MasterState.{MasterState}
-use Rattle.snapshots.specs.Past.{Moment, Past}
+use Rattle.snapshots.specs.Moments.{Moment, Moments}
 use Rattle.snapshots.specs.World.{World, outputs}
 use Rattle.master.specs.Turns.{running}
 
@@ -84,7 +84,7 @@ pub record IsGroup {S C O : Type 0} (rules : Rules S C O) (a : Moment S C O) (to
     Type 0 where
   pub config : Config
   pub past : List (Moment S C O)
-  pub came : Past rules config (a ∷ past)
+  pub came : Moments rules config (a ∷ past)
   pub active : told.ballot ≡ a.master.active
   pub counted : HasCounted a.world.sent told
   pub waits : (b : ℕ) (c : Config) → a.master.waiting ≡ Some (b, c) → next.ballot ≡ b

@@ -5,7 +5,7 @@ use Rattle.ballot.specs.Effect.{Effect}
 use Rattle.ballot.specs.Losses.{IsQuiet, Loses, one_more}
 use Rattle.ballot.specs.Replica.{ReplicaState}
 use Rattle.snapshots.specs.Masters.{MasterOutcome}
-use Rattle.snapshots.specs.Past.{Moment}
+use Rattle.snapshots.specs.Moments.{Moment}
 use Rattle.snapshots.specs.World.{moved}
 use Rattle.master.specs.declared.event.Event.{Event}
 use Rattle.master.specs.declared.event.Event.TheVariants.{Crash}

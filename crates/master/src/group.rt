@@ -9,7 +9,7 @@ ghost use Rattle.ballot.specs.Sending.{nothing_done};
 ghost use Rattle.ballot.specs.Losses.{IsQuiet, one_more};
 ghost use Rattle.ballot.specs.Replica.{ReplicaState};
 ghost use Rattle.ballot.specs.lists.Lists.{In};
-ghost use Rattle.snapshots.specs.Past.{IsAgreed, Moment, Past, opening_moment};
+ghost use Rattle.snapshots.specs.Moments.{IsAgreed, Moment, Moments, opening_moment};
 ghost use Rattle.snapshots.specs.World.{MayTake};
 ghost use Rattle.snapshots.specs.agreement.World.{can_open};
 ghost use Rattle.master.specs.Agreement.{AgreesAfter};
@@ -80,7 +80,7 @@ impl<M: Machine> Group<M> {
               moment = opening_moment M.rules nodes config;
               losses = 0;
             }) }
-        ensures opens { IfOk result (λ group. Past M.rules config (group.moment ∷ [])) }
+        ensures opens { IfOk result (λ group. Moments M.rules config (group.moment ∷ [])) }
         ensures bad { IsErrOf result OpeningError.BadMembers ↔ (can_open nodes config ≡ false) }
     {
         if !can_open(nodes, &config) {
@@ -122,7 +122,7 @@ impl<M: Machine> Group<M> {
         // Whatever led to this group, the nodes agree after the event, the outputs that left are in
         // order, and what is agreed has only grown.
         ensures agreement { (config : Config) (past : List (Moment M M.Command M.Output)) →
-            Past M.rules config (self.old.moment ∷ past) →
+            Moments M.rules config (self.old.moment ∷ past) →
             AgreesAfter M.rules config (self.old.moment ∷ past) self.new.moment }
     {
         match event {
@@ -144,7 +144,7 @@ impl<M: Machine> Group<M> {
         // Whatever led to this group, the nodes agree after the events, the outputs that left are
         // in order, and what is agreed has only grown.
         ensures agreement { (config : Config) (past : List (Moment M M.Command M.Output)) →
-            Past M.rules config (self.old.moment ∷ past) →
+            Moments M.rules config (self.old.moment ∷ past) →
             AgreesAfter M.rules config (self.old.moment ∷ past) self.new.moment }
     {
         for event in events {
@@ -156,7 +156,7 @@ impl<M: Machine> Group<M> {
     /// parts: the second continues where the first ends.
     pub fn agreed(&self) -> (&[M::Command], &[M::Command])
         ensures { (config : Config) (past : List (Moment M M.Command M.Output)) →
-            Past M.rules config (self.now.moment ∷ past) →
+            Moments M.rules config (self.now.moment ∷ past) →
             IsAgreed config (self.now.moment ∷ past)
             (result.0.now ++ result.1.now) }
     {
@@ -179,7 +179,7 @@ impl<M: Machine> Group<M> {
     pub fn agreed_len(&self) -> u64
         ensures { (config : Config) (past : List (Moment M M.Command M.Output))
             (agreed : List M.Command) →
-            Past M.rules config (self.now.moment ∷ past) →
+            Moments M.rules config (self.now.moment ∷ past) →
             IsAgreed config (self.now.moment ∷ past) agreed → result ≡ length agreed }
     {
         let (_, members) = self.master.active();

@@ -15,7 +15,7 @@ use Rattle.packet_world.proofs.of_lists.Beginnings.{prefix_then}
 use Rattle.packet_world.proofs.of_lists.OfEach.{each_append}
 use Rattle.node_moves.specs.cutter.Pipe.{Joins}
 use Rattle.packet_world.specs.agreement.MasterState.{AssignRefusal, master_after, refusal}
-use Rattle.packet_world.specs.snapshots.Past.{IsAgreed, Moment, Past}
+use Rattle.packet_world.specs.snapshots.Moments.{IsAgreed, Moment, Moments}
 use Rattle.packet_world.specs.agreement.Proposals.{commands_of as commands_in}
 use Rattle.packet_world.specs.agreement.World.{can_open}
 use Rattle.packet_world.proofs.of_snapshots.PastsAgree.{has_agreed}
@@ -70,7 +70,7 @@ nodes_stay g h moments more xs ys same kept grown (inr held) =
       sent = down_later xs ys grown held.sent;
     })
 
-master_steps : {config : Config} (g h : Group) {earlier : List (Moment State Command Output)} (came : Past rules config (moment_of g ∷ earlier)) → h.nodes ≡ g.nodes
+master_steps : {config : Config} (g h : Group) {earlier : List (Moment State Command Output)} (came : Moments rules config (moment_of g ∷ earlier)) → h.nodes ≡ g.nodes
     → Further came (moment_of h) [] → Steps g came h [] (λ x. []) (λ x. [])
 master_steps {config = config} g h {earlier = earlier} came same f =
     let xs = has_agreed rules config (moment_of g) earlier came in
@@ -88,7 +88,7 @@ assigned_nodes g config (Some why) = refl
 
 -- ---- each step
 
-group_steps : {config : Config} (g h : Group) (step : GroupStep g h) {earlier : List (Moment State Command Output)} (came : Past rules config (moment_of g ∷ earlier)) → Each IsWell g.nodes
+group_steps : {config : Config} (g h : Group) (step : GroupStep g h) {earlier : List (Moment State Command Output)} (came : Moments rules config (moment_of g ∷ earlier)) → Each IsWell g.nodes
     → Steps g came h (put_in_step step) (λ x. comes_up x step) (λ x. goes_down x step)
 group_steps g h (node_acts n core node_call turn run at is first sent) came well =
     let mine = each_got IsWell g.nodes n core well at in

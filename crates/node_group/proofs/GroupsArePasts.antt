@@ -7,8 +7,8 @@ use Rattle.packet_world.specs.broker_base.State.{State}
 use Rattle.packet_world.specs.broker_spec.declared.command.Command.{Command}
 use Rattle.packet_world.specs.broker_spec.declared.command.Output.{Output}
 use Rattle.packet_world.specs.agreement.MasterState.{AssignRefusal, MasterState, master_after, opening_master, refusal}
-use Rattle.packet_world.specs.snapshots.Past.{Moment, Past, opening_moment}
-use Rattle.packet_world.specs.snapshots.Past.Past.{began}
+use Rattle.packet_world.specs.snapshots.Moments.{Moment, Moments, opening_moment}
+use Rattle.packet_world.specs.snapshots.Moments.Moments.{began}
 use Rattle.packet_world.specs.snapshots.Steps.{world_after}
 use Rattle.packet_world.specs.snapshots.Steps.MayHappen.{master_assigns, master_hears, assignment_lost, answer_lost}
 use Rattle.packet_world.specs.snapshots.World.{World}
@@ -41,7 +41,7 @@ assigned_as : (g : Group) (config : Config) (why : Option AssignRefusal)
 assigned_as g config (Some why) = refl
 assigned_as g config None = refl
 
-pub goes_on : (config : Config) (g h : Group) (step : GroupStep g h) (earlier : List (Moment State Command Output)) (came : Past rules config (moment_of g ∷ earlier))
+pub goes_on : (config : Config) (g h : Group) (step : GroupStep g h) (earlier : List (Moment State Command Output)) (came : Moments rules config (moment_of g ∷ earlier))
     → Further came (moment_of h) (put_in_step step)
 goes_on config g h (node_acts n core node_call turn run at is first sent) earlier came =
     subst (λ l. Further came (moment_of (after_turn (with_record g (recorded_in g.archive run)) n turn (all_given run))) l) (same_put run)

@@ -14,7 +14,7 @@ use Rattle.packet_world.specs.broker_base.State.{State}
 use Rattle.packet_world.specs.broker_spec.declared.command.Command.{Command}
 use Rattle.packet_world.specs.broker_spec.declared.command.Command.TheVariants as commands
 use Rattle.packet_world.specs.broker_spec.declared.command.Output.{Output}
-use Rattle.packet_world.specs.snapshots.Past.{Moment, Past}
+use Rattle.packet_world.specs.snapshots.Moments.{Moment, Moments}
 use Rattle.packet_world.specs.snapshots.World.{messages, outputs}
 use Rattle.node_moves.specs.world_base.Connections.{asked, closed, failing, left_with}
 use Rattle.node_moves.specs.world_base.Core.{CoreState, Turn, rules, serves}
@@ -41,7 +41,7 @@ use Rattle.node_group.proofs.Thinning.{Given, KeptOf, kept_of_told, loses_more, 
 -- a replica that has stopped stays as it is, or stops again
 stopped_happens : (g : Group) (n : ℕ) (core : CoreState) (turn : Turn) (new : ReplicaState State Command) (given thin : Given) → slice_get g.nodes n ≡ Some core → replica_of turn.core ≡ new
     → messages turn.messages ≡ messages thin → outputs given ≡ outputs thin → Loses rules (replica_of core) (nothing_done Output (replica_of core)) new thin
-    → (config : Config) (earlier : List (Moment State Command Output)) (came : Past rules config (moment_of g ∷ earlier))
+    → (config : Config) (earlier : List (Moment State Command Output)) (came : Moments rules config (moment_of g ∷ earlier))
     → Once came (moment_of (after_turn g n turn given)) [] n (outputs given)
 stopped_happens g n core turn new given thin at replica sent left (inl (is, t)) config earlier came =
     let empty = nothing_kept thin t in no_step g n core turn given config earlier came at (replica ∙ is) (sent ∙ ap messages empty) (left ∙ ap outputs empty)
@@ -52,7 +52,7 @@ stopped_happens g n core turn new given thin at replica sent left (inr (inr (is,
 
 drives_happen : (g : Group) (n : ℕ) (core : CoreState) (input : Input Command) (did : Account) (kept : Given) → slice_get g.nodes n ≡ Some core → is_proposal input ≡ false
     → InputWasSent g n input → Drives input core did → Thinned kept did.messages → (config : Config) (earlier : List (Moment State Command Output))
-    (came : Past rules config (moment_of g ∷ earlier)) → Once came (moment_of (after_turn g n (keeping kept (turn_of did)) did.given)) [] n (outputs did.given)
+    (came : Moments rules config (moment_of g ∷ earlier)) → Once came (moment_of (after_turn g n (keeping kept (turn_of did)) did.given)) [] n (outputs did.given)
 drives_happen g n core input did kept at other sent m t config earlier came = by (replica_of core).stopped refl
   where
     k : KeptOf kept did.given
@@ -87,7 +87,7 @@ left_true false b e = absurd cc
 
 -- after a change of connections
 takes_happen : (g : Group) (n : ℕ) (core between : CoreState) (command : Command) (did : Account) (kept : Given) → slice_get g.nodes n ≡ Some core → between.replica ≡ core.replica
-    → Takes command between did → Thinned kept did.messages → (config : Config) (earlier : List (Moment State Command Output)) (came : Past rules config (moment_of g ∷ earlier))
+    → Takes command between did → Thinned kept did.messages → (config : Config) (earlier : List (Moment State Command Output)) (came : Moments rules config (moment_of g ∷ earlier))
     → Once came (moment_of (after_turn g n (keeping kept (turn_of did)) did.given)) (((replica_of core).joined, command) ∷ []) n (outputs did.given)
 takes_happen g n core between command did kept at same taken t config earlier came =
     one_step g n core (keeping kept (turn_of did)) (Proposes command) new did.given k.thin config earlier came at (serving_runs core serving) tt replica
@@ -133,7 +133,7 @@ takes_happen g n core between command did kept at same taken t config earlier ca
 -- ---- each move
 
 pub losses_happen : (g : Group) (n : ℕ) (core : CoreState) (turn : Turn) (m : LossyMoves core turn) (kept : Given) → slice_get g.nodes n ≡ Some core → WereSent g n (inputs_in m)
-    → Freezes m → Thinned kept turn.messages → (config : Config) (earlier : List (Moment State Command Output)) (came : Past rules config (moment_of g ∷ earlier))
+    → Freezes m → Thinned kept turn.messages → (config : Config) (earlier : List (Moment State Command Output)) (came : Moments rules config (moment_of g ∷ earlier))
     → Once came (moment_of (after_turn (with_record g (recorded_by g.archive m)) n (keeping kept turn) (given_in m))) (put_in_move m) n (outputs (given_in m))
 losses_happen g n core turn (exactly m) kept at sent frozen t = moves_happen g n core turn m kept at (sent_by g n m sent frozen) t
 losses_happen g n core turn (hears_losing input did other drives) kept at sent frozen t = drives_happen g n core input did kept at other sent.0 drives t

@@ -25,12 +25,12 @@ use Rattle.packet_world.specs.agreement.MasterState.{MasterState}
 use Rattle.packet_world.specs.agreement.Giving.{GivesNext}
 use Rattle.packet_world.specs.snapshots.Giving.{given_in as gives_in}
 use Rattle.packet_world.specs.agreement.World.{outputs as whole_outputs}
-use Rattle.packet_world.specs.snapshots.Past.{Moment, Past, IsAgreed, whole_moment}
+use Rattle.packet_world.specs.snapshots.Moments.{Moment, Moments, IsAgreed, whole_moment}
 use Rattle.packet_world.specs.snapshots.Whole.{whole, whole_log}
 use Rattle.packet_world.proofs.of_snapshots.PastsKept.{past_stands}
 use Rattle.packet_world.proofs.of_snapshots.Views.{get_whole}
-use Rattle.packet_world.specs.agreement.Past.{IsChosen, WasActive}
-use Rattle.packet_world.specs.snapshots.Past.Past.{went_on}
+use Rattle.packet_world.specs.agreement.Moments.{IsChosen, WasActive}
+use Rattle.packet_world.specs.snapshots.Moments.Moments.{went_on}
 use Rattle.packet_world.specs.snapshots.Proposals.{proposal_by, proposal_of, proposals_of, taken_in, taken_of}
 use Rattle.packet_world.specs.snapshots.Steps.{MayHappen}
 use Rattle.packet_world.specs.snapshots.World.{MayTake}
@@ -72,24 +72,24 @@ use Rattle.node_group.proofs.Replicas.{changes_keep, hands_keeps, moved_replica,
 
 -- A past continues to this moment, by events in which these commands were proposed; what is agreed
 -- grows.
-pub record Further {config : Config} {a : Moment State Command Output} {earlier : List (Moment State Command Output)} (came : Past rules config (a ∷ earlier))
+pub record Further {config : Config} {a : Moment State Command Output} {earlier : List (Moment State Command Output)} (came : Moments rules config (a ∷ earlier))
     (b : Moment State Command Output) (put : List (ℕ × Command)) : Type 0 where
   pub before : List (Moment State Command Output)
-  pub past : Past rules config (b ∷ before)
+  pub past : Moments rules config (b ∷ before)
   pub proposed : proposals_of past ≡ proposals_of came ++ put
   pub taken : (x : ConnectionName) → packets_in x (taken_of past) ≡ packets_in x (taken_of came) ++ packets_in x put
   pub kept : (z : Moment State Command Output) → In z (a ∷ earlier) → In z (b ∷ before)
   pub grows : (xs ys : List Command) → IsAgreed config (a ∷ earlier) xs → IsAgreed config (b ∷ before) ys → IsPrefixOf xs ys
 
 -- By no event or by one, in which the node at this index gave these outputs, each with its place in the list.
-pub record Once {config : Config} {a : Moment State Command Output} {earlier : List (Moment State Command Output)} (came : Past rules config (a ∷ earlier))
+pub record Once {config : Config} {a : Moment State Command Output} {earlier : List (Moment State Command Output)} (came : Moments rules config (a ∷ earlier))
     (b : Moment State Command Output) (put : List (ℕ × Command)) (n : ℕ) (given : List (ℕ × Output)) : Type 0 where
   pub further : Further came b put
   pub gives : (xs : List Command) → IsAgreed config (b ∷ further.before) xs → (old new : ReplicaState State Command) → slice_get a.world.nodes n ≡ Some old
       → slice_get b.world.nodes n ≡ Some new → GivesNext rules (whole a.world.archive old) (whole b.world.archive new) xs given
 
 -- one more event, in which the node at an index gave this
-pub by_event : {config : Config} {a : Moment State Command Output} {earlier : List (Moment State Command Output)} (came : Past rules config (a ∷ earlier))
+pub by_event : {config : Config} {a : Moment State Command Output} {earlier : List (Moment State Command Output)} (came : Moments rules config (a ∷ earlier))
     (b : Moment State Command Output) (step : MayHappen rules a.master a.world b.master b.world) (put : List (ℕ × Command)) (n : ℕ) (given : List (ℕ × Output))
     → proposal_of step ≡ put → ((x : ConnectionName) → packets_in x (taken_in step) ≡ packets_in x put) → gives_in n step ≡ given → Once came b put n given
 by_event {config = config} {a = a} {earlier = earlier} came b step put n given proposed taken is =
@@ -148,7 +148,7 @@ one_agreed config past xs ys first other = by first.chosen
     by (inr (b, active, chosen)) = other.longest b xs active chosen
 
 -- a node that does nothing gives nothing
-gives_none : (config : Config) (a : Moment State Command Output) (earlier : List (Moment State Command Output)) → Past rules config (a ∷ earlier) → (xs : List Command)
+gives_none : (config : Config) (a : Moment State Command Output) (earlier : List (Moment State Command Output)) → Moments rules config (a ∷ earlier) → (xs : List Command)
     → IsAgreed config (a ∷ earlier) xs → (n : ℕ) (r : ReplicaState State Command) → slice_get a.world.nodes n ≡ Some r → GivesNext rules (whole a.world.archive r) (whole a.world.archive r) xs []
 gives_none config a earlier came xs is n r stands =
     let q = past_stands rules config a earlier came in
@@ -164,7 +164,7 @@ gives_none config a earlier came xs is n r stands =
     }
 
 -- nothing happens
-abbrev pub unchanged : {config : Config} {a : Moment State Command Output} {earlier : List (Moment State Command Output)} (came : Past rules config (a ∷ earlier)) → Further came a []
+abbrev pub unchanged : {config : Config} {a : Moment State Command Output} {earlier : List (Moment State Command Output)} (came : Moments rules config (a ∷ earlier)) → Further came a []
 unchanged {config = config} {a = a} {earlier = earlier} came =
     record {
       before = earlier;
@@ -175,7 +175,7 @@ unchanged {config = config} {a = a} {earlier = earlier} came =
       grows = one_agreed config (a ∷ earlier);
     }
 
-no_event : (config : Config) (a b : Moment State Command Output) (earlier : List (Moment State Command Output)) (came : Past rules config (a ∷ earlier)) (n : ℕ) → a ≡ b
+no_event : (config : Config) (a b : Moment State Command Output) (earlier : List (Moment State Command Output)) (came : Moments rules config (a ∷ earlier)) (n : ℕ) → a ≡ b
     → Once came b [] n []
 no_event config a b earlier came n same =
     subst (λ z. Once came z [] n []) same (record {
@@ -192,7 +192,7 @@ no_event config a b earlier came n same =
 
 -- the replica takes a step on this, perhaps with losses; these messages and these outputs are what it gave
 pub one_step : (g : Group) (n : ℕ) (core : CoreState) (turn : Turn) (input : Input Command) (new : ReplicaState State Command) (given thin : Given) (config : Config)
-    (earlier : List (Moment State Command Output)) (came : Past rules config (moment_of g ∷ earlier)) → slice_get g.nodes n ≡ Some core
+    (earlier : List (Moment State Command Output)) (came : Moments rules config (moment_of g ∷ earlier)) → slice_get g.nodes n ≡ Some core
     → (replica_of core).stopped ≡ false → MayTake (moment_of g).world n input → replica_of turn.core ≡ new
     → Loses rules (replica_of core) (replica_step rules (replica_of core) input) new thin → messages turn.messages ≡ messages thin → outputs given ≡ outputs thin
     → AreTaken (replica_of core) new input → Once came (moment_of (after_turn g n turn given)) (proposal_by (replica_of core) input) n (outputs given)
@@ -206,7 +206,7 @@ one_step g n core turn input new given thin config earlier came at runs may repl
 
 -- a crash
 pub one_stop : (g : Group) (n : ℕ) (core : CoreState) (turn : Turn) (given : Given) (config : Config) (earlier : List (Moment State Command Output))
-    (came : Past rules config (moment_of g ∷ earlier)) → slice_get g.nodes n ≡ Some core → replica_of turn.core ≡ halted rules (replica_of core)
+    (came : Moments rules config (moment_of g ∷ earlier)) → slice_get g.nodes n ≡ Some core → replica_of turn.core ≡ halted rules (replica_of core)
     → messages turn.messages ≡ [] → outputs given ≡ [] → Once came (moment_of (after_turn g n turn given)) [] n (outputs given)
 one_stop g n core turn given config earlier came at replica none_sent none_left =
     subst (λ z. Once came z [] n (outputs given)) (after_is g n turn given [] (halted rules (replica_of core)) replica none_sent none_left)
@@ -217,7 +217,7 @@ one_stop g n core turn given config earlier came at replica none_sent none_left 
 
 -- a cut, after which the record has the places that the replica applied
 pub one_cut : (g : Group) (n : ℕ) (core : CoreState) (config : Config) (earlier : List (Moment State Command Output))
-    (came : Past rules config (moment_of g ∷ earlier)) → slice_get g.nodes n ≡ Some core → can_cut (replica_of core) ≡ true
+    (came : Moments rules config (moment_of g ∷ earlier)) → slice_get g.nodes n ≡ Some core → can_cut (replica_of core) ≡ true
     → rules.thawed (rules.frozen (replica_of core).machine) ≡ Some (replica_of core).machine
     → Once came (moment_of (after_turn (with_record g (recorded g.archive (replica_of core))) n (quiet (with_cut core)) [])) [] n []
 one_cut g n core config earlier came at can reads =
@@ -239,7 +239,7 @@ one_cut g n core config earlier came at can reads =
 
 -- nothing happens to the replica
 pub no_step : (g : Group) (n : ℕ) (core : CoreState) (turn : Turn) (given : Given) (config : Config) (earlier : List (Moment State Command Output))
-    (came : Past rules config (moment_of g ∷ earlier)) → slice_get g.nodes n ≡ Some core → replica_of turn.core ≡ replica_of core
+    (came : Moments rules config (moment_of g ∷ earlier)) → slice_get g.nodes n ≡ Some core → replica_of turn.core ≡ replica_of core
     → messages turn.messages ≡ [] → outputs given ≡ [] → Once came (moment_of (after_turn g n turn given)) [] n (outputs given)
 no_step g n core turn given config earlier came at replica none_sent none_left =
     subst (λ (l : List (ℕ × Output)). Once came (moment_of (after_turn g n turn given)) [] n l) (sym none_left)
@@ -249,11 +249,11 @@ no_step g n core turn given config earlier came at replica none_sent none_left =
 
 -- what must hold for each move, of which these messages are kept
 abbrev Happens : Group → ℕ → (core : CoreState) (turn : Turn) → Moves core turn → Given → Type 0
-Happens g n core turn m kept = (config : Config) (earlier : List (Moment State Command Output)) (came : Past rules config (moment_of g ∷ earlier))
+Happens g n core turn m kept = (config : Config) (earlier : List (Moment State Command Output)) (came : Moments rules config (moment_of g ∷ earlier))
     → Once came (moment_of (after_turn (with_record g (recorded_by g.archive m)) n (keeping kept turn) (given_in m))) (put_in_move m) n (outputs (given_in m))
 
 pub quietly : (g : Group) (n : ℕ) (core later : CoreState) (kept : Given) → slice_get g.nodes n ≡ Some core → replica_of later ≡ replica_of core → Thinned kept []
-    → (config : Config) (earlier : List (Moment State Command Output)) (came : Past rules config (moment_of g ∷ earlier))
+    → (config : Config) (earlier : List (Moment State Command Output)) (came : Moments rules config (moment_of g ∷ earlier))
     → Once came (moment_of (after_turn g n (keeping kept (quiet later)) [])) [] n []
 quietly g n core later kept at same t config earlier came =
     no_step g n core (keeping kept (quiet later)) [] config earlier came at same (ap messages (nothing_kept kept t)) refl
@@ -272,7 +272,7 @@ serves_as a b same =
 moved_happens : (g : Group) (n : ℕ) (core between : CoreState) (input : Input Command) (kept : Given) → slice_get g.nodes n ≡ Some core
     → (replica_of core).stopped ≡ false → MayTake (moment_of g).world n input → AreTaken (replica_of core) (replica_step rules (replica_of core) input).state input
     → KeptOf kept (replica_step rules (replica_of core) input).effects → (config : Config) (earlier : List (Moment State Command Output))
-    (came : Past rules config (moment_of g ∷ earlier))
+    (came : Moments rules config (moment_of g ∷ earlier))
     → Once came (moment_of (after_turn g n (keeping kept (moved (replica_step rules (replica_of core) input) between)) (replica_step rules (replica_of core) input).effects))
     (proposal_by (replica_of core) input) n (outputs (replica_step rules (replica_of core) input).effects)
 moved_happens g n core between input kept at runs may took k config earlier came =
@@ -283,7 +283,7 @@ moved_happens g n core between input kept at runs may took k config earlier came
 -- a command is put to the replica of a node that serves
 put_happens : (g : Group) (n : ℕ) (core between : CoreState) (command : Command) (kept : Given) → slice_get g.nodes n ≡ Some core → between.replica ≡ core.replica
     → serves core ≡ true → HasRoomFor core command → Thinned kept (proposes command between).messages → (config : Config) (earlier : List (Moment State Command Output))
-    (came : Past rules config (moment_of g ∷ earlier))
+    (came : Moments rules config (moment_of g ∷ earlier))
     → Once came (moment_of (after_turn g n (keeping kept (proposes command between)) (proposed rules (replica_of core) command).effects)) (((replica_of core).joined, command) ∷ []) n
     (outputs (proposed rules (replica_of core) command).effects)
 unfolding proposes
@@ -336,7 +336,7 @@ none_put core Ticks e = refl
 
 heard_happens : (g : Group) (n : ℕ) (core : CoreState) (input : Input Command) (kept : Given) → slice_get g.nodes n ≡ Some core → is_proposal input ≡ false
     → InputWasSent g n input → Thinned kept (drives input core).messages → (config : Config) (earlier : List (Moment State Command Output))
-    (came : Past rules config (moment_of g ∷ earlier))
+    (came : Moments rules config (moment_of g ∷ earlier))
     → Once came (moment_of (after_turn g n (keeping kept (drives input core)) (heard input (replica_of core)).effects)) [] n (outputs (heard input (replica_of core)).effects)
 unfolding drives
 heard_happens g n core input kept at other sent t config earlier came = by (replica_of core).stopped refl t
@@ -362,7 +362,7 @@ heard_happens g n core input kept at other sent t config earlier came = by (repl
 -- if the node does not serve, it is not reported that a connection is lost
 lost_unheard : (g : Group) (n : ℕ) (core between : CoreState) (command : Command) (kept : Given) → slice_get g.nodes n ≡ Some core → between.replica ≡ core.replica
     → serves core ≡ false → Thinned kept (proposes command between).messages → (config : Config) (earlier : List (Moment State Command Output))
-    (came : Past rules config (moment_of g ∷ earlier)) → Once came (moment_of (after_turn g n (keeping kept (proposes command between)) [])) [] n []
+    (came : Moments rules config (moment_of g ∷ earlier)) → Once came (moment_of (after_turn g n (keeping kept (proposes command between)) [])) [] n []
 unfolding proposes
 lost_unheard g n core between command kept at same none_served t config earlier came = by (serves between) (serves_as between core same ∙ none_served) t
   where
@@ -374,7 +374,7 @@ lost_unheard g n core between command kept at same none_served t config earlier 
 -- if it serves, that is reported to the broker
 lost_happens : (g : Group) (n : ℕ) (core between : CoreState) (command : Command) (kept : Given) → slice_get g.nodes n ≡ Some core → between.replica ≡ core.replica
     → HasRoomFor core command → (b : Bool) → serves core ≡ b → Thinned kept (proposes command between).messages → (config : Config)
-    (earlier : List (Moment State Command Output)) (came : Past rules config (moment_of g ∷ earlier))
+    (earlier : List (Moment State Command Output)) (came : Moments rules config (moment_of g ∷ earlier))
     → Once came (moment_of (after_turn g n (keeping kept (proposes command between)) (if b then (proposed rules (replica_of core) command).effects else [])))
     (map (λ put. ((replica_of core).joined, put)) (if b then command ∷ [] else [])) n (outputs (if b then (proposed rules (replica_of core) command).effects else []))
 lost_happens g n core between command kept at same room true e t = put_happens g n core between command kept at same e room t
@@ -397,7 +397,7 @@ expel_is_none core client x is = let e : is_packet_of (commands.Expel client) x 
 -- the log is cut
 cut_happens : (g : Group) (n : ℕ) (core : CoreState) (kept : Given) → slice_get g.nodes n ≡ Some core → can_cut (replica_of core) ≡ true
     → rules.thawed (rules.frozen (replica_of core).machine) ≡ Some (replica_of core).machine → Thinned kept []
-    → (config : Config) (earlier : List (Moment State Command Output)) (came : Past rules config (moment_of g ∷ earlier))
+    → (config : Config) (earlier : List (Moment State Command Output)) (came : Moments rules config (moment_of g ∷ earlier))
     → Once came (moment_of (after_turn (with_record g (recorded g.archive (replica_of core))) n (keeping kept (quiet (with_cut core))) [])) [] n []
 cut_happens g n core kept at can reads t config earlier came =
     subst (λ (l : Given). Once came (moment_of (after_turn (with_record g (recorded g.archive (replica_of core))) n (keeping l (quiet (with_cut core))) [])) [] n [])

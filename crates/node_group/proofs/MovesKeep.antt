@@ -12,7 +12,7 @@ use Rattle.packet_world.specs.broker_spec.declared.command.Output.{Output}
 use Rattle.packet_world.specs.broker_base.State.{State}
 use Rattle.packet_world.specs.lists.Lists.{IsPrefixOf}
 use Rattle.packet_world.proofs.of_lists.Beginnings.{prefix_take}
-use Rattle.packet_world.specs.snapshots.Past.{Moment, Past, IsAgreed}
+use Rattle.packet_world.specs.snapshots.Moments.{Moment, Moments, IsAgreed}
 use Rattle.packet_world.specs.agreement.Proposals.{commands_of as commands_in}
 use Rattle.packet_world.specs.snapshots.World.{outputs}
 use Rattle.packet_world.proofs.of_snapshots.PastsAgree.{one_primary_a_ballot}
@@ -83,7 +83,7 @@ LeadsStill core turn = (x : ConnectionName) (c : Connection) → listed_named x 
     → is_active (replica_of core).role ≡ true
 
 -- what is known about a move of the node at an index of a group, of which these messages are kept
-pub record Known {config : Config} (g : Group) {earlier : List (Moment State Command Output)} (came : Past rules config (moment_of g ∷ earlier)) (a : ℕ)
+pub record Known {config : Config} (g : Group) {earlier : List (Moment State Command Output)} (came : Moments rules config (moment_of g ∷ earlier)) (a : ℕ)
     {core : CoreState} {turn : Turn} (m : LossyMoves core turn) (kept : List (Effect Command Output)) : Type 0 where
   pub at : slice_get g.nodes a ≡ Some core
   pub orderly : IsOrderly core
@@ -91,13 +91,13 @@ pub record Known {config : Config} (g : Group) {earlier : List (Moment State Com
   pub once : Once came (moment_of (after_turn (with_record g (recorded_by g.archive m)) a (keeping kept turn) (given_in m))) (put_in_move m) a (outputs (given_in m))
 
 -- and of one connection in it
-record Here {config : Config} {g : Group} {earlier : List (Moment State Command Output)} {came : Past rules config (moment_of g ∷ earlier)} {a : ℕ}
+record Here {config : Config} {g : Group} {earlier : List (Moment State Command Output)} {came : Moments rules config (moment_of g ∷ earlier)} {a : ℕ}
     {core : CoreState} {turn : Turn} {m : LossyMoves core turn} {kept : List (Effect Command Output)} (k : Known g came a m kept) (x : ConnectionName) (put : List (ℕ × Command)) (xs ys : List Command) : Type 0 where
   grown : IsPrefixOf xs ys
   sends : Sends x (replica_of core) (replica_of turn.core) ys (spelled (sends_to x (outputs_of (given_in m))))
   said : IsPrefixOf (packets_of x ys) (packets_of x (commands_in (put ++ put_in_move m)))
 
-abbrev After : {config : Config} {g : Group} {earlier : List (Moment State Command Output)} {came : Past rules config (moment_of g ∷ earlier)} {a : ℕ}
+abbrev After : {config : Config} {g : Group} {earlier : List (Moment State Command Output)} {came : Moments rules config (moment_of g ∷ earlier)} {a : ℕ}
     {core : CoreState} {turn : Turn} {m : LossyMoves core turn} {kept : List (Effect Command Output)} → Known g came a m kept → ConnectionName → List Packet → List ℕ → List (ℕ × Command) → List ℕ → List Command → Type 0
 After {g = g} {a = a} {turn = turn} {m = m} {kept = kept} k x written later put down ys =
     Stands x written later (after_turn (with_record g (recorded_by g.archive m)) a (keeping kept turn) (given_in m)) (moment_of (after_turn (with_record g (recorded_by g.archive m)) a (keeping kept turn) (given_in m)) ∷ k.once.further.before) (put ++ put_in_move m)
@@ -113,7 +113,7 @@ nothing_more x put {core = core} {turn = turn} m none =
 
 -- ---- no node had it
 
-untouched_keeps : {config : Config} {g : Group} {earlier : List (Moment State Command Output)} {came : Past rules config (moment_of g ∷ earlier)} {a : ℕ}
+untouched_keeps : {config : Config} {g : Group} {earlier : List (Moment State Command Output)} {came : Moments rules config (moment_of g ∷ earlier)} {a : ℕ}
     {core : CoreState} {turn : Turn} {m : LossyMoves core turn} {kept : List (Effect Command Output)} (k : Known g came a m kept) (x : ConnectionName) (written : List Packet) (later : List ℕ) (put : List (ℕ × Command)) (down : List ℕ)
     (xs ys : List Command) → Here k x put xs ys → Untouched x written (came_on x m ++ later) g put down → After k x written later put down ys
 untouched_keeps {g = g} {earlier = earlier} {a = a} {core = core} {turn = turn} {m = m} {kept = kept} k x written later put down xs ys h u =
@@ -188,7 +188,7 @@ untouched_keeps {g = g} {earlier = earlier} {a = a} {core = core} {turn = turn} 
 
 -- ---- the node that has it
 
-held_here : {config : Config} {g : Group} {earlier : List (Moment State Command Output)} {came : Past rules config (moment_of g ∷ earlier)} {a : ℕ}
+held_here : {config : Config} {g : Group} {earlier : List (Moment State Command Output)} {came : Moments rules config (moment_of g ∷ earlier)} {a : ℕ}
     {core : CoreState} {turn : Turn} {m : LossyMoves core turn} {kept : List (Effect Command Output)} (k : Known g came a m kept) (x : ConnectionName) (written : List Packet) (later : List ℕ) (put : List (ℕ × Command)) (down : List ℕ)
     (xs ys : List Command) → Here k x put xs ys → (held : Held x written (came_on x m ++ later) g (moment_of g ∷ earlier) put down xs) → held.n ≡ a → held.core ≡ core
     → After k x written later put down ys
@@ -240,7 +240,7 @@ held_here {g = g} {earlier = earlier} {a = a} {core = core} {turn = turn} {m = m
 
 -- ---- another node has it
 
-held_there : {config : Config} {g : Group} {earlier : List (Moment State Command Output)} {came : Past rules config (moment_of g ∷ earlier)} {a : ℕ}
+held_there : {config : Config} {g : Group} {earlier : List (Moment State Command Output)} {came : Moments rules config (moment_of g ∷ earlier)} {a : ℕ}
     {core : CoreState} {turn : Turn} {m : LossyMoves core turn} {kept : List (Effect Command Output)} (k : Known g came a m kept) (x : ConnectionName) (written : List Packet) (later : List ℕ) (put : List (ℕ × Command)) (down : List ℕ)
     (xs ys : List Command) → Here k x put xs ys → (held : Held x written (came_on x m ++ later) g (moment_of g ∷ earlier) put down xs) → (a ≡ held.n → ⊥)
     → After k x written later put down ys
@@ -283,7 +283,7 @@ held_there {config = config} {g = g} {earlier = earlier} {came = came} {a = a} {
 
 -- ---- the move
 
-pub move_keeps : {config : Config} {g : Group} {earlier : List (Moment State Command Output)} {came : Past rules config (moment_of g ∷ earlier)} {a : ℕ}
+pub move_keeps : {config : Config} {g : Group} {earlier : List (Moment State Command Output)} {came : Moments rules config (moment_of g ∷ earlier)} {a : ℕ}
     {core : CoreState} {turn : Turn} {m : LossyMoves core turn} {kept : List (Effect Command Output)} (k : Known g came a m kept) (x : ConnectionName) (written : List Packet) (later : List ℕ) (put : List (ℕ × Command)) (down : List ℕ)
     (xs ys : List Command) → IsAgreed config (moment_of g ∷ earlier) xs → IsAgreed config (moment_of (after_turn (with_record g (recorded_by g.archive m)) a (keeping kept turn) (given_in m)) ∷ k.once.further.before) ys
     → IsPrefixOf (packets_of x ys) (packets_of x (commands_in (put ++ put_in_move m)))

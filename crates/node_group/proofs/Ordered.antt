@@ -10,7 +10,7 @@ use Rattle.packet_world.specs.broker_base.State.{State}
 use Rattle.packet_world.specs.broker_spec.declared.command.Command.{Command}
 use Rattle.packet_world.specs.broker_spec.Connection.{ConnectionName}
 use Rattle.packet_world.specs.exactly_once.StoryCommands.{is_packet_of}
-use Rattle.packet_world.specs.snapshots.Past.{IsAgreed}
+use Rattle.packet_world.specs.snapshots.Moments.{IsAgreed}
 use Rattle.packet_world.specs.agreement.Proposals.{IsOfBallot, IsPartOf, commands_of}
 use Rattle.packet_world.specs.snapshots.Proposals.{proposals_of, taken_of}
 use Rattle.packet_world.specs.agreement.Proposals.IsPartOf.{nothing_left, with_one, without_one}

@@ -8,7 +8,7 @@ use Rattle.node_moves.specs.ballot.Replica.{opening}
 use Rattle.packet_world.specs.broker_spec.declared.command.Command.{Command}
 use Rattle.packet_world.specs.broker_spec.declared.command.Output.{Output}
 use Rattle.packet_world.specs.snapshots.World.{messages}
-use Rattle.packet_world.specs.snapshots.Past.{opening_nodes}
+use Rattle.packet_world.specs.snapshots.Moments.{opening_nodes}
 use Rattle.node_moves.specs.world_base.Core.{opening_core, rules}
 use Rattle.node_moves.specs.world_base.Turns.{is_message}
 use Rattle.std.specs.List.{filter}

@@ -9,7 +9,7 @@ use Rattle.node_moves.specs.ballot.Protocol.Input.{Receives, Proposes, Ticks}
 use Rattle.packet_world.specs.broker_base.State.{State}
 use Rattle.packet_world.specs.broker_spec.declared.command.Command.{Command}
 use Rattle.packet_world.specs.broker_spec.declared.command.Output.{Output}
-use Rattle.packet_world.specs.snapshots.Past.{Moment, Past}
+use Rattle.packet_world.specs.snapshots.Moments.{Moment, Moments}
 use Rattle.packet_world.specs.snapshots.Proposals.{proposals_of, taken_of}
 use Rattle.packet_world.specs.snapshots.World.{messages, outputs}
 use Rattle.node_moves.specs.world_base.Core.{CoreState, Turn, rules}
@@ -64,7 +64,7 @@ two_turns g n first next given more =
 
 -- ---- runs
 
-abbrev pub both : {config : Config} {a b c : Moment State Command Output} {earlier : List (Moment State Command Output)} (came : Past rules config (a ∷ earlier)) (put more : List (ℕ × Command))
+abbrev pub both : {config : Config} {a b c : Moment State Command Output} {earlier : List (Moment State Command Output)} (came : Moments rules config (a ∷ earlier)) (put more : List (ℕ × Command))
     → (first : Further came b put) → Further first.past c more → Further came c (put ++ more)
 both {config = config} {b = b} came put more first next =
     record {
@@ -88,7 +88,7 @@ kept_turns g n first next given more kept k =
     ∙ ap (λ (l : Given). after_turn g n (keeping l (and_then first next)) (given ++ more)) (sym k.is)
 
 pub runs_happen : (g : Group) (n : ℕ) (core : CoreState) (turn : Turn) (run : LossyRuns core turn) (kept : Given) → slice_get g.nodes n ≡ Some core → WereSent g n (all_inputs run)
-    → AllFreeze run → Thinned kept turn.messages → (config : Config) (earlier : List (Moment State Command Output)) (came : Past rules config (moment_of g ∷ earlier))
+    → AllFreeze run → Thinned kept turn.messages → (config : Config) (earlier : List (Moment State Command Output)) (came : Moments rules config (moment_of g ∷ earlier))
     → Further came (moment_of (after_turn (with_record g (recorded_in g.archive run)) n (keeping kept turn) (all_given run))) (put_in_run run)
 runs_happen g n core turn rests kept at sent frozen t config earlier came = (quietly g n core core kept at refl t config earlier came).further
 runs_happen g n core turn (goes_on {first = first} {next = next} m run) kept at sent frozen t config earlier came =

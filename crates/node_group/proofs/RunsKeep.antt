@@ -11,7 +11,7 @@ use Rattle.packet_world.specs.broker_spec.declared.command.Output.{Output}
 use Rattle.packet_world.specs.broker_base.State.{State}
 use Rattle.packet_world.specs.lists.Lists.{Each, IsPrefixOf}
 use Rattle.packet_world.proofs.of_lists.OfEach.{each_left}
-use Rattle.packet_world.specs.snapshots.Past.{Moment, Past, IsAgreed}
+use Rattle.packet_world.specs.snapshots.Moments.{Moment, Moments, IsAgreed}
 use Rattle.packet_world.specs.agreement.Proposals.{commands_of as commands_in}
 use Rattle.packet_world.specs.snapshots.Proposals.{proposals_of, taken_of}
 use Rattle.packet_world.proofs.of_snapshots.PastsAgree.{has_agreed}
@@ -51,20 +51,20 @@ abbrev pub Good : Config → ConnectionName → List Packet → List ℕ → Gro
 Good config x written later g moments put sent = (agreed : List Command) → IsAgreed config moments agreed → Stands x written later g moments put sent agreed
 
 -- what was put in a past
-pub record IsPut {config : Config} {past : List (Moment State Command Output)} (came : Past rules config past) (put : List (ℕ × Command)) : Type 0 where
+pub record IsPut {config : Config} {past : List (Moment State Command Output)} (came : Moments rules config past) (put : List (ℕ × Command)) : Type 0 where
   pub proposed : proposals_of came ≡ put
   pub taken : (x : ConnectionName) → packets_in x (taken_of came) ≡ packets_in x put
 
 -- A past continues to a group, while these commands were put, and of each connection these bytes
 -- came up and these went down.
-pub record Steps {config : Config} (g : Group) {earlier : List (Moment State Command Output)} (came : Past rules config (moment_of g ∷ earlier)) (h : Group)
+pub record Steps {config : Config} (g : Group) {earlier : List (Moment State Command Output)} (came : Moments rules config (moment_of g ∷ earlier)) (h : Group)
     (more : List (ℕ × Command)) (up down : ConnectionName → List ℕ) : Type 0 where
   pub further : Further came (moment_of h) more
   pub keeps_each : (x : ConnectionName) (written : List Packet) (later : List ℕ) (put : List (ℕ × Command)) (sent : List ℕ) → IsPut came put → Each IsInItsBallot (put ++ more)
       → Good config x written (up x ++ later) g (moment_of g ∷ earlier) put sent
       → Good config x written later h (moment_of h ∷ further.before) (put ++ more) (sent ++ down x)
 
-pub put_further : {config : Config} {a b : Moment State Command Output} {earlier : List (Moment State Command Output)} {came : Past rules config (a ∷ earlier)} {more : List (ℕ × Command)}
+pub put_further : {config : Config} {a b : Moment State Command Output} {earlier : List (Moment State Command Output)} {came : Moments rules config (a ∷ earlier)} {more : List (ℕ × Command)}
     (put : List (ℕ × Command)) (f : Further came b more) → IsPut came put → IsPut f.past (put ++ more)
 put_further {more = more} put f is =
     record {
@@ -74,7 +74,7 @@ put_further {more = more} put f is =
 
 -- ---- no move
 
-nothing_steps : {config : Config} (g : Group) {earlier : List (Moment State Command Output)} (came : Past rules config (moment_of g ∷ earlier))
+nothing_steps : {config : Config} (g : Group) {earlier : List (Moment State Command Output)} (came : Moments rules config (moment_of g ∷ earlier))
     → Steps g came g [] (λ x. []) (λ x. [])
 nothing_steps {config = config} g {earlier = earlier} came =
     record {
@@ -90,7 +90,7 @@ same_group g n core at = sym (rw (set_same g.nodes n core at, append-nil g.sent,
 -- ---- one move
 
 -- the agreed list has a prefix of what was put
-said_first : {config : Config} {a : Moment State Command Output} {earlier : List (Moment State Command Output)} {came : Past rules config (a ∷ earlier)} (h : Group) {more : List (ℕ × Command)}
+said_first : {config : Config} {a : Moment State Command Output} {earlier : List (Moment State Command Output)} {came : Moments rules config (a ∷ earlier)} (h : Group) {more : List (ℕ × Command)}
     (f : Further came (moment_of h) more) (x : ConnectionName) (put : List (ℕ × Command)) → IsPut came put → Each IsInItsBallot (put ++ more) → (ys : List Command)
     → IsAgreed config (moment_of h ∷ f.before) ys → IsPrefixOf (packets_of x ys) (packets_of x (commands_in (put ++ more)))
 said_first {config = config} h {more = more} f x put is each ys after =
@@ -98,7 +98,7 @@ said_first {config = config} h {more = more} f x put is each ys after =
     in_agreed config h [] (put ++ more) (record { earlier = f.before; past = f.past; proposed = now.proposed; taken = now.taken; seen = tt }) each x ys after
 
 move_steps : {config : Config} (g : Group) (n : ℕ) (core : CoreState) (turn : Turn) (m : LossyMoves core turn) (kept : Given) → slice_get g.nodes n ≡ Some core → WereSent g n (inputs_in m)
-    → Freezes m → Thinned kept turn.messages → IsOrderly core → LeadsStill core turn → {earlier : List (Moment State Command Output)} (came : Past rules config (moment_of g ∷ earlier))
+    → Freezes m → Thinned kept turn.messages → IsOrderly core → LeadsStill core turn → {earlier : List (Moment State Command Output)} (came : Moments rules config (moment_of g ∷ earlier))
     → Steps g came (after_turn (with_record g (recorded_by g.archive m)) n (keeping kept turn) (given_in m)) (put_in_move m) (λ x. came_on x m) (λ x. handed_on x m)
 move_steps {config = config} g n core turn m kept at sent_so frozen t o leads {earlier = earlier} came =
     let known : Known g came n m kept = record { at = at; orderly = o; leads = leads; once = losses_happen g n core turn m kept at sent_so frozen t config earlier came } in
@@ -112,7 +112,7 @@ move_steps {config = config} g n core turn m kept at sent_so frozen t o leads {e
 
 -- ---- one after another
 
-both_steps : {config : Config} {g h k : Group} {earlier : List (Moment State Command Output)} (came : Past rules config (moment_of g ∷ earlier)) (put more : List (ℕ × Command))
+both_steps : {config : Config} {g h k : Group} {earlier : List (Moment State Command Output)} (came : Moments rules config (moment_of g ∷ earlier)) (put more : List (ℕ × Command))
     (up next_up down next_down : ConnectionName → List ℕ) → (first : Steps g came h put up down) → Steps h first.further.past k more next_up next_down
     → Steps g came k (put ++ more) (λ x. up x ++ next_up x) (λ x. down x ++ next_down x)
 both_steps {config = config} {g = g} {h = h} {k = k} {earlier = earlier} came put more up next_up down next_down first next =
@@ -128,7 +128,7 @@ both_steps {config = config} {g = g} {h = h} {k = k} {earlier = earlier} came pu
     }
 
 -- the same with what equals it
-pub steps_as : {config : Config} {g h : Group} {earlier : List (Moment State Command Output)} (came : Past rules config (moment_of g ∷ earlier)) (put more : List (ℕ × Command))
+pub steps_as : {config : Config} {g h : Group} {earlier : List (Moment State Command Output)} (came : Moments rules config (moment_of g ∷ earlier)) (put more : List (ℕ × Command))
     (up next_up down next_down : ConnectionName → List ℕ) → put ≡ more → ((x : ConnectionName) → up x ≡ next_up x) → ((x : ConnectionName) → down x ≡ next_down x)
     → Steps g came h put up down → Steps g came h more next_up next_down
 steps_as {config = config} {g = g} {h = h} {earlier = earlier} came put more up next_up down next_down same ups downs s =
@@ -153,7 +153,7 @@ first_leads core turn of x c there lives e = left_true (is_active (replica_of co
 
 -- one move, and a run after it
 move_and_run : {config : Config} (g : Group) (n : ℕ) (core : CoreState) (first next : Turn) (m : LossyMoves core first) (run : LossyRuns first.core next) (kept : Given)
-    (k : KeptOfBoth kept first.messages next.messages) {earlier : List (Moment State Command Output)} (came : Past rules config (moment_of g ∷ earlier))
+    (k : KeptOfBoth kept first.messages next.messages) {earlier : List (Moment State Command Output)} (came : Moments rules config (moment_of g ∷ earlier))
     → (step : Steps g came (after_turn (with_record g (recorded_by g.archive m)) n (keeping k.front first) (given_in m)) (put_in_move m) (λ x. came_on x m) (λ x. handed_on x m))
     → Steps (after_turn (with_record g (recorded_by g.archive m)) n (keeping k.front first) (given_in m)) step.further.past
     (after_turn (with_record (after_turn (with_record g (recorded_by g.archive m)) n (keeping k.front first) (given_in m)) (recorded_in (recorded_by g.archive m) run)) n
@@ -167,14 +167,14 @@ move_and_run g n core first next m run kept k came step rest =
     (kept_turns (with_record g (recorded_in (recorded_by g.archive m) run)) n first next (given_in m) (all_given run) kept k) rest)
 
 no_move : {config : Config} (g : Group) (n : ℕ) (core : CoreState) (kept : Given) → slice_get g.nodes n ≡ Some core → Thinned kept []
-    → {earlier : List (Moment State Command Output)} (came : Past rules config (moment_of g ∷ earlier))
+    → {earlier : List (Moment State Command Output)} (came : Moments rules config (moment_of g ∷ earlier))
     → Steps g came (after_turn g n (keeping kept (quiet core)) []) [] (λ x. []) (λ x. [])
 no_move g n core kept at t came =
     subst (λ (h : Group). Steps g came h [] (λ x. []) (λ x. []))
     (same_group g n core at ∙ ap (λ (l : Given). after_turn g n (keeping l (quiet core)) []) (sym (nothing_kept kept t))) (nothing_steps g came)
 
 calm_steps : {config : Config} (g : Group) (n : ℕ) (core : CoreState) (turn : Turn) (run : LossyRuns core turn) (kept : Given) → IsCalm run → IsOrderly core → slice_get g.nodes n ≡ Some core
-    → WereSent g n (all_inputs run) → AllFreeze run → Thinned kept turn.messages → {earlier : List (Moment State Command Output)} (came : Past rules config (moment_of g ∷ earlier))
+    → WereSent g n (all_inputs run) → AllFreeze run → Thinned kept turn.messages → {earlier : List (Moment State Command Output)} (came : Moments rules config (moment_of g ∷ earlier))
     → Steps g came (after_turn (with_record g (recorded_in g.archive run)) n (keeping kept turn) (all_given run)) (put_in_run run) (λ x. bytes_on x run) (λ x. handed_losing x run)
 calm_steps g n core turn rests kept calm o at sent frozen t came = no_move g n core kept at t came
 calm_steps g n core turn (goes_on {first = first} {next = next} m run) kept calm o at sent frozen t came =
@@ -188,7 +188,7 @@ calm_steps g n core turn (goes_on {first = first} {next = next} m run) kept calm
 
 pub run_steps : {config : Config} (g : Group) (n : ℕ) (core : CoreState) (turn : Turn) (run : LossyRuns core turn) (kept : Given) → HearsAtFirst run → IsOrderly core → AreOfTheBallot core
     → slice_get g.nodes n ≡ Some core → WereSent g n (all_inputs run) → AllFreeze run → Thinned kept turn.messages
-    → {earlier : List (Moment State Command Output)} (came : Past rules config (moment_of g ∷ earlier))
+    → {earlier : List (Moment State Command Output)} (came : Moments rules config (moment_of g ∷ earlier))
     → Steps g came (after_turn (with_record g (recorded_in g.archive run)) n (keeping kept turn) (all_given run)) (put_in_run run) (λ x. bytes_on x run) (λ x. handed_losing x run)
 run_steps g n core turn rests kept first_so o of at sent frozen t came = no_move g n core kept at t came
 run_steps g n core turn (goes_on {first = first} {next = next} m run) kept calm o of at sent frozen t came =

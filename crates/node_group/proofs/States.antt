@@ -13,7 +13,7 @@ use Rattle.packet_world.specs.lists.Lists.{In}
 use Rattle.packet_world.specs.lists.Lists.In.{here}
 use Rattle.node_moves.specs.cutter.Pipe.{IsPiped}
 use Rattle.packet_world.specs.exactly_once.StoryCommands.{is_packet_of}
-use Rattle.packet_world.specs.snapshots.Past.{Moment}
+use Rattle.packet_world.specs.snapshots.Moments.{Moment}
 use Rattle.packet_world.specs.snapshots.Agreeing.{IsPrimary}
 use Rattle.packet_world.specs.snapshots.Whole.{whole}
 use Rattle.packet_world.proofs.of_snapshots.Views.{get_whole}

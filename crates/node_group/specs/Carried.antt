@@ -9,7 +9,7 @@ use Rattle.packet_world.specs.broker_spec.Connection.{ConnectionName}
 use Rattle.packet_world.specs.lists.Lists.{IsPrefixOf}
 use Rattle.node_moves.specs.cutter.Pipe.{Joins}
 use Rattle.packet_world.specs.exactly_once.Sends.{put_to}
-use Rattle.packet_world.specs.snapshots.Past.{IsAgreed}
+use Rattle.packet_world.specs.snapshots.Moments.{IsAgreed}
 use Rattle.node_moves.specs.Ends.{commands_of}
 use Rattle.node_moves.specs.Puts.{spelled}
 use Rattle.node_group.specs.Group.{Group, moment_of}

@@ -10,7 +10,7 @@ use Rattle.packet_world.specs.broker_spec.declared.command.Command.{Command}
 use Rattle.packet_world.specs.broker_spec.declared.command.Output.{Output}
 use Rattle.packet_world.specs.agreement.MasterState.{MasterState, opening_master}
 use Rattle.packet_world.specs.snapshots.Masters.{MasterOutcome}
-use Rattle.packet_world.specs.snapshots.Past.{Moment}
+use Rattle.packet_world.specs.snapshots.Moments.{Moment}
 use Rattle.packet_world.specs.snapshots.World.{messages, outputs}
 use Rattle.node_moves.specs.world_base.Core.{CoreState, Turn, opening_core}
 

@@ -5,7 +5,7 @@ use Rattle.node_moves.specs.ballot.Config.{Config}
 use Rattle.packet_world.specs.broker_spec.declared.command.Command.{Command}
 use Rattle.packet_world.specs.broker_spec.Connection.{ConnectionName}
 use Rattle.packet_world.specs.exactly_once.StoryCommands.{is_packet_of}
-use Rattle.packet_world.specs.snapshots.Past.{IsAgreed}
+use Rattle.packet_world.specs.snapshots.Moments.{IsAgreed}
 use Rattle.packet_world.specs.snapshots.Whole.{whole_log}
 use Rattle.packet_world.specs.agreement.Proposals.{commands_of}
 use Rattle.node_moves.specs.world_base.Core.{CoreState}

@@ -7,7 +7,7 @@ use Rattle.packet_world.specs.broker_spec.declared.command.Command.{Command}
 use Rattle.packet_world.specs.broker_spec.declared.command.Output.{Output}
 use Rattle.packet_world.specs.broker_spec.Connection.{ConnectionName}
 use Rattle.packet_world.specs.exactly_once.StoryCommands.{is_packet_of}
-use Rattle.packet_world.specs.snapshots.Past.{Moment, Past}
+use Rattle.packet_world.specs.snapshots.Moments.{Moment, Moments}
 use Rattle.packet_world.specs.snapshots.Proposals.{proposals_of, taken_of}
 use Rattle.node_moves.specs.world_base.Core.{rules}
 use Rattle.node_group.specs.Group.{Group, moment_of}
@@ -23,7 +23,7 @@ packets_in x rows = filter (λ (row : ℕ × Command). is_packet_of row.1 x) row
 pub record HasPast (config : Config) (g : Group) (groups : List Group)
     (put : List (ℕ × Command)) : Type 0 where
   pub earlier : List (Moment State Command Output)
-  pub past : Past rules config (moment_of g ∷ earlier)
+  pub past : Moments rules config (moment_of g ∷ earlier)
   pub proposed : proposals_of past ≡ put
   pub taken : (x : ConnectionName) → packets_in x (taken_of past) ≡ packets_in x put
   pub seen : Each (λ (h : Group). In (moment_of h) (moment_of g ∷ earlier)) groups

@@ -4,7 +4,7 @@ use Rattle.std.specs.Prelude.{ℕ, Bool, List, ◌∷◌, filter}
 use Rattle.snapshots.specs.machine.Machine.{Rules}
 use Rattle.snapshots.specs.lists.Lists.{IsPrefixOf}
 use Rattle.snapshots.specs.ballot_base.declared.config.Config.{Config}
-use Rattle.snapshots.specs.Past.{Moment, Past, IsAgreed}
+use Rattle.snapshots.specs.Moments.{Moment, Moments, IsAgreed}
 use Rattle.snapshots.specs.agreement.Proposals.{IsOfBallot, IsPartOf, commands_of}
 use Rattle.snapshots.specs.Proposals.{proposals_of, taken_of}
 
@@ -13,7 +13,7 @@ use Rattle.snapshots.specs.Proposals.{proposals_of, taken_of}
 abbrev pub AgreedKeepsTheOrder : {S C O : Type 0} → Rules S C O → Type 0
 AgreedKeepsTheOrder {S} {C} {O} rules =
     (config : Config) (a : Moment S C O) (past : List (Moment S C O)) (agreed : List C) →
-    (came : Past rules config (a ∷ past)) → IsAgreed config (a ∷ past) agreed →
+    (came : Moments rules config (a ∷ past)) → IsAgreed config (a ∷ past) agreed →
     IsPartOf (taken_of came) (proposals_of came)
     × ((names : C → Bool) (ballot : ℕ) → IsOfBallot rules.start_of names ballot (taken_of came) →
     IsPrefixOf (filter names agreed) (filter names (commands_of (taken_of came))))

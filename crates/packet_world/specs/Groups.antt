@@ -8,7 +8,7 @@ use Rattle.exactly_once.specs.broker_spec.declared.command.Command.{Command}
 use Rattle.exactly_once.specs.broker_spec.declared.command.Output.{Output}
 use Rattle.exactly_once.specs.broker_base.State.{State}
 use Rattle.snapshots.specs.lists.Lists.{In}
-use Rattle.snapshots.specs.Past.{Moment, Past, IsAgreed}
+use Rattle.snapshots.specs.Moments.{Moment, Moments, IsAgreed}
 use Rattle.snapshots.specs.Agreeing.{IsPrimary}
 use Rattle.snapshots.specs.agreement.Proposals.{commands_of}
 use Rattle.snapshots.specs.Proposals.{taken_at, taken_of}
@@ -22,7 +22,7 @@ use Rattle.packet_world.specs.Served.{IsOfPipe, IsServed}
 -- A node that was the active primary of a connection's ballot, and took of its packets those that
 -- its end has read.
 pub record ReadsAt {rules : Rules State Command Output} {config : Config}
-    {past : List (Moment State Command Output)} (came : Past rules config past)
+    {past : List (Moment State Command Output)} (came : Moments rules config past)
     (κ : Connection) (e : End) : Type 0 where
   pub node : ℕ
   pub moment : Moment State Command Output
@@ -34,7 +34,7 @@ pub record ReadsAt {rules : Rules State Command Output} {config : Config}
 -- The premise about the nodes: they take commands of a connection only in the ballot of its name,
 -- for each connection the packets that its end has read, in order, and nothing of others.
 pub record TakesAsRead {rules : Rules State Command Output} {config : Config}
-    {past : List (Moment State Command Output)} (came : Past rules config past)
+    {past : List (Moment State Command Output)} (came : Moments rules config past)
     (w : World) : Type 0 where
   pub ballots : (row : ℕ × Command) → In row (taken_of came) → (x : ConnectionName) →
       is_packet_of row.1 x ≡ true → row.0 ≡ x.ballot
@@ -52,5 +52,5 @@ GroupsServe =
     ((ballot : ℕ) → is_of_connection (rules.start_of ballot) ≡ false) →
     (config : Config) (a : Moment State Command Output) (past : List (Moment State Command Output))
     (w : World) (later : List Command) →
-    (came : Past rules config (a ∷ past)) → IsAgreed config past w.agreed →
+    (came : Moments rules config (a ∷ past)) → IsAgreed config past w.agreed →
     IsAgreed config (a ∷ past) later → TakesAsRead came w → IsServed w later

@@ -5,7 +5,7 @@ use Rattle.snapshots.specs.whole.Applying.{outputs_between}
 use Rattle.snapshots.specs.ballot_base.declared.config.Config.{Config}
 use Rattle.snapshots.specs.ballot_base.Replica.{ReplicaState}
 use Rattle.snapshots.specs.Giving.{LeadsOn, given_of}
-use Rattle.snapshots.specs.Past.{Moment, Past, IsAgreed}
+use Rattle.snapshots.specs.Moments.{Moment, Moments, IsAgreed}
 use Rattle.snapshots.specs.agreement.World.{outputs}
 use Rattle.exactly_once.specs.broker_spec.Connection.{ConnectionName}
 use Rattle.exactly_once.specs.broker_spec.Place.{Client}
@@ -63,7 +63,7 @@ abbrev pub GroupsPutOut : Type 0
 GroupsPutOut =
     (config : Config) (a b : Moment State Command Output)
     (past later : List (Moment State Command Output))
-    (came : Past broker_rules config (a ∷ past)) (more : Past broker_rules config (b ∷ later))
+    (came : Moments broker_rules config (a ∷ past)) (more : Moments broker_rules config (b ∷ later))
     (n ballot : ℕ) → LeadsOn n ballot came b later more →
     (old new : ReplicaState State Command) → slice_get a.world.nodes n ≡ Some old →
     slice_get b.world.nodes n ≡ Some new →

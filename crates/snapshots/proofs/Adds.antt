@@ -12,8 +12,8 @@ use Rattle.agreement.specs.ballot_base.Protocol.Input.{Receives, Proposes, Ticks
 use Rattle.agreement.specs.ballot_base.Replica.{ReplicaState}
 use Rattle.agreement.specs.Giving.{given_in as whole_given_in, given_of as whole_given_of}
 use Rattle.agreement.specs.MasterState.{MasterState}
-use Rattle.agreement.specs.Past.{Learns, Moment as WholeMoment, Past as WholePast}
-use Rattle.agreement.specs.Past.Past.{began, went_on, learned}
+use Rattle.agreement.specs.Moments.{Learns, Moment as WholeMoment, Moments as WholeMoments}
+use Rattle.agreement.specs.Moments.Moments.{began, went_on, learned}
 use Rattle.agreement.specs.Proposals.{proposal_by as whole_proposal_by, proposal_of as whole_proposal_of, proposals_of as whole_proposals_of, taken_at as whole_taken_at, taken_by as whole_taken_by, taken_in as whole_taken_in, taken_of as whole_taken_of, takes_at as whole_takes_at}
 use Rattle.agreement.specs.Steps.{MayHappen as WholeMayHappen}
 use Rattle.agreement.specs.World.{World as WholeWorld, outputs as whole_outputs}
@@ -49,7 +49,7 @@ StepAdds rules m w k v d = (step : WholeMayHappen rules m w k v) × AddsBy step 
 
 -- to a past
 pub record Adds {S C O : Type 0} {rules : Rules S C O} {config : Config} {xs ys : List (WholeMoment S C O)}
-    (before : WholePast rules config xs) (after : WholePast rules config ys) (d : Added C O) : Type 0 where
+    (before : WholeMoments rules config xs) (after : WholeMoments rules config ys) (d : Added C O) : Type 0 where
   pub proposes : whole_proposals_of after ≡ whole_proposals_of before ++ d.proposed
   pub takes : whole_taken_of after ≡ whole_taken_of before ++ d.taken
   pub takes_at : (n : ℕ) → whole_taken_at n after ≡ whole_taken_at n before ++ d.taken_at n
@@ -57,7 +57,7 @@ pub record Adds {S C O : Type 0} {rules : Rules S C O} {config : Config} {xs ys 
 
 -- one step more
 pub adds_one : {S C O : Type 0} {rules : Rules S C O} {config : Config} {a b : WholeMoment S C O} {earlier : List (WholeMoment S C O)}
-    (came : WholePast rules config (a ∷ earlier)) (d : Added C O) (s : StepAdds rules a.master a.world b.master b.world d) →
+    (came : WholeMoments rules config (a ∷ earlier)) (d : Added C O) (s : StepAdds rules a.master a.world b.master b.world d) →
     Adds {ys = b ∷ a ∷ earlier} came (went_on came s.0) d
 adds_one came d s =
     record {
@@ -69,12 +69,12 @@ adds_one came d s =
 
 -- a node that learns adds nothing
 pub adds_learning : {S C O : Type 0} {rules : Rules S C O} {config : Config} {xs : List (WholeMoment S C O)} {a b : WholeMoment S C O} {earlier : List (WholeMoment S C O)}
-    (first : WholePast rules config xs) (came : WholePast rules config (a ∷ earlier)) (learns : Learns rules (a ∷ earlier) a b) (d : Added C O) →
+    (first : WholeMoments rules config xs) (came : WholeMoments rules config (a ∷ earlier)) (learns : Learns rules (a ∷ earlier) a b) (d : Added C O) →
     Adds first came d → Adds {ys = b ∷ a ∷ earlier} first (learned came learns) d
 adds_learning first came learns d q = record { proposes = q.proposes; takes = q.takes; takes_at = q.takes_at; gives = q.gives }
 
 -- nothing was done
-pub adds_nothing : {S C O : Type 0} {rules : Rules S C O} {config : Config} {xs : List (WholeMoment S C O)} (came : WholePast rules config xs) →
+pub adds_nothing : {S C O : Type 0} {rules : Rules S C O} {config : Config} {xs : List (WholeMoment S C O)} (came : WholeMoments rules config xs) →
     Adds came came (nothing_added C O)
 adds_nothing came =
     record {
@@ -117,8 +117,8 @@ added_at n r input new given =
     }
 
 -- the same by another definition
-pub adds_as : {S C O : Type 0} {rules : Rules S C O} {config : Config} {xs ys : List (WholeMoment S C O)} (before : WholePast rules config xs)
-    (after : WholePast rules config ys) (d e : Added C O) → d.proposed ≡ e.proposed → d.taken ≡ e.taken → ((n : ℕ) → d.taken_at n ≡ e.taken_at n) →
+pub adds_as : {S C O : Type 0} {rules : Rules S C O} {config : Config} {xs ys : List (WholeMoment S C O)} (before : WholeMoments rules config xs)
+    (after : WholeMoments rules config ys) (d e : Added C O) → d.proposed ≡ e.proposed → d.taken ≡ e.taken → ((n : ℕ) → d.taken_at n ≡ e.taken_at n) →
     ((n : ℕ) → d.given n ≡ e.given n) → Adds before after d → Adds before after e
 adds_as before after d e p t u g q =
     record {
@@ -129,7 +129,7 @@ adds_as before after d e p t u g q =
     }
 
 -- nothing was proposed, taken or given in a past
-pub record SaysNothing {S C O : Type 0} {rules : Rules S C O} {config : Config} {xs : List (WholeMoment S C O)} (came : WholePast rules config xs) : Type 0 where
+pub record SaysNothing {S C O : Type 0} {rules : Rules S C O} {config : Config} {xs : List (WholeMoment S C O)} (came : WholeMoments rules config xs) : Type 0 where
   pub proposes : whole_proposals_of came ≡ []
   pub takes : whole_taken_of came ≡ []
   pub takes_at : (n : ℕ) → whole_taken_at n came ≡ []

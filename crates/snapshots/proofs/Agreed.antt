@@ -16,8 +16,8 @@ use Rattle.agreement.specs.whole.Losses.{Thinned as WholeThinned}
 use Rattle.agreement.specs.whole.Protocol.{Input as WholeInput, replica_step as whole_step}
 use Rattle.agreement.specs.whole.Replica.{ReplicaState as WholeState}
 use Rattle.agreement.specs.ballot_base.Replica.{is_active}
-use Rattle.agreement.specs.Past.{IsAgreed, Learns, Moment, Past}
-use Rattle.agreement.specs.Past.Past.{went_on, learned}
+use Rattle.agreement.specs.Moments.{IsAgreed, Learns, Moment, Moments}
+use Rattle.agreement.specs.Moments.Moments.{went_on, learned}
 use Rattle.agreement.specs.Steps.{MayHappen, MayTake as WholeMayTake}
 use Rattle.agreement.specs.Steps.MayHappen.{node_takes}
 use Rattle.agreement.specs.World.{World as WholeWorld, moved as whole_moved, messages as whole_messages, outputs as whole_outputs}
@@ -28,7 +28,7 @@ use Rattle.snapshots.proofs.Serving.{thinned_same}
 
 -- what a node applied it has in its log after a step that applies no more, whichever log it took
 pub fronts_stay : {S C O : Type 0} (rules : Rules S C O) (config : Config) (a : Moment S C O) (earlier : List (Moment S C O)) (n : ℕ) (r : WholeState S C)
-    (input : WholeInput C) → Past rules config (a ∷ earlier) → slice_get a.world.nodes n ≡ Some r → r.stopped ≡ false → WholeMayTake a.world n input →
+    (input : WholeInput C) → Moments rules config (a ∷ earlier) → slice_get a.world.nodes n ≡ Some r → r.stopped ≡ false → WholeMayTake a.world n input →
     r.committed ≤ length r.log → (whole_step rules r input).state.committed ≡ r.committed → r.committed ≤ length (whole_step rules r input).state.log →
     take r.committed (whole_step rules r input).state.log ≡ take r.committed r.log
 fronts_stay {S = S} {C = C} {O = O} rules config a earlier n r input came stands runs may within still long =
@@ -44,7 +44,7 @@ fronts_stay {S = S} {C = C} {O = O} rules config a earlier n r input came stands
     step : MayHappen rules a.master a.world b.master b.world
     step = node_takes n r input stands runs may (inl (refl, thinned_same (whole_step rules r input).effects))
 
-    more : Past rules config (b ∷ a ∷ earlier)
+    more : Moments rules config (b ∷ a ∷ earlier)
     more = went_on came step
 
     xs : (us : List C) × IsAgreed config (a ∷ earlier) us
@@ -84,13 +84,13 @@ pub record WasApplied {S C O : Type 0} (past : List (Moment S C O)) (ballot k : 
 
 -- a step after which the node learns
 pub learns_after : {S C O : Type 0} (rules : Rules S C O) (config : Config) (a : Moment S C O) (earlier : List (Moment S C O)) (n : ℕ) (r new : WholeState S C)
-    (input : WholeInput C) (given : List (WholeEffect C O)) (k : ℕ) → (came : Past rules config (a ∷ earlier)) → slice_get a.world.nodes n ≡ Some r → r.stopped ≡ false →
+    (input : WholeInput C) (given : List (WholeEffect C O)) (k : ℕ) → (came : Moments rules config (a ∷ earlier)) → slice_get a.world.nodes n ≡ Some r → r.stopped ≡ false →
     WholeMayTake a.world n input → WholeThinned given (whole_step rules r input).effects → (whole_step rules r input).state.stopped ≡ false →
     is_active (whole_step rules r input).state.role ≡ false → (whole_step rules r input).state.committed ≤ k →
     k ≤ length (whole_step rules r input).state.log →
     WasApplied (a ∷ earlier) (whole_step rules r input).state.joined k (take k (whole_step rules r input).state.log) →
     new ≡ whole_applied_to rules (whole_step rules r input).state k →
-    (past : Past rules config (record a { world = whole_moved a.world n new given } ∷ record a { world = whole_moved a.world n (whole_step rules r input).state given } ∷ a ∷ earlier))
+    (past : Moments rules config (record a { world = whole_moved a.world n new given } ∷ record a { world = whole_moved a.world n (whole_step rules r input).state given } ∷ a ∷ earlier))
     × Adds came past (added_at n r input (whole_step rules r input).state given)
 learns_after {S = S} {C = C} {O = O} rules config a earlier n r new input given k came stands runs may thin going passive low high was is =
     (learned (went_on came (node_takes n r input stands runs may (inl (refl, thin)))) learns, record { proposes = refl; takes = refl; takes_at = λ i. refl; gives = λ i. refl })

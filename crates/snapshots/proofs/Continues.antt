@@ -12,10 +12,10 @@ use Rattle.agreement.specs.whole.Messages.Body.{Held, Installed}
 use Rattle.agreement.specs.Leaving.{LeftInOrder}
 use Rattle.agreement.specs.MasterState.{MasterState}
 use Rattle.agreement.specs.World.{World as WholeWorld}
-use Rattle.agreement.specs.Past.{Moment, HasConfig, WasActive, HasTold, IsChosen, IsAgreed, ToldLength}
+use Rattle.agreement.specs.Moments.{Moment, HasConfig, WasActive, HasTold, IsChosen, IsAgreed, ToldLength}
 use Rattle.snapshots.proofs.MoreMoments.{config_in, told_in}
-use Rattle.agreement.specs.Past.HasConfig.{opened_with, was_assigned}
-use Rattle.agreement.specs.Past.HasTold.{told_as_log, told_by_message}
+use Rattle.agreement.specs.Moments.HasConfig.{opened_with, was_assigned}
+use Rattle.agreement.specs.Moments.HasTold.{told_as_log, told_by_message}
 
 -- what was acknowledged, given and active at one moment is so at another
 pub record TellsAs {S C O : Type 0} (c d : Moment S C O) : Type 0 where

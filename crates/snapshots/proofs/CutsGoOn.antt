@@ -13,7 +13,7 @@ use Rattle.agreement.specs.whole.Replica.{ReplicaState as WholeState}
 use Rattle.agreement.specs.Agreement.{Agrees, Holds}
 use Rattle.agreement.specs.Leaving.{LeftInOrder}
 use Rattle.agreement.specs.MasterState.{MasterState}
-use Rattle.agreement.specs.Past.{Moment, Past, IsAgreed}
+use Rattle.agreement.specs.Moments.{Moment, Moments, IsAgreed}
 use Rattle.agreement.specs.Steps.MayHappen.{node_stops}
 use Rattle.agreement.specs.World.{World as WholeWorld}
 use Rattle.agreement.proofs.Agreed.PastAgrees.{has_agreed, machines_replay, nodes_agree}
@@ -180,8 +180,8 @@ cuts_on {S = S} {C = C} {O = O} rules config m w earlier n r k stands runs faith
     by_place i x e (inr other) =
         let a = k.nodes i x (sym (get_set_other w.nodes n i (cut rules r) other) ∙ e) in (snapshot_longer rules w.archive rec x.log longer a.0, a.1)
 
-    past : (came : Past rules config (moment m v ∷ earlier)) × Adds k.came came (nothing_added C O)
-    past = subst (λ (u : Moment S C O). (came : Past rules config (u ∷ earlier)) × Adds k.came came (nothing_added C O)) (sym same) (k.came, adds_nothing k.came)
+    past : (came : Moments rules config (moment m v ∷ earlier)) × Adds k.came came (nothing_added C O)
+    past = subst (λ (u : Moment S C O). (came : Moments rules config (u ∷ earlier)) × Adds k.came came (nothing_added C O)) (sym same) (k.came, adds_nothing k.came)
 
 -- what it adds
 abbrev pub added_of_node : {S C O : Type 0} {rules : Rules S C O} {w v : World S C O} → NodeGoes rules w v → Added C O

@@ -10,8 +10,8 @@ use Rattle.agreement.specs.ballot_base.Replica.{is_fetching, ReplicaState}
 use Rattle.agreement.specs.ballot_base.declared.status.Role.{Role}
 use Rattle.agreement.specs.ballot_base.declared.status.Role.TheVariants.{Backup, Fetching, Installing, Active}
 use Rattle.agreement.specs.MasterState.{MasterState}
-use Rattle.agreement.specs.Past.{Moment, Past}
-use Rattle.agreement.specs.Past.Past.{went_on}
+use Rattle.agreement.specs.Moments.{Moment, Moments}
+use Rattle.agreement.specs.Moments.Moments.{went_on}
 use Rattle.agreement.proofs.Agreed.PastKnown.{past_known}
 use Rattle.agreement.specs.ballot_base.Logs.{Log, places}
 use Rattle.snapshots.specs.Whole.{whole, whole_effects, whole_input}
@@ -66,7 +66,7 @@ plain_keeps {S = S} {C = C} {O = O} rules r (Receives m) within plain = by_body 
 
 -- one moment more
 pub on_by_one : {S C O : Type 0} (rules : Rules S C O) (config : Config) (m : MasterState) (v : World S C O) (before : List (Moment S C O))
-    (came : Past rules config before) (d : Added C O) → KeptWith rules config m v before came d → GoesOn rules config m v came d
+    (came : Moments rules config before) (d : Added C O) → KeptWith rules config m v before came d → GoesOn rules config m v came d
 on_by_one rules config m v before came d q = record { more = before; kept = q.kept; continues = one_more before (moment m v); adds = q.adds }
 
 -- what a node holds at least

@@ -13,8 +13,8 @@ use Rattle.agreement.specs.ballot_base.declared.config.Config.{Config}
 use Rattle.agreement.specs.whole.Protocol.{replica_step as whole_step}
 use Rattle.agreement.specs.ballot_base.Replica.{ReplicaState}
 use Rattle.agreement.specs.MasterState.{MasterState}
-use Rattle.agreement.specs.Past.{Moment, Past, IsAgreed}
-use Rattle.agreement.specs.Past.Past.{went_on}
+use Rattle.agreement.specs.Moments.{Moment, Moments, IsAgreed}
+use Rattle.agreement.specs.Moments.Moments.{went_on}
 use Rattle.agreement.proofs.Agreed.PastAgrees.{has_agreed}
 use Rattle.agreement.proofs.Agreed.PastKnown.{past_known}
 use Rattle.agreement.specs.ballot_base.Logs.{Log, places}
@@ -53,20 +53,20 @@ Carries rules past archive _ = Unit {0}
 
 pub record Kept {S C O : Type 0} (rules : Rules S C O) (config : Config) (m : MasterState) (w : World S C O)
     (earlier : List (Moment S C O)) : Type 0 where
-  pub came : Past rules config (moment m w ∷ earlier)
+  pub came : Moments rules config (moment m w ∷ earlier)
   pub nodes : (n : ℕ) (r : ReplicaState S C) → slice_get w.nodes n ≡ Some r → IsSnapshot rules w.archive r.log × (r.log.base ≤ r.committed)
   pub each_sent : (to : ℕ) (x : Message C) → In (to, x) w.sent → Carries rules (moment m w ∷ earlier) w.archive x.body
   pub begins : (xs : List C) → IsAgreed config (moment m w ∷ earlier) xs → IsPrefixOf w.archive xs
 
 -- .. and of the past on whole logs, over an earlier one, what it has more
 pub record KeptWith {S C O : Type 0} (rules : Rules S C O) (config : Config) (m : MasterState) (w : World S C O) (earlier : List (Moment S C O))
-    {before : List (Moment S C O)} (came : Past rules config before) (d : Added C O) : Type 0 where
+    {before : List (Moment S C O)} (came : Moments rules config before) (d : Added C O) : Type 0 where
   pub kept : Kept rules config m w earlier
   pub adds : Adds came kept.came d
 
 -- the past on whole logs has continued
 pub record GoesOn {S C O : Type 0} (rules : Rules S C O) (config : Config) (m : MasterState) (w : World S C O) {before : List (Moment S C O)}
-    (came : Past rules config before) (d : Added C O) : Type 0 where
+    (came : Moments rules config before) (d : Added C O) : Type 0 where
   pub more : List (Moment S C O)
   pub kept : Kept rules config m w more
   pub continues : Continues before (moment m w) more
@@ -114,7 +114,7 @@ own_carries rules past archive s (Commit b held) snap was own = tt
 
 pub kept_moved : {S C O : Type 0} (rules : Rules S C O) (config : Config) (m : MasterState) (w : World S C O) (earlier more : List (Moment S C O))
     (n : ℕ) (r new : ReplicaState S C) (given : List (Effect C O)) (d : Added C O) → (k : Kept rules config m w earlier) → slice_get w.nodes n ≡ Some r →
-    (came : Past rules config (moment m (moved w n new given) ∷ more)) → ((c : Moment S C O) → In c (moment m w ∷ earlier) → In c more) →
+    (came : Moments rules config (moment m (moved w n new given) ∷ more)) → ((c : Moment S C O) → In c (moment m w ∷ earlier) → In c more) →
     IsSnapshot rules w.archive new.log → new.log.base ≤ new.committed → SaysOwn new given → Adds k.came came d →
     KeptWith rules config m (moved w n new given) more k.came d
 kept_moved {S = S} {C = C} {O = O} rules config m w earlier more n r new given d k stands came inc snap low own adds =

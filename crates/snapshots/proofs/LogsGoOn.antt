@@ -13,8 +13,8 @@ use Rattle.agreement.specs.whole.Replica.{ReplicaState as WholeState}
 use Rattle.agreement.specs.ballot_base.Replica.{is_active, ReplicaState}
 use Rattle.agreement.specs.whole.Sending.{Outcome as WholeOutcome}
 use Rattle.agreement.specs.MasterState.{MasterState}
-use Rattle.agreement.specs.Past.{Moment, Past}
-use Rattle.agreement.specs.Past.Past.{went_on}
+use Rattle.agreement.specs.Moments.{Moment, Moments}
+use Rattle.agreement.specs.Moments.Moments.{went_on}
 use Rattle.agreement.specs.World.{World as WholeWorld, moved as whole_moved}
 use Rattle.agreement.proofs.Agreed.PastAgrees.{machines_replay}
 use Rattle.agreement.specs.ballot_base.Logs.{Log, places}
@@ -92,9 +92,9 @@ tells_before {S = S} {C = C} {O = O} rules m w n s new given r k stands is = rec
 
 -- the past on whole logs after a node took a log, and what was added to it
 pub record LogWent {S C O : Type 0} (rules : Rules S C O) (config : Config) (m : MasterState) (w : World S C O) (earlier : List (Moment S C O)) (n : ℕ)
-    (r : ReplicaState S C) (input : Input C) (new : ReplicaState S C) (given : List (Effect C O)) (came : Past rules config (moment m w ∷ earlier)) : Type 0 where
+    (r : ReplicaState S C) (input : Input C) (new : ReplicaState S C) (given : List (Effect C O)) (came : Moments rules config (moment m w ∷ earlier)) : Type 0 where
   pub more : List (Moment S C O)
-  pub past : Past rules config (moment m (moved w n new given) ∷ more)
+  pub past : Moments rules config (moment m (moved w n new given) ∷ more)
   pub all : (c : Moment S C O) → In c (moment m w ∷ earlier) → In c more
   pub continues : Continues (moment m w ∷ earlier) (moment m (moved w n new given)) more
   pub adds : Adds came past (added_whole w.archive n r input new given)
@@ -102,7 +102,7 @@ pub record LogWent {S C O : Type 0} (rules : Rules S C O) (config : Config) (m :
 -- so the whole logs have continued, by one step or by one and learning
 pub log_goes_on : {S C O : Type 0} (rules : Rules S C O) (config : Config) (m : MasterState) (w : World S C O) (earlier : List (Moment S C O)) (n : ℕ)
     (r : ReplicaState S C) (input : Input C) (ballot : ℕ) (log : Log C) (machine : S) (new : ReplicaState S C) (given : List (Effect C O)) →
-    (came : Past rules config (moment m w ∷ earlier)) → slice_get w.nodes n ≡ Some r → r.stopped ≡ false → MayTake w n input → IsBased w.archive r →
+    (came : Moments rules config (moment m w ∷ earlier)) → slice_get w.nodes n ≡ Some r → r.stopped ≡ false → MayTake w n input → IsBased w.archive r →
     r.committed ≤ places r.log → log.base ≤ length w.archive → TakesLog {O = O} rules w.archive r input ballot log →
     (r.log.base < log.base → (rules.thawed log.snapshot ≡ Some machine) × (machine ≡ replay rules (take log.base w.archive))
     × WasApplied (moment m w ∷ earlier) ballot log.base (take log.base w.archive)) →
@@ -185,7 +185,7 @@ log_goes_on {S = S} {C = C} {O = O} rules config m w earlier n r input ballot lo
                 let z = learns_after rules config (moment m w) earlier n W (whole w.archive new) (whole_input w.archive input) (whole_effects w.archive given)
                 log.base came there_now runs (may_take_whole w n input may) (thinned_then (whole_thinned w.archive thin) l.effects)
                 (t.stopped ∙ runs) t.passive low base_long known (ap (whole w.archive) is ∙ l.state) in
-                let e = subst (λ (v : WholeWorld S C O). (q : Past rules config (record { master = m; world = v } ∷ middle ∷ moment m w ∷ earlier))
+                let e = subst (λ (v : WholeWorld S C O). (q : Moments rules config (record { master = m; world = v } ∷ middle ∷ moment m w ∷ earlier))
                 × Adds came q (added_at n W (whole_input w.archive input) p.state (whole_effects w.archive given)))
                 (sym (moved_whole w n new given)) z in
                 let same = ap (λ (x : WholeState S C). whole_taken_by W x (whole_input w.archive input)) (sym (ap (whole w.archive) is ∙ l.state)) in

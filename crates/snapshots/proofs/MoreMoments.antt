@@ -3,9 +3,9 @@
 use Rattle.std.proofs.Common.{◌≡◌, ℕ, ◌⊎◌, inl, inr, List, [], refl, sym, subst}
 use Rattle.agreement.specs.lists.Lists.{In, IsPrefixOf}
 use Rattle.agreement.specs.ballot_base.declared.config.Config.{Config}
-use Rattle.agreement.specs.Past.{Moment, HasConfig, WasActive, HasTold, IsChosen, IsAgreed}
-use Rattle.agreement.specs.Past.HasConfig.{opened_with, was_assigned}
-use Rattle.agreement.specs.Past.HasTold.{told_as_log, told_by_message}
+use Rattle.agreement.specs.Moments.{Moment, HasConfig, WasActive, HasTold, IsChosen, IsAgreed}
+use Rattle.agreement.specs.Moments.HasConfig.{opened_with, was_assigned}
+use Rattle.agreement.specs.Moments.HasTold.{told_as_log, told_by_message}
 
 pub config_in : {S C O : Type 0} (config : Config) (past more : List (Moment S C O)) → ((c : Moment S C O) → In c past → In c more) → (b : ℕ) (c : Config) →
     HasConfig config past b c → HasConfig config more b c

@@ -23,7 +23,7 @@ use Rattle.agreement.specs.ballot_base.Sending.{Outcome, message_to, message_to_
 use Rattle.agreement.specs.ballot_base.Taking.{taken}
 use Rattle.agreement.specs.Giving.{GivesNext, gives_from}
 use Rattle.agreement.specs.MasterState.{AssignRefusal, MasterState, refusal}
-use Rattle.agreement.specs.Past.{Moment as WholeMoment}
+use Rattle.agreement.specs.Moments.{Moment as WholeMoment}
 use Rattle.agreement.specs.whole.Protocol.{replica_step as whole_step}
 use Rattle.agreement.specs.whole.Replica.{ReplicaState as WholeState}
 use Rattle.agreement.proofs.Agreed.PastAgrees as wholes
@@ -33,8 +33,8 @@ use Rattle.agreement.proofs.Given.Places.{front_between}
 use Rattle.snapshots.specs.Giving.{given_in}
 use Rattle.snapshots.specs.Matches.{IsBased}
 use Rattle.snapshots.specs.Orders.{AnswersAtTheNextPlaces}
-use Rattle.snapshots.specs.Past.{Moment, whole_moment}
-use Rattle.snapshots.specs.Past.Past.{went_on}
+use Rattle.snapshots.specs.Moments.{Moment, whole_moment}
+use Rattle.snapshots.specs.Moments.Moments.{went_on}
 use Rattle.snapshots.specs.Steps.{MayHappen, world_after}
 use Rattle.snapshots.specs.Steps.MayHappen.{node_goes, master_assigns, master_hears, assignment_lost, answer_lost}
 use Rattle.snapshots.specs.Whole.{whole, whole_effects, whole_input, whole_log}

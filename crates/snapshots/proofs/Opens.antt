@@ -12,10 +12,10 @@ use Rattle.agreement.specs.whole.Replica.{ReplicaState as WholeState, opening as
 use Rattle.agreement.specs.ballot_base.Replica.{others, progress_at, ReplicaState, opening, opening_member}
 use Rattle.agreement.specs.ballot_base.declared.status.Role.TheVariants.{Active}
 use Rattle.agreement.specs.MasterState.{MasterState, opening_master}
-use Rattle.agreement.specs.Past.{Moment, Past}
-use Rattle.agreement.specs.Past.Past.{began, went_on}
+use Rattle.agreement.specs.Moments.{Moment, Moments}
+use Rattle.agreement.specs.Moments.Moments.{began, went_on}
 use Rattle.agreement.specs.World.{can_open, opening_nodes as whole_opening_nodes}
-use Rattle.snapshots.specs.Past.{opening_nodes, opening_world}
+use Rattle.snapshots.specs.Moments.{opening_nodes, opening_world}
 use Rattle.agreement.proofs.Agreed.PastAgrees.{has_agreed}
 use Rattle.agreement.specs.ballot_base.Logs.{Log, empty_log}
 use Rattle.agreement.specs.ballot_base.declared.message.Body.{Body}
@@ -124,10 +124,10 @@ master_kept {S = S} {C = C} {O = O} rules config m k w earlier receiver body q p
       adds = past.1;
     }
   where
-    past : (came : Past rules config (moment k (record w { sent = w.sent ++ (receiver, record { from = 0; body = body }) ∷ [] }) ∷ moment m w ∷ earlier))
+    past : (came : Moments rules config (moment k (record w { sent = w.sent ++ (receiver, record { from = 0; body = body }) ∷ [] }) ∷ moment m w ∷ earlier))
         × Adds q.came came (nothing_added C O)
     past = subst (λ us. let x : Moment S C O = record { master = k; world = record (whole_world w) { sent = us } } in
-        (came : Past rules config (x ∷ moment m w ∷ earlier)) × Adds q.came came (nothing_added C O))
+        (came : Moments rules config (x ∷ moment m w ∷ earlier)) × Adds q.came came (nothing_added C O))
         (sym (map-append (whole_sent w.archive) w.sent ((receiver, record { from = 0; body = body }) ∷ [])))
         (went_on q.came step.0, adds_one q.came (nothing_added C O) step)
 

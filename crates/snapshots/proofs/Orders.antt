@@ -12,7 +12,7 @@ use Rattle.agreement.specs.ballot_base.Protocol.{Input, replica_step}
 use Rattle.agreement.specs.ballot_base.Protocol.Input.{Receives, Proposes, Ticks}
 use Rattle.agreement.specs.ballot_base.Replica.{ReplicaState, is_active}
 use Rattle.agreement.specs.MasterState.{MasterState}
-use Rattle.agreement.specs.Past.{IsAgreed}
+use Rattle.agreement.specs.Moments.{IsAgreed}
 use Rattle.agreement.specs.Primaries.{IsPrimary}
 use Rattle.agreement.specs.Proposals.{IsOfBallot, IsPartOf, commands_of, rows_in, taken_of as whole_taken_of}
 use Rattle.agreement.specs.World.{log_of, outputs as whole_outputs}
@@ -30,7 +30,7 @@ use Rattle.agreement.proofs.Given.StepGives.{from_active}
 use Rattle.snapshots.specs.Giving.{LeadsOn, given_in, given_of}
 use Rattle.snapshots.specs.Giving.LeadsOn.{leads_there, leads_still}
 use Rattle.snapshots.specs.Orders.{AnswersWhileItLeads, KeepsTheOrder, OneNodeTakesABallot}
-use Rattle.snapshots.specs.Past.{Moment, Past, whole_moment}
+use Rattle.snapshots.specs.Moments.{Moment, Moments, whole_moment}
 use Rattle.snapshots.specs.Proposals.{proposals_of, taken_at, taken_of}
 use Rattle.snapshots.specs.Whole.{whole, whole_log}
 use Rattle.snapshots.specs.World.{World, whole_world}
@@ -63,7 +63,7 @@ one_node_takes_a_ballot rules config a past came c n ballot i primary =
     ∙ ap (rows_in ballot) (q.says.takes_at n)
 
 -- what one node took was taken
-pub taken_at_in : {S C O : Type 0} (rules : Rules S C O) (config : Config) (a : Moment S C O) (past : List (Moment S C O)) → (came : Past rules config (a ∷ past)) →
+pub taken_at_in : {S C O : Type 0} (rules : Rules S C O) (config : Config) (a : Moment S C O) (past : List (Moment S C O)) → (came : Moments rules config (a ∷ past)) →
     (n : ℕ) (row : ℕ × C) → In row (taken_at n came) → In row (taken_of came)
 taken_at_in {C = C} rules config a past came n row i =
     let q = past_stands_with rules config a past came in
@@ -74,7 +74,7 @@ taken_at_in {C = C} rules config a past came n row i =
 
 -- it leads at the last moment
 leads_now : {S C O : Type 0} {rules : Rules S C O} {config : Config} {n ballot : ℕ} {a b : Moment S C O} {past later : List (Moment S C O)}
-    {came : Past rules config (a ∷ past)} {more : Past rules config (b ∷ later)} → LeadsOn n ballot came b later more → IsPrimary (whole_world b.world) n ballot
+    {came : Moments rules config (a ∷ past)} {more : Moments rules config (b ∷ later)} → LeadsOn n ballot came b later more → IsPrimary (whole_world b.world) n ballot
 leads_now (leads_there p) = p
 leads_now (leads_still leads step p) = p
 
@@ -86,7 +86,7 @@ node_at f (x ∷ xs) (suc n) y e = node_at f xs n y e
 
 -- what a node applied lies within the agreed list
 applied_inside : {S C O : Type 0} (rules : Rules S C O) (config : Config) (a : Moment S C O) (past : List (Moment S C O)) (xs : List C) →
-    Past rules config (a ∷ past) → IsAgreed config (map whole_moment (a ∷ past)) xs → (n : ℕ) (r : ReplicaState S C) → slice_get a.world.nodes n ≡ Some r →
+    Moments rules config (a ∷ past) → IsAgreed config (map whole_moment (a ∷ past)) xs → (n : ℕ) (r : ReplicaState S C) → slice_get a.world.nodes n ≡ Some r →
     r.committed ≤ length xs
 applied_inside rules config a past xs came agreed n r stands =
     let q = past_stands rules config a past came in
@@ -98,8 +98,8 @@ applied_inside rules config a past xs came agreed n r stands =
 
 -- by the moments in between
 gave_between : {S C O : Type 0} (rules : Rules S C O) (config : Config) (a : Moment S C O) (past : List (Moment S C O)) →
-    (came : Past rules config (a ∷ past)) → (n ballot : ℕ) (old : ReplicaState S C) → slice_get a.world.nodes n ≡ Some old →
-    (b : Moment S C O) (later : List (Moment S C O)) (xs : List C) (more : Past rules config (b ∷ later)) → IsAgreed config (map whole_moment (b ∷ later)) xs →
+    (came : Moments rules config (a ∷ past)) → (n ballot : ℕ) (old : ReplicaState S C) → slice_get a.world.nodes n ≡ Some old →
+    (b : Moment S C O) (later : List (Moment S C O)) (xs : List C) (more : Moments rules config (b ∷ later)) → IsAgreed config (map whole_moment (b ∷ later)) xs →
     LeadsOn n ballot came b later more → (new : ReplicaState S C) → slice_get b.world.nodes n ≡ Some new →
     (old.committed ≤ new.committed)
     × (given_of n more ≡ given_of n came ++ whole_outputs (outputs_between rules xs old.committed new.committed))

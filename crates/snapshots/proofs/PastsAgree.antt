@@ -5,7 +5,7 @@ use Rattle.agreement.proofs.Agreed.OnePrimary as primaries
 use Rattle.agreement.proofs.Agreed.PastAgrees as wholes
 use Rattle.agreement.proofs.Agreed.PastGrows as growing
 use Rattle.snapshots.specs.Laws.{AgreedGrows, HasAgreed, LogsAreCutRight, MachinesReplay, NodesAgree, OnePrimaryABallot, SentLogsAreRight, SnapshotsAreRead}
-use Rattle.snapshots.specs.Past.{whole_moment}
+use Rattle.snapshots.specs.Moments.{whole_moment}
 use Rattle.snapshots.proofs.Continues.{agreed_back, agreed_in, left_back}
 use Rattle.snapshots.proofs.PastsKept.{past_stands}
 use Rattle.snapshots.proofs.SnapshotsRead.{carried_is_read, carried_log}

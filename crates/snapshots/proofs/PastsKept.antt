@@ -5,14 +5,14 @@ use Rattle.agreement.specs.whole.Messages.Body.{Activated as whole_activated, Su
 use Rattle.agreement.specs.whole.Messages.{Body as WholeBody}
 use Rattle.agreement.specs.MasterState.{MasterState, AssignRefusal, activating, is_granted, master_after, opening_master, refusal}
 use Rattle.agreement.specs.Giving.{given_of as whole_given_of}
-use Rattle.agreement.specs.Past.{Moment as WholeMoment, Past as WholePast}
+use Rattle.agreement.specs.Moments.{Moment as WholeMoment, Moments as WholeMoments}
 use Rattle.agreement.specs.Proposals.{proposals_of as whole_proposals_of, taken_at as whole_taken_at, taken_of as whole_taken_of}
 use Rattle.agreement.specs.Steps.{world_after as whole_after}
 use Rattle.agreement.specs.Steps.{MayHappen as happens}
 use Rattle.agreement.specs.ballot_base.declared.config.Config.{Config}
 use Rattle.agreement.specs.ballot_base.declared.message.Body.TheVariants.{Activated, Superseded}
-use Rattle.snapshots.specs.Past.{Moment, Past, opening_world, whole_moment}
-use Rattle.snapshots.specs.Past.Past.{began, went_on}
+use Rattle.snapshots.specs.Moments.{Moment, Moments, opening_world, whole_moment}
+use Rattle.snapshots.specs.Moments.Moments.{began, went_on}
 use Rattle.snapshots.specs.Giving.{given_in, given_of}
 use Rattle.snapshots.specs.Masters.{activated, assigned}
 use Rattle.snapshots.specs.Proposals.{proposal_of, proposals_of, taken_at, taken_in, taken_of, takes_at}
@@ -91,18 +91,18 @@ pub record StandsFor {S C O : Type 0} (rules : Rules S C O) (config : Config) (a
 
 -- .. with the same proposals, taken by the same nodes, and the same outputs
 pub record SaysAs {S C O : Type 0} {rules : Rules S C O} {config : Config} {xs : List (Moment S C O)} {ys : List (WholeMoment S C O)}
-    (came : Past rules config xs) (whole : WholePast rules config ys) : Type 0 where
+    (came : Moments rules config xs) (whole : WholeMoments rules config ys) : Type 0 where
   pub proposes : whole_proposals_of whole ≡ proposals_of came
   pub takes : whole_taken_of whole ≡ taken_of came
   pub takes_at : (n : ℕ) → whole_taken_at n whole ≡ taken_at n came
   pub gives : (n : ℕ) → whole_given_of n whole ≡ given_of n came
 
 pub record StandsWith {S C O : Type 0} (rules : Rules S C O) (config : Config) (a : Moment S C O) (past : List (Moment S C O))
-    (came : Past rules config (a ∷ past)) : Type 0 where
+    (came : Moments rules config (a ∷ past)) : Type 0 where
   pub stands : StandsFor rules config a past
   pub says : SaysAs came stands.kept.came
 
-pub past_stands_with : {S C O : Type 0} (rules : Rules S C O) (config : Config) (a : Moment S C O) (past : List (Moment S C O)) → (came : Past rules config (a ∷ past)) →
+pub past_stands_with : {S C O : Type 0} (rules : Rules S C O) (config : Config) (a : Moment S C O) (past : List (Moment S C O)) → (came : Moments rules config (a ∷ past)) →
     StandsWith rules config a past came
 past_stands_with {S = S} {C = C} {O = O} rules config a past (began nodes can is) =
     record { stands = z.0; says = record { proposes = z.1.proposes; takes = z.1.takes; takes_at = z.1.takes_at; gives = z.1.gives } }
@@ -134,5 +134,5 @@ past_stands_with {S = S} {C = C} {O = O} rules config b (a ∷ past) (went_on ca
     }
 
 pub past_stands : {S C O : Type 0} (rules : Rules S C O) (config : Config) (a : Moment S C O) (past : List (Moment S C O)) →
-    Past rules config (a ∷ past) → StandsFor rules config a past
+    Moments rules config (a ∷ past) → StandsFor rules config a past
 past_stands rules config a past came = (past_stands_with rules config a past came).stands

@@ -18,7 +18,7 @@ use Rattle.agreement.specs.whole.Protocol.{replica_step as whole_step}
 use Rattle.agreement.proofs.Orders.TakenStands as wholes
 use Rattle.snapshots.specs.Matches.{IsBased}
 use Rattle.snapshots.specs.Orders.{StandsAtOnce, TakenStandAtOnce}
-use Rattle.snapshots.specs.Past.Past.{went_on}
+use Rattle.snapshots.specs.Moments.Moments.{went_on}
 use Rattle.snapshots.specs.Proposals.{taken_by}
 use Rattle.snapshots.specs.Steps.{MayHappen}
 use Rattle.snapshots.specs.Steps.MayHappen.{node_goes, master_assigns, master_hears, assignment_lost, answer_lost}

@@ -5,7 +5,7 @@ use Rattle.agreement.specs.Agreement.{Agrees as AgreesWhole, Holds as HoldsWhole
 use Rattle.agreement.specs.Leaving.{LeftInOrder as LeftInOrderWhole}
 use Rattle.agreement.specs.MasterState.{MasterState}
 use Rattle.agreement.specs.Primaries.{IsPrimary as IsPrimaryWhole}
-use Rattle.snapshots.specs.Past.{Moment, whole_moment}
+use Rattle.snapshots.specs.Moments.{Moment, whole_moment}
 use Rattle.snapshots.specs.World.{World, whole_world}
 
 -- what is applied anywhere begins the list, and each member of the active ballot holds it

@@ -4,8 +4,8 @@ use Rattle.agreement.specs.machine.Machine.{Rules}
 use Rattle.agreement.specs.MasterState.{MasterState}
 use Rattle.agreement.specs.Primaries.{IsPrimary}
 use Rattle.agreement.specs.ballot_base.declared.config.Config.{Config}
-use Rattle.snapshots.specs.Past.{Moment, Past}
-use Rattle.snapshots.specs.Past.Past.{began, went_on}
+use Rattle.snapshots.specs.Moments.{Moment, Moments}
+use Rattle.snapshots.specs.Moments.Moments.{began, went_on}
 use Rattle.snapshots.specs.Steps.{MayHappen}
 use Rattle.snapshots.specs.Steps.MayHappen.{node_goes, master_assigns, master_hears}
 use Rattle.snapshots.specs.Steps.MayHappen.{assignment_lost, answer_lost}
@@ -31,21 +31,21 @@ given_in n (answer_lost from b sent) = []
 
 -- all that it gave in a past, in order
 abbrev pub given_of : {S C O : Type 0} {rules : Rules S C O} {config : Config}
-    {past : List (Moment S C O)} → ℕ → Past rules config past → List (ℕ × O)
+    {past : List (Moment S C O)} → ℕ → Moments rules config past → List (ℕ × O)
 given_of n (began nodes lawful is) = []
 given_of n (went_on came step) = given_of n came ++ given_in n step
 
 -- a past continues from a moment, and the node at index n is the active primary of a ballot at that
 -- moment and at each later one
 pub data LeadsOn {S C O : Type 0} {rules : Rules S C O} {config : Config} (n ballot : ℕ)
-    {a : Moment S C O} {past : List (Moment S C O)} (came : Past rules config (a ∷ past)) :
-    (b : Moment S C O) (later : List (Moment S C O)) → Past rules config (b ∷ later) →
+    {a : Moment S C O} {past : List (Moment S C O)} (came : Moments rules config (a ∷ past)) :
+    (b : Moment S C O) (later : List (Moment S C O)) → Moments rules config (b ∷ later) →
     Type 0 where
   -- it is so at the moment itself
   leads_there : IsPrimary (whole_world a.world) n ballot → LeadsOn n ballot came a past came
   -- it is so after one more step
   leads_still : {b c : Moment S C O} {later : List (Moment S C O)}
-      {more : Past rules config (b ∷ later)} → LeadsOn n ballot came b later more →
+      {more : Moments rules config (b ∷ later)} → LeadsOn n ballot came b later more →
       (step : MayHappen rules b.master b.world c.master c.world) →
       IsPrimary (whole_world c.world) n ballot →
       LeadsOn n ballot came c (b ∷ later) (went_on more step)

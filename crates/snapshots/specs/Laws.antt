@@ -6,7 +6,7 @@ use Rattle.agreement.specs.machine.Machine.{Rules, replay}
 use Rattle.agreement.specs.lists.Lists.{In, IsPrefixOf}
 use Rattle.agreement.specs.Agreement.{Agrees, Holds}
 use Rattle.agreement.specs.Leaving.{LeftInOrder}
-use Rattle.agreement.specs.Past.{IsAgreed}
+use Rattle.agreement.specs.Moments.{IsAgreed}
 use Rattle.agreement.specs.Primaries.{IsPrimary}
 use Rattle.agreement.specs.Replays.{AreReplays}
 use Rattle.agreement.specs.ballot_base.declared.config.Config.{Config}
@@ -16,21 +16,22 @@ use Rattle.agreement.specs.ballot_base.declared.message.Message.{Message}
 use Rattle.agreement.specs.ballot_base.Logs.{Log}
 use Rattle.agreement.specs.ballot_base.Replica.{ReplicaState}
 use Rattle.agreement.specs.ballot_base.Unread.{is_unread}
-use Rattle.snapshots.specs.Past.{Moment, Past, whole_moment}
+use Rattle.snapshots.specs.Moments.{Moment, Moments, whole_moment}
 use Rattle.snapshots.specs.World.{whole_world}
 
 -- there is an agreed list at each moment
 abbrev pub HasAgreed : {S C O : Type 0} → Rules S C O → Type 0
 HasAgreed {S} {C} {O} rules =
     (config : Config) (a : Moment S C O) (past : List (Moment S C O)) →
-    Past rules config (a ∷ past) → (xs : List C) × IsAgreed config (map whole_moment (a ∷ past)) xs
+    Moments rules config (a ∷ past) →
+    (xs : List C) × IsAgreed config (map whole_moment (a ∷ past)) xs
 
 -- the nodes agree on it, and a member of the active ballot holds it; what left is its answers in
 -- order, and the record of places begins it
 abbrev pub NodesAgree : {S C O : Type 0} → Rules S C O → Type 0
 NodesAgree {S} {C} {O} rules =
     (config : Config) (a : Moment S C O) (past : List (Moment S C O)) (xs : List C) →
-    Past rules config (a ∷ past) → IsAgreed config (map whole_moment (a ∷ past)) xs →
+    Moments rules config (a ∷ past) → IsAgreed config (map whole_moment (a ∷ past)) xs →
     Agrees rules a.master (whole_world a.world) xs × Holds a.master (whole_world a.world) xs
     × LeftInOrder rules (map whole_moment (a ∷ past)) (whole_world a.world) xs
     × IsPrefixOf a.world.archive xs
@@ -46,7 +47,7 @@ AgreedGrows {S} {C} {O} rules =
 abbrev pub MachinesReplay : {S C O : Type 0} → Rules S C O → Type 0
 MachinesReplay {S} {C} {O} rules =
     (config : Config) (a : Moment S C O) (past : List (Moment S C O)) →
-    Past rules config (a ∷ past) → AreReplays rules (whole_world a.world)
+    Moments rules config (a ∷ past) → AreReplays rules (whole_world a.world)
 
 -- the base of each log lies within the record and within what is applied; a snapshot is the frozen
 -- replay of the places below it, and thaws to that
@@ -63,7 +64,7 @@ pub record IsCutRight {S C O : Type 0} (rules : Rules S C O) (archive : List C)
 abbrev pub LogsAreCutRight : {S C O : Type 0} → Rules S C O → Type 0
 LogsAreCutRight {S} {C} {O} rules =
     (config : Config) (a : Moment S C O) (past : List (Moment S C O)) →
-    Past rules config (a ∷ past) →
+    Moments rules config (a ∷ past) →
     (n : ℕ) (r : ReplicaState S C) → slice_get a.world.nodes n ≡ Some r →
     IsCutRight rules a.world.archive r
 
@@ -85,7 +86,7 @@ pub record IsSentRight {S C O : Type 0} (rules : Rules S C O) (archive : List C)
 abbrev pub SentLogsAreRight : {S C O : Type 0} → Rules S C O → Type 0
 SentLogsAreRight {S} {C} {O} rules =
     (config : Config) (a : Moment S C O) (past : List (Moment S C O)) →
-    Past rules config (a ∷ past) →
+    Moments rules config (a ∷ past) →
     (to : ℕ) (message : Message C) → In (to, message) a.world.sent →
     (log : Log C) → log_in message.body ≡ Some log → IsSentRight rules a.world.archive log
 
@@ -93,7 +94,7 @@ SentLogsAreRight {S} {C} {O} rules =
 abbrev pub SnapshotsAreRead : {S C O : Type 0} → Rules S C O → Type 0
 SnapshotsAreRead {S} {C} {O} rules =
     (config : Config) (a : Moment S C O) (past : List (Moment S C O)) →
-    Past rules config (a ∷ past) →
+    Moments rules config (a ∷ past) →
     (to : ℕ) (message : Message C) → In (to, message) a.world.sent →
     (r : ReplicaState S C) → is_unread rules r message.body ≡ false
 
@@ -101,6 +102,6 @@ SnapshotsAreRead {S} {C} {O} rules =
 abbrev pub OnePrimaryABallot : {S C O : Type 0} → Rules S C O → Type 0
 OnePrimaryABallot {S} {C} {O} rules =
     (config : Config) (a : Moment S C O) (past : List (Moment S C O)) →
-    Past rules config (a ∷ past) →
+    Moments rules config (a ∷ past) →
     (c d : Moment S C O) (m n ballot : ℕ) → In c (a ∷ past) → In d (a ∷ past) →
     IsPrimary (whole_world c.world) m ballot → IsPrimary (whole_world d.world) n ballot → m ≡ n

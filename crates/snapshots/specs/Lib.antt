@@ -4,7 +4,7 @@ pub mod Laws
 pub mod Masters
 pub mod Matches
 pub mod Orders
-pub mod Past
+pub mod Moments
 pub mod Proposals
 pub mod Steps
 pub mod Whole

@@ -7,14 +7,14 @@ use Rattle.agreement.specs.lists.Lists.{In, IsPrefixOf}
 use Rattle.agreement.specs.whole.Applying.{outputs_between}
 use Rattle.agreement.specs.Giving.{GivesNext}
 use Rattle.agreement.specs.MasterState.{MasterState}
-use Rattle.agreement.specs.Past.{IsAgreed}
+use Rattle.agreement.specs.Moments.{IsAgreed}
 use Rattle.agreement.specs.Primaries.{IsPrimary}
 use Rattle.agreement.specs.Proposals.{IsOfBallot, IsPartOf, IsTaken, commands_of, rows_in}
 use Rattle.agreement.specs.World.{log_of, outputs}
 use Rattle.agreement.specs.ballot_base.declared.config.Config.{Config}
 use Rattle.agreement.specs.ballot_base.Replica.{ReplicaState}
 use Rattle.snapshots.specs.Giving.{LeadsOn, given_in, given_of}
-use Rattle.snapshots.specs.Past.{Moment, Past, whole_moment}
+use Rattle.snapshots.specs.Moments.{Moment, Moments, whole_moment}
 use Rattle.snapshots.specs.Proposals.{proposal_of, proposals_of, taken_at, taken_in}
 use Rattle.snapshots.specs.Proposals.{taken_of, takes_at}
 use Rattle.snapshots.specs.Steps.{MayHappen}
@@ -26,7 +26,7 @@ use Rattle.snapshots.specs.World.{World, whole_world}
 abbrev pub KeepsTheOrder : {S C O : Type 0} → Rules S C O → Type 0
 KeepsTheOrder {S} {C} {O} rules =
     (config : Config) (a : Moment S C O) (past : List (Moment S C O)) →
-    (came : Past rules config (a ∷ past)) →
+    (came : Moments rules config (a ∷ past)) →
     IsPartOf (taken_of came) (proposals_of came)
     × ((names : C → Bool) (ballot : ℕ) → IsOfBallot rules.start_of names ballot (taken_of came) →
     (n : ℕ) (r : ReplicaState S C) → slice_get a.world.nodes n ≡ Some r →
@@ -48,14 +48,14 @@ pub record StandsAtOnce {S C O : Type 0} {rules : Rules S C O} {m : MasterState}
 abbrev pub TakenStandAtOnce : {S C O : Type 0} → Rules S C O → Type 0
 TakenStandAtOnce {S} {C} {O} rules =
     (config : Config) (a b : Moment S C O) (past : List (Moment S C O)) →
-    Past rules config (a ∷ past) →
+    Moments rules config (a ∷ past) →
     (step : MayHappen rules a.master a.world b.master b.world) → StandsAtOnce step
 
 -- what was taken in a ballot was taken by the one node that was its active primary
 abbrev pub OneNodeTakesABallot : {S C O : Type 0} → Rules S C O → Type 0
 OneNodeTakesABallot {S} {C} {O} rules =
     (config : Config) (a : Moment S C O) (past : List (Moment S C O)) →
-    (came : Past rules config (a ∷ past)) →
+    (came : Moments rules config (a ∷ past)) →
     (c : Moment S C O) (n ballot : ℕ) → In c (a ∷ past) → IsPrimary (whole_world c.world) n ballot →
     rows_in ballot (taken_of came) ≡ rows_in ballot (taken_at n came)
 
@@ -63,7 +63,7 @@ OneNodeTakesABallot {S} {C} {O} rules =
 abbrev pub AnswersAtTheNextPlaces : {S C O : Type 0} → Rules S C O → Type 0
 AnswersAtTheNextPlaces {S} {C} {O} rules =
     (config : Config) (a b : Moment S C O) (past : List (Moment S C O)) (xs : List C) →
-    Past rules config (a ∷ past) → IsAgreed config (map whole_moment (b ∷ a ∷ past)) xs →
+    Moments rules config (a ∷ past) → IsAgreed config (map whole_moment (b ∷ a ∷ past)) xs →
     (step : MayHappen rules a.master a.world b.master b.world) →
     (n : ℕ) (old new : ReplicaState S C) → slice_get a.world.nodes n ≡ Some old →
     slice_get b.world.nodes n ≡ Some new →
@@ -74,7 +74,7 @@ AnswersAtTheNextPlaces {S} {C} {O} rules =
 abbrev pub AnswersWhileItLeads : {S C O : Type 0} → Rules S C O → Type 0
 AnswersWhileItLeads {S} {C} {O} rules =
     (config : Config) (a b : Moment S C O) (past later : List (Moment S C O)) (xs : List C) →
-    (came : Past rules config (a ∷ past)) (more : Past rules config (b ∷ later)) →
+    (came : Moments rules config (a ∷ past)) (more : Moments rules config (b ∷ later)) →
     IsAgreed config (map whole_moment (b ∷ later)) xs → (n ballot : ℕ) →
     LeadsOn n ballot came b later more →
     (old new : ReplicaState S C) → slice_get a.world.nodes n ≡ Some old →

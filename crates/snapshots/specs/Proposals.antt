@@ -8,8 +8,8 @@ use Rattle.agreement.specs.ballot_base.Logs.{places}
 use Rattle.agreement.specs.ballot_base.Protocol.{Input}
 use Rattle.agreement.specs.ballot_base.Protocol.Input.{Receives, Proposes, Ticks}
 use Rattle.agreement.specs.ballot_base.Replica.{ReplicaState}
-use Rattle.snapshots.specs.Past.{Moment, Past}
-use Rattle.snapshots.specs.Past.Past.{began, went_on}
+use Rattle.snapshots.specs.Moments.{Moment, Moments}
+use Rattle.snapshots.specs.Moments.Moments.{began, went_on}
 use Rattle.snapshots.specs.Steps.{MayHappen}
 use Rattle.snapshots.specs.Steps.MayHappen.{node_goes, master_assigns, master_hears}
 use Rattle.snapshots.specs.Steps.MayHappen.{assignment_lost, answer_lost}
@@ -78,18 +78,18 @@ takes_at n (answer_lost from b sent) = []
 
 -- all of a past, in order
 abbrev pub proposals_of : {S C O : Type 0} {rules : Rules S C O} {config : Config}
-    {past : List (Moment S C O)} → Past rules config past → List (ℕ × C)
+    {past : List (Moment S C O)} → Moments rules config past → List (ℕ × C)
 proposals_of (began nodes lawful is) = []
 proposals_of (went_on came step) = proposals_of came ++ proposal_of step
 
 -- what was taken in a past, in order
 abbrev pub taken_of : {S C O : Type 0} {rules : Rules S C O} {config : Config}
-    {past : List (Moment S C O)} → Past rules config past → List (ℕ × C)
+    {past : List (Moment S C O)} → Moments rules config past → List (ℕ × C)
 taken_of (began nodes lawful is) = []
 taken_of (went_on came step) = taken_of came ++ taken_in step
 
 -- what the node at index n took in a past
 abbrev pub taken_at : {S C O : Type 0} {rules : Rules S C O} {config : Config}
-    {past : List (Moment S C O)} → ℕ → Past rules config past → List (ℕ × C)
+    {past : List (Moment S C O)} → ℕ → Moments rules config past → List (ℕ × C)
 taken_at n (began nodes lawful is) = []
 taken_at n (went_on came step) = taken_at n came ++ takes_at n step

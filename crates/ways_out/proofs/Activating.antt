@@ -13,7 +13,7 @@ use Rattle.snapshots.specs.whole.Replica.{ReplicaState, others, progress_at}
 use Rattle.snapshots.specs.whole.Sending.{Outcome, message_to_followed}
 use Rattle.snapshots.specs.whole.Serving.{max_places}
 use Rattle.snapshots.specs.agreement.MasterState.{MasterOutcome, MasterState, activated}
-use Rattle.snapshots.specs.agreement.Past.{Moment}
+use Rattle.snapshots.specs.agreement.Moments.{Moment}
 use Rattle.snapshots.specs.agreement.World.{messages, outputs}
 use Rattle.snapshots.proofs.of_agreement.Effects.{outputs_of_messages}
 use Rattle.snapshots.specs.lists.Lists.{In}

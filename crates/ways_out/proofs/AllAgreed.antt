@@ -9,7 +9,7 @@ use Rattle.snapshots.specs.lists.Lists.{In, IsPrefixOf}
 use Rattle.snapshots.proofs.of_lists.Beginnings.{prefix_length}
 use Rattle.snapshots.specs.whole.Config.{Config}
 use Rattle.snapshots.specs.whole.Replica.{ReplicaState}
-use Rattle.snapshots.specs.agreement.Past.{Moment, Past, IsAgreed}
+use Rattle.snapshots.specs.agreement.Moments.{Moment, Moments, IsAgreed}
 use Rattle.snapshots.specs.agreement.Inside.Ballots.{Given, IsChosenIn, Told}
 use Rattle.snapshots.specs.agreement.Inside.Ballots.Told.{told_as_primary, told_by_held}
 use Rattle.snapshots.specs.agreement.Inside.Chosen.{ChosenList}
@@ -29,7 +29,7 @@ prefix_both {X = X} xs ys p q = by p.rest p.is (prefix_length q)
     by [] e low = sym (e ∙ append-nil xs)
     by (x ∷ rest) e low = absurd (let z = ap length e in let y = length-append xs (x ∷ rest) in omega (arith, z, y, low))
 
-module _ {S C O : Type 0} (rules : Rules S C O) (config : Config) (a : Moment S C O) (past : List (Moment S C O)) (came : Past rules config (a ∷ past))
+module _ {S C O : Type 0} (rules : Rules S C O) (config : Config) (a : Moment S C O) (past : List (Moment S C O)) (came : Moments rules config (a ∷ past))
     (index : ℕ) (r : ReplicaState S C) (log : List C) (os : List ℕ) (stands : slice_get a.world.nodes index ≡ Some r)
     (serves : Serves a.master.active log os (index + 1) r) (member : In (index + 1) a.master.members)
     (named : (m : ℕ) → In m a.master.members → (m ≡ index + 1 → ⊥) → In m os) where

@@ -18,7 +18,7 @@ use Rattle.snapshots.specs.whole.Replica.{ReplicaState, is_active, progress_at}
 use Rattle.snapshots.specs.whole.Sending.{Outcome, message_to_followed}
 use Rattle.snapshots.specs.whole.Serving.{added, max_places}
 use Rattle.snapshots.proofs.of_whole.StepRows.{proposed-adds}
-use Rattle.snapshots.specs.agreement.Past.{Moment}
+use Rattle.snapshots.specs.agreement.Moments.{Moment}
 use Rattle.snapshots.specs.agreement.World.{messages, outputs}
 use Rattle.snapshots.proofs.of_agreement.Agreed.PastAgrees.{machines_replay}
 use Rattle.snapshots.proofs.of_agreement.Effects.{outputs_of_messages}

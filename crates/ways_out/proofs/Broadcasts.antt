@@ -6,7 +6,7 @@ use Rattle.snapshots.specs.whole.Messages.{Body, Effect, Message}
 use Rattle.snapshots.specs.whole.Messages.Effect.{To}
 use Rattle.snapshots.specs.whole.Protocol.{received}
 use Rattle.snapshots.specs.whole.Replica.{ReplicaState}
-use Rattle.snapshots.specs.agreement.Past.{Moment}
+use Rattle.snapshots.specs.agreement.Moments.{Moment}
 use Rattle.snapshots.specs.agreement.World.{messages, outputs}
 use Rattle.snapshots.specs.lists.Lists.{In}
 use Rattle.snapshots.specs.lists.Lists.In.{here, there}

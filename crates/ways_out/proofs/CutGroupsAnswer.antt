@@ -6,8 +6,8 @@ use Rattle.std.proofs.lemmas.List.{length-map, map-append}
 use Rattle.snapshots.specs.lists.Lists.{In}
 use Rattle.snapshots.proofs.of_lists.Places.{get_set, get_set_other}
 use Rattle.snapshots.specs.machine.Machine.{Rules, replay}
-use Rattle.snapshots.specs.agreement.Past.{Moment as WholeMoment, Past as WholePast}
-use Rattle.snapshots.specs.agreement.Past.Past.{went_on as whole_went_on}
+use Rattle.snapshots.specs.agreement.Moments.{Moment as WholeMoment, Moments as WholeMoments}
+use Rattle.snapshots.specs.agreement.Moments.Moments.{went_on as whole_went_on}
 use Rattle.snapshots.specs.agreement.Steps.MayHappen.{node_takes}
 use Rattle.snapshots.specs.agreement.World.{messages as whole_messages, outputs as whole_outputs}
 use Rattle.snapshots.specs.whole.Messages.{Effect as WholeEffect, Message as WholeMessage}
@@ -28,8 +28,8 @@ use Rattle.snapshots.specs.ballot_base.Protocol.Input.{Proposes}
 use Rattle.snapshots.specs.ballot_base.Replica.{ReplicaState}
 use Rattle.snapshots.specs.ballot_base.Sending.{Outcome}
 use Rattle.snapshots.specs.ballot_base.Serving.{max_places}
-use Rattle.snapshots.specs.Past.{Moment, Past, whole_moment}
-use Rattle.snapshots.specs.Past.Past.{went_on}
+use Rattle.snapshots.specs.Moments.{Moment, Moments, whole_moment}
+use Rattle.snapshots.specs.Moments.Moments.{went_on}
 use Rattle.snapshots.specs.Steps.{MayHappen}
 use Rattle.snapshots.specs.Steps.MayHappen.{node_goes}
 use Rattle.snapshots.specs.Whole.{whole, whole_body, whole_effects, whole_message}
@@ -120,7 +120,7 @@ answers_cut rules archive ballot log c os m ow o z like =
 
 -- ---- the proposal
 
-module _ {S C O : Type 0} (rules : Rules S C O) (config : Config) (a : Moment S C O) (past : List (Moment S C O)) (came : Past rules config (a ∷ past)) (ballot index : ℕ)
+module _ {S C O : Type 0} (rules : Rules S C O) (config : Config) (a : Moment S C O) (past : List (Moment S C O)) (came : Moments rules config (a ∷ past)) (ballot index : ℕ)
     (r : ReplicaState S C) (log : List C) (os : List ℕ) (c : C) (stands : slice_get a.world.nodes index ≡ Some r)
     (serves : Serves ballot log os (index + 1) (whole a.world.archive r)) (room : length log < max_places) where
   q : StandsFor rules config a past
@@ -187,7 +187,7 @@ module _ {S C O : Type 0} (rules : Rules S C O) (config : Config) (a : Moment S 
   first_goes : Goes rules config (a ∷ past) first
   first_goes = record { between = []; came = went_on came step; grown = λ xs ys x y. agreed_grows rules config first (a ∷ past) xs ys x y }
 
-  first_came : WholePast rules config (first_whole ∷ whole_moment a ∷ q.earlier)
+  first_came : WholeMoments rules config (first_whole ∷ whole_moment a ∷ q.earlier)
   first_came = whole_went_on q.kept.came (node_takes index W (whole_proposes c) there_now runs tt (inl (refl, whole_thinned_same ow.effects)))
 
   as_many : length (whole_moment a).world.sent ≡ length a.world.sent

@@ -5,8 +5,8 @@ use Rattle.std.proofs.lemmas.List.{length-map, map-append}
 use Rattle.snapshots.specs.lists.Lists.{In}
 use Rattle.snapshots.specs.machine.Machine.{Rules}
 use Rattle.snapshots.specs.agreement.MasterState.{AssignRefusal, MasterState, master_after, refusal}
-use Rattle.snapshots.specs.agreement.Past.{Moment as WholeMoment, Past as WholePast}
-use Rattle.snapshots.specs.agreement.Past.Past.{went_on as whole_went_on}
+use Rattle.snapshots.specs.agreement.Moments.{Moment as WholeMoment, Moments as WholeMoments}
+use Rattle.snapshots.specs.agreement.Moments.Moments.{went_on as whole_went_on}
 use Rattle.snapshots.specs.agreement.Steps.{MayHappen as WholeMayHappen, world_after as whole_after}
 use Rattle.snapshots.specs.agreement.Steps.MayHappen.{master_assigns as whole_assigns}
 use Rattle.snapshots.specs.whole.Messages.Body.{Held}
@@ -16,8 +16,8 @@ use Rattle.snapshots.proofs.of_agreement.Changing.OtherMembers.{others_in}
 use Rattle.snapshots.proofs.of_agreement.Masters.Assigns.{lawful_is, not_refused}
 use Rattle.snapshots.specs.ballot_base.declared.config.Config.{Config}
 use Rattle.snapshots.specs.ballot_base.Replica.{others}
-use Rattle.snapshots.specs.Past.{IsAgreed, Moment, Past, whole_moment}
-use Rattle.snapshots.specs.Past.Past.{went_on}
+use Rattle.snapshots.specs.Moments.{IsAgreed, Moment, Moments, whole_moment}
+use Rattle.snapshots.specs.Moments.Moments.{went_on}
 use Rattle.snapshots.specs.Steps.{MayHappen, world_after}
 use Rattle.snapshots.specs.Steps.MayHappen.{master_assigns}
 use Rattle.snapshots.specs.Whole.{whole}
@@ -41,7 +41,7 @@ use Rattle.ways_out.proofs.Followed.{Followed, Goes, MomentLike, followed, get_b
 -- ---- the Assign
 
 assign_goes : {S C O : Type 0} (rules : Rules S C O) (config : Config) (a : Moment S C O) (past : List (Moment S C O)) (new : Config) →
-    Past rules config (a ∷ past) → refusal a.master new ≡ None → Goes rules config (a ∷ past) (assigned_moment new a)
+    Moments rules config (a ∷ past) → refusal a.master new ≡ None → Goes rules config (a ∷ past) (assigned_moment new a)
 assign_goes {S = S} {C = C} {O = O} rules config a past new came granted =
     record {
       between = [];
@@ -51,7 +51,7 @@ assign_goes {S = S} {C = C} {O = O} rules config a past new came granted =
     }
 
 whole_assign : {S C O : Type 0} (rules : Rules S C O) (config : Config) (a : WholeMoment S C O) (past : List (WholeMoment S C O)) (new : Config) →
-    WholePast rules config (a ∷ past) → refusal a.master new ≡ None → WholePast rules config (whole_assigned new a ∷ a ∷ past)
+    WholeMoments rules config (a ∷ past) → refusal a.master new ≡ None → WholeMoments rules config (whole_assigned new a ∷ a ∷ past)
 whole_assign rules config a past new came granted =
     whole_went_on came (subst (λ (o : Option AssignRefusal). WholeMayHappen rules a.master a.world (master_after a.master new o) (whole_after a.master a.world new o)) granted
     (whole_assigns new))
@@ -89,7 +89,7 @@ node_still rules ballot P m a b like keeps z =
     }
 
 module _ {S C O : Type 0} (rules : Rules S C O) (silent : StartsGiveNothing rules) (config : Config) (a : Moment S C O) (past : List (Moment S C O))
-    (came : Past rules config (a ∷ past)) (new : Config) (index source : ℕ) (log : List C) (can : CanBeLed (whole_moment a) new index source log) where
+    (came : Moments rules config (a ∷ past)) (new : Config) (index source : ℕ) (log : List C) (can : CanBeLed (whole_moment a) new index source log) where
   stood : StandsFor rules config a past
   stood = past_stands rules config a past came
 

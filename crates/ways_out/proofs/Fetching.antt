@@ -12,7 +12,7 @@ use Rattle.snapshots.specs.whole.Role.TheVariants.{Backup}
 use Rattle.snapshots.specs.whole.Sending.{Outcome, message_to, message_to_each}
 use Rattle.snapshots.proofs.of_whole.ChangeRows.{on_join-answers, on_new_ballot-joins}
 use Rattle.snapshots.specs.agreement.MasterState.{MasterState, assigning}
-use Rattle.snapshots.specs.agreement.Past.{Moment}
+use Rattle.snapshots.specs.agreement.Moments.{Moment}
 use Rattle.snapshots.specs.lists.Lists.{In}
 use Rattle.ways_out.specs.Deliveries.{Delivered, NodeIs, assigned_moment}
 use Rattle.ways_out.specs.Inside.{CanTake, fetching}

@@ -12,8 +12,8 @@ use Rattle.snapshots.specs.machine.Machine.{Rules}
 use Rattle.snapshots.proofs.of_agreement.Agreed.PastAgrees.{machines_replay}
 use Rattle.snapshots.proofs.of_agreement.Agreed.PastKnown.{past_known}
 use Rattle.snapshots.specs.agreement.MasterState.{MasterState, activating, is_granted}
-use Rattle.snapshots.specs.agreement.Past.{Moment as WholeMoment, Past as WholePast}
-use Rattle.snapshots.specs.agreement.Past.Past.{went_on as whole_went_on}
+use Rattle.snapshots.specs.agreement.Moments.{Moment as WholeMoment, Moments as WholeMoments}
+use Rattle.snapshots.specs.agreement.Moments.Moments.{went_on as whole_went_on}
 use Rattle.snapshots.specs.agreement.Steps.MayHappen.{node_takes, master_hears as whole_hears}
 use Rattle.snapshots.specs.agreement.World.{messages as whole_messages, outputs as whole_outputs}
 use Rattle.snapshots.specs.whole.Messages.{Body as WholeBody, Effect as WholeEffect, Message as WholeMessage}
@@ -36,8 +36,8 @@ use Rattle.snapshots.specs.ballot_base.Protocol.{received}
 use Rattle.snapshots.specs.ballot_base.Protocol.Input.{Receives}
 use Rattle.snapshots.specs.ballot_base.Replica.{ReplicaState}
 use Rattle.snapshots.specs.ballot_base.Sending.{Outcome}
-use Rattle.snapshots.specs.Past.{IsAgreed, Moment, Past}
-use Rattle.snapshots.specs.Past.Past.{went_on}
+use Rattle.snapshots.specs.Moments.{IsAgreed, Moment, Moments}
+use Rattle.snapshots.specs.Moments.Moments.{went_on}
 use Rattle.snapshots.specs.Steps.MayHappen.{node_goes, master_hears}
 use Rattle.snapshots.specs.Steps.{MayHappen}
 use Rattle.snapshots.specs.Whole.{whole, whole_body, whole_effects, whole_message}
@@ -112,7 +112,7 @@ pub record MomentLike {S C O : Type 0} (rules : Rules S C O) (ballot : ℕ) (a :
 -- a past continues
 pub record Goes {S C O : Type 0} (rules : Rules S C O) (config : Config) (past : List (Moment S C O)) (b : Moment S C O) : Type 0 where
   pub between : List (Moment S C O)
-  pub came : Past rules config (b ∷ (between ++ past))
+  pub came : Moments rules config (b ∷ (between ++ past))
   pub grown : (xs ys : List C) → IsAgreed config past xs → IsAgreed config (b ∷ (between ++ past)) ys → IsPrefixOf xs ys
 
 pub goes_one : {S C O : Type 0} (rules : Rules S C O) (config : Config) (past : List (Moment S C O)) (b c : Moment S C O) → Goes rules config past b →
@@ -134,12 +134,12 @@ pub record Followed {S C O : Type 0} (rules : Rules S C O) (config : Config) (ba
   pub archive : end.world.archive ≡ a.world.archive
   -- and the past on whole logs has continued
   pub whole_before : List (WholeMoment S C O)
-  pub whole_came : WholePast rules config (last ∷ whole_before)
+  pub whole_came : WholeMoments rules config (last ∷ whole_before)
 
 -- ---- a message comes to a node
 
 module _ {S C O : Type 0} (rules : Rules S C O) (config : Config) (ballot : ℕ) (past : List (Moment S C O)) (a : WholeMoment S C O) (earlier : List (WholeMoment S C O))
-    (came : WholePast rules config (a ∷ earlier)) (b : Moment S C O) (goes : Goes rules config past b) (like : MomentLike rules ballot a b)
+    (came : WholeMoments rules config (a ∷ earlier)) (b : Moment S C O) (goes : Goes rules config past b) (like : MomentLike rules ballot a b)
     (k n : ℕ) (p : WholeState S C) (x : WholeMessage C) (sent : slice_get a.world.sent k ≡ Some (n + 1, x)) (stands : slice_get a.world.nodes n ≡ Some p) (runs : p.stopped ≡ false)
     (after : (whole_received {O = O} rules p x.from x.body).state.joined ≡ ballot) where
   abbrev pub node : NodeLike rules ballot b.world n p
@@ -237,7 +237,7 @@ module _ {S C O : Type 0} (rules : Rules S C O) (config : Config) (ballot : ℕ)
   goes_now : Goes rules config past (after_outcome n given b)
   goes_now = goes_one rules config past b (after_outcome n given b) goes (node_goes (takes n r (Receives m) node.stands goes_r may (inl (refl, thinned_same given.effects))))
 
-  came_now : WholePast rules config (whole_after_outcome n o a ∷ a ∷ earlier)
+  came_now : WholeMoments rules config (whole_after_outcome n o a ∷ a ∷ earlier)
   came_now = whole_went_on came (node_takes n p (whole_receives x) stands runs (in_at a.world.sent k (n + 1, x) sent) (inl (refl, whole_thinned_same o.effects)))
 
   then_to_node : whole_outputs o.effects ≡ [] → {ks : List ℕ} {last : WholeMoment S C O} → Followed rules config ballot past (after_outcome n given b) ks last → Followed rules config ballot past b (k ∷ ks) last
@@ -247,7 +247,7 @@ module _ {S C O : Type 0} (rules : Rules S C O) (config : Config) (ballot : ℕ)
 -- ---- an Activate comes to the master
 
 module _ {S C O : Type 0} (rules : Rules S C O) (config : Config) (ballot : ℕ) (past : List (Moment S C O)) (a : WholeMoment S C O) (earlier : List (WholeMoment S C O))
-    (came : WholePast rules config (a ∷ earlier)) (b : Moment S C O) (goes : Goes rules config past b) (like : MomentLike rules ballot a b)
+    (came : WholeMoments rules config (a ∷ earlier)) (b : Moment S C O) (goes : Goes rules config past b) (like : MomentLike rules ballot a b)
     (k from asked : ℕ) (sent : slice_get a.world.sent k ≡ Some (0, record { from = from; body = bodies.Activate asked })) where
   asks : slice_get b.world.sent k ≡ Some (0, record { from = from; body = Activate asked })
   asks = by (get_back (whole_sent b.world.archive) b.world.sent k (0, record { from = from; body = bodies.Activate asked }) (ap (λ l. slice_get l k) like.sent ∙ sent))
@@ -276,7 +276,7 @@ module _ {S C O : Type 0} (rules : Rules S C O) (config : Config) (ballot : ℕ)
   goes_heard : Goes rules config past (after_activate from asked b)
   goes_heard = goes_one rules config past b (after_activate from asked b) goes (master_hears from asked (in_at b.world.sent k _ asks))
 
-  came_heard : WholePast rules config (whole_after_activate from asked a ∷ a ∷ earlier)
+  came_heard : WholeMoments rules config (whole_after_activate from asked a ∷ a ∷ earlier)
   came_heard = whole_went_on came (whole_hears from asked (in_at a.world.sent k _ sent))
 
   then_to_master : {ks : List ℕ} {last : WholeMoment S C O} → Followed rules config ballot past (after_activate from asked b) ks last → Followed rules config ballot past b (k ∷ ks) last
@@ -285,7 +285,7 @@ module _ {S C O : Type 0} (rules : Rules S C O) (config : Config) (ballot : ℕ)
 -- ---- all of them
 
 pub followed : {S C O : Type 0} (rules : Rules S C O) (config : Config) (ballot : ℕ) (past : List (Moment S C O)) {a last : WholeMoment S C O} {ks : List ℕ} →
-    WholeDelivered rules ballot a ks last → (earlier : List (WholeMoment S C O)) → WholePast rules config (a ∷ earlier) → (b : Moment S C O) → Goes rules config past b →
+    WholeDelivered rules ballot a ks last → (earlier : List (WholeMoment S C O)) → WholeMoments rules config (a ∷ earlier) → (b : Moment S C O) → Goes rules config past b →
     MomentLike rules ballot a b → Followed rules config ballot past b ks last
 followed rules config ballot past all_came_whole earlier came b goes like = record { end = b; delivered = all_came; goes = goes; like = like; archive = refl; whole_before = earlier; whole_came = came }
 followed rules config ballot past {a = a} (to_node_whole k n p x sent stands runs silent after d) earlier came b goes like =

@@ -9,7 +9,7 @@ use Rattle.snapshots.specs.whole.Config.{Config}
 use Rattle.snapshots.specs.whole.LawfulConfig.{is_lawful}
 use Rattle.snapshots.specs.whole.Replica.{ReplicaState, others}
 use Rattle.snapshots.specs.agreement.MasterState.{MasterState, assigning}
-use Rattle.snapshots.specs.agreement.Past.{Moment, Past, IsAgreed}
+use Rattle.snapshots.specs.agreement.Moments.{Moment, Moments, IsAgreed}
 use Rattle.snapshots.proofs.of_agreement.Changing.OtherMembers.{in_others, not_others, others_in}
 use Rattle.snapshots.proofs.of_agreement.Masters.Assigns.{lawful_is, not_refused}
 use Rattle.ways_out.specs.Deliveries.{Delivered, NodeIs, assigned_moment, way_out}
@@ -25,7 +25,7 @@ use Rattle.ways_out.proofs.RisingMembers.{lawful_apart, others_apart, others_cou
 use Rattle.ways_out.proofs.Ways.{IsOut, is_out, way_out_count}
 
 module _ {S C O : Type 0} (rules : Rules S C O) (silent : StartsGiveNothing rules) (config : Config) (a : Moment S C O) (past : List (Moment S C O))
-    (came : Past rules config (a ∷ past)) (new : Config) (index source : ℕ) (log : List C) (can : CanBeLed a new index source log) where
+    (came : Moments rules config (a ∷ past)) (new : Config) (index source : ℕ) (log : List C) (can : CanBeLed a new index source log) where
   lawful : is_lawful new.members new.primary ≡ true
   lawful = (not_refused a.master new can.granted).0
 

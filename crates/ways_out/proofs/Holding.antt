@@ -9,7 +9,7 @@ use Rattle.snapshots.specs.whole.Messages.Effect.{Out}
 use Rattle.snapshots.specs.whole.Progress.{Progress}
 use Rattle.snapshots.specs.whole.Replica.{ReplicaState, progress_at}
 use Rattle.snapshots.specs.whole.Sending.{Outcome, message_to_followed}
-use Rattle.snapshots.specs.agreement.Past.{Moment}
+use Rattle.snapshots.specs.agreement.Moments.{Moment}
 use Rattle.snapshots.specs.agreement.World.{messages, outputs}
 use Rattle.snapshots.proofs.of_agreement.Effects.{outputs-append, outputs_of_messages}
 use Rattle.snapshots.specs.lists.Lists.{In}

@@ -9,7 +9,7 @@ use Rattle.snapshots.specs.whole.Protocol.{received}
 use Rattle.snapshots.specs.whole.Replica.{ReplicaState, others}
 use Rattle.snapshots.specs.whole.Role.TheVariants.{Fetching}
 use Rattle.snapshots.specs.whole.Sending.{Outcome, master, message_to, message_to_each}
-use Rattle.snapshots.specs.agreement.Past.{Moment}
+use Rattle.snapshots.specs.agreement.Moments.{Moment}
 use Rattle.snapshots.specs.lists.Lists.{In}
 use Rattle.ways_out.specs.Deliveries.{AreApart, Delivered, NodeIs, numbers_from}
 use Rattle.ways_out.specs.Following.{Follows}

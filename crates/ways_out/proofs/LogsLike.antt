@@ -9,7 +9,7 @@ use Rattle.snapshots.specs.machine.Machine.{Rules, replay}
 use Rattle.snapshots.proofs.of_agreement.Agreed.PastAgrees.{machines_replay}
 use Rattle.snapshots.proofs.of_whole.AppliesInOrder.{replay_goes_on}
 use Rattle.snapshots.proofs.of_whole.ChangeRows.{on_install-answers, on_install-stays, on_install-takes, on_state-stays, on_state-takes}
-use Rattle.snapshots.specs.agreement.Past.{Moment as WholeMoment}
+use Rattle.snapshots.specs.agreement.Moments.{Moment as WholeMoment}
 use Rattle.snapshots.specs.whole.Applying.{applied_to as whole_applied_to}
 use Rattle.snapshots.specs.whole.Changing.{installs as whole_installs, on_install as whole_on_install, on_state as whole_on_state}
 use Rattle.snapshots.specs.whole.Messages.{Body as bodies}

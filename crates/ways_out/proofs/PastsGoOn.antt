@@ -11,8 +11,8 @@ use Rattle.snapshots.specs.whole.Messages.{Effect}
 use Rattle.snapshots.specs.whole.Losses.{Thinned}
 use Rattle.snapshots.specs.whole.Losses.Thinned.{none, keeps}
 use Rattle.snapshots.specs.agreement.MasterState.{AssignRefusal, master_after, refusal}
-use Rattle.snapshots.specs.agreement.Past.{Moment, Past, IsAgreed}
-use Rattle.snapshots.specs.agreement.Past.Past.{went_on}
+use Rattle.snapshots.specs.agreement.Moments.{Moment, Moments, IsAgreed}
+use Rattle.snapshots.specs.agreement.Moments.Moments.{went_on}
 use Rattle.snapshots.specs.agreement.Steps.{MayHappen, world_after}
 use Rattle.snapshots.specs.agreement.Steps.MayHappen.{node_takes, master_assigns, master_hears}
 use Rattle.snapshots.proofs.of_agreement.Agreed.PastAgrees.{has_agreed}
@@ -28,7 +28,7 @@ thinned_same (x ∷ xs) = keeps (thinned_same xs)
 -- a past continues to a moment
 pub record Goes {S C O : Type 0} (rules : Rules S C O) (config : Config) (past : List (Moment S C O)) (b : Moment S C O) : Type 0 where
   pub between : List (Moment S C O)
-  pub came : Past rules config (b ∷ (between ++ past))
+  pub came : Moments rules config (b ∷ (between ++ past))
   pub grown : (xs ys : List C) → IsAgreed config past xs → IsAgreed config (b ∷ (between ++ past)) ys → IsPrefixOf xs ys
 
 -- by one step
@@ -44,7 +44,7 @@ goes_one rules config past b c g step =
 
 -- by the Assign
 pub assign_goes : {S C O : Type 0} (rules : Rules S C O) (config : Config) (a : Moment S C O) (past : List (Moment S C O)) (new : Config) →
-    Past rules config (a ∷ past) → refusal a.master new ≡ None → Goes rules config (a ∷ past) (assigned_moment new a)
+    Moments rules config (a ∷ past) → refusal a.master new ≡ None → Goes rules config (a ∷ past) (assigned_moment new a)
 assign_goes {S = S} {C = C} {O = O} rules config a past new came granted =
     record {
       between = [];

@@ -10,7 +10,7 @@ use Rattle.snapshots.proofs.of_lists.Beginnings.{prefix_length}
 use Rattle.snapshots.specs.whole.Config.{Config}
 use Rattle.snapshots.specs.whole.Replica.{ReplicaState}
 use Rattle.snapshots.specs.agreement.Agreement.{Agrees}
-use Rattle.snapshots.specs.agreement.Past.{Moment, Past}
+use Rattle.snapshots.specs.agreement.Moments.{Moment, Moments}
 use Rattle.snapshots.specs.agreement.Inside.Ballots.{Given, Line, IsChosenIn}
 use Rattle.snapshots.proofs.of_agreement.Agreed.PastAgrees.{has_agreed, nodes_agree}
 use Rattle.snapshots.proofs.of_agreement.Agreed.PastIsKnown.{IsKnown}
@@ -20,7 +20,7 @@ use Rattle.ways_out.specs.Following.{whole_log}
 use Rattle.ways_out.specs.Inside.{CanTake}
 use Rattle.ways_out.proofs.Fetching.{CanGive}
 
-module _ {S C O : Type 0} (rules : Rules S C O) (config : Config) (a : Moment S C O) (past : List (Moment S C O)) (came : Past rules config (a ∷ past)) where
+module _ {S C O : Type 0} (rules : Rules S C O) (config : Config) (a : Moment S C O) (past : List (Moment S C O)) (came : Moments rules config (a ∷ past)) where
   known : IsKnown rules config a past
   known = past_known rules config a past came
 

@@ -12,7 +12,7 @@ use Rattle.snapshots.specs.whole.Protocol.Input.{Proposes}
 use Rattle.snapshots.specs.whole.Replica.{ReplicaState}
 use Rattle.snapshots.specs.whole.Sending.{Outcome}
 use Rattle.snapshots.specs.whole.Serving.{max_places}
-use Rattle.snapshots.specs.agreement.Past.{Moment, Past, IsAgreed}
+use Rattle.snapshots.specs.agreement.Moments.{Moment, Moments, IsAgreed}
 use Rattle.snapshots.specs.agreement.World.{outputs}
 use Rattle.ways_out.specs.Deliveries.{AreApart, Delivered, NodeIs, after_outcome, numbers_from}
 use Rattle.ways_out.specs.Following.{Follows, Serves}
@@ -30,7 +30,7 @@ pub record AllHoldIt {S C O : Type 0} (a : Moment S C O) (primary : ℕ) (log : 
 abbrev pub WhatAllHoldIsAgreed : {S C O : Type 0} → Rules S C O → Type 0
 WhatAllHoldIsAgreed {S} {C} {O} rules =
     (config : Config) (a : Moment S C O) (past : List (Moment S C O)) →
-    Past rules config (a ∷ past) → (primary : ℕ) (log : List C) (others_of : List ℕ) →
+    Moments rules config (a ∷ past) → (primary : ℕ) (log : List C) (others_of : List ℕ) →
     AllHoldIt a primary log others_of → IsAgreed config (a ∷ past) log
 
 -- a step of the primary that answers a command after a log: it outputs what the machine answers
@@ -70,7 +70,7 @@ pub record IsHeldByAll {S C O : Type 0} (rules : Rules S C O) (a : Moment S C O)
 abbrev pub CommandsAreAnswered : {S C O : Type 0} → Rules S C O → Type 0
 CommandsAreAnswered {S} {C} {O} rules =
     (config : Config) (a : Moment S C O) (past : List (Moment S C O)) →
-    Past rules config (a ∷ past) → (ballot index : ℕ) (r : ReplicaState S C) (log : List C)
+    Moments rules config (a ∷ past) → (ballot index : ℕ) (r : ReplicaState S C) (log : List C)
     (others_of : List ℕ) (c : C) → slice_get a.world.nodes index ≡ Some r →
     Serves ballot log others_of (index + 1) r → length log < max_places →
     (others_of ≡ [] → AnswersCommand rules ballot log c [] (index + 1)

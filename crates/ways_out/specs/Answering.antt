@@ -13,7 +13,7 @@ use Rattle.snapshots.specs.ballot_base.Protocol.Input.{Proposes}
 use Rattle.snapshots.specs.ballot_base.Replica.{ReplicaState}
 use Rattle.snapshots.specs.ballot_base.Sending.{Outcome}
 use Rattle.snapshots.specs.ballot_base.Serving.{max_places}
-use Rattle.snapshots.specs.Past.{Moment, Past, whole_moment}
+use Rattle.snapshots.specs.Moments.{Moment, Moments, whole_moment}
 use Rattle.snapshots.specs.Whole.{whole}
 use Rattle.snapshots.specs.World.{outputs}
 use Rattle.ways_out.specs.Deliveries.{AreApart, NodeIs, numbers_from}
@@ -65,7 +65,7 @@ pub record IsHeldByAll {S C O : Type 0} (rules : Rules S C O) (a : Moment S C O)
 abbrev pub CutGroupsAnswer : {S C O : Type 0} → Rules S C O → Type 0
 CutGroupsAnswer {S} {C} {O} rules =
     (config : Config) (a : Moment S C O) (past : List (Moment S C O)) →
-    Past rules config (a ∷ past) → (ballot index : ℕ) (r : ReplicaState S C) (log : List C)
+    Moments rules config (a ∷ past) → (ballot index : ℕ) (r : ReplicaState S C) (log : List C)
     (others_of : List ℕ) (c : C) → slice_get a.world.nodes index ≡ Some r →
     Serves ballot log others_of (index + 1) (whole a.world.archive r) → length log < max_places →
     (others_of ≡ [] → AnswersCommand rules a.world.archive ballot log c [] (index + 1)

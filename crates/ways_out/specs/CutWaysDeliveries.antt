@@ -10,7 +10,7 @@ use Rattle.snapshots.specs.ballot_base.Protocol.{received}
 use Rattle.snapshots.specs.ballot_base.Replica.{ReplicaState}
 use Rattle.snapshots.specs.ballot_base.Sending.{Outcome}
 use Rattle.snapshots.specs.Masters.{activated, assigned}
-use Rattle.snapshots.specs.Past.{Moment}
+use Rattle.snapshots.specs.Moments.{Moment}
 use Rattle.snapshots.specs.Steps.{tells_from_master}
 use Rattle.snapshots.specs.World.{moved, outputs}
 

@@ -4,7 +4,7 @@ use Rattle.std.specs.Prelude.{ℕ, ◌+◌, ◌-◌, ◌*◌, ◌≡◌, List, [
 use Rattle.snapshots.specs.machine.Machine.{Rules}
 use Rattle.snapshots.specs.lists.Lists.{IsPrefixOf}
 use Rattle.snapshots.specs.ballot_base.declared.config.Config.{Config}
-use Rattle.snapshots.specs.Past.{IsAgreed, Moment, Past, whole_moment}
+use Rattle.snapshots.specs.Moments.{IsAgreed, Moment, Moments, whole_moment}
 use Rattle.ways_out.specs.Deliveries.{way_out}
 use Rattle.ways_out.specs.Laws.{CanBeLed, IsLed, StartsGiveNothing}
 use Rattle.ways_out.specs.CutWaysDeliveries.{Delivered, assigned_moment}
@@ -13,7 +13,7 @@ use Rattle.ways_out.specs.CutWaysDeliveries.{Delivered, assigned_moment}
 pub record GoesOnTo {S C O : Type 0} (rules : Rules S C O) (config : Config)
     (past : List (Moment S C O)) (b : Moment S C O) (agreed : List C) : Type 0 where
   pub between : List (Moment S C O)
-  pub came : Past rules config (b ∷ (between ++ past))
+  pub came : Moments rules config (b ∷ (between ++ past))
   pub agrees : IsAgreed config (b ∷ (between ++ past)) agreed
   pub grown : (xs : List C) → IsAgreed config past xs → IsPrefixOf xs agreed
 
@@ -40,6 +40,6 @@ pub record LeadsOut {S C O : Type 0} (rules : Rules S C O) (config : Config)
 abbrev pub CutGroupsHaveWaysOut : {S C O : Type 0} → Rules S C O → Type 0
 CutGroupsHaveWaysOut {S} {C} {O} rules =
     StartsGiveNothing rules → (config : Config) (a : Moment S C O) (past : List (Moment S C O)) →
-    Past rules config (a ∷ past) → (new : Config) (index source : ℕ) (log : List C) →
+    Moments rules config (a ∷ past) → (new : Config) (index source : ℕ) (log : List C) →
     CanBeLed (whole_moment a) new index source log
     → LeadsOut rules config (a ∷ past) a new index log

@@ -10,7 +10,7 @@ use Rattle.snapshots.specs.whole.Protocol.{received}
 use Rattle.snapshots.specs.whole.Replica.{ReplicaState}
 use Rattle.snapshots.specs.whole.Sending.{Outcome}
 use Rattle.snapshots.specs.agreement.MasterState.{activated, assigned, assigning}
-use Rattle.snapshots.specs.agreement.Past.{Moment}
+use Rattle.snapshots.specs.agreement.Moments.{Moment}
 use Rattle.snapshots.specs.agreement.World.{moved, outputs}
 use Rattle.snapshots.specs.agreement.Steps.{tells_from_master}
 

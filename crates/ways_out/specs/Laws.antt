@@ -9,7 +9,7 @@ use Rattle.snapshots.specs.whole.Config.{Config}
 use Rattle.snapshots.specs.whole.Replica.{others}
 use Rattle.snapshots.specs.whole.Serving.{max_places}
 use Rattle.snapshots.specs.agreement.MasterState.{refusal}
-use Rattle.snapshots.specs.agreement.Past.{Moment, Past, IsAgreed}
+use Rattle.snapshots.specs.agreement.Moments.{Moment, Moments, IsAgreed}
 use Rattle.ways_out.specs.Deliveries.{Delivered, NodeIs, assigned_moment, way_out}
 use Rattle.ways_out.specs.Following.{Follows, Runs, RunsWith, Serves}
 
@@ -43,7 +43,7 @@ pub record IsLed {S C O : Type 0} (ballot : ℕ) (new : Config) (log : List C)
 pub record GoesOnTo {S C O : Type 0} (rules : Rules S C O) (config : Config)
     (past : List (Moment S C O)) (b : Moment S C O) (agreed : List C) : Type 0 where
   pub between : List (Moment S C O)
-  pub came : Past rules config (b ∷ (between ++ past))
+  pub came : Moments rules config (b ∷ (between ++ past))
   pub agrees : IsAgreed config (b ∷ (between ++ past)) agreed
   pub grown : (xs : List C) → IsAgreed config past xs → IsPrefixOf xs agreed
 
@@ -71,5 +71,5 @@ pub record LeadsOut {S C O : Type 0} (rules : Rules S C O) (config : Config)
 abbrev pub HasWayOut : {S C O : Type 0} → Rules S C O → Type 0
 HasWayOut {S} {C} {O} rules =
     StartsGiveNothing rules → (config : Config) (a : Moment S C O) (past : List (Moment S C O)) →
-    Past rules config (a ∷ past) → (new : Config) (index source : ℕ) (log : List C) →
+    Moments rules config (a ∷ past) → (new : Config) (index source : ℕ) (log : List C) →
     CanBeLed a new index source log → LeadsOut rules config (a ∷ past) a new index log

@@ -13,7 +13,7 @@ use Rattle.escaping_nodes.specs.ways_out.Deliveries.{AreApart, NodeIs}
 use Rattle.escaping_nodes.specs.ways_out.Following.{Follows}
 use Rattle.escaping_nodes.proofs.ClientAnswered.{AwaitsOthers, others_are_awaited, others_let_the_client_be_answered, sole_member_answers_the_client, waits_on}
 use Rattle.escaping_nodes.proofs.NodesFollow.{deliveries_are_followed}
-use Rattle.headline.specs.snapshots.Past.{Moment, Past, whole_moment}
+use Rattle.headline.specs.snapshots.Moments.{Moment, Moments, whole_moment}
 use Rattle.headline.specs.node_moves.Moves.{NodeCall}
 use Rattle.headline.specs.node_moves.Moves.NodeCall.{takes}
 use Rattle.escaping_client.specs.lists.Lists.{In}
@@ -50,7 +50,7 @@ module _ (name : List ℕ) (i at number place : ℕ) (core : Core) (up : List �
     (housed : AreHoused (leads_of w.clients) w.connections)
     (s : IsNewest i at number (suc place) core up [] true (with_nodes (after_node_call place node (takes (Bytes (port_of number) piece 0)) w.nodes) w))
     (first : position (is_named name) w.clients ≡ Some i)
-    (config : Config) (a : Moment State Command Output) (past : List (Moment State Command Output)) (came : Past rules config (a ∷ past)) (ballot start : ℕ) (x : ConnectionName)
+    (config : Config) (a : Moment State Command Output) (past : List (Moment State Command Output)) (came : Moments rules config (a ∷ past)) (ballot start : ℕ) (x : ConnectionName)
     (list : List Command) (connect : Connect) where
   abbrev item : Item
   item = Bytes (port_of number) piece 0

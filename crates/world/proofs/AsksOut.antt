@@ -17,7 +17,7 @@ use Rattle.escaping_nodes.specs.Answered.{CanAsk, begun}
 use Rattle.escaping_nodes.specs.Opened.{IsOpened, first_of}
 use Rattle.escaping_nodes.specs.ways_out.Deliveries.{AreApart, NodeIs, asked_and_answered}
 use Rattle.escaping_nodes.specs.ways_out.Following.{Follows}
-use Rattle.headline.specs.snapshots.Past.{Moment, Past, whole_moment}
+use Rattle.headline.specs.snapshots.Moments.{Moment, Moments, whole_moment}
 use Rattle.headline.specs.node_moves.Moves.NodeCall.{takes}
 use Rattle.escaping_client.specs.lists.Lists.{In}
 use Rattle.escaping_client.specs.packet.declared.connect.Connect.{Connect}
@@ -62,7 +62,7 @@ split (x ∷ xs) = by (split xs)
 
 module _ (name : List ℕ) (v : WorldState) (i at number place : ℕ) (core : Core) (up : List ℕ) (positive : 0 < number) (newest : IsNewest i at number (suc place) core up [] true v)
     (housed : AreHoused (leads_of v.clients) v.connections) (first : position (is_named name) v.clients ≡ Some i)
-    (config : Config) (a : Moment State Command Output) (past : List (Moment State Command Output)) (came : Past rules config (a ∷ past)) (ballot : ℕ) (os : List ℕ)
+    (config : Config) (a : Moment State Command Output) (past : List (Moment State Command Output)) (came : Moments rules config (a ∷ past)) (ballot : ℕ) (os : List ℕ)
     (list : List Command) (o : IsOpened a v.nodes ballot place os (begun list ballot) (port_of number)) (room : length list + 2 ≤ max_places) (connect : Connect)
     (session : session_of (past_of usual_limits list) connect.client ≡ Some false) (is_connect : verdict up ≡ Ok (packets.Connect connect, [])) (kept : connect.clean ≡ false)
     (count : ℕ) (many : length up ≡ count) (some : 0 < count) (apart : AreApart os) (out : In (place + 1) os → ⊥)

@@ -18,7 +18,7 @@ use Rattle.escaping_nodes.specs.ways_out.Following.{Runs}
 use Rattle.escaping_nodes.specs.ways_out.Laws.{CanBeLed}
 use Rattle.escaping_nodes.proofs.NodesFollow.{replica_at}
 use Rattle.headline.specs.node_group.Group.{Group, moment_of, replica_of}
-use Rattle.headline.specs.snapshots.Past.{Moment, Past, whole_moment}
+use Rattle.headline.specs.snapshots.Moments.{Moment, Moments, whole_moment}
 use Rattle.headline.specs.snapshots.Whole.{whole, whole_log}
 use Rattle.headline.proofs.of_snapshots.Fronts.{whole_long}
 use Rattle.headline.proofs.of_snapshots.PastsKept.{past_stands}
@@ -70,7 +70,7 @@ runs_here nodes (suc at) e = by (slice_get nodes at) refl e
 
 -- ---- what a way out asks for
 
-module _ (config : Config) (g : Group) (past : List (Moment State Command Output)) (came : Past rules config (moment_of g ∷ past)) (w : WorldState) (s : StandsFor g w.nodes)
+module _ (config : Config) (g : Group) (past : List (Moment State Command Output)) (came : Moments rules config (moment_of g ∷ past)) (w : WorldState) (s : StandsFor g w.nodes)
     (members : List ℕ) (name : Client) (can : CanEscape members name w) where
   abbrev a : Moment State Command Output
   a = moment_of g

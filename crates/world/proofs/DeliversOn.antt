@@ -15,7 +15,7 @@ use Rattle.escaping_nodes.specs.Coming.{AreCalm, Come, IsSeen}
 use Rattle.escaping_nodes.specs.Coming.Come.{all_came as none_comes, to_node as comes_to_node, to_master as comes_to_master}
 use Rattle.escaping_nodes.proofs.NodesFollow.{deliveries_are_followed}
 use Rattle.headline.specs.node_group.Group.{replica_of}
-use Rattle.headline.specs.snapshots.Past.{Moment}
+use Rattle.headline.specs.snapshots.Moments.{Moment}
 use Rattle.headline.specs.node_moves.Moves.NodeCall.{takes}
 use Rattle.escaping_client.specs.lists.Lists.{In}
 use Rattle.escaping_client.proofs.of_lists.Members.{in_at}

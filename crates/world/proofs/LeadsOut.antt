@@ -15,7 +15,7 @@ use Rattle.escaping_nodes.specs.Answered.{begun}
 use Rattle.escaping_nodes.specs.Opened.{CanOpen}
 use Rattle.escaping_nodes.specs.ways_out.Deliveries.{asked_and_answered}
 use Rattle.headline.specs.node_group.Group.{Group, moment_of}
-use Rattle.headline.specs.snapshots.Past.{Moment, Past}
+use Rattle.headline.specs.snapshots.Moments.{Moment, Moments}
 use Rattle.headline.specs.byte_world.Carried.{went_of}
 use Rattle.escaping_client.specs.lists.Lists.{IsPrefixOf}
 use Rattle.escaping_client.specs.packet.declared.packet.Packet.TheVariants as packets
@@ -60,7 +60,7 @@ module _ (name : Client) (w : WorldState) (housed : AreHoused (leads_of w.client
   abbrev past : List (Moment State Command Output)
   past = r.exact.of.earlier
 
-  came : Past rules config (moment_of g ∷ past)
+  came : Moments rules config (moment_of g ∷ past)
   came = r.exact.of.past
 
   abbrev ballot : ℕ

@@ -18,7 +18,7 @@ use Rattle.escaping_nodes.specs.ways_out.Deliveries.{way_out}
 use Rattle.escaping_nodes.proofs.LedOut.{assigned_seen, low_before, way_of}
 use Rattle.escaping_nodes.proofs.NodesFollow.{deliveries_are_followed}
 use Rattle.headline.specs.node_group.Group.{Group, moment_of}
-use Rattle.headline.specs.snapshots.Past.{Moment, Past}
+use Rattle.headline.specs.snapshots.Moments.{Moment, Moments}
 use Rattle.headline.specs.world_base.Core.{rules}
 use Rattle.escaping_nodes.specs.world_nodes.Asking.{log_of}
 use Rattle.escaping_nodes.specs.world_nodes.Goes.{after_giving}
@@ -61,7 +61,7 @@ group_events w members index =
     events.Assign (configuration_of members)
     ∷ map events.Deliver (way_out (length w.nodes.sent) (length w.nodes.master.members) index (length (configuration_of members).members - 1))
 
-module _ (config : Config) (g : Group) (past : List (Moment State Command Output)) (came : Past rules config (moment_of g ∷ past)) (w : WorldState) (s : NodesStand g w.nodes)
+module _ (config : Config) (g : Group) (past : List (Moment State Command Output)) (came : Moments rules config (moment_of g ∷ past)) (w : WorldState) (s : NodesStand g w.nodes)
     (housed : AreHoused (leads_of w.clients) w.connections) (members : List ℕ) (name : Client) (can : CanEscape members name w) (more : List Event) (new : WorldState) where
   abbrev conf : Config
   conf = configuration_of members

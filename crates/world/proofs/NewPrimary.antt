@@ -21,7 +21,7 @@ use Rattle.escaping_nodes.proofs.LedOut.{low_before}
 use Rattle.escaping_nodes.proofs.of_ways_out.RisingMembers.{rising_apart}
 use Rattle.escaping_nodes.proofs.of_ways_out.Rows.{others_first}
 use Rattle.headline.specs.node_group.Group.{moment_of, replica_of}
-use Rattle.headline.specs.snapshots.Past.{Moment, Past, whole_moment}
+use Rattle.headline.specs.snapshots.Moments.{Moment, Moments, whole_moment}
 use Rattle.headline.specs.snapshots.Whole.{whole}
 use Rattle.headline.specs.byte_world.World.{World}
 use Rattle.headline.specs.byte_world.Goes.{Reached}
@@ -71,7 +71,7 @@ module _ (first : ℕ) (os : List ℕ) (lawful : is_lawful (first ∷ os) first 
 -- ---- the new primary
 
 module _ (config : Config) {nodes : ℕ} {cs : List Client} (m : World) (trail : Reached nodes config cs m) (w : WorldState) (s : StandsFor m w)
-    (past : List (Moment State Command Output)) (came : Past rules config (moment_of m.group ∷ past)) (first : ℕ) (os : List ℕ) (name : Client)
+    (past : List (Moment State Command Output)) (came : Moments rules config (moment_of m.group ∷ past)) (first : ℕ) (os : List ℕ) (name : Client)
     (can : CanEscape (first ∷ os) name w) (more : List Event) (new : WorldState)
     (l : LedTo config m.group past (first ∷ os) can.index (log_of w.nodes can.source) more w new)
     (lawful : is_lawful (first ∷ os) first ≡ true) (given : w.nodes.master.given < max_ballot) where

@@ -5,8 +5,8 @@ use Rattle.escaping_client.specs.lists.Lists.{IsPrefixOf}
 use Rattle.escaping_client.proofs.of_lists.Beginnings.{prefix_length}
 use Rattle.headline.specs.ballot.Config.{Config}
 use Rattle.headline.specs.node_group.Group.{moment_of}
-use Rattle.headline.specs.snapshots.Past.{IsAgreed, Moment, whole_moment}
-use Rattle.headline.specs.agreement.Past.{IsChosen, WasActive}
+use Rattle.headline.specs.snapshots.Moments.{IsAgreed, Moment, whole_moment}
+use Rattle.headline.specs.agreement.Moments.{IsChosen, WasActive}
 use Rattle.headline.specs.broker_spec.declared.command.Command.{Command}
 use Rattle.headline.specs.broker_spec.declared.command.Output.{Output}
 use Rattle.headline.specs.broker_spec.Place.{Client}

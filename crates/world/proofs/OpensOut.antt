@@ -17,7 +17,7 @@ use Rattle.escaping_nodes.specs.Coming.{Come}
 use Rattle.escaping_nodes.specs.Coming.Come.{all_came as none_comes}
 use Rattle.escaping_nodes.specs.Opened.{CanOpen, IsOpened, first_of}
 use Rattle.escaping_nodes.proofs.OpensFirst.{connections_open_first}
-use Rattle.headline.specs.snapshots.Past.{Moment}
+use Rattle.headline.specs.snapshots.Moments.{Moment}
 use Rattle.headline.specs.node_moves.Moves.{NodeCall}
 use Rattle.headline.specs.node_moves.Moves.NodeCall.{takes}
 use Rattle.escaping_client.proofs.of_lists.Places.{get_pushed, get_set}

@@ -17,7 +17,7 @@ use Rattle.escaping_nodes.specs.Coming.{AreCalm, IsSeen}
 use Rattle.escaping_nodes.specs.Coming.Come.{all_came as none_comes, to_node as comes_to_node}
 use Rattle.escaping_nodes.proofs.ClientAnswered.{StillWaits, waits_on}
 use Rattle.escaping_nodes.proofs.NodesFollow.{deliveries_are_followed}
-use Rattle.headline.specs.snapshots.Past.{Moment}
+use Rattle.headline.specs.snapshots.Moments.{Moment}
 use Rattle.headline.specs.node_moves.Moves.NodeCall.{takes}
 use Rattle.headline.proofs.of_node_moves.Views.{found_passes}
 use Rattle.headline.specs.world_base.declared.Connection.{Connection}

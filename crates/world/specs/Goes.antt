@@ -4,7 +4,7 @@ use Rattle.escaping_client.specs.lists.Lists.{IsPrefixOf}
 use Rattle.headline.specs.ballot.Losses.{one_more}
 use Rattle.headline.specs.ballot.Config.{Config}
 use Rattle.headline.specs.snapshots.Agreeing.{Agrees, Holds, LeftInOrder}
-use Rattle.headline.specs.snapshots.Past.{IsAgreed}
+use Rattle.headline.specs.snapshots.Moments.{IsAgreed}
 use Rattle.headline.specs.broker_spec.declared.command.Command.{Command}
 use Rattle.headline.specs.world_base.Core.{rules}
 use Rattle.headline.specs.node_group.Group.{Group, moment_of}

@@ -1,7 +1,7 @@
 -- The list on which nodes agree.
 use Rattle.std.specs.Prelude.{◌≡◌, ℕ, List, ◌∷◌, length}
 use Rattle.master.specs.ballot.Config.{Config}
-use Rattle.master.specs.snapshots.Past.{IsAgreed, Moment, Past}
+use Rattle.master.specs.snapshots.Moments.{IsAgreed, Moment, Moments}
 use Rattle.byte_world.specs.broker_spec.declared.command.Command.{Command}
 use Rattle.byte_world.specs.broker_spec.declared.command.Output.{Output}
 use Rattle.byte_world.specs.broker_base.State.{State}
@@ -13,11 +13,11 @@ use Rattle.world_nodes.specs.Nodes.{NodesState, StandsFor}
 abbrev pub AgreeOn : NodesState → List Command → Type 0
 AgreeOn n list =
     (config : Config) (g : Group) (earlier : List (Moment State Command Output)) → StandsFor g n →
-    Past rules config (moment_of g ∷ earlier) → IsAgreed config (moment_of g ∷ earlier) list
+    Moments rules config (moment_of g ∷ earlier) → IsAgreed config (moment_of g ∷ earlier) list
 
 -- the list on which the nodes agree has this many commands
 abbrev pub AgreeOnSoMany : NodesState → ℕ → Type 0
 AgreeOnSoMany n count =
     (config : Config) (g : Group) (earlier : List (Moment State Command Output)) → StandsFor g n →
-    Past rules config (moment_of g ∷ earlier) →
+    Moments rules config (moment_of g ∷ earlier) →
     (list : List Command) → IsAgreed config (moment_of g ∷ earlier) list → count ≡ length list

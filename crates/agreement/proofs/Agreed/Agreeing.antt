@@ -10,7 +10,7 @@ use Rattle.whole.specs.lists.Lists.{In, IsPrefixOf}
 use Rattle.agreement.specs.Inside.Chosen.{ChosenList, IsAgreedIn}
 use Rattle.agreement.specs.Agreement.{Agrees}
 use Rattle.agreement.specs.Leaving.{LeftInOrder, Segment}
-use Rattle.agreement.specs.Past.{Moment, WasActive}
+use Rattle.agreement.specs.Moments.{Moment, WasActive}
 use Rattle.agreement.specs.Inside.Ballots.{Line, History, IsChosenIn}
 use Rattle.agreement.specs.Inside.Keeps.{GoesOn}
 use Rattle.agreement.specs.MasterState.{MasterState}

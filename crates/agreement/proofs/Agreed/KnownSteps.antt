@@ -9,8 +9,8 @@ use Rattle.agreement.specs.Inside.Extending.{Extends}
 use Rattle.agreement.specs.Inside.Serves.{Serves}
 use Rattle.agreement.specs.Inside.OpeningHistory.{first_ballot}
 use Rattle.agreement.specs.MasterState.{MasterState}
-use Rattle.agreement.specs.Past.{Moment, HasConfig, WasActive, HasTold}
-use Rattle.agreement.specs.Past.HasConfig.{was_assigned}
+use Rattle.agreement.specs.Moments.{Moment, HasConfig, WasActive, HasTold}
+use Rattle.agreement.specs.Moments.HasConfig.{was_assigned}
 use Rattle.agreement.specs.Steps.{MayHappen}
 use Rattle.agreement.specs.World.{World}
 use Rattle.agreement.proofs.Frame.Going.{goes_same, extends_then}

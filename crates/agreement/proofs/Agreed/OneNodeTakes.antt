@@ -15,8 +15,8 @@ use Rattle.whole.specs.Replica.{ReplicaState}
 use Rattle.whole.proofs.StepRows.{added-log}
 use Rattle.agreement.specs.Laws.{OneNodeTakesABallot}
 use Rattle.agreement.specs.MasterState.{MasterState}
-use Rattle.agreement.specs.Past.{Moment, Past}
-use Rattle.agreement.specs.Past.Past.{began, went_on, learned}
+use Rattle.agreement.specs.Moments.{Moment, Moments}
+use Rattle.agreement.specs.Moments.Moments.{began, went_on, learned}
 use Rattle.agreement.specs.Primaries.{IsPrimary}
 use Rattle.agreement.specs.Proposals.{rows_in, taken_at, taken_by, taken_in, taken_of, takes_at}
 use Rattle.agreement.specs.Steps.{MayHappen}
@@ -69,7 +69,7 @@ step_takes rules m w k v (assignment_lost config) n ballot one = refl
 step_takes rules m w k v (answer_lost from b sent) n ballot one = refl
 
 -- and so in a whole past
-past_takes : {S C O : Type 0} (rules : Rules S C O) (config : Config) (past : List (Moment S C O)) → (came : Past rules config past) →
+past_takes : {S C O : Type 0} (rules : Rules S C O) (config : Config) (past : List (Moment S C O)) → (came : Moments rules config past) →
     (n ballot : ℕ) → ((c : Moment S C O) → In c past → (i : ℕ) → IsPrimary c.world i ballot → i ≡ n) →
     rows_in ballot (taken_of came) ≡ rows_in ballot (taken_at n came)
 past_takes rules config past (began nodes lawful is) n ballot one = refl

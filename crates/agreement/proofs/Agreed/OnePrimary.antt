@@ -5,7 +5,7 @@ use Rattle.whole.specs.lists.Lists.{In}
 use Rattle.whole.specs.Config.{Config}
 use Rattle.agreement.specs.Inside.Ballots.{Given}
 use Rattle.agreement.specs.Laws.{OnePrimaryABallot}
-use Rattle.agreement.specs.Past.{Moment}
+use Rattle.agreement.specs.Moments.{Moment}
 use Rattle.agreement.specs.Primaries.{IsPrimary}
 use Rattle.agreement.proofs.Agreed.PastIsKnown.{IsKnown}
 use Rattle.agreement.proofs.Agreed.PastKnown.{past_known}

@@ -5,7 +5,7 @@ use Rattle.whole.specs.lists.Lists.{IsPrefixOf}
 use Rattle.whole.specs.Config.{Config}
 use Rattle.agreement.specs.Inside.Chosen.{ChosenList, IsAgreedIn}
 use Rattle.agreement.specs.Laws.{HasAgreed, NodesAgree, MachinesReplay}
-use Rattle.agreement.specs.Past.{Moment, WasActive, IsChosen, IsAgreed}
+use Rattle.agreement.specs.Moments.{Moment, WasActive, IsChosen, IsAgreed}
 use Rattle.agreement.proofs.Agreed.AgreedExists.{agreed_exists}
 use Rattle.agreement.proofs.Agreed.Agreeing.{sound_agrees, sound_leaves}
 use Rattle.agreement.proofs.Agreed.PastIsKnown.{IsKnown}

@@ -6,7 +6,7 @@ use Rattle.whole.proofs.of_lists.Beginnings.{prefix_then, prefix_take, prefix_le
 use Rattle.whole.specs.Config.{Config}
 use Rattle.agreement.specs.Inside.Chosen.{ChosenList}
 use Rattle.agreement.specs.Inside.Ballots.{Given, Line, Told}
-use Rattle.agreement.specs.Past.{Moment, HasConfig, WasActive, HasTold, IsChosen}
+use Rattle.agreement.specs.Moments.{Moment, HasConfig, WasActive, HasTold, IsChosen}
 use Rattle.agreement.proofs.Machines.Comparing.{front_of_longer}
 use Rattle.agreement.proofs.Frame.SaysLater.{told_less}
 use Rattle.agreement.proofs.Agreed.PastIsKnown.{IsKnown}

@@ -6,9 +6,9 @@ use Rattle.whole.specs.lists.Lists.In.{there}
 use Rattle.whole.specs.Config.{Config}
 use Rattle.whole.specs.machine.Machine.{Rules}
 use Rattle.agreement.specs.Laws.{AgreedGrows}
-use Rattle.agreement.specs.Past.{Moment, HasConfig, WasActive, HasTold, IsChosen, IsAgreed}
-use Rattle.agreement.specs.Past.HasConfig.{opened_with, was_assigned}
-use Rattle.agreement.specs.Past.HasTold.{told_as_log, told_by_message}
+use Rattle.agreement.specs.Moments.{Moment, HasConfig, WasActive, HasTold, IsChosen, IsAgreed}
+use Rattle.agreement.specs.Moments.HasConfig.{opened_with, was_assigned}
+use Rattle.agreement.specs.Moments.HasTold.{told_as_log, told_by_message}
 
 pub config_stays : {S C O : Type 0} (config : Config) (past : List (Moment S C O)) (v : Moment S C O) (b : ℕ) (c : Config) →
     HasConfig config past b c → HasConfig config (v ∷ past) b c

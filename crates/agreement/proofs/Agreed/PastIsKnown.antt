@@ -13,8 +13,8 @@ use Rattle.agreement.specs.Inside.Extending.{Extends}
 use Rattle.agreement.specs.Inside.Ballots.Told.{told_at_opening, told_by_held, told_by_installed, told_as_primary}
 use Rattle.agreement.specs.Inside.Serves.{Serves}
 use Rattle.agreement.specs.Inside.OpeningHistory.{first_ballot}
-use Rattle.agreement.specs.Past.{Moment, HasConfig, WasActive, HasTold, ToldLength}
-use Rattle.agreement.specs.Past.HasTold.{told_as_log, told_by_message}
+use Rattle.agreement.specs.Moments.{Moment, HasConfig, WasActive, HasTold, ToldLength}
+use Rattle.agreement.specs.Moments.HasTold.{told_as_log, told_by_message}
 
 -- what is known after a past
 pub record IsKnown {S C O : Type 0} (rules : Rules S C O) (config : Config) (a : Moment S C O) (past : List (Moment S C O)) : Type 0 where

@@ -9,9 +9,9 @@ use Rattle.agreement.specs.Inside.Extending.{Extends}
 use Rattle.agreement.specs.Inside.GroupSteps.{adds_of, GroupStep}
 use Rattle.agreement.specs.Inside.Serves.{Serves}
 use Rattle.agreement.specs.Inside.OpeningHistory.{opening_history}
-use Rattle.agreement.specs.Past.{Learns, Moment, Past, WasActive, opening_moment}
-use Rattle.agreement.specs.Past.Past.{began, went_on, learned}
-use Rattle.agreement.specs.Past.HasConfig.{opened_with}
+use Rattle.agreement.specs.Moments.{Learns, Moment, Moments, WasActive, opening_moment}
+use Rattle.agreement.specs.Moments.Moments.{began, went_on, learned}
+use Rattle.agreement.specs.Moments.HasConfig.{opened_with}
 use Rattle.agreement.specs.Proposals.{proposal_of}
 use Rattle.agreement.specs.World.{can_open}
 use Rattle.agreement.proofs.Masters.Assigns.{can_open_is, lawful_is}
@@ -75,7 +75,7 @@ known_learned {S = S} {C = C} {O = O} rules config a v past q y =
 
 -- every past is known
 pub past_known : {S C O : Type 0} (rules : Rules S C O) (config : Config) (a : Moment S C O) (past : List (Moment S C O)) →
-    Past rules config (a ∷ past) → IsKnown rules config a past
+    Moments rules config (a ∷ past) → IsKnown rules config a past
 past_known {S = S} {C = C} {O = O} rules config a past (began nodes lawful is) =
     subst (λ (u : Moment S C O). IsKnown rules config u []) (sym is) (known_opening rules config nodes lawful)
 past_known {S = S} {C = C} {O = O} rules config v (a ∷ past) (went_on came step) =

@@ -12,8 +12,8 @@ use Rattle.agreement.specs.Inside.Ballots.{Applied, Line}
 use Rattle.agreement.specs.Inside.OpeningHistory.{opening_history}
 use Rattle.agreement.specs.Inside.Own.{OwnLines}
 use Rattle.agreement.specs.Laws.{KeepsTheOrder}
-use Rattle.agreement.specs.Past.{Learns, Moment, Past, opening_moment}
-use Rattle.agreement.specs.Past.Past.{began, went_on, learned}
+use Rattle.agreement.specs.Moments.{Learns, Moment, Moments, opening_moment}
+use Rattle.agreement.specs.Moments.Moments.{began, went_on, learned}
 use Rattle.agreement.specs.Proposals.{taken_of}
 use Rattle.agreement.specs.World.{moved, opening_world}
 use Rattle.agreement.proofs.Agreed.PlainSteps.{IsOrdered, were_applied}
@@ -65,7 +65,7 @@ ordered_learned {S = S} {C = C} {O = O} rules a v past rows y q =
 
 -- nothing is proposed at the opening
 ordered_past : {S C O : Type 0} (rules : Rules S C O) (config : Config) (a : Moment S C O) (past : List (Moment S C O)) →
-    (came : Past rules config (a ∷ past)) → IsOrdered rules (a ∷ past) a.master a.world (taken_of came)
+    (came : Moments rules config (a ∷ past)) → IsOrdered rules (a ∷ past) a.master a.world (taken_of came)
 ordered_past {S = S} {C = C} {O = O} rules config a past (began nodes lawful is) =
     subst (λ (u : Moment S C O). IsOrdered rules (u ∷ []) u.master u.world []) (sym is)
     (record {

@@ -11,9 +11,9 @@ use Rattle.whole.specs.Replica.{ReplicaState}
 use Rattle.agreement.specs.Inside.Ballots.{Given, Line, Told}
 use Rattle.agreement.specs.Inside.Ballots.Told.{told_by_held, told_by_installed, told_as_primary}
 use Rattle.agreement.specs.Inside.OpeningHistory.{first_ballot}
-use Rattle.agreement.specs.Past.{Moment, HasConfig, WasActive, HasTold}
-use Rattle.agreement.specs.Past.HasConfig.{opened_with, was_assigned}
-use Rattle.agreement.specs.Past.HasTold.{told_as_log, told_by_message}
+use Rattle.agreement.specs.Moments.{Moment, HasConfig, WasActive, HasTold}
+use Rattle.agreement.specs.Moments.HasConfig.{opened_with, was_assigned}
+use Rattle.agreement.specs.Moments.HasTold.{told_as_log, told_by_message}
 use Rattle.agreement.proofs.Agreed.PastIsKnown.{IsKnown}
 
 -- a ballot that was active is activated in the history

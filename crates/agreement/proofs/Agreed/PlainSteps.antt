@@ -13,7 +13,7 @@ use Rattle.agreement.specs.Inside.Own.{OwnLines}
 use Rattle.agreement.specs.Inside.Serves.{Serves}
 use Rattle.agreement.specs.Inside.Sound.{IsSound}
 use Rattle.agreement.specs.MasterState.{MasterState}
-use Rattle.agreement.specs.Past.{Moment}
+use Rattle.agreement.specs.Moments.{Moment}
 use Rattle.agreement.specs.Proposals.{proposal_of}
 use Rattle.agreement.specs.Steps.{MayHappen}
 use Rattle.agreement.specs.World.{World, moved}

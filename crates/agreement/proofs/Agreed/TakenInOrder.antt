@@ -18,7 +18,7 @@ use Rattle.agreement.specs.Inside.Own.{OwnLines}
 use Rattle.agreement.specs.Inside.Serves.{Serves}
 use Rattle.agreement.specs.Inside.Sound.{IsActive, IsSoundNode}
 use Rattle.agreement.specs.MasterState.{MasterState}
-use Rattle.agreement.specs.Past.{Moment}
+use Rattle.agreement.specs.Moments.{Moment}
 use Rattle.agreement.specs.Proposals.{proposal_of, taken_by, taken_in}
 use Rattle.agreement.specs.Steps.{MayHappen, MayTake}
 use Rattle.agreement.specs.Steps.MayHappen.{node_takes, node_stops, master_assigns, master_hears, assignment_lost, answer_lost}

@@ -14,7 +14,7 @@ use Rattle.whole.specs.Replica.{ReplicaState, is_active}
 use Rattle.agreement.specs.Giving.{GivesNext, given_in, gives_from}
 use Rattle.agreement.specs.Laws.{AnswersAtTheNextPlaces}
 use Rattle.agreement.specs.MasterState.{AssignRefusal, MasterState, refusal}
-use Rattle.agreement.specs.Past.Past.{went_on}
+use Rattle.agreement.specs.Moments.Moments.{went_on}
 use Rattle.agreement.specs.Steps.{MayHappen, world_after}
 use Rattle.agreement.specs.Steps.MayHappen.{node_takes, node_stops, master_assigns, master_hears, assignment_lost, answer_lost}
 use Rattle.agreement.specs.World.{World, outputs}

@@ -12,7 +12,7 @@ use Rattle.whole.specs.Replica.{ReplicaState, is_active}
 use Rattle.agreement.specs.Giving.{LeadsOn, given_in, given_of}
 use Rattle.agreement.specs.Giving.LeadsOn.{leads_there, leads_still, leads_beside}
 use Rattle.agreement.specs.Laws.{AnswersWhileItLeads}
-use Rattle.agreement.specs.Past.{Learns, Moment, Past, IsAgreed}
+use Rattle.agreement.specs.Moments.{Learns, Moment, Moments, IsAgreed}
 use Rattle.agreement.specs.Primaries.{IsPrimary}
 use Rattle.agreement.specs.World.{outputs}
 use Rattle.agreement.proofs.Agreed.PastAgrees.{has_agreed, nodes_agree}
@@ -25,14 +25,14 @@ use Rattle.agreement.proofs.Given.StepGives.{from_active}
 
 -- it leads at the last moment
 leads_now : {S C O : Type 0} {rules : Rules S C O} {config : Config} {n ballot : ℕ} {a b : Moment S C O} {past later : List (Moment S C O)}
-    {came : Past rules config (a ∷ past)} {more : Past rules config (b ∷ later)} → LeadsOn n ballot came b later more → IsPrimary b.world n ballot
+    {came : Moments rules config (a ∷ past)} {more : Moments rules config (b ∷ later)} → LeadsOn n ballot came b later more → IsPrimary b.world n ballot
 leads_now (leads_there p) = p
 leads_now (leads_still leads step p) = p
 leads_now (leads_beside leads learns p) = p
 
 -- what a node applied lies within the agreed list
 applied_inside : {S C O : Type 0} (rules : Rules S C O) (config : Config) (a : Moment S C O) (past : List (Moment S C O)) (xs : List C) →
-    Past rules config (a ∷ past) → IsAgreed config (a ∷ past) xs → (n : ℕ) (r : ReplicaState S C) → slice_get a.world.nodes n ≡ Some r →
+    Moments rules config (a ∷ past) → IsAgreed config (a ∷ past) xs → (n : ℕ) (r : ReplicaState S C) → slice_get a.world.nodes n ≡ Some r →
     r.committed ≤ length xs
 applied_inside rules config a past xs came agreed n r stands =
     let within = ((past_known rules config a past came).serves.sound.nodes n r stands).within in
@@ -60,8 +60,8 @@ stays_beside {S = S} {C = C} {O = O} {rules = rules} {b = b} {c = c} n old new y
 
 -- by the moments in between
 gave_between : {S C O : Type 0} (rules : Rules S C O) (config : Config) (a : Moment S C O) (past : List (Moment S C O)) →
-    (came : Past rules config (a ∷ past)) → (n ballot : ℕ) (old : ReplicaState S C) → slice_get a.world.nodes n ≡ Some old →
-    (b : Moment S C O) (later : List (Moment S C O)) (xs : List C) (more : Past rules config (b ∷ later)) → IsAgreed config (b ∷ later) xs →
+    (came : Moments rules config (a ∷ past)) → (n ballot : ℕ) (old : ReplicaState S C) → slice_get a.world.nodes n ≡ Some old →
+    (b : Moment S C O) (later : List (Moment S C O)) (xs : List C) (more : Moments rules config (b ∷ later)) → IsAgreed config (b ∷ later) xs →
     LeadsOn n ballot came b later more → (new : ReplicaState S C) → slice_get b.world.nodes n ≡ Some new →
     (old.committed ≤ new.committed)
     × (given_of n more ≡ given_of n came ++ outputs (outputs_between rules xs old.committed new.committed))

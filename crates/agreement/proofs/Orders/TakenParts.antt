@@ -6,8 +6,8 @@ use Rattle.whole.specs.lists.Lists.{In}
 use Rattle.whole.proofs.of_lists.Members.{in_append, in_left, in_right}
 use Rattle.whole.specs.Config.{Config}
 use Rattle.agreement.specs.MasterState.{MasterState}
-use Rattle.agreement.specs.Past.{Moment, Past}
-use Rattle.agreement.specs.Past.Past.{began, went_on, learned}
+use Rattle.agreement.specs.Moments.{Moment, Moments}
+use Rattle.agreement.specs.Moments.Moments.{began, went_on, learned}
 use Rattle.agreement.specs.Proposals.{IsPartOf, proposal_of, proposals_of, taken_at, taken_by, taken_in, taken_of, takes_at}
 use Rattle.agreement.specs.Proposals.IsPartOf.{nothing_left, with_one, without_one}
 use Rattle.agreement.specs.Steps.{MayHappen}
@@ -43,7 +43,7 @@ step_takes_part rules m w k v (master_hears from b sent) = nothing_left
 step_takes_part rules m w k v (assignment_lost config) = nothing_left
 step_takes_part rules m w k v (answer_lost from b sent) = nothing_left
 
-pub taken_are_part : {S C O : Type 0} (rules : Rules S C O) (config : Config) (past : List (Moment S C O)) → (came : Past rules config past) →
+pub taken_are_part : {S C O : Type 0} (rules : Rules S C O) (config : Config) (past : List (Moment S C O)) → (came : Moments rules config past) →
     IsPartOf (taken_of came) (proposals_of came)
 taken_are_part rules config past (began nodes lawful is) = nothing_left
 taken_are_part rules config (b ∷ (a ∷ past)) (went_on came step) =
@@ -64,7 +64,7 @@ takes_at_in rules m w k v (master_hears from b sent) n row j = elim j [ ]
 takes_at_in rules m w k v (assignment_lost config) n row j = elim j [ ]
 takes_at_in rules m w k v (answer_lost from b sent) n row j = elim j [ ]
 
-pub taken_at_in : {S C O : Type 0} {rules : Rules S C O} {config : Config} {past : List (Moment S C O)} (n : ℕ) (came : Past rules config past) →
+pub taken_at_in : {S C O : Type 0} {rules : Rules S C O} {config : Config} {past : List (Moment S C O)} (n : ℕ) (came : Moments rules config past) →
     (row : ℕ × C) → In row (taken_at n came) → In row (taken_of came)
 taken_at_in n (began nodes lawful is) row j = elim j [ ]
 taken_at_in {rules = rules} {config = config} {past = b ∷ (a ∷ past)} n (went_on came step) row j =

@@ -1,8 +1,8 @@
 use Rattle.std.proofs.Common.{◌≡◌, [], ◌∷◌, ap, sym, ◌∙◌, subst, refl, arith}
 use Rattle.ballot.specs.Replica.{CountedReplica}
 use Rattle.snapshots.specs.World.{messages}
-use Rattle.snapshots.specs.Past.{Moment, Past}
-use Rattle.snapshots.specs.Past.Past.{began}
+use Rattle.snapshots.specs.Moments.{Moment, Moments}
+use Rattle.snapshots.specs.Moments.Moments.{began}
 use Rattle.master.specs.Group.{GroupState}
 use Rattle.master.proofs.Groups.{group_opens}
 use Rattle.master.proofs.LossesCounted.{counts_opened}
@@ -45,5 +45,5 @@ returns-clause-opens g c =
     let count : c.loop-at.at ≡ c.args.nodes = (let a = c.loop-at.auto.at-end in omega (arith, a, c.loop-at-test.false)) in
     let opened = opened_moment rules c.new-7.result.items c.args.config c.args.nodes c.loop-at.at c.in-Ok.master c.loop-at.opened.items c.new-5.result.items c.new-6.result.items
     c.in-Ok.ensures.ok c.loop-at.invariant.0 count c.new-5.ensures.items c.new-6.ensures.items c.new-7.ensures.items in
-    subst (λ (a : Moment g.row.M.Denot g.row.M-Command.Denot g.row.M-Output.Denot). Past rules c.args.config (a ∷ [])) (sym opened)
+    subst (λ (a : Moment g.row.M.Denot g.row.M-Command.Denot g.row.M-Output.Denot). Moments rules c.args.config (a ∷ [])) (sym opened)
     (began c.args.nodes (sym c.can_open.ensures ∙ c.if-not-can_open.false) refl)

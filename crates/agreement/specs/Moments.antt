@@ -48,17 +48,17 @@ pub record Learns {S C O : Type 0} (rules : Rules S C O) (past : List (Moment S 
   pub becomes : b ≡ record a { world = moved a.world node (applied_to rules replica places) [] }
 
 -- the moments that were, the present one first -- history: no field keeps it
-pub data Past {S C O : Type 0} (rules : Rules S C O) (config : Config) :
+pub data Moments {S C O : Type 0} (rules : Rules S C O) (config : Config) :
     List (Moment S C O) → Type 0 where
   -- the group opens with a configuration
   began : {a : Moment S C O} (nodes : ℕ) → can_open nodes config ≡ true →
-      a ≡ opening_moment rules nodes config → Past rules config (a ∷ [])
+      a ≡ opening_moment rules nodes config → Moments rules config (a ∷ [])
   -- one more step
-  went_on : {a b : Moment S C O} {past : List (Moment S C O)} → Past rules config (a ∷ past) →
-      MayHappen rules a.master a.world b.master b.world → Past rules config (b ∷ a ∷ past)
+  went_on : {a b : Moment S C O} {past : List (Moment S C O)} → Moments rules config (a ∷ past) →
+      MayHappen rules a.master a.world b.master b.world → Moments rules config (b ∷ a ∷ past)
   -- a node learns something without a step of its own
-  learned : {a b : Moment S C O} {past : List (Moment S C O)} → Past rules config (a ∷ past) →
-      Learns rules (a ∷ past) a b → Past rules config (b ∷ a ∷ past)
+  learned : {a b : Moment S C O} {past : List (Moment S C O)} → Moments rules config (a ∷ past) →
+      Learns rules (a ∷ past) a b → Moments rules config (b ∷ a ∷ past)
 
 -- the configuration of a ballot: that of the opening for ballot 1, and otherwise the one with which
 -- the master let the ballot wait

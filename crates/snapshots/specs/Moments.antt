@@ -2,7 +2,7 @@
 use Rattle.std.specs.Prelude.{ℕ, zero, suc, ◌+◌, ◌≡◌, true, List, [], ◌∷◌, ◌++◌, map}
 use Rattle.agreement.specs.machine.Machine.{Rules}
 use Rattle.agreement.specs.MasterState.{MasterState, opening_master}
-use Rattle.agreement.specs.Past.{IsAgreed as IsAgreedWhole, Moment as WholeMoment}
+use Rattle.agreement.specs.Moments.{IsAgreed as IsAgreedWhole, Moment as WholeMoment}
 use Rattle.agreement.specs.World.{can_open}
 use Rattle.agreement.specs.ballot_base.declared.config.Config.{Config}
 use Rattle.agreement.specs.ballot_base.Replica.{ReplicaState, opening}
@@ -35,14 +35,14 @@ opening_moment rules nodes config =
     record { master = opening_master config; world = opening_world rules nodes config }
 
 -- the moments that were, the present one first -- history: no field keeps it
-pub data Past {S C O : Type 0} (rules : Rules S C O) (config : Config) :
+pub data Moments {S C O : Type 0} (rules : Rules S C O) (config : Config) :
     List (Moment S C O) → Type 0 where
   -- the group opens with a configuration
   began : {a : Moment S C O} (nodes : ℕ) → can_open nodes config ≡ true →
-      a ≡ opening_moment rules nodes config → Past rules config (a ∷ [])
+      a ≡ opening_moment rules nodes config → Moments rules config (a ∷ [])
   -- one more step
-  went_on : {a b : Moment S C O} {past : List (Moment S C O)} → Past rules config (a ∷ past) →
-      MayHappen rules a.master a.world b.master b.world → Past rules config (b ∷ a ∷ past)
+  went_on : {a b : Moment S C O} {past : List (Moment S C O)} → Moments rules config (a ∷ past) →
+      MayHappen rules a.master a.world b.master b.world → Moments rules config (b ∷ a ∷ past)
 
 -- the agreed list: the longest that is chosen in a ballot that was active, of the whole logs
 abbrev pub IsAgreed : {S C O : Type 0} → Config → List (Moment S C O) → List C → Type 0
