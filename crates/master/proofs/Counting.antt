@@ -25,14 +25,14 @@ use Rattle.snapshots.specs.Masters.{MasterOutcome, activated, assigned}
 use Rattle.snapshots.specs.agreement.MasterState.{MasterState, refusal}
 use Rattle.ballot.specs.Body.{Body}
 use Rattle.ballot.specs.Body.TheVariants.{NewBallot, Join, State, Install, Installed, Activate, Activated, Superseded, Append, Held, Commit}
-use Rattle.master.specs.Turns.EventOutcome.{by_node, by_cut, by_master, unheeded}
+use Rattle.master.specs.Outcomes.EventOutcome.{by_node, by_cut, by_master, unheeded}
 use Rattle.master.specs.Group.{GroupState}
 use Rattle.master.specs.Exact.{takes, hears, comes, gives, outcome_of, after, group_step}
-use Rattle.master.specs.Turns.{NodeOutcome, EventOutcome, running, can_take, taking, stopping, cut_turn, cutting}
+use Rattle.master.specs.Outcomes.{NodeOutcome, EventOutcome, running, can_take, taking, stopping, cut_outcome, cutting}
 use Rattle.master.specs.Steps.{Freezes, Happens, StepsBy, LosesNothing}
 use Rattle.master.specs.Steps.Happens.{nothing_happens, node_goes, master_goes}
 use Rattle.master.specs.Inside.{RunsAt, asks_for}
-use Rattle.master.specs.Inside.Losing.{MasterTook, TookCut, TookTurn}
+use Rattle.master.specs.Inside.Losing.{MasterTook, TookCut, TookStep}
 
 -- the outcome for a node that runs
 pub takes_turn : {S C O : Type 0} (rules : Rules S C O) (w : World S C O) (node at : ℕ) (input : Input C) (x : RunsAt w.nodes node at) →
@@ -61,17 +61,17 @@ stops_turn {S = S} {C = C} {O = O} rules nodes node at x =
 
 -- the outcome of a cut
 pub cuts_turn : {S C O : Type 0} (rules : Rules S C O) (nodes : List (ReplicaState S C)) (node at : ℕ) (x : RunsAt nodes node at) → can_cut x.replica ≡ true →
-    cutting rules (node - 1) (running nodes node) ≡ Some (by_cut (cut_turn rules at x.replica))
+    cutting rules (node - 1) (running nodes node) ≡ Some (by_cut (cut_outcome rules at x.replica))
 cuts_turn {S = S} {C = C} {O = O} rules nodes node at x can =
     ap (cutting rules (node - 1)) x.runs
-    ∙ ap (λ b. let t : Option (EventOutcome S C O) = cond b (Some (by_cut (cut_turn rules (node - 1) x.replica))) None in t) can
-    ∙ ap (λ n. let t : Option (EventOutcome S C O) = Some (by_cut (cut_turn rules n x.replica)) in t) (sym x.index)
+    ∙ ap (λ b. let t : Option (EventOutcome S C O) = cond b (Some (by_cut (cut_outcome rules (node - 1) x.replica))) None in t) can
+    ∙ ap (λ n. let t : Option (EventOutcome S C O) = Some (by_cut (cut_outcome rules n x.replica)) in t) (sym x.index)
 
 pub cuts_nothing : {S C O : Type 0} (rules : Rules S C O) (nodes : List (ReplicaState S C)) (node at : ℕ) (x : RunsAt nodes node at) → can_cut x.replica ≡ false →
     cutting rules (node - 1) (running nodes node) ≡ None
 cuts_nothing {S = S} {C = C} {O = O} rules nodes node at x cannot =
     ap (cutting rules (node - 1)) x.runs
-    ∙ ap (λ b. let t : Option (EventOutcome S C O) = cond b (Some (by_cut (cut_turn rules (node - 1) x.replica))) None in t) cannot
+    ∙ ap (λ b. let t : Option (EventOutcome S C O) = cond b (Some (by_cut (cut_outcome rules (node - 1) x.replica))) None in t) cannot
 
 -- what a cut froze, by the outcome
 pub freezes_as : {S C O : Type 0} (rules : Rules S C O) {t u : Option (EventOutcome S C O)} → t ≡ u → Freezes rules t → Freezes rules u
@@ -83,7 +83,7 @@ some_idle a b = let e = sym a ∙ b in cc
 
 -- an outcome for a node is the step of its event
 pub steps_turn : {S C O : Type 0} (rules : Rules S C O) (old new : GroupState S C O) (event : Event C) (t : NodeOutcome S C O) →
-    outcome_of rules old.moment event ≡ Some (by_node t) → TookTurn rules old t new → StepsBy rules old event new
+    outcome_of rules old.moment event ≡ Some (by_node t) → TookStep rules old t new → StepsBy rules old event new
 steps_turn {S = S} {C = C} {O = O} rules old new event t e took =
     record { way = by_way took.way; freezes = inl (freezes_as rules (sym e) tt) }
   where

@@ -37,10 +37,10 @@ use Rattle.snapshots.specs.Masters.{MasterOutcome}
 use Rattle.master.specs.declared.activation.Activation.{Activation}
 use Rattle.master.specs.declared.activation.Activation.TheVariants.{Activated as Granted, Superseded as Refused}
 use Rattle.master.specs.Inside.{HasCounted, IsGroup, ToldIn, least_but_one, next_least, moment_of, world_of}
-use Rattle.master.specs.Inside.Losing.{MasterTook, TookCut, TookTurn}
+use Rattle.master.specs.Inside.Losing.{MasterTook, TookCut, TookStep}
 use Rattle.master.specs.Exact.{after}
-use Rattle.master.specs.Turns.{cut_turn}
-use Rattle.master.specs.Turns.EventOutcome.{by_cut}
+use Rattle.master.specs.Outcomes.{cut_outcome}
+use Rattle.master.specs.Outcomes.EventOutcome.{by_cut}
 use Rattle.master.specs.Steps.{Freezes}
 use Rattle.ballot.specs.Cutting.{can_cut}
 use Rattle.master.proofs.Happening.{MayGo, IsMasterTurn, cut_may, master_may, master_turn_lost, node_may}
@@ -346,7 +346,7 @@ turned told next told' next' before after stays turns = by_ballot (cases_eq befo
 pub group_turns : {S C O : Type 0} (rules : Rules S C O) (a v : Moment S C O) (told next told' next' : ToldIn) (old new : GroupState S C O) (input : Input C)
     (n from : ℕ) (r : ReplicaState S C) (more : List (Effect C O)) (sent : List (ℕ × Message C)) → IsGroup rules a told next → old.moment ≡ a → new.moment ≡ v →
     slice_get a.world.nodes n ≡ Some r → r.stopped ≡ false → MayTake a.world n input →
-    TookTurn rules old (record { index = n; before = r; outcome = replica_step rules r input }) new →
+    TookStep rules old (record { index = n; before = r; outcome = replica_step rules r input }) new →
     v.world.sent ≡ sent → from ≡ length a.world.sent → sent ≡ a.world.sent ++ messages more →
     told'.ballot ≡ told.ballot → (HasCounted (take from sent) told → HasCounted sent told') →
     next'.ballot ≡ next.ballot → (HasCounted (take from sent) next → HasCounted sent next') → IsGroup rules v told' next'
@@ -388,7 +388,7 @@ more_than n xs ys more now is grown at =
 pub group_stops : {S C O : Type 0} (rules : Rules S C O) (a v : Moment S C O) (told next : ToldIn) (old new : GroupState S C O)
     (n : ℕ) (r : ReplicaState S C) → IsGroup rules a told next → old.moment ≡ a → new.moment ≡ v →
     slice_get a.world.nodes n ≡ Some r → r.stopped ≡ false →
-    TookTurn rules old (record { index = n; before = r; outcome = record { state = halted rules r; effects = [] } }) new →
+    TookStep rules old (record { index = n; before = r; outcome = record { state = halted rules r; effects = [] } }) new →
     v.world.sent ≡ a.world.sent → IsGroup rules v told next
 group_stops {S = S} {C = C} {O = O} rules a v told next old new n r g is_old is_new stands going took sent_is =
     group_goes rules a v told next told next g
@@ -473,18 +473,18 @@ in_whole xs i m past j = subst (λ us. In m us) (sym (take_all i xs past)) j
 -- a node cut its log, or memory ran out for that
 pub group_cuts : {S C O : Type 0} (rules : Rules S C O) (a v : Moment S C O) (told next : ToldIn) (old new : GroupState S C O)
     (n : ℕ) (r : ReplicaState S C) → IsGroup rules a told next → old.moment ≡ a → new.moment ≡ v →
-    slice_get a.world.nodes n ≡ Some r → can_cut r ≡ true → TookCut rules old (cut_turn rules n r) new → v.world.sent ≡ a.world.sent →
+    slice_get a.world.nodes n ≡ Some r → can_cut r ≡ true → TookCut rules old (cut_outcome rules n r) new → v.world.sent ≡ a.world.sent →
     IsGroup rules v told next
 group_cuts {S = S} {C = C} {O = O} rules a v told next old new n r g is_old is_new stands can took sent_is = by_way took.way
   where
-    by_way : ((new.moment ≡ after old.moment (Some (by_cut (cut_turn rules n r)))) × (new.losses ≡ old.losses) × Freezes rules (Some (by_cut (cut_turn rules n r))))
+    by_way : ((new.moment ≡ after old.moment (Some (by_cut (cut_outcome rules n r)))) × (new.losses ≡ old.losses) × Freezes rules (Some (by_cut (cut_outcome rules n r))))
         ⊎ (new ≡ record old { losses = one_more old.losses }) → IsGroup rules v told next
     by_way (inl (is, same, freezes)) =
-        let so : v ≡ after a (Some (by_cut (cut_turn rules n r))) =
-        sym is_new ∙ is ∙ ap (λ (u : Moment S C O). after u (Some (by_cut (cut_turn rules n r)))) is_old in
+        let so : v ≡ after a (Some (by_cut (cut_outcome rules n r))) =
+        sym is_new ∙ is ∙ ap (λ (u : Moment S C O). after u (Some (by_cut (cut_outcome rules n r)))) is_old in
         group_goes rules a v told next told next g
         (subst (λ (u : Moment S C O). MayGo rules a u) (sym so)
-        (cut_may rules a.master a.world (cut_turn rules n r) (record { stands = stands; can = can; is = refl }) freezes))
+        (cut_may rules a.master a.world (cut_outcome rules n r) (record { stands = stands; can = can; is = refl }) freezes))
         (ap (λ (u : Moment S C O). u.master) so) refl
         (subst (λ us. HasCounted us told) (sym sent_is) g.counted) refl
         (subst (λ us. HasCounted us next) (sym sent_is) g.counted_next)

@@ -29,8 +29,8 @@ use Rattle.master.specs.declared.event.Event.{Event}
 use Rattle.master.specs.declared.event.Event.TheVariants.{Propose, Assign, Deliver, Tick, Cut, Crash}
 use Rattle.master.specs.Group.{GroupState}
 use Rattle.master.specs.Exact.{takes, hears, comes, comes_to, gives, outcome_of, after, group_step}
-use Rattle.master.specs.Turns.{NodeOutcome, EventOutcome, running, unless_stopped, can_take, taking, stopping, cut_turn, cutting}
-use Rattle.master.specs.Turns.EventOutcome.{by_node, by_cut, by_master, unheeded}
+use Rattle.master.specs.Outcomes.{NodeOutcome, EventOutcome, running, unless_stopped, can_take, taking, stopping, cut_outcome, cutting}
+use Rattle.master.specs.Outcomes.EventOutcome.{by_node, by_cut, by_master, unheeded}
 use Rattle.master.specs.Steps.{Freezes, Happens, StepsBy}
 use Rattle.master.specs.Steps.Happens.{nothing_happens, node_goes, master_goes}
 use Rattle.ballot.specs.Losses.{one_more}
@@ -136,7 +136,7 @@ turn_is {S = S} {C = C} {O = O} rules a (Deliver k) t is = by_message (slice_get
 turn_is rules a (Tick node) t is = takes_is rules a.world node Ticks t (λ n f. tt) is
 turn_is {S = S} {C = C} {O = O} rules a (Cut node) t is = absurd (no_turn (running a.world.nodes node) is)
   where
-    by_need : (r : ReplicaState S C) (b : Bool) → cond b (Some (by_cut (cut_turn rules (node - 1) r))) None ≡ Some (by_node t) → ⊥
+    by_need : (r : ReplicaState S C) (b : Bool) → cond b (Some (by_cut (cut_outcome rules (node - 1) r))) None ≡ Some (by_node t) → ⊥
     by_need r true f = cc
     by_need r false f = cc
 
@@ -160,9 +160,9 @@ cutting_is {S = S} {C = C} {O = O} rules w (suc n) t e =
     (subst (λ k. cutting rules k (running w.nodes (suc n)) ≡ Some (by_cut t)) same e)
   where
     by_need : (r : ReplicaState S C) (b : Bool) → can_cut r ≡ b → slice_get w.nodes n ≡ Some r →
-        cond b (Some (by_cut (cut_turn rules n r))) None ≡ Some (by_cut t) → IsCut rules w t
+        cond b (Some (by_cut (cut_outcome rules n r))) None ≡ Some (by_cut t) → IsCut rules w t
     by_need r true can stands f =
-        let is : cut_turn rules n r ≡ t = cc in
+        let is : cut_outcome rules n r ≡ t = cc in
         subst (λ (x : NodeOutcome S C O). IsCut rules w x) is (record { stands = stands; can = can; is = refl })
     by_need r false can stands f = cc
 
@@ -320,7 +320,7 @@ master_turn_is {S = S} {C = C} {O = O} rules a (Deliver k) o is = by_message (sl
 master_turn_is rules a (Tick node) o is = absurd (no_master_turn rules (node - 1) (running a.world.nodes node) Ticks o is)
 master_turn_is {S = S} {C = C} {O = O} rules a (Cut node) o is = absurd (no_master_turn_there (running a.world.nodes node) is)
   where
-    by_need : (r : ReplicaState S C) (b : Bool) → cond b (Some (by_cut (cut_turn rules (node - 1) r))) None ≡ Some (by_master o) → ⊥
+    by_need : (r : ReplicaState S C) (b : Bool) → cond b (Some (by_cut (cut_outcome rules (node - 1) r))) None ≡ Some (by_master o) → ⊥
     by_need r true f = cc
     by_need r false f = cc
 

@@ -7,7 +7,7 @@ use Rattle.ballot.specs.Replica.{CountedReplica, ReplicaState, status_of}
 use Rattle.ballot.specs.Status.{Status}
 use Rattle.master.specs.Inside.{HoldsAt, IsShort}
 use Rattle.master.proofs.Groups.{in_item}
-use Rattle.master.proofs.Turns.{stands_at}
+use Rattle.master.proofs.StepsOfNodes.{stands_at}
 
 -- a member whose log is long enough, by what was read of its replica, and members whose logs are not
 pub holds_at : {S C : Type 0} (nodes : List (CountedReplica S C)) (members ms : List ℕ) (i at held : ℕ) (r : CountedReplica S C) (status : Status) → i < length ms →

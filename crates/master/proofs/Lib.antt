@@ -11,7 +11,7 @@ pub mod LossesCounted
 pub mod Parting
 pub mod Quiet
 pub mod Runs
-pub mod Turns
+pub mod StepsOfNodes
 pub mod Untold
 pub mod Viewed
 pub mod WholeTold

@@ -23,11 +23,11 @@ use Rattle.master.specs.declared.event.Event.{Event}
 use Rattle.master.specs.declared.event.Event.TheVariants.{Assign, Cut, Deliver, Tick, Crash}
 use Rattle.master.specs.Group.{GroupState}
 use Rattle.master.specs.Exact.{after, gives, outcome_of}
-use Rattle.master.specs.Turns.{NodeOutcome, EventOutcome, can_take}
-use Rattle.master.specs.Turns.EventOutcome.{by_node, by_cut, by_master, unheeded}
+use Rattle.master.specs.Outcomes.{NodeOutcome, EventOutcome, can_take}
+use Rattle.master.specs.Outcomes.EventOutcome.{by_node, by_cut, by_master, unheeded}
 use Rattle.master.specs.Copying.{has_numbers_alone}
 use Rattle.master.specs.Inside.{RunsAt}
-use Rattle.master.specs.Inside.Losing.{TookTurn}
+use Rattle.master.specs.Inside.Losing.{TookStep}
 use Rattle.master.specs.Steps.{StepsBy, TakesNoMemory, done_exactly}
 use Rattle.master.specs.Steps.TakesNoMemory.{comes_to_nobody, goes_unheeded, is_quiet, stops_a_node}
 use Rattle.master.proofs.Calling.{proposal_busy}
@@ -87,7 +87,7 @@ node_needs {S = S} {C = C} {O = O} rules a event t e stops quiet (is_quiet s f s
 
 -- a step that is quiet was done exactly
 pub turn_quiet : {S C O : Type 0} (rules : Rules S C O) (old new : GroupState S C O) (event : Event C) (t : NodeOutcome S C O) →
-    outcome_of rules old.moment event ≡ Some (by_node t) → TookTurn rules old t new → IsQuiet t.before t.outcome → new ≡ done_exactly rules old event
+    outcome_of rules old.moment event ≡ Some (by_node t) → TookStep rules old t new → IsQuiet t.before t.outcome → new ≡ done_exactly rules old event
 turn_quiet {S = S} {C = C} {O = O} rules old new event t e took quiet =
     let z = took.quiet quiet in
     ap (λ (a : Moment S C O). let g : GroupState S C O = record { moment = a; losses = new.losses } in g)
@@ -160,7 +160,7 @@ message_passed {S = S} {C = C} {O = O} rules old k at x found y seen heeds same 
 -- one that is taken
 pub message_taken : {S C O : Type 0} (rules : Rules S C O) (old new : GroupState S C O) (k at : ℕ) (x : ℕ × Message C) (m : Message C) →
     slice_get old.moment.world.sent k ≡ Some x → m ≡ x.1 → (y : RunsAt old.moment.world.nodes x.0 at) →
-    TookTurn rules old (record { index = at; before = y.replica; outcome = replica_step rules y.replica (Receives m) }) new →
+    TookStep rules old (record { index = at; before = y.replica; outcome = replica_step rules y.replica (Receives m) }) new →
     TakesNoMemory rules old.moment (Deliver k) → new ≡ done_exactly rules old (Deliver k)
 message_taken rules old new k at x m found same y took =
     let goes = delivers_turn rules old.moment k at x m found same y in

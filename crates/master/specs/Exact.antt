@@ -15,8 +15,8 @@ use Rattle.snapshots.specs.World.{World, moved, recorded}
 use Rattle.master.specs.declared.event.Event.{Event}
 use Rattle.master.specs.declared.event.Event.TheVariants.{Propose, Assign, Deliver, Tick}
 use Rattle.master.specs.declared.event.Event.TheVariants.{Cut, Crash}
-use Rattle.master.specs.Turns.EventOutcome.{by_node, by_cut, by_master, unheeded}
-use Rattle.master.specs.Turns.{EventOutcome, cutting, running, stopping, taking}
+use Rattle.master.specs.Outcomes.EventOutcome.{by_node, by_cut, by_master, unheeded}
+use Rattle.master.specs.Outcomes.{EventOutcome, cutting, running, stopping, taking}
 
 -- a node takes an input
 abbrev pub takes : {S C O : Type 0} →

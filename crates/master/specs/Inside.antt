@@ -15,7 +15,7 @@ use Rattle.master.specs.ToldLengths.{max_told}
 use Rattle.snapshots.specs.agreement.MasterState.{MasterState}
 use Rattle.snapshots.specs.Moments.{Moment, Moments}
 use Rattle.snapshots.specs.World.{World, outputs}
-use Rattle.master.specs.Turns.{running}
+use Rattle.master.specs.Outcomes.{running}
 
 -- the node of a number runs, at an index
 pub record RunsAt {S C : Type 0} (nodes : List (ReplicaState S C)) (node at : ℕ) : Type 0 where

@@ -6,7 +6,7 @@ pub mod Inside
 pub mod Refusals
 pub mod Steps
 pub mod ToldLengths
-pub mod Turns
+pub mod Outcomes
 pub use Rattle.snapshots.specs.agreement as agreement
 pub use Rattle.ballot.specs as ballot
 pub use Rattle.ballot.specs.ballot_base as ballot_base

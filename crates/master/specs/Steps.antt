@@ -11,8 +11,8 @@ use Rattle.master.specs.declared.event.Event.{Event}
 use Rattle.master.specs.declared.event.Event.TheVariants.{Crash}
 use Rattle.master.specs.Group.{GroupState}
 use Rattle.master.specs.Exact.{outcome_of, group_step}
-use Rattle.master.specs.Turns.{NodeOutcome, EventOutcome}
-use Rattle.master.specs.Turns.EventOutcome.{by_node, by_cut, by_master, unheeded}
+use Rattle.master.specs.Outcomes.{NodeOutcome, EventOutcome}
+use Rattle.master.specs.Outcomes.EventOutcome.{by_node, by_cut, by_master, unheeded}
 
 -- what an event may do if memory runs out: nothing (then no log is cut), the step of its node with
 -- losses, or that of the master, whose message is lost

@@ -15,16 +15,16 @@ ghost use Rattle.snapshots.specs.agreement.World.{can_open};
 ghost use Rattle.master.specs.Agreement.{AgreesAfter};
 ghost use Rattle.master.specs.Copying.{has_numbers_alone};
 ghost use Rattle.master.specs.Exact.{outcome_of, group_step, group_run};
-ghost use Rattle.master.specs.Turns.{running};
+ghost use Rattle.master.specs.Outcomes.{running};
 ghost use Rattle.master.specs.Inside.{HoldsAt, IsShort, RunsAt, held_by};
-ghost use Rattle.master.specs.Inside.Losing.{TookTurn, input_of};
+ghost use Rattle.master.specs.Inside.Losing.{TookStep, input_of};
 ghost use Rattle.master.specs.Steps.{Run, StepsBy, TakesNoMemory, LosesNothing, done_exactly};
 
 use crate::event::{Event, Idle};
+use crate::inputs::{Taken, counted, part, take_in};
 use crate::master::Master;
 use crate::opening::can_open;
 use crate::told::Told;
-use crate::turning::{Taken, counted, part, take_in};
 use ballot::machine::Machine;
 use ballot::{Config, Effect, Message, OpeningError, Replica};
 use std::alloc::Global;
@@ -252,14 +252,14 @@ impl<M: Machine> Group<M> {
     }
 
     // Lets a node that runs take an input.
-    fn take_turn(&mut self, at: usize, taken: Taken<M::Command>)
+    fn take_input(&mut self, at: usize, taken: Taken<M::Command>)
         requires runs { (replica : ReplicaState M M.Command) ×
             (slice_get self.old.moment.world.nodes at ≡ Some replica) ×
             (replica.stopped ≡ false) }
         requires may { MayTake self.old.moment.world at (input_of taken) }
         ensures { (replica : ReplicaState M M.Command) →
             slice_get self.old.moment.world.nodes at ≡ Some replica →
-            TookTurn M.rules self.old (record {
+            TookStep M.rules self.old (record {
               index = at;
               before = replica;
               outcome = replica_step M.rules replica (input_of taken);

@@ -6,12 +6,12 @@ mod copying;
 mod error;
 mod event;
 mod group;
+mod inputs;
 mod master;
 mod opening;
 mod recording;
 mod sending;
 mod told;
-mod turning;
 
 pub use activation::Activation;
 pub use ballot;

@@ -12,12 +12,12 @@ use Rattle.ballot.specs.Unread.{is_unread}
 use Rattle.snapshots.specs.Masters.{MasterOutcome}
 use Rattle.snapshots.specs.Steps.{tells_from_master}
 use Rattle.snapshots.specs.World.{messages, outputs, moved}
-use Rattle.master.specs.declared.turning.Taken.{Taken}
-use Rattle.master.specs.declared.turning.Taken.TheVariants.{Received, Proposed, Ticked}
+use Rattle.master.specs.declared.inputs.Taken.{Taken}
+use Rattle.master.specs.declared.inputs.Taken.TheVariants.{Received, Proposed, Ticked}
 use Rattle.master.specs.Group.{GroupState}
 use Rattle.master.specs.Exact.{after}
-use Rattle.master.specs.Turns.{NodeOutcome}
-use Rattle.master.specs.Turns.EventOutcome.{by_cut}
+use Rattle.master.specs.Outcomes.{NodeOutcome}
+use Rattle.master.specs.Outcomes.EventOutcome.{by_cut}
 use Rattle.master.specs.Steps.{Freezes}
 
 -- the input of a node
@@ -75,7 +75,7 @@ pub record Parted {C O : Type 0} (given left parted : List (Effect C O))
 
 -- a group after a step of one node, or one with losses that was counted; no loss is counted if the
 -- node sends nothing, keeps its log and applies nothing
-pub record TookTurn {S C O : Type 0} (rules : Rules S C O) (old : GroupState S C O)
+pub record TookStep {S C O : Type 0} (rules : Rules S C O) (old : GroupState S C O)
     (t : NodeOutcome S C O) (new : GroupState S C O) : Type 0 where
   pub state : ReplicaState S C
   pub given : List (Effect C O)

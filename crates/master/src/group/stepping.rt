@@ -9,17 +9,17 @@ ghost use Rattle.ballot.specs.lists.Lists.{In};
 ghost use Rattle.snapshots.specs.Masters.{activated, assigned};
 ghost use Rattle.snapshots.specs.agreement.MasterState.{refusal};
 ghost use Rattle.master.specs.Exact.{outcome_of};
-ghost use Rattle.master.specs.Turns.{cut_turn};
+ghost use Rattle.master.specs.Outcomes.{cut_outcome};
 ghost use Rattle.master.specs.Inside.Losing.{MasterTook, TookCut};
 ghost use Rattle.master.specs.Steps.{StepsBy, TakesNoMemory, done_exactly};
 
 use super::Group;
 use crate::copying::{config_of, copy_of};
 use crate::event::{Event, Idle};
+use crate::inputs::{Taken, counted};
 use crate::recording::record;
 use crate::sending::{answer_of, asks_for, send};
 use crate::told::turn_over;
-use crate::turning::{Taken, counted};
 use ballot::machine::{Machine, Memory};
 use ballot::{Body, Config, MAX_PLACES, Members};
 
@@ -41,7 +41,7 @@ impl<M: Machine> Group<M> {
             return Err(Idle);
         }
         match M::copy(self.alloc, command) {
-            Ok(command) => self.take_turn(at, Taken::Proposed(command)),
+            Ok(command) => self.take_input(at, Taken::Proposed(command)),
             Err(_) => self.lose(),
         }
         Ok(())
@@ -113,7 +113,7 @@ impl<M: Machine> Group<M> {
             return Ok(());
         }
         match copy_of::<M>(self.alloc, message) {
-            Ok(message) => self.take_turn(at, Taken::Received(message)),
+            Ok(message) => self.take_input(at, Taken::Received(message)),
             Err(_) => self.lose(),
         }
         Ok(())
@@ -149,7 +149,7 @@ impl<M: Machine> Group<M> {
         if !self.nodes[at].speaks() {
             return Ok(());
         }
-        self.take_turn(at, Taken::Ticked);
+        self.take_input(at, Taken::Ticked);
         Ok(())
     }
 
@@ -179,7 +179,7 @@ impl<M: Machine> Group<M> {
             (can_cut replica ≡ true) }
         ensures { (replica : ReplicaState M M.Command) →
             slice_get self.old.moment.world.nodes at ≡ Some replica →
-            TookCut M.rules self.old (cut_turn M.rules at replica) self.new }
+            TookCut M.rules self.old (cut_outcome M.rules at replica) self.new }
     {
         let before = self.archive.len();
         let replica = &self.nodes[at];

@@ -2,7 +2,7 @@ use Rattle.std.proofs.Common.{◌≡◌, ◌≤◌, ◌-◌, ap, sym, ◌∙◌,
 use Rattle.std.proofs.lemmas.List.{length-take-le}
 use Rattle.ballot.specs.Replica.{ReplicaState}
 use Rattle.master.specs.Group.{GroupState}
-use Rattle.master.proofs.Turns.{same_replica}
+use Rattle.master.proofs.StepsOfNodes.{same_replica}
 use Rattle.master.proofs.Viewed.{agreed_read, agreed_read_on, some_as_seen, within_of}
 use Rattle.master.proofs.group.Group.agreed.Goals as goal
 

@@ -4,9 +4,9 @@ use Rattle.master.specs.declared.event.Event.TheVariants.{Crash}
 use Rattle.master.proofs.Counting.{some_idle, steps_idle, stops_turn, steps_turn}
 use Rattle.master.proofs.Groups.{group_stops}
 use Rattle.master.proofs.LossesCounted.{counts_at, counts_set}
-use Rattle.master.proofs.Turns.{below_of, crash_group, crash_turn}
+use Rattle.master.proofs.StepsOfNodes.{below_of, crash_group, crash_turn}
 use Rattle.master.proofs.Quiet.{exactly_none, exactly_stopped}
-use Rattle.master.specs.Turns.{stopping}
+use Rattle.master.specs.Outcomes.{stopping}
 use Rattle.master.proofs.group.Group.crash.Goals as goal
 
 pub invariant_of-self : goal.invariant_of-self

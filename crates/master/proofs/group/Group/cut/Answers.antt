@@ -1,10 +1,10 @@
 use Rattle.std.proofs.Common.{◌≡◌, ◌-◌, true, false, ap, sym, ◌∙◌, refl, rules as rules_of}
 use Rattle.ballot.specs.Cutting.{can_cut}
 use Rattle.master.specs.declared.event.Event.TheVariants.{Cut}
-use Rattle.master.specs.Turns.{cut_turn, cutting}
+use Rattle.master.specs.Outcomes.{cut_outcome, cutting}
 use Rattle.master.proofs.Counting.{cuts_nothing, cuts_turn, some_idle, steps_cut, steps_idle}
 use Rattle.master.proofs.Quiet.{cut_needs, exactly_none}
-use Rattle.master.proofs.Turns.{same_replica}
+use Rattle.master.proofs.StepsOfNodes.{same_replica}
 use Rattle.master.proofs.group.Group.cut.Goals as goal
 
 pub returns-in_default-clause-step : goal.returns-in_default-clause-step
@@ -66,7 +66,7 @@ returns-clause-step g c =
     let inside = rw (← c.self.view_is) at x.stands in
     let same = same_replica c.self.inside.nodes.items c.in-Some.at c.index.result.now x.replica c.index.ensures inside in
     let can : can_cut x.replica ≡ true = sym (ap can_cut same) ∙ sym c.can_cut.ensures ∙ c.if-not-can_cut.false in
-    steps_cut rules c.args.self.now c.cut_at.new.self (Cut c.args.node) (cut_turn rules c.in-Some.at x.replica)
+    steps_cut rules c.args.self.now c.cut_at.new.self (Cut c.args.node) (cut_outcome rules c.in-Some.at x.replica)
     (cuts_turn rules c.args.self.now.moment.world.nodes c.args.node c.in-Some.at x can) (c.cut_at.ensures x.replica x.stands)
 
 pub returns-clause-idle : goal.returns-clause-idle

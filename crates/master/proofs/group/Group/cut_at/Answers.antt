@@ -1,10 +1,10 @@
 use Rattle.std.proofs.Common.{◌≡◌, ◌≤◌, ◌<◌, length, ap, sym, ◌∙◌, refl, arith}
 use Rattle.ballot.specs.Replica.{CountedReplica, ReplicaState}
-use Rattle.master.specs.Turns.{cut_turn}
+use Rattle.master.specs.Outcomes.{cut_outcome}
 use Rattle.master.proofs.Archived.{begins_by, taken_back}
 use Rattle.master.proofs.Groups.{group_cuts, group_kept}
 use Rattle.master.proofs.LossesCounted.{counts_at, counts_cut, counts_lost, counts_set}
-use Rattle.master.proofs.Turns.{below_of, cut_lost, cut_not, cut_read, same_replica}
+use Rattle.master.proofs.StepsOfNodes.{below_of, cut_lost, cut_not, cut_read, same_replica}
 use Rattle.master.proofs.Viewed.{within_of}
 use Rattle.master.proofs.group.Group.cut_at.Goals as goal
 
@@ -34,7 +34,7 @@ returns-in_default g c =
     let at : c.len-before.result ≡ length c.self.inside.archive.items = omega (arith, c.len-before.ensures, c.self.inside.archive.ok.0) in
     let kept = c.truncate.ensures.items ∙ taken_back c.self.inside.archive.items c.record.new.archive.items c.len-before.result c.in_default.ensures.err at in
     rw (← c.self.view_is) (λ r stands. cut_lost rules c.self.inside.archive.items c.truncate.new.self.items c.self.inside.master c.self.inside.nodes.items c.self.inside.nodes.items
-    c.self.inside.sent.items c.self.inside.left.items c.self.inside.losses c.counted-self-inside.result (cut_turn rules c.args.at r) kept refl c.counted-self-inside.ensures)
+    c.self.inside.sent.items c.self.inside.left.items c.self.inside.losses c.counted-self-inside.result (cut_outcome rules c.args.at r) kept refl c.counted-self-inside.ensures)
 
 pub index_mut-replica-requires : goal.index_mut-replica-requires
 index_mut-replica-requires g c =
@@ -94,6 +94,6 @@ returns g c =
     let kept = c.truncate-2.ensures.items
     ∙ taken_back c.self.inside.archive.items c.record.new.archive.items c.len-before.result (begins_by c.self.inside.archive.items c.record.new.archive.items _ c.in-Ok.ensures.ok) at in
     rw (← c.self.view_is) (λ r stands. cut_lost rules c.self.inside.archive.items c.truncate-2.new.self.items c.self.inside.master c.self.inside.nodes.items _ c.self.inside.sent.items
-    c.self.inside.left.items c.self.inside.losses c.counted-self-inside-2.result (cut_turn rules c.args.at r) kept
+    c.self.inside.left.items c.self.inside.losses c.counted-self-inside-2.result (cut_outcome rules c.args.at r) kept
     (cut_not c.self.inside.nodes.items c.args.at c.index_mut-replica.result.now c.cut.new.self r c.index_mut-replica.ensures.value stands (c.cut.ensures.same c.if-cut.false))
     c.counted-self-inside-2.ensures)

@@ -49,9 +49,9 @@ returns-in-Ok-clause-step g c =
     let found = ap (λ us. slice_get us c.args.number) (sym sent) ∙ get_there c.deref.result.now c.args.number c.in-Some.field-0.now
     (ltb-true c.args.number (length c.deref.result.now) (sym c.in-Some.ensures.lookup.0)) c.in-Some.ensures.lookup.1 in
     let x = c.in-Some-running.ensures.some in
-    steps_turn rules c.args.self.now c.take_turn.new.self (Deliver c.args.number) _
+    steps_turn rules c.args.self.now c.take_input.new.self (Deliver c.args.number) _
     (delivers_turn rules c.args.self.now.moment c.args.number c.in-Some-running.at c.in-Some.field-0.now c.in-Ok.message found c.in-Ok.ensures.same x)
-    (c.take_turn.ensures x.replica x.stands)
+    (c.take_input.ensures x.replica x.stands)
 
 pub returns-in-Ok-clause-idle : goal.returns-in-Ok-clause-idle
 returns-in-Ok-clause-idle g c =
@@ -86,8 +86,8 @@ answer-requires g c =
     (sym c.asks_for.ensures ∙ c.in-Some-asks_for.is) in
     asked_in c.args.self.now.moment.world.sent c.args.number c.in-Some-asks_for.ballot c.in-Some.field-0.now found c.if-receiver-eq0.true hears.0
 
-pub take_turn-requires-clause-may : goal.take_turn-requires-clause-may
-take_turn-requires-clause-may g c =
+pub take_input-requires-clause-may : goal.take_input-requires-clause-may
+take_input-requires-clause-may g c =
     let rules = g.M.Machine.rules in
     let sent : c.deref.result.now ≡ c.args.self.now.moment.world.sent = c.deref.ensures.value ∙ ap (λ (z : GroupState _ _ _). z.moment.world.sent) c.self.view_is in
     let found = ap (λ us. slice_get us c.args.number) (sym sent) ∙ get_there c.deref.result.now c.args.number c.in-Some.field-0.now
@@ -183,8 +183,8 @@ returns-in-Ok-clause-quiet g c =
     let found = ap (λ us. slice_get us c.args.number) (sym sent) ∙ get_there c.deref.result.now c.args.number c.in-Some.field-0.now
     (ltb-true c.args.number (length c.deref.result.now) (sym c.in-Some.ensures.lookup.0)) c.in-Some.ensures.lookup.1 in
     let x = c.in-Some-running.ensures.some in
-    message_taken rules c.args.self.now c.take_turn.new.self c.args.number c.in-Some-running.at c.in-Some.field-0.now c.in-Ok.message found c.in-Ok.ensures.same x
-    (c.take_turn.ensures x.replica x.stands)
+    message_taken rules c.args.self.now c.take_input.new.self c.args.number c.in-Some-running.at c.in-Some.field-0.now c.in-Ok.message found c.in-Ok.ensures.same x
+    (c.take_input.ensures x.replica x.stands)
 
 pub returns-in-Err-clause-quiet : goal.returns-in-Err-clause-quiet
 returns-in-Err-clause-quiet g c =

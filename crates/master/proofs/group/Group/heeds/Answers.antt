@@ -7,7 +7,7 @@ use Rattle.ballot.specs.Replica.{ReplicaState, CountedReplica}
 use Rattle.ballot.specs.Sending.{nothing_done}
 use Rattle.snapshots.proofs.PastsAgree.{snapshots_are_read}
 use Rattle.master.proofs.EarlierMembers.{names_some, quiet_does_nothing}
-use Rattle.master.proofs.Turns.{same_replica}
+use Rattle.master.proofs.StepsOfNodes.{same_replica}
 use Rattle.master.proofs.Viewed.{heeded}
 use Rattle.master.proofs.group.Group.heeds.Goals as goal
 

@@ -6,7 +6,7 @@ use Rattle.snapshots.specs.Moments.Moments.{began}
 use Rattle.master.specs.Group.{GroupState}
 use Rattle.master.proofs.Groups.{group_opens}
 use Rattle.master.proofs.LossesCounted.{counts_opened}
-use Rattle.master.proofs.Turns.{opened_moment, opened_more}
+use Rattle.master.proofs.StepsOfNodes.{opened_moment, opened_more}
 use Rattle.master.proofs.group.Group.opening.Goals as goal
 
 pub loop-at-preserved : goal.loop-at-preserved

@@ -4,7 +4,7 @@ use Rattle.ballot.specs.Replica.{status_of}
 use Rattle.master.specs.declared.event.Event.TheVariants.{Propose}
 use Rattle.master.proofs.Counting.{takes_nothing, takes_turn, cannot_take, proposal_refused, proposal_taken, some_idle, steps_turn, steps_lost, steps_idle}
 use Rattle.master.proofs.Quiet.{exactly_none, node_needs, proposal_does}
-use Rattle.master.proofs.Turns.{same_replica}
+use Rattle.master.proofs.StepsOfNodes.{same_replica}
 use Rattle.master.proofs.group.Group.propose.Goals as goal
 
 pub returns-then-not-is_active-clause-step : goal.returns-then-not-is_active-clause-step
@@ -38,8 +38,8 @@ returns-in-Ok-clause-step g c =
     let status : c.status-status.result ≡ status_of x.replica = c.status-status.ensures ∙ ap status_of same in
     let can = proposal_taken x.replica c.status-status.result c.is_active.result c.args.command.now status c.is_active.ensures c.if-not-is_active.false c.if-status-ge-MAX_PLACES.false in
     let goes = takes_turn rules c.args.self.now.moment.world c.args.node c.in-Some.at (Proposes c.args.command.now) x can in
-    let turned = c.take_turn.ensures x.replica x.stands in
-    steps_turn rules c.args.self.now c.take_turn.new.self (Propose c.args.node c.args.command.now) _ goes
+    let turned = c.take_input.ensures x.replica x.stands in
+    steps_turn rules c.args.self.now c.take_input.new.self (Propose c.args.node c.args.command.now) _ goes
     (rw c.in-Ok.ensures.same at turned)
 
 pub returns-in-Ok-clause-idle : goal.returns-in-Ok-clause-idle

@@ -1,6 +1,6 @@
 use Rattle.std.proofs.Common.{◌≡◌, ◌<◌, ◌≤◌, length, ap, sym, ◌∙◌, false, arith}
 use Rattle.ballot.specs.Status.{Status}
-use Rattle.master.proofs.Turns.{runs_at, stopped_there}
+use Rattle.master.proofs.StepsOfNodes.{runs_at, stopped_there}
 use Rattle.master.proofs.group.Group.running.Goals as goal
 
 pub returns-then-status-clause-none : goal.returns-then-status-clause-none

@@ -3,15 +3,15 @@ use Rattle.ballot.specs.Protocol.Input.{Ticks}
 use Rattle.master.specs.declared.event.Event.TheVariants.{Tick}
 use Rattle.master.proofs.Counting.{some_idle, takes_nothing, takes_turn, steps_turn}
 use Rattle.master.proofs.Quiet.{exactly_none, steps_exactly_done, tick_says, tick_silent}
-use Rattle.master.proofs.Turns.{same_replica}
+use Rattle.master.proofs.StepsOfNodes.{same_replica}
 use Rattle.master.proofs.group.Group.tick.Goals as goal
 
 pub returns-clause-step : goal.returns-clause-step
 returns-clause-step g c =
     let rules = g.M.Machine.rules in
     let x = c.in-Some.ensures.some in
-    steps_turn rules c.args.self.now c.take_turn.new.self (Tick c.args.node) _
-    (takes_turn rules c.args.self.now.moment.world c.args.node c.in-Some.at Ticks x refl) (c.take_turn.ensures x.replica x.stands)
+    steps_turn rules c.args.self.now c.take_input.new.self (Tick c.args.node) _
+    (takes_turn rules c.args.self.now.moment.world c.args.node c.in-Some.at Ticks x refl) (c.take_input.ensures x.replica x.stands)
 
 pub returns-in_default-clause-quiet : goal.returns-in_default-clause-quiet
 returns-in_default-clause-quiet g c =

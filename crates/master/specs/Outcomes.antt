@@ -63,12 +63,12 @@ stopping rules n (Some r) =
     }))
 
 -- a log is cut if there is something to cut; nothing is sent
-abbrev pub cut_turn : {S C O : Type 0} → Rules S C O → ℕ → ReplicaState S C → NodeOutcome S C O
-cut_turn rules n r =
+abbrev pub cut_outcome : {S C O : Type 0} → Rules S C O → ℕ → ReplicaState S C → NodeOutcome S C O
+cut_outcome rules n r =
     record { index = n; before = r; outcome = record { state = cut rules r; effects = [] } }
 
 -- the cut of a node's log, if the node runs
 abbrev pub cutting : {S C O : Type 0} →
     Rules S C O → ℕ → Option (ReplicaState S C) → Option (EventOutcome S C O)
 cutting rules n None = None
-cutting rules n (Some r) = if can_cut r then Some (by_cut (cut_turn rules n r)) else None
+cutting rules n (Some r) = if can_cut r then Some (by_cut (cut_outcome rules n r)) else None

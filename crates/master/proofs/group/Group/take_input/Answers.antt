@@ -3,9 +3,9 @@ use Rattle.master.specs.Inside.Losing.{input_of}
 use Rattle.snapshots.specs.World.{messages}
 use Rattle.master.proofs.Groups.{front_of, group_turns, more_than}
 use Rattle.master.proofs.LossesCounted.{count_covers, counts_at, counts_more, counts_set}
-use Rattle.master.proofs.Turns.{took_turn, below_of, going_of}
+use Rattle.master.proofs.StepsOfNodes.{took_turn, below_of, going_of}
 use Rattle.master.proofs.Viewed.{taken_is_read}
-use Rattle.master.proofs.group.Group.take_turn.Goals as goal
+use Rattle.master.proofs.group.Group.take_input.Goals as goal
 
 pub take_in-taken-requires : goal.take_in-taken-requires
 take_in-taken-requires g c =

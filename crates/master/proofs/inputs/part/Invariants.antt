@@ -1,5 +1,5 @@
 use Rattle.master.proofs.Parting.{Parting}
-use Rattle.master.proofs.turning.part.Given as goal
+use Rattle.master.proofs.inputs.part.Given as goal
 
 abbrev pub invariant-loop-index : goal.invariant-loop-index
 invariant-loop-index g l =

@@ -1,7 +1,7 @@
 use Rattle.std.proofs.Common.{◌+◌, ◌<◌, length, ap, sym, ◌∙◌, arith}
 use Rattle.master.proofs.Parting.{Parting, parting_begins, parting_below, parting_out, parting_sent, parting_lost, parting_ends}
-use Rattle.master.proofs.turning.part.Goals as goal
-use Rattle.master.proofs.turning.part.Goals.{then-is_message+then-keep, then-is_message+else-keep, else-is_message}
+use Rattle.master.proofs.inputs.part.Goals as goal
+use Rattle.master.proofs.inputs.part.Goals.{then-is_message+then-keep, then-is_message+else-keep, else-is_message}
 
 pub loop-index-init : goal.loop-index-init
 loop-index-init g c = parting_begins c.args.effects.now.items c.args.from c.args.sent.now.items c.requires
