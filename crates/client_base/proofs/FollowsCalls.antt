@@ -52,8 +52,8 @@ side_of p id side answered online =
       connection = record side.connection { written = side.connection.written ++ (if online then publishes false (next_number side.keeper) id p ∷ [] else []) };
     }
 
-abbrev pub turn_of : Publication → ℕ → ClientState → Bool → Bool → ClientOutcome
-turn_of p id state answered online =
+abbrev pub publish_outcome : Publication → ℕ → ClientState → Bool → Bool → ClientOutcome
+publish_outcome p id state answered online =
     if online
     then record {
       state = if answered then record state { sent = state.sent ++ kept_of p id ∷ [] } else state;
@@ -123,7 +123,7 @@ done_stands p n keeper state s =
     (own_stands keeper state (Own.Done n p) [] [] s refl refl refl (first_after keeper.own (Own.Done n p) refl tt s.sent_first) (λ e. refl))
 
 pub publish_follows : (p : Publication) (id : ℕ) (side : Side ℕ) (state : ClientState) (answered online up : Bool) → StandsFor side.keeper state → online ≡ up
-    → side.keeper.is_online ≡ up → (answered ≡ false → online ≡ true) → Same side (side_of p id side answered up) (turn_of p id state answered online)
+    → side.keeper.is_online ≡ up → (answered ≡ false → online ≡ true) → Same side (side_of p id side answered up) (publish_outcome p id state answered online)
 publish_follows p id side state true true true s e f g =
     record { stands = sent_stands p id (next_number side.keeper) side.keeper state s f; writes = (publishes false (next_number side.keeper) id p ∷ [], refl, refl) }
 publish_follows p id side state true false false s e f g =

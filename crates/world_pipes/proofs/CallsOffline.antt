@@ -18,7 +18,7 @@ use Rattle.client.specs.client_base.History as history
 use Rattle.client.specs.client_base.Keeper.{Written}
 use Rattle.client.specs.client_base.Steps.{Call, keeper_step, subscribed, unless_refused, unsubscribed}
 use Rattle.client.specs.client_base.Written.{writes, writes_first}
-use Rattle.client.proofs.of_client_base.FollowsCalls.{turn_of}
+use Rattle.client.proofs.of_client_base.FollowsCalls.{publish_outcome}
 use Rattle.client.specs.Core.{Core}
 use Rattle.byte_world.specs.exactly_once.Sides.{Connection}
 use Rattle.byte_world.specs.World.{after_writing, newly_written, packets_of, sent_up}
@@ -44,7 +44,7 @@ unless_none : (refusal : Option ClientError) (outcome : ClientOutcome) (state : 
 unless_none None outcome state none = none
 unless_none (Some cause) outcome state none = refl
 
-published_none : (p : Publication) (id : ℕ) (state : ClientState) (answered online : Bool) → online ≡ false → (turn_of p id state answered online).writes ≡ []
+published_none : (p : Publication) (id : ℕ) (state : ClientState) (answered online : Bool) → online ≡ false → (publish_outcome p id state answered online).writes ≡ []
 published_none p id state answered false e = refl
 published_none p id state answered true e = absurd (both_ways true e refl)
 

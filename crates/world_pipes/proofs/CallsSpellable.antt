@@ -26,7 +26,7 @@ use Rattle.client.specs.client_base.declared.stage.Stage.TheVariants as stages
 use Rattle.client.specs.client_base.State.{ClientState, is_online, used_ids}
 use Rattle.client.specs.client_base.Publishing.{has_free_id, next_id, publish_packet, publish_refusal, published}
 use Rattle.client.specs.client_base.Steps.{Call, asked, disconnected, keeper_step, request_refusal, unless_refused}
-use Rattle.client.proofs.of_client_base.FollowsCalls.{kept_of, turn_of}
+use Rattle.client.proofs.of_client_base.FollowsCalls.{kept_of, publish_outcome}
 use Rattle.world_pipes.specs.Standing.{CanGoOut}
 use Rattle.world_pipes.proofs.NotRefused.{asked_so, is_published}
 use Rattle.world_pipes.proofs.Spellable.{AllSpelled, lost_fits}
@@ -81,7 +81,7 @@ publish_is p state good taken =
 -- what was published at QoS 1 and 2 is kept
 kept_fits : (p : Publication) (id : ℕ) (state : ClientState) (answered online : Bool) →
     IsPacket (packets.Publish (record { topic = p.topic; delivery = delivery_at p.qos false id; retain = p.retain; payload = p.payload })) →
-    CanGoOut state → AllSpelled (turn_of p id state answered online)
+    CanGoOut state → AllSpelled (publish_outcome p id state answered online)
 kept_fits p id state true true one fits =
     record {
       writes = (one, tt);

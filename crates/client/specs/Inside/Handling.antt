@@ -14,7 +14,7 @@ use Rattle.client_base.specs.Answered.{ClientOutcome, going_on}
 use Rattle.client_base.specs.Calls.{refused}
 use Rattle.client_base.specs.Publishing.{is_over_limit}
 use Rattle.client.specs.Core.{Core, IsDone}
-use Rattle.client.specs.Reading.{Reads, turn_of, StopsFor, Handles, cause_of, fed}
+use Rattle.client.specs.Reading.{Reads, outcome_of, StopsFor, Handles, cause_of, fed}
 
 -- the whole outcome comes about; one that ends the connection changes nothing here
 abbrev pub Tries : ClientOutcome → Core → Result (Unit {0}) ClientError → Core → Type 0
@@ -29,13 +29,13 @@ abbrev pub ReadsOne : Core → Result Bool ClientError → Core → Type 0
 ReadsOne old (Ok false) new = Takes old.unread (Ok None) old.unread × (new ≡ old)
 ReadsOne old (Ok true) new =
     (packet : Packet) × (next : Core) × Reads old packet next
-    × ((turn_of packet next).refusal ≡ None)
-    × IsDone (turn_of packet next) next new
+    × ((outcome_of packet next).refusal ≡ None)
+    × IsDone (outcome_of packet next) next new
 ReadsOne old (Err errors.Memory) new = (new.state ≡ old.state) × (new.out ≡ old.out)
 ReadsOne old (Err errors.SessionLost) new =
     (packet : Packet) × (next : Core) × Reads old packet next
-    × ((turn_of packet next).refusal ≡ Some errors.SessionLost)
-    × IsDone (turn_of packet next) next new
+    × ((outcome_of packet next).refusal ≡ Some errors.SessionLost)
+    × IsDone (outcome_of packet next) next new
 ReadsOne old (Err cause) new = StopsFor cause old × (new.state ≡ old.state) × (new.out ≡ old.out)
 
 -- an outcome that writes nothing
@@ -66,8 +66,8 @@ StopsAt core (Ok done) new = Takes core.unread (Ok None) core.unread × (new ≡
 StopsAt core (Err errors.Memory) new = (new.state ≡ core.state) × (new.out ≡ core.out)
 StopsAt core (Err errors.SessionLost) new =
     (packet : Packet) × (next : Core) × Reads core packet next
-    × ((turn_of packet next).refusal ≡ Some errors.SessionLost)
-    × IsDone (turn_of packet next) next new
+    × ((outcome_of packet next).refusal ≡ Some errors.SessionLost)
+    × IsDone (outcome_of packet next) next new
 StopsAt core (Err cause) new = StopsFor cause core × (new.state ≡ core.state) × (new.out ≡ core.out)
 
 -- whole packets are handled, and then it ends
