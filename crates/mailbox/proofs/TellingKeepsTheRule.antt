@@ -13,7 +13,7 @@ use Rattle.mailbox.specs.declared.view.View.{View}
 use Rattle.mailbox.specs.Delivery.{items_of, FitsLane, FitsReceiver, FitsBounds, Delivers, Moment}
 use Rattle.mailbox.specs.declared.inbox.TheConstants.{MAX_ITEMS}
 use Rattle.mailbox.specs.Ends.{HasArrived, IsFullByReceipt, Receipted, Sender, Taker}
-use Rattle.mailbox.specs.Inside.{ended, heard, lane_tells, nobody, receiver_tells}
+use Rattle.mailbox.specs.Inside.{ended, heard, lane_knows, nobody, receiver_knows}
 use Rattle.mailbox.proofs.EachView.{each_set, each_snoc}
 use Rattle.mailbox.proofs.Rights.{rights_has, rights_set, rights_snoc, rights_split}
 use Rattle.mailbox.proofs.PassNumbers.{not_false}
@@ -46,14 +46,14 @@ module _ {T : Type 0} where
             ((λ p. absurd (not_false p)), (λ p. absurd (not_false p)), so items views h at);
       }
 
-  pub lane_tells_so : (port : ℕ) (v : View T) → v.sends ≡ true → Forks Delivers port v v (lane_tells v)
-  lane_tells_so port v sends =
-      tells port v (lane_tells v).bounds (λ items views h at.
+  pub lane_knows_so : (port : ℕ) (v : View T) → v.sends ≡ true → Forks Delivers port v v (lane_knows v)
+  lane_knows_so port v sends =
+      tells port v (lane_knows v).bounds (λ items views h at.
       let same = ap length ((h.fits port v at).0 sends).1 in (omega (arith, same), omega arith, h.finite, h.finite))
 
-  pub receiver_tells_so : (port : ℕ) (v : View T) → v.gets ≡ true → Forks Delivers port v v (receiver_tells v)
-  receiver_tells_so port v gets =
-      tells port v (receiver_tells v).bounds (λ items views h at.
+  pub receiver_knows_so : (port : ℕ) (v : View T) → v.gets ≡ true → Forks Delivers port v v (receiver_knows v)
+  receiver_knows_so port v gets =
+      tells port v (receiver_knows v).bounds (λ items views h at.
       let same = ap length ((h.fits port v at).1 gets).1 in
       (omega arith, omega (arith, same), (h.fits port v at).2.3, h.finite))
 

@@ -43,12 +43,12 @@ module _ {T : Type 0} where
   sealed v = record v { may = 0; all = v.all - v.may }
 
   -- a lane says what it has sent
-  abbrev pub lane_tells : View T → View T
-  lane_tells v = record nobody { bounds = record nothing { lane = v.lane; sent = length v.sent } }
+  abbrev pub lane_knows : View T → View T
+  lane_knows v = record nobody { bounds = record nothing { lane = v.lane; sent = length v.sent } }
 
   -- the receiver says what it has taken, and how many items there will ever be
-  abbrev pub receiver_tells : View T → View T
-  receiver_tells v = record nobody {
+  abbrev pub receiver_knows : View T → View T
+  receiver_knows v = record nobody {
     bounds = record nothing { taken = length v.taken; most = v.all };
   }
 

@@ -91,22 +91,22 @@ impl<T> Split<View<T>> for Lends {
 pub struct LaneKnows;
 
 impl<T> Split<View<T>> for LaneKnows {
-    ghost use Rattle.mailbox.specs.Inside.{lane_tells};
+    ghost use Rattle.mailbox.specs.Inside.{lane_knows};
 
     ghost left = { λ v. v };
 
-    ghost right = { lane_tells };
+    ghost right = { lane_knows };
 }
 
 /// The receiver says what it has taken, by a pass of its own.
-pub struct ReceiverTells;
+pub struct ReceiverKnows;
 
-impl<T> Split<View<T>> for ReceiverTells {
-    ghost use Rattle.mailbox.specs.Inside.{receiver_tells};
+impl<T> Split<View<T>> for ReceiverKnows {
+    ghost use Rattle.mailbox.specs.Inside.{receiver_knows};
 
     ghost left = { λ v. v };
 
-    ghost right = { receiver_tells };
+    ghost right = { receiver_knows };
 }
 
 /// A lane sends no more, and says that.

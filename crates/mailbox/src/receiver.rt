@@ -7,7 +7,7 @@ ghost use Rattle.mailbox.specs.Kept.{TakesMore, IsTaken};
 
 use crate::inbox::MAX_ITEMS;
 use crate::lane::Lane;
-use crate::moves::{Hears, Knowledge, Lends, Meets, Queue, ReceiverTells, Takes};
+use crate::moves::{Hears, Knowledge, Lends, Meets, Queue, ReceiverKnows, Takes};
 use crate::naming::Naming;
 use crate::receipt::Receipt;
 use std::alloc::Global;
@@ -112,7 +112,7 @@ impl<T: Drop, J: Naming> Receiver<T, J> {
         ensures same { self.new ≡ self.old }
     {
         Receipt {
-            pass: self.queue.another::<ReceiverTells>(&mut self.pass),
+            pass: self.queue.another::<ReceiverKnows>(&mut self.pass),
             inbox: self.inbox,
             naming: PhantomData,
         }

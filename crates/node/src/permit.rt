@@ -21,7 +21,7 @@ pub struct Permit<'n> {
     /// The gate opened for it, or there is none.
     is_open: bool,
     /// Until this is dropped no other taking begins.
-    turn: Option<MutexGuard<'n, ()>>,
+    passing: Option<MutexGuard<'n, ()>>,
 }
 
 impl<'n> Model for Permit<'n> {
@@ -48,19 +48,19 @@ impl<'n> Permit<'n> {
             taking: None,
             most: MAX_AT_ONCE,
             is_open: true,
-            turn: None,
+            passing: None,
         }
     }
 
     /// Returns a permit for the taking of this number, which keeps others from beginning.
-    pub(crate) fn after(taking: u64, is_open: bool, turn: MutexGuard<'n, ()>) -> Permit<'n>
+    pub(crate) fn after(taking: u64, is_open: bool, passing: MutexGuard<'n, ()>) -> Permit<'n>
         ensures { result ≡ record { taking = Some taking; most = 1; is_open = is_open } }
     {
         Permit {
             taking: Some(taking),
             most: 1,
             is_open,
-            turn: Some(turn),
+            passing: Some(passing),
         }
     }
 

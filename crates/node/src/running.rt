@@ -44,7 +44,7 @@ pub struct Node<'g, J: NodeNaming, S: Stated<J>, G: Gate> {
     number: u8,
     gate: Option<&'g G>,
     /// The holder of this asks the gate, takes, and informs the gate.
-    turn: Mutex<()>,
+    passing: Mutex<()>,
     /// The number of takings for which the gate did not open, at most 2^64 - 1.
     missed: Mutex<u64>,
     /// The allocated report for its end.
@@ -86,7 +86,7 @@ impl<'g, J: NodeNaming, G: Gate> Node<'g, J, NodeState<J>, G> {
             state: Mutex::new(state),
             number,
             gate,
-            turn: Mutex::new(()),
+            passing: Mutex::new(()),
             missed: Mutex::new(0),
             room,
             naming: PhantomData,
@@ -151,8 +151,8 @@ impl<'g, J: NodeNaming, S: Stated<J>, G: Gate> Node<'g, J, S, G> {
         self.state.lock(rt)
     }
 
-    /// Begins a turn: waits until the gate opens for the node's next taking, if it opens in time.
-    /// Without a gate it does not wait. With a gate, turns come one after another: until this one
+    /// Begins a taking: waits until the gate opens for the node's next taking, if it opens in time.
+    /// Without a gate it does not wait. With a gate, takings come one after another: until this one
     /// is done no other begins.
     pub fn pass<R: Wait + Clock>(&self, rt: &R) -> Permit<'_>
         ensures one { IfSome result.taking (λ _. result.most ≡ 1) }
@@ -165,10 +165,10 @@ impl<'g, J: NodeNaming, S: Stated<J>, G: Gate> Node<'g, J, S, G> {
         let Some(gate) = self.gate else {
             return Permit::free();
         };
-        let turn = self.turn.lock(rt);
+        let passing = self.passing.lock(rt);
         let taking = self.lock(rt).state().next_taking();
         let is_open = self.ask(rt, gate, taking);
-        Permit::after(taking, is_open, turn)
+        Permit::after(taking, is_open, passing)
     }
 
     // Waits until the gate opens for a taking, but not for ever. Returns what it answered last: a
@@ -190,7 +190,7 @@ impl<'g, J: NodeNaming, S: Stated<J>, G: Gate> Node<'g, J, S, G> {
         is_open
     }
 
-    /// Ends a turn: informs the gate that the taking is done.
+    /// Ends a taking: informs the gate that it is done.
     pub fn done<R: Wait>(&self, rt: &R, permit: Permit<'_>)
         ensures { self.now.is_gated ≡ true → IfSome permit.entry.taking (λ taking.
             WasInformed G.hears self.now.number taking) }
