@@ -19,8 +19,8 @@ use Rattle.world_nodes.specs.Nodes.{NodesState}
 use Rattle.ways_out.specs.Deliveries.{way_out}
 use Rattle.ways_out.specs.Laws.{CanBeLed, StartsGiveNothing}
 use Rattle.ways_out.proofs.Premises.{joined_below}
-use Rattle.ways_out.specs.CutWaysDeliveries.{assigned_moment}
-use Rattle.ways_out.specs.CutWaysLaws.{LeadsOut}
+use Rattle.ways_out.specs.CutDeliveries.{assigned_moment}
+use Rattle.ways_out.specs.CutLaws.{LeadsOut}
 use Rattle.ways_out.proofs.CutGroupsLed.{cut_groups_have_ways_out}
 use Rattle.escaping_nodes.specs.Coming.{AreCalm, Come, IsSeen}
 use Rattle.escaping_nodes.specs.Led.{AreLedOut, NodesAreLedOut}

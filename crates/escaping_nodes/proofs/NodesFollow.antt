@@ -34,8 +34,8 @@ use Rattle.escaping.proofs.of_node_moves.ReplicaLeads.{StaysOr, step_stays}
 use Rattle.escaping.proofs.of_node_moves.Views.{each_filtered, each_kept}
 use Rattle.world_nodes.specs.Goes.{after_answer, after_node_call}
 use Rattle.world_nodes.specs.Nodes.{NodesState, cores_of}
-use Rattle.ways_out.specs.CutWaysDeliveries.{Delivered, after_activate, after_outcome}
-use Rattle.ways_out.specs.CutWaysDeliveries.Delivered.{all_came, to_master, to_node}
+use Rattle.ways_out.specs.CutDeliveries.{Delivered, after_activate, after_outcome}
+use Rattle.ways_out.specs.CutDeliveries.Delivered.{all_came, to_master, to_node}
 use Rattle.escaping_nodes.specs.Coming.Come.{all_came as none_comes, to_node as comes_to_node, to_master as comes_to_master, hands}
 use Rattle.escaping_nodes.specs.Coming.{AreCalm, AreFollowed, Come, DeliveriesAreFollowed, IsSeen, KeepNames}
 use Rattle.escaping.specs.Delivery.{IsCalm, IsDelivery, heard_by}

@@ -14,7 +14,7 @@ use Rattle.escaping.specs.world_base.declared.Port.{Port}
 use Rattle.escaping.specs.world_base.Core.{CountedCore, rules}
 use Rattle.world_nodes.specs.Goes.{after_answer, after_node_call}
 use Rattle.world_nodes.specs.Nodes.{NodesState, cores_of}
-use Rattle.ways_out.specs.CutWaysDeliveries.{Delivered}
+use Rattle.ways_out.specs.CutDeliveries.{Delivered}
 use Rattle.escaping.specs.Delivery.{IsCalm}
 
 -- the messages of these numbers come, one after another, to nodes that run or to the master; in

@@ -10,7 +10,7 @@ use Rattle.world_nodes.specs.Goes.{after_giving}
 use Rattle.world_nodes.specs.Nodes.{NodesState}
 use Rattle.ways_out.specs.Deliveries.{way_out}
 use Rattle.ways_out.specs.Laws.{CanBeLed}
-use Rattle.ways_out.specs.CutWaysLaws.{LeadsOut}
+use Rattle.ways_out.specs.CutLaws.{LeadsOut}
 use Rattle.escaping_nodes.specs.Coming.{AreCalm, Come, IsSeen, KeepNames}
 
 -- the moment to which the way out leads is seen then, each node is calm or has not joined the new

@@ -44,7 +44,7 @@ use Rattle.ways_out.specs.Following.{Follows, Serves}
 use Rattle.ways_out.specs.AnswerLaws.{AnswersCommand as WholeAnswers, IsHeldByAll as WholeHeldByAll}
 use Rattle.ways_out.proofs.Answering.{commands_are_answered}
 use Rattle.ways_out.specs.Answering.{AnswersCommand, AnswersLast, CutGroupsAnswer, IsHeldByAll}
-use Rattle.ways_out.specs.CutWaysDeliveries.{after_outcome}
+use Rattle.ways_out.specs.CutDeliveries.{after_outcome}
 use Rattle.ways_out.proofs.Ahead.{AreLike}
 use Rattle.ways_out.proofs.CutGroupsLed.{follows_still, node_still, serves_still}
 use Rattle.ways_out.proofs.Followed.{Followed, Goes, MomentLike, NodeLike, followed, get_back, messages_whole, thinned_same, whole_thinned_same}

@@ -33,8 +33,8 @@ use Rattle.ways_out.specs.Laws.{CanBeLed, IsLed, StartsGiveNothing}
 use Rattle.ways_out.specs.Laws.{LeadsOut as WholeLeadsOut}
 use Rattle.ways_out.proofs.AllAgreed.{what_all_hold_is_agreed}
 use Rattle.ways_out.proofs.HasWayOut.{has_way_out}
-use Rattle.ways_out.specs.CutWaysDeliveries.{assigned_moment}
-use Rattle.ways_out.specs.CutWaysLaws.{CutGroupsHaveWaysOut, LeadsOut}
+use Rattle.ways_out.specs.CutDeliveries.{assigned_moment}
+use Rattle.ways_out.specs.CutLaws.{CutGroupsHaveWaysOut, LeadsOut}
 use Rattle.ways_out.proofs.Ahead.{IsLike}
 use Rattle.ways_out.proofs.Followed.{Followed, Goes, MomentLike, followed, get_back}
 

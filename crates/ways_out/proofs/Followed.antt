@@ -48,8 +48,8 @@ use Rattle.snapshots.proofs.PastsKept.{StandsFor, past_stands}
 use Rattle.snapshots.proofs.Views.{outputs_whole}
 use Rattle.ways_out.specs.Deliveries.{Delivered as WholeDelivered, after_activate as whole_after_activate, after_outcome as whole_after_outcome}
 use Rattle.ways_out.specs.Deliveries.Delivered.{all_came as all_came_whole, to_node as to_node_whole, to_master as to_master_whole}
-use Rattle.ways_out.specs.CutWaysDeliveries.{Delivered, after_activate, after_outcome}
-use Rattle.ways_out.specs.CutWaysDeliveries.Delivered.{all_came, to_node, to_master}
+use Rattle.ways_out.specs.CutDeliveries.{Delivered, after_activate, after_outcome}
+use Rattle.ways_out.specs.CutDeliveries.Delivered.{all_came, to_node, to_master}
 use Rattle.ways_out.proofs.Ahead.{AreLike, IsLike, like_received, like_then}
 use Rattle.ways_out.proofs.LogsLike.{message_like, wholly}
 

@@ -18,7 +18,7 @@ use Rattle.snapshots.specs.Whole.{whole}
 use Rattle.snapshots.specs.World.{outputs}
 use Rattle.ways_out.specs.Deliveries.{AreApart, NodeIs, numbers_from}
 use Rattle.ways_out.specs.Following.{Follows, Serves}
-use Rattle.ways_out.specs.CutWaysDeliveries.{Delivered, after_outcome}
+use Rattle.ways_out.specs.CutDeliveries.{Delivered, after_outcome}
 
 -- a step of the primary that answers a command after a log: it outputs what the machine answers
 -- there, before any message, and then serves the longer log

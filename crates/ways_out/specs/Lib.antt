@@ -4,8 +4,8 @@ pub mod Following
 pub mod Inside
 pub mod Laws
 pub mod Lengths
-pub mod CutWaysDeliveries
-pub mod CutWaysLaws
+pub mod CutDeliveries
+pub mod CutLaws
 pub mod Answering
 pub use Rattle.snapshots.specs.agreement as agreement
 pub use Rattle.snapshots.specs.lists as lists

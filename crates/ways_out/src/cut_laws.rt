@@ -2,7 +2,7 @@
 // are the laws.
 
 ghost use Rattle.ways_out.specs.Answering.{CutGroupsAnswer};
-ghost use Rattle.ways_out.specs.CutWaysLaws.{CutGroupsHaveWaysOut};
+ghost use Rattle.ways_out.specs.CutLaws.{CutGroupsHaveWaysOut};
 
 use snapshots::machine::Machine;
 

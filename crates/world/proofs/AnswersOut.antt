@@ -8,7 +8,7 @@ use Rattle.headline.specs.broker_spec.declared.command.Output.{Output}
 use Rattle.headline.specs.broker_base.State.{State}
 use Rattle.escaping_client.specs.client.Core.{Core}
 use Rattle.escaping_nodes.specs.Answered.{CanAsk, begun}
-use Rattle.escaping_nodes.specs.ways_out.CutWaysDeliveries.Delivered.{all_came}
+use Rattle.escaping_nodes.specs.ways_out.CutDeliveries.Delivered.{all_came}
 use Rattle.escaping_nodes.specs.ways_out.Deliveries.{AreApart, NodeIs}
 use Rattle.escaping_nodes.specs.ways_out.Following.{Follows}
 use Rattle.escaping_nodes.proofs.ClientAnswered.{AwaitsOthers, others_are_awaited, others_let_the_client_be_answered, sole_member_answers_the_client, waits_on}

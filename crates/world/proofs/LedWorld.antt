@@ -12,8 +12,8 @@ use Rattle.headline.specs.broker_spec.declared.command.Output.{Output}
 use Rattle.headline.specs.broker_spec.Place.{Client}
 use Rattle.headline.specs.broker_base.State.{State}
 use Rattle.escaping_nodes.specs.Coming.{AreCalm, AreFollowed, IsSeen}
-use Rattle.escaping_nodes.specs.ways_out.CutWaysDeliveries.{Delivered, assigned_moment}
-use Rattle.escaping_nodes.specs.ways_out.CutWaysLaws.{LeadsOut}
+use Rattle.escaping_nodes.specs.ways_out.CutDeliveries.{Delivered, assigned_moment}
+use Rattle.escaping_nodes.specs.ways_out.CutLaws.{LeadsOut}
 use Rattle.escaping_nodes.specs.ways_out.Deliveries.{way_out}
 use Rattle.escaping_nodes.proofs.LedOut.{assigned_seen, low_before, way_of}
 use Rattle.escaping_nodes.proofs.NodesFollow.{deliveries_are_followed}

@@ -10,8 +10,8 @@ use Rattle.headline.specs.broker_spec.Connection.{ConnectionName, same_connectio
 use Rattle.headline.specs.broker_spec.declared.command.Output.{Output}
 use Rattle.headline.specs.broker_base.State.{State}
 use Rattle.escaping_client.specs.client.Core.{Core}
-use Rattle.escaping_nodes.specs.ways_out.CutWaysDeliveries.{Delivered, after_activate, after_outcome}
-use Rattle.escaping_nodes.specs.ways_out.CutWaysDeliveries.Delivered.{all_came, to_node, to_master}
+use Rattle.escaping_nodes.specs.ways_out.CutDeliveries.{Delivered, after_activate, after_outcome}
+use Rattle.escaping_nodes.specs.ways_out.CutDeliveries.Delivered.{all_came, to_node, to_master}
 use Rattle.escaping_nodes.specs.escaping.Waiting.{AwaitsAnswer}
 use Rattle.escaping_nodes.specs.Coming.{AreCalm, IsSeen}
 use Rattle.escaping_nodes.specs.Coming.Come.{all_came as none_comes, to_node as comes_to_node}

@@ -1,4 +1,4 @@
--- Laws.antt: the way to the next ballot, for groups whose nodes cut their logs. What is said about
+-- The way to the next ballot, for groups whose nodes cut their logs. What is said about
 -- logs is said about whole ones.
 use Rattle.std.specs.Prelude.{ℕ, ◌+◌, ◌-◌, ◌*◌, ◌≡◌, List, [], ◌∷◌, ◌++◌, length}
 use Rattle.snapshots.specs.machine.Machine.{Rules}
@@ -7,7 +7,7 @@ use Rattle.snapshots.specs.ballot_base.declared.config.Config.{Config}
 use Rattle.snapshots.specs.Moments.{IsAgreed, Moment, Moments, whole_moment}
 use Rattle.ways_out.specs.Deliveries.{way_out}
 use Rattle.ways_out.specs.Laws.{CanBeLed, IsLed, StartsGiveNothing}
-use Rattle.ways_out.specs.CutWaysDeliveries.{Delivered, assigned_moment}
+use Rattle.ways_out.specs.CutDeliveries.{Delivered, assigned_moment}
 
 -- a past continues to a later moment, if this list is agreed; what was agreed before begins it
 pub record GoesOnTo {S C O : Type 0} (rules : Rules S C O) (config : Config)
