@@ -6,7 +6,7 @@ pub mod Extending
 pub mod GroupSteps
 pub mod Keeps
 pub mod Masters
-pub mod Moves
+pub mod MovesAt
 pub mod OpeningHistory
 pub mod Own
 pub mod Saying

@@ -3,9 +3,9 @@ use Rattle.std.proofs.Common.{◌≡◌, ℕ, Bool, true, false, List, [], ◌�
 use Rattle.std.proofs.lemmas.List.{append-nil}
 use Rattle.client_base.specs.lists.Lists.{Each}
 use Rattle.exactly_once.specs.Items.{Item, sent, releasing, finishing, start_first}
-use Rattle.exactly_once.specs.Handshake.{Forward, Backward, Link, Handshake, answer, reply, heard, taking, accepting, with_items, Moves, Run, opening}
+use Rattle.exactly_once.specs.Handshake.{Forward, Backward, Link, Handshake, answer, reply, heard, taking, accepting, with_items, Advances, Run, opening}
 use Rattle.exactly_once.specs.Exact.{is_over, IsExact}
-use Rattle.exactly_once.specs.Handshake.Moves.{adds, starts, takes, takes_alone, hears, hears_alone, sender_leaves, receiver_leaves, parts, parts_ahead, restarts}
+use Rattle.exactly_once.specs.Handshake.Advances.{adds, starts, takes, takes_alone, hears, hears_alone, sender_leaves, receiver_leaves, parts, parts_ahead, restarts}
 use Rattle.exactly_once.specs.Handshake.Run.{stays, goes_on}
 use Rattle.exactly_once.specs.HandshakeInvariant.{IsNew, IsAhead, IsLinked, IsGood}
 use Rattle.exactly_once.proofs.SidesStart.{sides_add, sides_start, sent_waits, free_of}
@@ -94,7 +94,7 @@ good_hears_alone h g (Backward.Pubcomp id) b e =
     }
 
 -- each move keeps it
-pub good_moves : {V : Type 0} (h k : Handshake V) → IsGood h → Moves h k → IsGood k
+pub good_moves : {V : Type 0} (h k : Handshake V) → IsGood h → Advances h k → IsGood k
 good_moves h k g (adds v) =
     record {
       old = g.old;

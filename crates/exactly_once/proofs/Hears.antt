@@ -18,7 +18,7 @@ use Rattle.broker_base.specs.broker_spec.declared.command.Command.{Command}
 use Rattle.broker_base.specs.broker_spec.declared.command.Command.TheVariants as commands
 use Rattle.exactly_once.specs.Items.{Item, releasing, has_sent}
 use Rattle.exactly_once.specs.Handshake.{Forward, Backward, Link, with_items, heard, reply}
-use Rattle.exactly_once.specs.Handshake.Moves.{hears}
+use Rattle.exactly_once.specs.Handshake.Advances.{hears}
 use Rattle.exactly_once.specs.Handshake.Run.{stays, goes_on}
 use Rattle.client_base.proofs.of_lists.Tests.{or_then}
 use Rattle.exactly_once.specs.HandshakeInvariant.{IsGood, IsJoined, IsLinked}

@@ -10,7 +10,7 @@ use Rattle.broker_base.specs.broker_spec.IdentifierLaws.{WaitsLast, IsWaiting}
 use Rattle.broker_base.proofs.LeastFree.{least-is-free}
 use Rattle.exactly_once.specs.Items.{Item, busy, start_first, first_waiting}
 use Rattle.exactly_once.specs.Handshake.{sending, with_items, Forward, Link, Handshake, Run}
-use Rattle.exactly_once.specs.Handshake.Moves.{starts}
+use Rattle.exactly_once.specs.Handshake.Advances.{starts}
 use Rattle.exactly_once.specs.Handshake.Run.{stays, goes_on}
 use Rattle.client_base.proofs.of_lists.Identifiers.{has_append}
 use Rattle.client_base.proofs.of_lists.Tests.{or_none, none_or}

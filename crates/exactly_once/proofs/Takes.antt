@@ -18,7 +18,7 @@ use Rattle.broker_base.specs.broker_spec.Sends.{deliveries_to}
 use Rattle.broker_base.specs.broker_spec.Answers.{acknowledged, answers_at}
 use Rattle.broker_base.proofs.ClientsInOrder.{same_self}
 use Rattle.exactly_once.specs.Handshake.{Forward, Backward, Link, Handshake, answer, taking, accepting}
-use Rattle.exactly_once.specs.Handshake.Moves.{takes}
+use Rattle.exactly_once.specs.Handshake.Advances.{takes}
 use Rattle.exactly_once.specs.Handshake.Run.{stays, goes_on}
 use Rattle.exactly_once.specs.Sends.{sends_to, put_to}
 use Rattle.exactly_once.specs.Sides.{Connection}

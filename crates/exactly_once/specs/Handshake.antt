@@ -83,37 +83,37 @@ publishing row = Forward.Publish row.0 row.1
 abbrev pub resend : {V : Type 0} → List ℕ → List (Item V) → List (Forward V)
 resend releases items = map (λ id. Forward.Pubrel id) releases ++ map publishing (sent items)
 
--- one move of a handshake; Packet Identifiers are those of the sender
-pub data Moves {V : Type 0} (h : Handshake V) : Handshake V → Type 0 where
-  adds : (v : V) → Moves h (with_items (h.items ++ Item.Waits v ∷ []) h.link h)  -- one more waits
+-- one step of a handshake; Packet Identifiers are those of the sender
+pub data Advances {V : Type 0} (h : Handshake V) : Handshake V → Type 0 where
+  adds : (v : V) → Advances h (with_items (h.items ++ Item.Waits v ∷ []) h.link h)  -- another waits
   -- the first that waits starts with a free identifier: its PUBLISH is sent (MQTT 4.3.3)
   starts : (id : ℕ) (v : V) → has_id id (busy h.items) ≡ false → first_waiting h.items ≡ Some v →
-      Moves h (with_items (start_first id h.items) (sending (Forward.Publish id v) h.link) h)
+      Advances h (with_items (start_first id h.items) (sending (Forward.Publish id v) h.link) h)
   takes : (m : Forward V) (f : List (Forward V)) (b : List Backward) →
       h.link ≡ Link.Joined (m ∷ f) b →
-      Moves h (taking m h (Link.Joined f (b ++ answer m ∷ [])))  -- the receiver takes and answers
+      Advances h (taking m h (Link.Joined f (b ++ answer m ∷ [])))  -- it is taken and answered
   takes_alone : (m : Forward V) (f : List (Forward V)) → h.link ≡ Link.Ahead (m ∷ f) →
-      Moves h (taking m h (Link.Ahead f))  -- the sender left: the answer goes to nobody
+      Advances h (taking m h (Link.Ahead f))  -- the sender left: the answer goes to nobody
   hears : (m : Backward) (f : List (Forward V)) (b : List Backward) →
       h.link ≡ Link.Joined f (m ∷ b) →  -- the sender gets an answer: a PUBREL follows a PUBREC
-      Moves h (with_items (heard m h.items) (Link.Joined (f ++ reply m) b) h)
+      Advances h (with_items (heard m h.items) (Link.Joined (f ++ reply m) b) h)
   hears_alone : (m : Backward) (b : List Backward) → h.link ≡ Link.Behind (m ∷ b) →
-      Moves h (with_items (heard m h.items) (Link.Behind b) h)  -- the receiver left: no PUBREL
+      Advances h (with_items (heard m h.items) (Link.Behind b) h)  -- the receiver left: no PUBREL
   sender_leaves : (f : List (Forward V)) (b : List Backward) → h.link ≡ Link.Joined f b →
-      Moves h (with_items h.items (Link.Ahead f) h)  -- the sender leaves: it gets no more answers
+      Advances h (with_items h.items (Link.Ahead f) h)  -- the sender leaves: no answer comes
   receiver_leaves : (f : List (Forward V)) (b : List Backward) → h.link ≡ Link.Joined f b →
-      Moves h (with_items h.items (Link.Behind b) h)  -- the receiver leaves: it takes no more
-  parts : Moves h (with_items h.items (Link.Behind []) h)  -- what is in transit is lost
-  parts_ahead : Moves h (with_items h.items (Link.Ahead []) h)  -- the same, and the sender left
+      Advances h (with_items h.items (Link.Behind b) h)  -- the receiver leaves: it takes no more
+  parts : Advances h (with_items h.items (Link.Behind []) h)  -- what is in transit is lost
+  parts_ahead : Advances h (with_items h.items (Link.Ahead []) h)  -- the same, and the sender left
   -- on a new connection PUBRELs are sent again, and each PUBLISH without PUBREC (MQTT 4.4)
   restarts : (releases : List ℕ) → IsDistinct releases →
       Each (λ id. has_released id h.items ≡ true) releases →
-      Moves h (with_items h.items (Link.Joined (resend releases h.items) []) h)
+      Advances h (with_items h.items (Link.Joined (resend releases h.items) []) h)
 
--- moves one after another
+-- steps one after another
 pub data Run {V : Type 0} (h : Handshake V) : Handshake V → Type 0 where
   stays : Run h h  -- nothing happened
-  goes_on : {k l : Handshake V} → Run h k → Moves k l → Run h l  -- one more move
+  goes_on : {k l : Handshake V} → Run h k → Advances k l → Run h l  -- one more step
 
 -- nothing was sent yet, and there is no connection
 abbrev pub opening : (V : Type 0) → Handshake V

@@ -24,7 +24,7 @@ use Rattle.world_base.specs.Connections.{asked, closed, failing, fresh, has_fail
 use Rattle.world_base.specs.Core.{CoreState, rules, serves}
 use Rattle.world_base.specs.Failing.{closes_failed}
 use Rattle.world_base.specs.Handing.{hands_over}
-use Rattle.world_base.specs.Lossy.{Account, Delivers, Drives, Moves, Repeated, Serves, Takes, Then, quietly}
+use Rattle.world_base.specs.Lossy.{Account, Delivers, Drives, ReplicaSteps, Repeated, Serves, Takes, Then, quietly}
 use Rattle.world_base.specs.LossyProposals.{Declines, Proposes}
 use Rattle.world_base.specs.LossyProposals.Declines.{no_room, forgets, stops}
 use Rattle.world_base.specs.Lossy.Delivers.{nothing, does, tells, loses}
@@ -152,7 +152,7 @@ keep_delivered _ core new _ (tells {receiver} {message} {given = given} more) = 
 keep_delivered _ core new _ (loses {receiver} {message} {given = given} more) = keep_delivered given core new _ more
 
 keep_moved : (outcome : Outcome State Command Output) (core : CoreState) (did : Account) → Up core.replica.state outcome →
-    Moves outcome core did → Keep core did.core
+    ReplicaSteps outcome core did → Keep core did.core
 keep_moved outcome core did up m =
     keep_both core (record core { replica = m.replica }) did.core
     (keep_replica core m.replica (steps_up core.replica m.replica outcome did.given up m.steps))

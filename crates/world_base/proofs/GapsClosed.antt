@@ -21,7 +21,7 @@ use Rattle.node_connections.specs.Connections.{asked, closed, failing, fresh, ha
 use Rattle.world_base.specs.Core.{CoreState, serves}
 use Rattle.world_base.specs.Failing.{closes_failed}
 use Rattle.world_base.specs.Going.{AGapIsClosed, AreNamedApart, EachGoesOn, GoOn, GoesOn, IsNew}
-use Rattle.world_base.specs.Lossy.{Account, Drives, Moves, Repeated, Takes, Then, quietly}
+use Rattle.world_base.specs.Lossy.{Account, Drives, ReplicaSteps, Repeated, Takes, Then, quietly}
 use Rattle.world_base.specs.LossyProposals.{Declines, Proposes}
 use Rattle.world_base.specs.LossyProposals.Declines.{no_room, forgets, stops}
 use Rattle.world_base.specs.LossyStep.{ActsOn, Cuts, Holds, Opens, TakesIn}
@@ -85,7 +85,7 @@ asked_on keep_alive c stays = goes_still c (asked keep_alive c) refl refl refl (
 
 -- ---- what comes to the replica
 
-moves_on : (outcome : Outcome State Command Output) (core : CoreState) (did : Account) → Moves outcome core did → Goes core did
+moves_on : (outcome : Outcome State Command Output) (core : CoreState) (did : Account) → ReplicaSteps outcome core did → Goes core did
 moves_on outcome core did m apart = delivers_on did.given (record core { replica = m.replica }) did.core did.messages m.delivers apart
 
 takes_on : (command : Command) (core : CoreState) (did : Account) → Takes command core did → Goes core did

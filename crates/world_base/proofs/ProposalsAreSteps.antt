@@ -13,7 +13,7 @@ use Rattle.ballot.specs.Sending.{Outcome}
 use Rattle.ballot.specs.Serving.{added, max_places, proposed}
 use Rattle.ballot.proofs.StepRows.{proposed-adds, proposed-full}
 use Rattle.world_base.specs.Core.{CoreState, rules, serves}
-use Rattle.world_base.specs.Lossy.{Account, Moves}
+use Rattle.world_base.specs.Lossy.{Account, ReplicaSteps}
 use Rattle.world_base.specs.LossyProposals.{ProposalsAreSteps}
 use Rattle.world_base.specs.LossyProposals.Declines.{no_room, forgets, stops}
 use Rattle.world_base.specs.Lossy.Delivers.{nothing}
@@ -73,7 +73,7 @@ proposals_are_steps command core did (inl takes) = (
   λ idle. absurd (not_idle core takes.room idle),
 )
 proposals_are_steps command core did (inr (no_room full is)) = (
-  λ serving. subst (λ (d : Account). Moves (proposed rules core.replica.state command) core d) (sym is)
+  λ serving. subst (λ (d : Account). ReplicaSteps (proposed rules core.replica.state command) core d) (sym is)
       (record {
         replica = core.replica;
         steps = subst (λ (o : Outcome State Command Output). Steps rules core.replica o core.replica [])
@@ -84,7 +84,7 @@ proposals_are_steps command core did (inr (no_room full is)) = (
   λ idle. is,
 )
 proposals_are_steps command core did (inr (forgets room is)) = (
-  λ serving. subst (λ (d : Account). Moves (proposed rules core.replica.state command) core d) (sym is)
+  λ serving. subst (λ (d : Account). ReplicaSteps (proposed rules core.replica.state command) core d) (sym is)
       (record {
         replica = record core.replica { losses = one_more core.replica.losses };
         steps = inr (inr (inl (refl, refl)), refl);
@@ -93,7 +93,7 @@ proposals_are_steps command core did (inr (forgets room is)) = (
   λ idle. absurd (not_idle core room idle),
 )
 proposals_are_steps command core did (inr (stops room is)) = (
-  λ serving. subst (λ (d : Account). Moves (proposed rules core.replica.state command) core d) (sym is)
+  λ serving. subst (λ (d : Account). ReplicaSteps (proposed rules core.replica.state command) core d) (sym is)
       (record {
         replica = record { state = halted rules core.replica.state; losses = one_more core.replica.losses };
         steps = inr (inr (inr (refl, refl)), refl);

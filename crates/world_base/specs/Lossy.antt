@@ -85,7 +85,7 @@ pub data Delivers : List (Effect Command Output) → CoreState → CoreState →
 -- ---- what is given to the replica
 
 -- the replica does its step, or one with losses, which it counts
-pub record Moves (outcome : Outcome State Command Output) (core : CoreState)
+pub record ReplicaSteps (outcome : Outcome State Command Output) (core : CoreState)
     (did : Account) : Type 0 where
   pub replica : CountedReplica State Command
   pub steps : Steps rules core.replica outcome replica did.given
@@ -93,7 +93,7 @@ pub record Moves (outcome : Outcome State Command Output) (core : CoreState)
 
 -- a message of another node, or a tick
 abbrev pub Drives : Input Command → CoreState → Account → Type 0
-Drives input core did = Moves (heard input core.replica.state) core did
+Drives input core did = ReplicaSteps (heard input core.replica.state) core did
 
 -- a command that the replica takes into its log; some of the messages that it then sends may be
 -- missing, which it counts

@@ -5,7 +5,7 @@ use Rattle.ballot.specs.Losses.{halted, one_more}
 use Rattle.ballot.specs.Serving.{proposed}
 use Rattle.world_base.specs.Core.{CoreState, rules, serves}
 use Rattle.world_base.specs.Turns.{has_room}
-use Rattle.world_base.specs.Lossy.{Account, quietly, Moves, Takes}
+use Rattle.world_base.specs.Lossy.{Account, quietly, ReplicaSteps, Takes}
 
 -- a command that it does not take, because it does not serve clients or its log is full, or because
 -- memory ran out: then it counts a loss, and may stop
@@ -36,5 +36,5 @@ Proposes command core did = Takes command core did ⊎ Declines core did
 abbrev pub ProposalsAreSteps : Type 0
 ProposalsAreSteps =
     (command : Command) (core : CoreState) (did : Account) → Proposes command core did →
-    (serves core ≡ true → Moves (proposed rules core.replica.state command) core did)
+    (serves core ≡ true → ReplicaSteps (proposed rules core.replica.state command) core did)
     × (serves core ≡ false → did ≡ quietly core)

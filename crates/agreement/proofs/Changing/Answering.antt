@@ -12,7 +12,7 @@ use Rattle.whole.specs.lists.Lists.{In, IsPrefixOf}
 use Rattle.agreement.specs.Inside.Ballots.{Given, Line, History}
 use Rattle.agreement.specs.Inside.Keeps.LineAdds.{as_it_was}
 use Rattle.agreement.specs.Inside.Keeps.{Keeps}
-use Rattle.agreement.specs.Inside.Moves.{Moves, with_lines}
+use Rattle.agreement.specs.Inside.MovesAt.{MovesAt, with_lines}
 use Rattle.agreement.specs.Inside.Sound.{IsSoundNode, IsSound}
 use Rattle.whole.proofs.of_lists.Beginnings.{prefix_length}
 use Rattle.agreement.proofs.Effects.{thinned_messages}
@@ -63,7 +63,7 @@ install_answered {S = S} {C = C} {O = O} rules w h n r from b log s stands q joi
     sends = installed_sends rules w h n from b log r r given s stands q (omega (arith, joined)) (sym held)
         (by_between (t.placed.between positive)) (omega arith) (omega arith) thinned
 
-    moves : Moves w h h.line n r r given
+    moves : MovesAt w h h.line n r r given
     moves = sends.moves
 
 -- an Install that comes

@@ -13,7 +13,7 @@ use Rattle.whole.specs.lists.Lists.{In, IsPrefixOf}
 use Rattle.whole.specs.lists.Lists.In.{here, there}
 use Rattle.agreement.specs.Inside.Ballots.{Given, Line, History}
 use Rattle.agreement.specs.Inside.Extending.{Extends}
-use Rattle.agreement.specs.Inside.Moves.{Moves}
+use Rattle.agreement.specs.Inside.MovesAt.{MovesAt}
 use Rattle.agreement.specs.Inside.Sound.{IsSound}
 use Rattle.agreement.specs.Inside.Saying.{Says, IsOf}
 use Rattle.whole.proofs.of_lists.Beginnings.{prefix_length, take_prefix}
@@ -33,7 +33,7 @@ same_front {C = C} k xs ys within p =
 
 -- an Installed that is sent
 pub record Sends {S C O : Type 0} (w : World S C O) (h : History C) (n : ℕ) (old new : ReplicaState S C) (given : List (Effect C O)) : Type 0 where
-  pub moves : Moves w h h.line n old new given
+  pub moves : MovesAt w h h.line n old new given
   pub silent : outputs given ≡ []
 
 -- what an Install says, of the node that receives it

@@ -12,7 +12,7 @@ use Rattle.agreement.specs.Inside.Ballots.{Given, History, Applied}
 use Rattle.agreement.specs.Inside.Ballots.Applied.{nothing, in_ballot}
 use Rattle.agreement.specs.Inside.Keeps.LineAdds.{as_it_was}
 use Rattle.agreement.specs.Inside.Keeps.{Keeps}
-use Rattle.agreement.specs.Inside.Moves.{Moves, with_lines}
+use Rattle.agreement.specs.Inside.MovesAt.{MovesAt, with_lines}
 use Rattle.agreement.specs.Inside.Sound.{IsSoundNode, IsSound}
 use Rattle.whole.proofs.of_lists.Beginnings.{prefix_same}
 use Rattle.agreement.proofs.Effects.{thinned_messages}
@@ -57,7 +57,7 @@ install_taken {S = S} {C = C} {O = O} rules w h n r from b log s stands q low be
     sends = installed_sends rules w h n from b log r (record r { joined = b; held_in = b; log = log; role = Backup }) given s stands q low
         refl (omega arith) low (omega arith) thinned
 
-    moves : Moves w h h.line n r (record r { joined = b; held_in = b; log = log; role = Backup }) given
+    moves : MovesAt w h h.line n r (record r { joined = b; held_in = b; log = log; role = Backup }) given
     moves = sends.moves
 
     front : IsPrefixOf (take r.committed r.log) log

@@ -13,8 +13,8 @@ use Rattle.agreement.specs.Inside.Ballots.Applied.{nothing, in_ballot}
 use Rattle.agreement.specs.Inside.Ballots.Told.{told_as_primary}
 use Rattle.agreement.specs.Inside.Keeps.{Keeps, LineAdds}
 use Rattle.agreement.specs.Inside.Keeps.LineAdds.{as_it_was, begins_after}
-use Rattle.agreement.specs.Inside.Moves.{Moves, with_lines, lined_at}
-use Rattle.agreement.specs.Inside.Moves.LineGoesOn.{begins}
+use Rattle.agreement.specs.Inside.MovesAt.{MovesAt, with_lines, lined_at}
+use Rattle.agreement.specs.Inside.MovesAt.LineGoesOn.{begins}
 use Rattle.agreement.specs.Inside.Sound.{IsInstalling, IsSoundNode, IsSound}
 use Rattle.whole.proofs.of_lists.Beginnings.{prefix_same}
 use Rattle.agreement.proofs.Effects.{thinned_messages, thinned_outputs}
@@ -75,7 +75,7 @@ state_taken {S = S} {C = C} {O = O} rules w h n r xs s stands q long given thinn
     t : IsSoundNode w h n r
     t = s.nodes n r stands
 
-    moves : Moves w h line n r new given
+    moves : MovesAt w h line n r new given
     moves = list_moves w h n r new given r.joined begun q.ballot stands (omega arith) (omega arith) q.is_of.given q.primary
         (begins q.ballot q.unlined refl q.is_of.given q.sealed (q.before, q.lined_before, q.front))
         (λ l e. let z = q.unlined in cc) (omega arith) refl refl

@@ -8,7 +8,7 @@ use Rattle.whole.specs.Replica.{ReplicaState}
 use Rattle.agreement.specs.World.{World, messages, moved}
 use Rattle.agreement.specs.Inside.Ballots.{Line, History, Told}
 use Rattle.agreement.specs.Inside.Extending.{Extends, IsWithin}
-use Rattle.agreement.specs.Inside.Moves.{Moves, with_lines, TellsNow}
+use Rattle.agreement.specs.Inside.MovesAt.{MovesAt, with_lines, TellsNow}
 use Rattle.agreement.specs.Inside.Sound.{IsSound}
 use Rattle.whole.proofs.of_lists.Beginnings.{prefix_length}
 use Rattle.whole.proofs.of_lists.Places.{get_set, get_set_other}
@@ -37,7 +37,7 @@ get_moved {X = X} xs n m old new r stands e = by_place (cases_eq m n)
 
 -- such a move extends the world
 pub move_extends : {S C O : Type 0} (w : World S C O) (h : History C) (line : ℕ → Option (Line C)) (n : ℕ)
-    (old new : ReplicaState S C) (given : List (Effect C O)) → Moves w h line n old new given →
+    (old new : ReplicaState S C) (given : List (Effect C O)) → MovesAt w h line n old new given →
     Extends w h (moved w n new given) (with_lines h line)
 move_extends {S = S} {C = C} {O = O} w h line n old new given q =
     record {
@@ -66,7 +66,7 @@ move_extends {S = S} {C = C} {O = O} w h line n old new given q =
 
 -- what is acknowledged stays within the lists
 pub move_within : {S C O : Type 0} (w : World S C O) (h : History C) (line : ℕ → Option (Line C)) (n : ℕ)
-    (old new : ReplicaState S C) (given : List (Effect C O)) → Moves w h line n old new given →
+    (old new : ReplicaState S C) (given : List (Effect C O)) → MovesAt w h line n old new given →
     ((m b k : ℕ) → Told w h m b k → (k ≡ 0) ⊎ ((l : Line C) × (h.line b ≡ Some l) × (k ≤ length l.list))) →
     (m b k : ℕ) → Told (moved w n new given) (with_lines h line) m b k →
     (k ≡ 0) ⊎ ((l : Line C) × (line b ≡ Some l) × (k ≤ length l.list))

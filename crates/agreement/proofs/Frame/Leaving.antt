@@ -10,7 +10,7 @@ use Rattle.agreement.specs.World.{World, outputs, moved}
 use Rattle.whole.specs.lists.Lists.{In, IsPrefixOf}
 use Rattle.agreement.specs.Inside.Ballots.{Line, History, IsChosenIn}
 use Rattle.agreement.specs.Inside.Extending.{Extends}
-use Rattle.agreement.specs.Inside.Moves.{Moves, with_lines}
+use Rattle.agreement.specs.Inside.MovesAt.{MovesAt, with_lines}
 use Rattle.agreement.specs.Inside.Sound.{LeftIs}
 use Rattle.agreement.specs.Leaving.{Segment}
 use Rattle.whole.proofs.of_lists.Beginnings.{prefix_then}
@@ -59,7 +59,7 @@ segment_kept w v h i s x active (j, rising, chosen, (l, lined, low)) =
 
 -- no output left
 pub left_same : {S C O : Type 0} (rules : Rules S C O) (w : World S C O) (h : History C) (line : ℕ → Option (Line C)) (n : ℕ)
-    (old new : ReplicaState S C) (given : List (Effect C O)) → Moves w h line n old new given → outputs given ≡ [] →
+    (old new : ReplicaState S C) (given : List (Effect C O)) → MovesAt w h line n old new given → outputs given ≡ [] →
     LeftIs rules w h → LeftIs rules (moved w n new given) (with_lines h line)
 left_same {S = S} {C = C} {O = O} rules w h line n old new given q dumb s =
     let v = moved w n new given in let i = with_lines h line in

@@ -8,8 +8,8 @@ use Rattle.whole.specs.Replica.{ReplicaState}
 use Rattle.agreement.specs.World.{World, messages}
 use Rattle.whole.specs.lists.Lists.{In, IsPrefixOf}
 use Rattle.agreement.specs.Inside.Ballots.{Given, Line, History}
-use Rattle.agreement.specs.Inside.Moves.{Moves, LineGoesOn, TellsNow, lined_at}
-use Rattle.agreement.specs.Inside.Moves.LineGoesOn.{stays}
+use Rattle.agreement.specs.Inside.MovesAt.{MovesAt, LineGoesOn, TellsNow, lined_at}
+use Rattle.agreement.specs.Inside.MovesAt.LineGoesOn.{stays}
 use Rattle.whole.proofs.of_lists.Beginnings.{prefix_same}
 use Rattle.agreement.proofs.Frame.Joining.{IsSilent}
 use Rattle.agreement.proofs.Frame.Telling.{TellsWithin, tells_of}
@@ -53,7 +53,7 @@ pub list_moves : {S C O : Type 0} (w : World S C O) (h : History C) (n : ℕ) (o
     ((l : Line C) → h.line b ≡ Some l → (k.base ≡ l.base) × IsPrefixOf l.list k.list) →
     old.joined ≤ b → b ≡ new.held_in → new.log ≡ k.list →
     ((to : ℕ) (m : Message C) → In (to, m) (messages given) → (m.from ≡ n + 1) × IsSilent m.body) →
-    Moves w h (lined_at b k h.line) n old new given
+    MovesAt w h (lined_at b k h.line) n old new given
 list_moves {S = S} {C = C} {O = O} w h n old new given b k g stands rises committed given_b primary goes prior low held same now =
     record {
       stands = stands;

@@ -7,8 +7,8 @@ use Rattle.agreement.specs.World.{World, moved}
 use Rattle.whole.specs.lists.Lists.{In, IsPrefixOf}
 use Rattle.agreement.specs.Inside.Ballots.{TellsHere, Given, Line, History, Told, IsChosenIn, Sealed, AreLines}
 use Rattle.agreement.specs.Inside.Extending.{IsWithin}
-use Rattle.agreement.specs.Inside.Moves.{Moves, with_lines, LineGoesOn, TellsNow}
-use Rattle.agreement.specs.Inside.Moves.LineGoesOn.{stays, grows, begins}
+use Rattle.agreement.specs.Inside.MovesAt.{MovesAt, with_lines, LineGoesOn, TellsNow}
+use Rattle.agreement.specs.Inside.MovesAt.LineGoesOn.{stays, grows, begins}
 use Rattle.whole.proofs.of_lists.Beginnings.{prefix_same, prefix_then}
 use Rattle.whole.proofs.of_lists.Places.{get_set}
 use Rattle.agreement.proofs.Frame.Later.{sealed_kept, chosen_kept}
@@ -16,7 +16,7 @@ use Rattle.agreement.proofs.Frame.Framing.{move_extends}
 
 -- the rows on lists
 pub move_lines : {S C O : Type 0} (w : World S C O) (h : History C) (line : ℕ → Option (Line C)) (n : ℕ)
-    (old new : ReplicaState S C) (given : List (Effect C O)) → Moves w h line n old new given → IsWithin w h →
+    (old new : ReplicaState S C) (given : List (Effect C O)) → MovesAt w h line n old new given → IsWithin w h →
     AreLines w h → AreLines (moved w n new given) (with_lines h line)
 move_lines {S = S} {C = C} {O = O} w h line n old new given q within s =
     record {
@@ -77,7 +77,7 @@ move_lines {S = S} {C = C} {O = O} w h line n old new given q within s =
 
 -- what is newly acknowledged after a move is acknowledged by the node that moved
 pub tells_here : {S C O : Type 0} (w : World S C O) (h : History C) (line : ℕ → Option (Line C)) (n : ℕ)
-    (old new : ReplicaState S C) (given : List (Effect C O)) → Moves w h line n old new given → (m b k : ℕ) →
+    (old new : ReplicaState S C) (given : List (Effect C O)) → MovesAt w h line n old new given → (m b k : ℕ) →
     Told (moved w n new given) (with_lines h line) m b k → Told w h m b k ⊎ TellsHere (moved w n new given) m b k
 tells_here {S = S} {C = C} {O = O} w h line n old new given q m b k t = by_teller (q.tells m b k t)
   where

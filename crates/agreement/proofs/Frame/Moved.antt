@@ -9,7 +9,7 @@ use Rattle.whole.specs.Replica.{ReplicaState}
 use Rattle.agreement.specs.World.{World, messages, moved}
 use Rattle.whole.specs.lists.Lists.{In}
 use Rattle.agreement.specs.Inside.Ballots.{Line, History, AreBallots, IsChain}
-use Rattle.agreement.specs.Inside.Moves.{Moves, with_lines}
+use Rattle.agreement.specs.Inside.MovesAt.{MovesAt, with_lines}
 use Rattle.agreement.specs.Inside.Sound.{IsSoundNode, LeftIs, IsSound}
 use Rattle.agreement.specs.Inside.Saying.{Says}
 use Rattle.whole.proofs.of_lists.Places.{get_set, get_set_other}
@@ -39,7 +39,7 @@ ballots_same h line s =
 
 -- a move keeps a world sound
 pub move_sound : {S C O : Type 0} (rules : Rules S C O) (w : World S C O) (h : History C) (line : ℕ → Option (Line C)) (n : ℕ)
-    (old new : ReplicaState S C) (given : List (Effect C O)) → IsSound rules w h → Moves w h line n old new given →
+    (old new : ReplicaState S C) (given : List (Effect C O)) → IsSound rules w h → MovesAt w h line n old new given →
     IsSoundNode (moved w n new given) (with_lines h line) n new →
     ((to : ℕ) (m : Message C) → In (to, m) (messages given) → Says (moved w n new given) (with_lines h line) to m.from m.body) →
     LeftIs rules (moved w n new given) (with_lines h line) →

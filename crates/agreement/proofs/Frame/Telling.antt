@@ -10,8 +10,8 @@ use Rattle.agreement.specs.World.{World, messages, moved}
 use Rattle.whole.specs.lists.Lists.{In}
 use Rattle.agreement.specs.Inside.Ballots.{Given, Line, History, Told, IsPlaced}
 use Rattle.agreement.specs.Inside.Ballots.Told.{told_at_opening, told_by_held, told_by_installed, told_as_primary}
-use Rattle.agreement.specs.Inside.Moves.{Moves, with_lines, TellsNow}
-use Rattle.agreement.specs.Inside.Moves.LineGoesOn.{stays}
+use Rattle.agreement.specs.Inside.MovesAt.{MovesAt, with_lines, TellsNow}
+use Rattle.agreement.specs.Inside.MovesAt.LineGoesOn.{stays}
 use Rattle.whole.proofs.of_lists.Members.{in_append}
 use Rattle.whole.proofs.of_lists.Beginnings.{prefix_same}
 
@@ -78,7 +78,7 @@ tells_of {S = S} {C = C} w h line n old new given own fresh now m b k (told_as_p
 pub same_moves : {S C O : Type 0} (w : World S C O) (h : History C) (n : ℕ) (old new : ReplicaState S C) (given : List (Effect C O)) →
     slice_get w.nodes n ≡ Some old → old.joined ≤ new.joined → old.committed ≤ new.committed →
     ((to : ℕ) (m : Message C) → In (to, m) (messages given) → (m.from ≡ n + 1) × TellsWithin h.line old new m.body) →
-    Moves w h h.line n old new given
+    MovesAt w h h.line n old new given
 same_moves w h n old new given stands rises committed now =
     record {
       stands = stands;
@@ -93,7 +93,7 @@ same_moves w h n old new given stands rises committed now =
 -- the place of a node that moved: what it acknowledged is in no higher ballot, and no longer than
 -- its log
 pub told_placed : {S C O : Type 0} (w : World S C O) (h : History C) (line : ℕ → Option (Line C)) (n : ℕ) (old new : ReplicaState S C)
-    (given : List (Effect C O)) → Moves w h line n old new given → IsPlaced w h n old → old.held_in ≤ new.held_in →
+    (given : List (Effect C O)) → MovesAt w h line n old new given → IsPlaced w h n old → old.held_in ≤ new.held_in →
     (b k : ℕ) → Told (moved w n new given) (with_lines h line) (n + 1) b k → b ≤ new.held_in
 told_placed {S = S} {C = C} w h line n old new given q p up b k t = by_teller (q.tells (n + 1) b k t)
   where
@@ -102,7 +102,7 @@ told_placed {S = S} {C = C} w h line n old new given q p up b k t = by_teller (q
     by_teller (inr (same, now)) = let z = now.held in omega (arith, z)
 
 pub told_in_log : {S C O : Type 0} (w : World S C O) (h : History C) (line : ℕ → Option (Line C)) (n : ℕ) (old new : ReplicaState S C)
-    (given : List (Effect C O)) → Moves w h line n old new given → IsPlaced w h n old →
+    (given : List (Effect C O)) → MovesAt w h line n old new given → IsPlaced w h n old →
     (old.held_in < new.held_in) ⊎ ((old.held_in ≡ new.held_in) × (length old.log ≤ length new.log)) →
     (k : ℕ) → Told (moved w n new given) (with_lines h line) (n + 1) new.held_in k → k ≤ length new.log
 told_in_log {S = S} {C = C} w h line n old new given q p way k t = by_teller way (q.tells (n + 1) new.held_in k t)

@@ -11,7 +11,7 @@ use Rattle.agreement.specs.Inside.Keeps.{GoesOn}
 use Rattle.agreement.specs.MasterState.{MasterState, MasterOutcome}
 use Rattle.agreement.specs.Inside.Masters.{IsMaster}
 use Rattle.agreement.specs.Steps.{tells_from_master}
-use Rattle.agreement.specs.Inside.Moves.{given_at}
+use Rattle.agreement.specs.Inside.MovesAt.{given_at}
 use Rattle.agreement.proofs.Masters.MasterSends.{ToldBack}
 use Rattle.agreement.proofs.Frame.Taking.{chain_falls}
 

@@ -10,7 +10,7 @@ use Rattle.agreement.specs.Inside.Extending.{Extends}
 use Rattle.agreement.specs.MasterState.{MasterState, assigned}
 use Rattle.agreement.specs.Inside.Masters.{IsMaster}
 use Rattle.agreement.specs.Steps.{tells_from_master}
-use Rattle.agreement.specs.Inside.Moves.{given_at}
+use Rattle.agreement.specs.Inside.MovesAt.{given_at}
 use Rattle.agreement.specs.Inside.Sound.{IsSound}
 use Rattle.agreement.proofs.Masters.MasterSends.{ToldBack, with_ballots, chain_more}
 use Rattle.agreement.proofs.Masters.MasterMoves.{master_goes_on, master_lost}

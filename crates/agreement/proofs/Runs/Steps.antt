@@ -18,7 +18,7 @@ use Rattle.agreement.specs.Inside.Keeps.LineAdds.{as_it_was}
 use Rattle.agreement.specs.Inside.Own.{OwnLines}
 use Rattle.agreement.specs.MasterState.{MasterState, MasterOutcome}
 use Rattle.agreement.specs.Inside.Masters.{IsMaster}
-use Rattle.agreement.specs.Inside.Moves.{with_lines}
+use Rattle.agreement.specs.Inside.MovesAt.{with_lines}
 use Rattle.agreement.specs.Replays.{IsReplay}
 use Rattle.agreement.specs.Inside.Sound.{IsSound}
 use Rattle.agreement.proofs.Serving.ActiveTicks.{keeps_tick_active}

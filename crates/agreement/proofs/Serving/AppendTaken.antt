@@ -15,7 +15,7 @@ use Rattle.agreement.specs.Inside.Extending.{Extends}
 use Rattle.agreement.specs.Inside.Ballots.Applied.{nothing, in_ballot}
 use Rattle.agreement.specs.Inside.Keeps.LineAdds.{as_it_was}
 use Rattle.agreement.specs.Inside.Keeps.{Keeps}
-use Rattle.agreement.specs.Inside.Moves.{Moves, with_lines}
+use Rattle.agreement.specs.Inside.MovesAt.{MovesAt, with_lines}
 use Rattle.agreement.specs.Inside.Sound.{IsSoundNode, IsSound}
 use Rattle.agreement.specs.Inside.Saying.{Says}
 use Rattle.whole.proofs.of_lists.Beginnings.{prefix_then, prefix_length, take_prefix}
@@ -82,7 +82,7 @@ append_taken {S = S} {C = C} {O = O} rules w h n r from b place c s stands (q, i
       },
     )
 
-    moves : Moves w h h.line n r new given
+    moves : MovesAt w h h.line n r new given
     moves = same_moves w h n r new given stands (omega arith) (omega arith) (λ to m i. now to m (thinned_messages thinned (to, m) i))
 
     x : Extends w h (moved w n new given) (with_lines h h.line)

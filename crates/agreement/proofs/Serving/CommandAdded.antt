@@ -11,7 +11,7 @@ use Rattle.agreement.specs.World.{World, moved}
 use Rattle.whole.specs.lists.Lists.{In}
 use Rattle.agreement.specs.Inside.Ballots.{History}
 use Rattle.agreement.specs.Inside.Keeps.{KeepsAdding}
-use Rattle.agreement.specs.Inside.Moves.{with_lines, lined_at}
+use Rattle.agreement.specs.Inside.MovesAt.{with_lines, lined_at}
 use Rattle.agreement.specs.Inside.Sound.{IsSound}
 use Rattle.agreement.specs.Inside.Saying.{Says}
 use Rattle.whole.proofs.of_lists.Beginnings.{prefix_push, take_prefix}

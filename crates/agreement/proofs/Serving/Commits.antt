@@ -15,7 +15,7 @@ use Rattle.agreement.specs.World.{World, messages, outputs, moved}
 use Rattle.whole.specs.lists.Lists.{In}
 use Rattle.agreement.specs.Inside.Ballots.{Line, History, IsChosenIn}
 use Rattle.agreement.specs.Inside.Keeps.{KeepsAdding}
-use Rattle.agreement.specs.Inside.Moves.{Moves, with_lines}
+use Rattle.agreement.specs.Inside.MovesAt.{MovesAt, with_lines}
 use Rattle.agreement.specs.Inside.Sound.{IsActive, IsSoundNode, IsSound}
 use Rattle.agreement.specs.Inside.Saying.{Says}
 use Rattle.whole.proofs.of_lists.Members.{in_append}
@@ -35,7 +35,7 @@ pub ready_keeps : {S C O : Type 0} (rules : Rules S C O) (w : World S C O) (h : 
     (old r : ReplicaState S C) (adds : ℕ → C → Type 0) (firsts : List (Effect C O)) → IsSound rules w h → Ready rules w h line n old r adds → outputs firsts ≡ [] →
     r.id ≡ n + 1 → r.machine ≡ replay rules (take r.committed r.log) →
     ((to : ℕ) (m : Message C) → In (to, m) (messages firsts) → (m.from ≡ n + 1) × IsSilent m.body) →
-    ((k : ℕ) (t : S) (given : List (Effect C O)) → Moves w h line n old (record r { committed = k; machine = t }) given →
+    ((k : ℕ) (t : S) (given : List (Effect C O)) → MovesAt w h line n old (record r { committed = k; machine = t }) given →
     (to : ℕ) (m : Message C) → In (to, m) (messages firsts) →
     Says (moved w n (record r { committed = k; machine = t }) given) (with_lines h line) to m.from m.body) →
     KeepsAdding rules w h n adds (sent_first firsts (commit_at rules r (least (length r.log) r.progress)))
@@ -44,7 +44,7 @@ ready_keeps {S = S} {C = C} {O = O} rules w h line n old r adds firsts s q dumb 
   where
     stays : KeepsAdding rules w h n adds (record { state = r; effects = firsts ++ [] })
     stays given thinned =
-        let moves : Moves w h line n old r given = q.moves r.committed r.machine (omega arith) given
+        let moves : MovesAt w h line n old r given = q.moves r.committed r.machine (omega arith) given
         (λ to m i. quiet to m (subst (λ (us : List (Effect C O)). In (to, m) (messages us)) (append-nil firsts) (thinned_messages thinned (to, m) i))) in
         record {
           history = with_lines h line;
@@ -102,7 +102,7 @@ ready_keeps {S = S} {C = C} {O = O} rules w h line n old r adds firsts s q dumb 
         from_part to m (inr i) =
             said_to_progress O (λ to m. (m.from ≡ n + 1) × IsSilent m.body) r.id (Commit r.joined k) r.progress (λ reached j. (id, tt)) to m i
 
-        moves : Moves w h line n old (applied_to rules r k) given
+        moves : MovesAt w h line n old (applied_to rules r k) given
         moves = q.moves k new.machine (omega (arith, above)) given (λ to m i. from_part to m (split to m (thinned_messages thinned (to, m) i)))
 
         t : IsSoundNode (moved w n (applied_to rules r k) given) (with_lines h line) n r

@@ -11,8 +11,8 @@ use Rattle.agreement.specs.Inside.Ballots.{Line, History, Applied}
 use Rattle.agreement.specs.Inside.Ballots.Applied.{nothing, in_ballot}
 use Rattle.agreement.specs.Inside.Keeps.{LineAdds}
 use Rattle.agreement.specs.Inside.Keeps.LineAdds.{as_it_was, adds_one}
-use Rattle.agreement.specs.Inside.Moves.{Moves, with_lines, lined_at}
-use Rattle.agreement.specs.Inside.Moves.LineGoesOn.{grows}
+use Rattle.agreement.specs.Inside.MovesAt.{MovesAt, with_lines, lined_at}
+use Rattle.agreement.specs.Inside.MovesAt.LineGoesOn.{grows}
 use Rattle.agreement.specs.Inside.Sound.{IsSoundNode, IsSound}
 use Rattle.whole.proofs.of_lists.Beginnings.{prefix_then, prefix_push, prefix_length, take_prefix}
 use Rattle.agreement.proofs.Frame.EqualLists.{prefix_of_same}
@@ -65,7 +65,7 @@ grown_ready {S = S} {C = C} {O = O} rules w h n old r c s stands q same_id same_
     room : length (r.log ++ c ∷ []) ≡ length r.log + 1
     room = length-append r.log (c ∷ [])
 
-    node : (k : ℕ) (u : S) (given : List (Effect C O)) → Moves w h line n old (record r { log = r.log ++ c ∷ []; committed = k; machine = u }) given →
+    node : (k : ℕ) (u : S) (given : List (Effect C O)) → MovesAt w h line n old (record r { log = r.log ++ c ∷ []; committed = k; machine = u }) given →
         IsSoundNode (moved w n (record r { log = r.log ++ c ∷ []; committed = k; machine = u }) given) (with_lines h line) n (record r { log = r.log ++ c ∷ [] })
     node k u given moves =
         record {

@@ -18,7 +18,7 @@ use Rattle.agreement.specs.Inside.Ballots.Told.{told_by_held}
 use Rattle.agreement.specs.Inside.Ballots.Applied.{nothing, in_ballot}
 use Rattle.agreement.specs.Inside.Keeps.LineAdds.{as_it_was}
 use Rattle.agreement.specs.Inside.Keeps.{Keeps}
-use Rattle.agreement.specs.Inside.Moves.{Moves, with_lines}
+use Rattle.agreement.specs.Inside.MovesAt.{MovesAt, with_lines}
 use Rattle.agreement.specs.Inside.Sound.{IsActive, IsSoundNode, IsSound}
 use Rattle.agreement.proofs.Frame.Framing.{within_of, move_extends}
 use Rattle.agreement.proofs.Frame.Later.{told_kept, applied_kept}
@@ -52,7 +52,7 @@ raised_ready {S = S} {C = C} {O = O} rules w h n r from held s stands role heard
     a : IsActive w h n r
     a = (s.nodes n r stands).active role
 
-    node : (k : ℕ) (u : S) (given : List (Effect C O)) → Moves w h h.line n r (record r { progress = raised from held r.progress; committed = k; machine = u }) given →
+    node : (k : ℕ) (u : S) (given : List (Effect C O)) → MovesAt w h h.line n r (record r { progress = raised from held r.progress; committed = k; machine = u }) given →
         IsSoundNode (moved w n (record r { progress = raised from held r.progress; committed = k; machine = u }) given) (with_lines h h.line) n
         (record r { progress = raised from held r.progress })
     node k u given moves =

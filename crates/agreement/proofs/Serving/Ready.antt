@@ -11,7 +11,7 @@ use Rattle.whole.specs.lists.Lists.{In}
 use Rattle.agreement.specs.Inside.Ballots.{Line, History}
 use Rattle.agreement.specs.Inside.Ballots.Applied.{in_ballot}
 use Rattle.agreement.specs.Inside.Keeps.{LineAdds}
-use Rattle.agreement.specs.Inside.Moves.{Moves, with_lines}
+use Rattle.agreement.specs.Inside.MovesAt.{MovesAt, with_lines}
 use Rattle.agreement.specs.Inside.Sound.{IsSoundNode}
 use Rattle.agreement.proofs.Serving.ActiveTicks.{active_chosen, active_log}
 use Rattle.agreement.proofs.Frame.Joining.{IsSilent}
@@ -26,8 +26,8 @@ pub record Ready {S C O : Type 0} (rules : Rules S C O) (w : World S C O) (h : H
   pub added : (b : ℕ) (k : Line C) → line b ≡ Some k → LineAdds adds h b k
   pub moves : (k : ℕ) (t : S) → r.committed ≤ k → (given : List (Effect C O)) →
       ((to : ℕ) (m : Message C) → In (to, m) (messages given) → (m.from ≡ n + 1) × IsSilent m.body) →
-      Moves w h line n old (record r { committed = k; machine = t }) given
-  pub node : (k : ℕ) (t : S) (given : List (Effect C O)) → Moves w h line n old (record r { committed = k; machine = t }) given →
+      MovesAt w h line n old (record r { committed = k; machine = t }) given
+  pub node : (k : ℕ) (t : S) (given : List (Effect C O)) → MovesAt w h line n old (record r { committed = k; machine = t }) given →
       IsSoundNode (moved w n (record r { committed = k; machine = t }) given) (with_lines h line) n r
 
 -- a primary that has committed is as it should be

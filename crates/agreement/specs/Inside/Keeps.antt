@@ -1,6 +1,6 @@
 -- A world continues soundly, and so it does after an outcome of a node, with messages missing or
 -- not.
-use Rattle.agreement.specs.Inside.Moves.{with_lines}
+use Rattle.agreement.specs.Inside.MovesAt.{with_lines}
 use Rattle.std.specs.Prelude.{◌⊎◌, ℕ, ◌≡◌, List, [], ◌∷◌, ◌++◌, Some, None}
 use Rattle.whole.specs.machine.Machine.{Rules}
 use Rattle.whole.specs.Messages.{Effect}

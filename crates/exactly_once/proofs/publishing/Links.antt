@@ -3,8 +3,8 @@ use Rattle.std.proofs.Common.{◌≡◌, ℕ, Bool, true, false, if◌then◌els
 use Rattle.broker_base.specs.broker_spec.Connection.{ConnectionName}
 use Rattle.broker_base.specs.broker_spec.Place.{Past, Limits}
 use Rattle.exactly_once.specs.Items.{Item}
-use Rattle.exactly_once.specs.Handshake.{Forward, Backward, Link, Handshake, Run, Moves, with_items, heard, reply}
-use Rattle.exactly_once.specs.Handshake.Moves.{hears, hears_alone, sender_leaves, receiver_leaves, parts}
+use Rattle.exactly_once.specs.Handshake.{Forward, Backward, Link, Handshake, Run, Advances, with_items, heard, reply}
+use Rattle.exactly_once.specs.Handshake.Advances.{hears, hears_alone, sender_leaves, receiver_leaves, parts}
 use Rattle.exactly_once.specs.Handshake.Run.{stays, goes_on}
 use Rattle.exactly_once.proofs.Exact.{run_then}
 use Rattle.exactly_once.specs.Sides.{Connection}
@@ -63,7 +63,7 @@ pub reaches_itself : (h : Handshake ℕ) (l : Link ℕ) → h.link ≡ l → Rea
 reaches_itself h l e = record { after = h; run = stays; items_are = refl; accepted = refl; received = refl; link = e }
 
 -- one move
-pub reaches_by : (h : Handshake ℕ) (items : List (Item ℕ)) (l m : Link ℕ) → Moves h (with_items items l h) → l ≡ m → Reaches h items m
+pub reaches_by : (h : Handshake ℕ) (items : List (Item ℕ)) (l m : Link ℕ) → Advances h (with_items items l h) → l ≡ m → Reaches h items m
 reaches_by h items l m move e =
     record { after = with_items items l h; run = goes_on stays move; items_are = refl; accepted = refl; received = refl; link = e }
 

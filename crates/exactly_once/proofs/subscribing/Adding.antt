@@ -11,7 +11,7 @@ use Rattle.broker_base.proofs.SoundEntries.{AllWait, InOrder, Sound}
 use Rattle.broker_base.proofs.SoundStarts.{sound_new}
 use Rattle.exactly_once.specs.Items.{Item}
 use Rattle.exactly_once.specs.Handshake.{Handshake, Run, with_items}
-use Rattle.exactly_once.specs.Handshake.Moves.{adds}
+use Rattle.exactly_once.specs.Handshake.Advances.{adds}
 use Rattle.exactly_once.specs.Handshake.Run.{stays, goes_on}
 use Rattle.exactly_once.proofs.Exact.{run_then}
 use Rattle.exactly_once.specs.Carried.{is_two}

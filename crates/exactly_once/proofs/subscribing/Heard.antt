@@ -4,7 +4,7 @@ use Rattle.std.proofs.lemmas.Bool.{both_ways}
 use Rattle.client_base.specs.session_base.declared.publication.Publication.{Publication}
 use Rattle.exactly_once.specs.Items.{Item, has_sent}
 use Rattle.exactly_once.specs.Handshake.{Forward, Backward, Link, Handshake, Run, heard, reply, with_items}
-use Rattle.exactly_once.specs.Handshake.Moves.{hears, hears_alone}
+use Rattle.exactly_once.specs.Handshake.Advances.{hears, hears_alone}
 use Rattle.exactly_once.specs.Handshake.Run.{stays, goes_on}
 use Rattle.exactly_once.specs.HandshakeInvariant.{IsGood, IsLinked, IsJoined, IsBehind}
 use Rattle.client_base.proofs.of_lists.Tests.{or_then}

@@ -9,7 +9,7 @@ use Rattle.broker_base.specs.broker_spec.Times.{entries_of}
 use Rattle.broker_base.specs.broker_spec.Answers.{answers_at}
 use Rattle.client_base.specs.lists.Lists.{Each}
 use Rattle.exactly_once.specs.Handshake.{Backward, Link, Handshake, with_items}
-use Rattle.exactly_once.specs.Handshake.Moves.{sender_leaves, parts}
+use Rattle.exactly_once.specs.Handshake.Advances.{sender_leaves, parts}
 use Rattle.exactly_once.specs.Handshake.Run.{stays, goes_on}
 use Rattle.exactly_once.specs.Sends.{sends_to}
 use Rattle.exactly_once.specs.Sides.{Connection}

@@ -10,7 +10,7 @@ use Rattle.broker_base.specs.broker_spec.Received.{is_new, received_by, received
 use Rattle.broker_base.specs.broker_spec.Answers.{packet_answers}
 use Rattle.broker_base.specs.broker_spec.declared.command.Command.TheVariants as commands
 use Rattle.exactly_once.specs.Handshake.{Forward, Backward, Link, Handshake, Run, answer, taking, accepting}
-use Rattle.exactly_once.specs.Handshake.Moves.{takes, takes_alone}
+use Rattle.exactly_once.specs.Handshake.Advances.{takes, takes_alone}
 use Rattle.exactly_once.specs.Handshake.Run.{stays, goes_on}
 use Rattle.exactly_once.specs.Sends.{sends_to, put_to}
 use Rattle.client_base.specs.Keeper.{Written, Keeper}

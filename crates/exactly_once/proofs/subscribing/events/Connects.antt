@@ -13,7 +13,7 @@ use Rattle.broker_base.specs.broker_spec.QuietLaws.{IsSteady}
 use Rattle.broker_base.proofs.AnswersStaySound.{sound_more}
 use Rattle.broker_base.proofs.QueueAfter.{sound_entries}
 use Rattle.exactly_once.specs.Handshake.{Backward, Link, Handshake, Run, publishing, resend, with_items}
-use Rattle.exactly_once.specs.Handshake.Moves.{sender_leaves, parts, restarts}
+use Rattle.exactly_once.specs.Handshake.Advances.{sender_leaves, parts, restarts}
 use Rattle.exactly_once.specs.Handshake.Run.{stays, goes_on}
 use Rattle.client_base.specs.Keeper.{Written}
 use Rattle.exactly_once.specs.Sides.{Connection}

@@ -12,7 +12,7 @@ use Rattle.broker_base.specs.broker_spec.Place.{Client, Past, Limits}
 use Rattle.broker_base.specs.broker_spec.Past.{current_connection}
 use Rattle.broker_base.specs.broker_spec.Times.{entries_of}
 use Rattle.exactly_once.specs.Handshake.{Forward, Backward, Link, Handshake, answer, taking}
-use Rattle.exactly_once.specs.Handshake.Moves.{takes, takes_alone}
+use Rattle.exactly_once.specs.Handshake.Advances.{takes, takes_alone}
 use Rattle.exactly_once.specs.Handshake.Run.{stays, goes_on}
 use Rattle.exactly_once.specs.Sends.{put_to}
 use Rattle.client_base.specs.Keeper.{Written, Keeper}

@@ -13,7 +13,7 @@ use Rattle.broker_base.specs.broker_spec.Answers.{answers_at}
 use Rattle.broker_base.specs.broker_spec.declared.command.Output.TheVariants.{Close}
 use Rattle.broker_base.proofs.QuietPasts.{no_connection, entries_none}
 use Rattle.exactly_once.specs.Handshake.{Link, with_items}
-use Rattle.exactly_once.specs.Handshake.Moves.{parts_ahead}
+use Rattle.exactly_once.specs.Handshake.Advances.{parts_ahead}
 use Rattle.exactly_once.specs.Handshake.Run.{stays, goes_on}
 use Rattle.exactly_once.specs.Sends.{sends_to}
 use Rattle.client_base.specs.Keeper.{Written}

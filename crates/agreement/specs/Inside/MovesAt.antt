@@ -37,7 +37,7 @@ pub record TellsNow {S C : Type 0} (line : ℕ →
 
 -- a move of the node at index n: it went back to no lower ballot, and only it acknowledged more, in
 -- no ballot that it left
-pub record Moves {S C O : Type 0} (w : World S C O) (h : History C) (line : ℕ →
+pub record MovesAt {S C O : Type 0} (w : World S C O) (h : History C) (line : ℕ →
     Option (Line C)) (n : ℕ)
     (old new : ReplicaState S C) (given : List (Effect C O)) : Type 0 where
   pub stands : slice_get w.nodes n ≡ Some old
