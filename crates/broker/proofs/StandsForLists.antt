@@ -9,7 +9,7 @@ use Rattle.broker_tables.specs.broker_base.State.{state_of}
 use Rattle.broker_tables.specs.broker_base.Step.{step, IsWindow}
 use Rattle.broker_tables.proofs.of_broker_base.StepByStep.{step_stands, growing_lists_stand}
 use Rattle.broker_form.proofs.Thawing.{frozen_before_is_thawed}
-use Rattle.broker.specs.Standing.{BeginsEmpty, GoesOnStanding, GoesOnFromFormOne, UsualIsWide}
+use Rattle.broker.specs.StandsFor.{BeginsEmpty, GoesOnStanding, GoesOnFromFormOne, UsualIsWide}
 
 -- one more command at the end of a list
 past_more : (limits : Limits) (past : Past) (commands : List Command) (command : Command) →

@@ -36,7 +36,7 @@ impl Machine for BrokerMachine {
     ghost use Rattle.broker_tables.specs.broker_spec.Logged.{IsBrokerCommand};
     ghost use Rattle.broker_form.specs.FormLaws.{IsUsualState};
     ghost use Rattle.broker_form.proofs.Thawing.{frozen_is_thawed};
-    ghost use Rattle.broker.specs.Standing.{broker_rules};
+    ghost use Rattle.broker.specs.StandsFor.{broker_rules};
     ghost use Rattle.broker_form.proofs.UsualStates.{empty_is_usual, stays_usual};
 
     type Command = Command;

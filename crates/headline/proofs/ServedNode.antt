@@ -23,7 +23,7 @@ use Rattle.byte_world.specs.ballot.Serving.{added, commit, commit_at, proposed}
 use Rattle.byte_world.specs.machine.Machine.{replay}
 use Rattle.byte_world.specs.broker_spec.declared.command.Command.{Command}
 use Rattle.byte_world.specs.broker_spec.declared.command.Command.TheVariants as commands
-use Rattle.byte_world.specs.world_base.declared.Stage.TheVariants.{Proposed}
+use Rattle.byte_world.specs.world_base.declared.ConnectionStage.TheVariants.{Proposed}
 use Rattle.byte_world.specs.world_base.declared.item.Item.TheVariants.{Opened, Bytes}
 use Rattle.byte_world.specs.world_base.Connections.{fresh}
 use Rattle.byte_world.specs.world_base.Core.{CoreState, opening_core, rules}

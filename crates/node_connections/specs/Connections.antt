@@ -3,33 +3,33 @@
 use Rattle.std.specs.Prelude.{ℕ, ◌+◌, ◌*◌, Bool, true, false, not, ◌&&◌, ◌||◌, ◌==◌, nat_lt, nat_le, if◌then◌else◌, List, [], ◌∷◌, ◌++◌, length}
 use Rattle.broker_spec.specs.Connection.{ConnectionName, same_connection}
 use Rattle.node_connections.specs.declared.port.Port.{Port}
-use Rattle.node_connections.specs.declared.connection.Stage.{Stage}
-use Rattle.node_connections.specs.declared.connection.Stage.TheVariants.{Awaits, Proposed, Over, Failed}
+use Rattle.node_connections.specs.declared.connection.ConnectionStage.{ConnectionStage}
+use Rattle.node_connections.specs.declared.connection.ConnectionStage.TheVariants.{Awaits, Proposed, Over, Failed}
 use Rattle.node_connections.specs.declared.connection.Connection.{Connection}
 
 -- whether the node has closed it, for good or as lost
-abbrev pub is_over : Stage → Bool
+abbrev pub is_over : ConnectionStage → Bool
 is_over Awaits = false
 is_over Proposed = false
 is_over Over = true
 is_over Failed = true
 
 -- whether a connection's first packet is still to come
-abbrev pub is_first : Stage → Bool
+abbrev pub is_first : ConnectionStage → Bool
 is_first Awaits = true
 is_first Proposed = false
 is_first Over = false
 is_first Failed = false
 
 -- whether a connection's CONNECT was proposed, and it is open
-abbrev pub is_proposed : Stage → Bool
+abbrev pub is_proposed : ConnectionStage → Bool
 is_proposed Awaits = false
 is_proposed Proposed = true
 is_proposed Over = false
 is_proposed Failed = false
 
 -- closed as lost, and the loss is still to be reported to the broker
-abbrev pub is_failed : Stage → Bool
+abbrev pub is_failed : ConnectionStage → Bool
 is_failed Awaits = false
 is_failed Proposed = false
 is_failed Over = false

@@ -1,13 +1,13 @@
 -- The state of a connection, for the code that serves its stream.
 use Rattle.std.specs.Prelude.{Option, Some, None}
 use Rattle.node_connections.specs.declared.connection.Connection.{Connection}
-use Rattle.node_connections.specs.declared.connection.Stage.{Stage}
-use Rattle.node_connections.specs.declared.connection.Stage.TheVariants as stages
+use Rattle.node_connections.specs.declared.connection.ConnectionStage.{ConnectionStage}
+use Rattle.node_connections.specs.declared.connection.ConnectionStage.TheVariants as stages
 use Rattle.node_connections.specs.declared.standing.Standing.{Standing}
 use Rattle.node_connections.specs.declared.standing.Standing.TheVariants.{Awaits, Open, Closed}
 
 -- the state that the stream's code is told, by the stage of the connection
-abbrev pub standing_at : Stage → Standing
+abbrev pub standing_at : ConnectionStage → Standing
 standing_at stages.Awaits = Awaits
 standing_at stages.Proposed = Open
 standing_at stages.Over = Closed

@@ -24,7 +24,7 @@ const MAX_PENDING: usize = 134_217_728;
 
 /// How far a connection is.
 #[derive(Clone, Copy, Debug, PartialEq, Eq)]
-pub enum Stage {
+pub enum ConnectionStage {
     /// Its first packet is awaited.
     Awaits,
     /// Its CONNECT became a command.
@@ -35,19 +35,19 @@ pub enum Stage {
     Failed,
 }
 
-impl Stage {
+impl ConnectionStage {
     /// Says whether the first packet of the connection is awaited.
     pub fn is_first(self) -> bool
         ensures { result ≡ is_first self }
     {
-        self == Stage::Awaits
+        self == ConnectionStage::Awaits
     }
 
     /// Says whether the CONNECT of the connection became a command, and it is open.
     pub fn is_proposed(self) -> bool
         ensures { result ≡ is_proposed self }
     {
-        self == Stage::Proposed
+        self == ConnectionStage::Proposed
     }
 }
 
@@ -59,7 +59,7 @@ pub struct Connection {
     /// Its name, which the broker knows it by.
     pub name: ConnectionName,
     /// How far it is: opened, proposed, failed or over.
-    pub stage: Stage,
+    pub stage: ConnectionStage,
     /// The most seconds between two packets of its client, by its CONNECT; 0 for no limit (MQTT
     /// 3.1.2.10).
     pub keep_alive: u16,
@@ -79,7 +79,7 @@ impl Connection {
         Connection {
             port,
             name,
-            stage: Stage::Awaits,
+            stage: ConnectionStage::Awaits,
             keep_alive: 0,
             last_packet: 0,
             unread: Unread::new(alloc),
@@ -112,14 +112,14 @@ impl Connection {
     pub fn is_over(&self) -> bool
         ensures { result ≡ is_over self.now.stage }
     {
-        matches!(self.stage, Stage::Over | Stage::Failed)
+        matches!(self.stage, ConnectionStage::Over | ConnectionStage::Failed)
     }
 
     /// Says whether it is closed as lost, and the loss is still to be reported to the broker.
     pub fn has_failed(&self) -> bool
         ensures { result ≡ has_failed self.now }
     {
-        self.stage == Stage::Failed
+        self.stage == ConnectionStage::Failed
     }
 
     /// Says whether its first packet is awaited.
@@ -175,9 +175,9 @@ impl Connection {
         ensures { result ≡ standing_of (Some self.now) }
     {
         match self.stage {
-            Stage::Awaits => Standing::Awaits,
-            Stage::Proposed => Standing::Open,
-            Stage::Over | Stage::Failed => Standing::Closed,
+            ConnectionStage::Awaits => Standing::Awaits,
+            ConnectionStage::Proposed => Standing::Open,
+            ConnectionStage::Over | ConnectionStage::Failed => Standing::Closed,
         }
     }
 
@@ -214,7 +214,7 @@ impl Connection {
     pub fn ask(&mut self, keep_alive: u16)
         ensures { self.new ≡ asked keep_alive self.old }
     {
-        self.stage = Stage::Proposed;
+        self.stage = ConnectionStage::Proposed;
         self.keep_alive = keep_alive;
     }
 
@@ -264,7 +264,7 @@ impl Connection {
         let proposed = self.is_proposed();
         self.close();
         if proposed {
-            self.stage = Stage::Failed;
+            self.stage = ConnectionStage::Failed;
         }
     }
 
@@ -284,7 +284,7 @@ impl Connection {
     pub fn close(&mut self)
         ensures { self.new ≡ closed self.old }
     {
-        self.stage = Stage::Over;
+        self.stage = ConnectionStage::Over;
         self.keep_alive = 0;
         self.last_packet = 0;
         self.unread.clear();

@@ -11,7 +11,7 @@ mod standing;
 mod unread;
 
 pub use broker_spec;
-pub use connection::{Connection, Stage};
+pub use connection::{Connection, ConnectionStage};
 pub use cutter::{Memory, Piece, packet, topics};
 pub use front::Front;
 pub use handed::Handed;

@@ -16,8 +16,8 @@ use Rattle.exactly_once.specs.broker_spec.Connection.{ConnectionName, same_conne
 use Rattle.exactly_once.specs.lists.Lists.{Each}
 use Rattle.world_base.specs.declared.Port.{Port}
 use Rattle.world_base.specs.declared.Connection.{Connection}
-use Rattle.world_base.specs.declared.Stage.{Stage}
-use Rattle.world_base.specs.declared.Stage.TheVariants.{Awaits, Proposed, Over, Failed}
+use Rattle.world_base.specs.declared.ConnectionStage.{ConnectionStage}
+use Rattle.world_base.specs.declared.ConnectionStage.TheVariants.{Awaits, Proposed, Over, Failed}
 use Rattle.world_base.specs.Connections.{is_over, is_proposed, is_failed, has_failed, is_at, is_open_at, is_open_named, is_listed, max_pending, closed, failing, put_out, putting, handed, changed}
 use Rattle.world_base.specs.Core.{CoreState, Turn, rules, serves}
 use Rattle.world_base.specs.Failing.{closes_failed}
@@ -65,7 +65,7 @@ named_kept x f name d = ap (λ (y : ConnectionName). same_connection y x) (name 
 
 mild_kept : (f : Connection → Connection) (c : Connection) → live c ≡ true → (((f c).stage ≡ c.stage) × ((f c).unread ≡ c.unread)) ⊎ (is_over (f c).stage ≡ true)
     → Kept (Some c) (if_live live (f c))
-mild_kept f c lives (inl (s, u)) = let e : live (f c) ≡ true = ap (λ (z : Stage). not (is_over z)) s ∙ lives in rw e (still s u)
+mild_kept f c lives (inl (s, u)) = let e : live (f c) ≡ true = ap (λ (z : ConnectionStage). not (is_over z)) s ∙ lives in rw e (still s u)
 mild_kept f c lives (inr over) = let e : live (f c) ≡ false = ap not over in rw e ended
 
 pub kept_changed : (x : ConnectionName) (test : Connection → Bool) (f : Connection → Connection) (cs : List Connection) → AtMostOne (named x) cs
@@ -210,7 +210,7 @@ stays_crashed core o = record { kept = λ x. kept_same (open_named x core); last
 
 -- ---- a connection that failed is not live, before it is closed for good and after that
 
-failed_over : (s : Stage) → is_failed s ≡ true → not (is_over s) ≡ false
+failed_over : (s : ConnectionStage) → is_failed s ≡ true → not (is_over s) ≡ false
 failed_over Awaits e = absurd cc
 failed_over Proposed e = absurd cc
 failed_over Over e = absurd cc

@@ -5,8 +5,8 @@ use Rattle.std.specs.List.{find}
 use Rattle.exactly_once.specs.broker_spec.declared.command.Command.TheVariants as commands
 use Rattle.exactly_once.specs.lists.Lists.{Each}
 use Rattle.world_base.specs.declared.Connection.{Connection}
-use Rattle.world_base.specs.declared.Stage.{Stage}
-use Rattle.world_base.specs.declared.Stage.TheVariants.{Awaits, Proposed, Over, Failed}
+use Rattle.world_base.specs.declared.ConnectionStage.{ConnectionStage}
+use Rattle.world_base.specs.declared.ConnectionStage.TheVariants.{Awaits, Proposed, Over, Failed}
 use Rattle.world_base.specs.Connections.{is_proposed, is_failed, has_failed, closed}
 use Rattle.world_base.specs.Core.{CoreState}
 use Rattle.world_base.specs.Failing.{closes_failed, loses_failed, loses_if}
@@ -18,7 +18,7 @@ use Rattle.node_moves.proofs.NamesInOrder.{same_le}
 use Rattle.node_moves.proofs.Views.{found_passes, some_none}
 use Rattle.node_moves.proofs.Weights.{IsLight, put_or_failing, total, total_few, total_lowered, total_proposed, comes_to_end}
 
-abbrev untold : Stage → ℕ
+abbrev untold : ConnectionStage → ℕ
 untold Awaits = 1
 untold Proposed = 1
 untold Over = 0
@@ -27,13 +27,13 @@ untold Failed = 1
 abbrev untold_weight : Connection → ℕ
 untold_weight c = untold c.stage
 
-one_untold : (s : Stage) → untold s ≤ 1
+one_untold : (s : ConnectionStage) → untold s ≤ 1
 one_untold Awaits = omega arith
 one_untold Proposed = omega arith
 one_untold Over = omega arith
 one_untold Failed = omega arith
 
-failing_untold : (s : Stage) → untold (if is_proposed s then Failed else Over) ≤ untold s
+failing_untold : (s : ConnectionStage) → untold (if is_proposed s then Failed else Over) ≤ untold s
 failing_untold Awaits = omega arith
 failing_untold Proposed = omega arith
 failing_untold Over = omega arith
@@ -49,7 +49,7 @@ untold_light =
     nothing : (n : ℕ) → 0 ≤ n
     nothing n = omega arith
 
-untold_drops : (s : Stage) → is_failed s ≡ true → 0 < untold s
+untold_drops : (s : ConnectionStage) → is_failed s ≡ true → 0 < untold s
 untold_drops Awaits e = absurd cc
 untold_drops Proposed e = absurd cc
 untold_drops Over e = absurd cc

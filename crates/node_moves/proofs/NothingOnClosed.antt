@@ -9,8 +9,8 @@ use Rattle.exactly_once.specs.Sends.{sends_to}
 use Rattle.world_base.specs.declared.Port.{Port}
 use Rattle.world_base.specs.declared.Connection.{Connection}
 use Rattle.world_base.specs.Connections.{asked, closed, fresh, handed, has_failed, holding, is_at, is_failed, is_listed, is_over, left_with, changed}
-use Rattle.world_base.specs.declared.Stage.{Stage}
-use Rattle.world_base.specs.declared.Stage.TheVariants.{Awaits, Proposed, Over, Failed}
+use Rattle.world_base.specs.declared.ConnectionStage.{ConnectionStage}
+use Rattle.world_base.specs.declared.ConnectionStage.TheVariants.{Awaits, Proposed, Over, Failed}
 use Rattle.world_base.specs.Failing.{closes_failed}
 use Rattle.world_base.specs.Core.{CoreState, Turn, serves}
 use Rattle.world_base.specs.Handing.{hands_over, left_by}
@@ -137,7 +137,7 @@ handed_closed x port core d o e over = by (find (is_at port) core.connections) r
 pub failed_dead : (c : Connection) → has_failed c ≡ true → live c ≡ false
 failed_dead c failed = by c.stage failed
   where
-    by : (s : Stage) → is_failed s ≡ true → not (is_over s) ≡ false
+    by : (s : ConnectionStage) → is_failed s ≡ true → not (is_over s) ≡ false
     by Awaits e = cc
     by Proposed e = cc
     by Over e = cc

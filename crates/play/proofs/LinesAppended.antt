@@ -13,7 +13,7 @@ use Rattle.world.specs.Asking.{IsAsked}
 use Rattle.world.specs.Goes.{StaysReached, WorldGoesOn}
 use Rattle.world.specs.Goes.Goes.{rests}
 use Rattle.world.specs.Happening.{Happens, new_world_client}
-use Rattle.world.specs.Standing.{KeepsReached, WorldGoesBy, asked_on}
+use Rattle.world.specs.StandsFor.{KeepsReached, WorldGoesBy, asked_on}
 use Rattle.world.specs.master.declared.event.Idle.{Idle}
 use Rattle.world.specs.World.{WorldState}
 use Rattle.play.specs.declared.played_world.Recipient.{Recipient}

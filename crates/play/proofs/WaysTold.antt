@@ -11,7 +11,7 @@ use Rattle.world.specs.world_events.declared.escape_error.EscapeError.{EscapeErr
 use Rattle.world.specs.world_events.declared.escape_error.EscapeError.TheVariants as escapes
 use Rattle.world.specs.Escaping.{CanEscape, LeadsOut}
 use Rattle.world.specs.Goes.{AreReached}
-use Rattle.world.specs.Standing.{IsReached, asked_on}
+use Rattle.world.specs.StandsFor.{IsReached, asked_on}
 use Rattle.world.specs.World.{WorldState}
 use Rattle.play.specs.declared.error.PlayError.{PlayError}
 use Rattle.play.specs.declared.error.PlayError.TheVariants as faults

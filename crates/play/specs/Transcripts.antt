@@ -14,7 +14,7 @@ use Rattle.world.specs.Found.{core_named}
 use Rattle.world.specs.Goes.{AreReached, StaysReached, WorldGoesOn}
 use Rattle.world.specs.Happening.{Happens}
 use Rattle.world.specs.Asking.{IsAsked}
-use Rattle.world.specs.Standing.{IsReached, KeepsReached, asked_on}
+use Rattle.world.specs.StandsFor.{IsReached, KeepsReached, asked_on}
 use Rattle.world.specs.World.{WorldState}
 use Rattle.world.specs.world_nodes.Agreed.{AgreeOnSoMany}
 use Rattle.play.specs.Events.{asked_in}

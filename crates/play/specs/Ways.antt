@@ -7,7 +7,7 @@ use Rattle.world.specs.world_events.declared.event.Event.{Event}
 use Rattle.world.specs.world_events.declared.event.Event.TheVariants as events
 use Rattle.world.specs.Escaping.{CanEscape, LeadsOut}
 use Rattle.world.specs.Goes.{AreReached}
-use Rattle.world.specs.Standing.{IsReached}
+use Rattle.world.specs.StandsFor.{IsReached}
 use Rattle.world.specs.World.{WorldState}
 use Rattle.play.specs.Transcripts.{Played}
 

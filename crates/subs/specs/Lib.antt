@@ -7,7 +7,7 @@ pub mod Ways
 pub mod Changes
 pub mod Rows
 pub mod Inside
-pub mod Standing
+pub mod Shown
 pub mod Walk
 pub mod Gathered
 pub use Rattle.subs_base.specs.packet as packet

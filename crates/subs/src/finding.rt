@@ -7,7 +7,7 @@ ghost use Rattle.std.specs.Ordering.{nat_cmp};
 ghost use Rattle.topics.specs.Text.{levels_of};
 ghost use Rattle.std.specs.Prelude.{Some};
 ghost use Rattle.subs.specs.Rows.{row_at};
-ghost use Rattle.subs.specs.Standing.{shape, root_of};
+ghost use Rattle.subs.specs.Shown.{shape, root_of};
 ghost use Rattle.subs.specs.Walk.{greatest, Raises, GivesSome, found_at, found_below};
 ghost use Rattle.subs.specs.Walk.{found_for, found_after};
 

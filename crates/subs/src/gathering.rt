@@ -9,7 +9,7 @@ ghost use Rattle.subs_base.specs.Content.{no_subscriptions, with_row};
 ghost use Rattle.subs_base.specs.ListIndex.{content_of};
 ghost use Rattle.subs_base.specs.Inside.{listed};
 ghost use Rattle.subs.specs.Gathered.{gathered, groups_of, clients_told, filters_told};
-ghost use Rattle.subs.specs.Standing.{content_in, IsSound};
+ghost use Rattle.subs.specs.Shown.{content_in, IsSound};
 
 use crate::group::Group;
 use crate::nodes::Nodes;

@@ -3,7 +3,7 @@
 ghost use Rattle.std.specs.Prelude.{◌≡◌, ◌++◌, [], ◌∷◌, List, ℕ, OnErr, IfOk, None};
 ghost use Rattle.topics.specs.Text.{Levels, levels_of};
 ghost use Rattle.subs.specs.Ways.{slot};
-ghost use Rattle.subs.specs.Standing.{shape, rows_of, IsSound, LeadsTo, IsThere};
+ghost use Rattle.subs.specs.Shown.{shape, rows_of, IsSound, LeadsTo, IsThere};
 
 use crate::node_id::NodeId;
 use crate::nodes::{Nodes, is_all};

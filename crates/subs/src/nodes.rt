@@ -7,7 +7,7 @@ ghost use Rattle.topics.specs.Matching.{is_all};
 ghost use Rattle.subs.specs.Ways.{reach, slot};
 ghost use Rattle.subs.specs.Inside.{nothing, with_asked, with_rows};
 ghost use Rattle.subs.specs.Rows.{row_at};
-ghost use Rattle.subs.specs.Standing.{shape, root_of, rows_of, IsSound};
+ghost use Rattle.subs.specs.Shown.{shape, root_of, rows_of, IsSound};
 
 use crate::node::Node;
 use crate::node_id::NodeId;

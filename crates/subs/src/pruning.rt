@@ -2,7 +2,7 @@
 
 ghost use Rattle.std.specs.Prelude.{◌≡◌, ◌++◌, ℕ};
 ghost use Rattle.topics.specs.Text.{Levels};
-ghost use Rattle.subs.specs.Standing.{rows_of, IsSound, LeadsTo, IsThere};
+ghost use Rattle.subs.specs.Shown.{rows_of, IsSound, LeadsTo, IsThere};
 
 use crate::node_id::NodeId;
 use crate::nodes::Nodes;

@@ -7,7 +7,7 @@ ghost use Rattle.std.specs.Ordering.{nat_cmp};
 ghost use Rattle.subs_base.specs.ListIndex.{content_of};
 ghost use Rattle.subs.specs.Inside.{cleared};
 ghost use Rattle.subs.specs.Walk.{GivesSome};
-ghost use Rattle.subs.specs.Standing.{content_in, IsSound};
+ghost use Rattle.subs.specs.Shown.{content_in, IsSound};
 
 use crate::gathering::{gather, nodes_of};
 use crate::nodes::Nodes;
@@ -31,7 +31,7 @@ pub struct TreeIndex {
 impl Model for TreeIndex {
     ghost use Rattle.std.specs.Prelude.{◌≡◌};
     ghost use Rattle.subs_base.specs.ListIndex.{Clients, content_of};
-    ghost use Rattle.subs.specs.Standing.{content_in, IsSound};
+    ghost use Rattle.subs.specs.Shown.{content_in, IsSound};
 
     ghost Value = { Clients };
 

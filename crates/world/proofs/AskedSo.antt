@@ -23,7 +23,7 @@ use Rattle.world.specs.Found.{is_named}
 use Rattle.world.specs.Happening.{Happens}
 use Rattle.world.specs.Inside.Calling.{Counts, IsCall, forgetful}
 use Rattle.world.specs.Inside.Steps.{GoesAsked, GoesOn, GoesOnBy, IsCounted}
-use Rattle.world.specs.Standing.{KeepsReached, WorldGoesBy}
+use Rattle.world.specs.StandsFor.{KeepsReached, WorldGoesBy}
 use Rattle.world.specs.World.{WorldState}
 use Rattle.world.proofs.ClientGoes.{client_asked_forgetful, client_asked_on, same_piped, with_piped}
 use Rattle.world.proofs.Joined.{asked_goes_join, goes_on_rest, goes_on_then, keeps_reached, world_rests}

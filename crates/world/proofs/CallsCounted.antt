@@ -10,7 +10,7 @@ use Rattle.world_events.specs.world_pipes.declared.sending.Sending.TheVariants a
 use Rattle.world_events.specs.world_pipes.Following.{CallingFollows, FollowsAll}
 use Rattle.world_events.specs.world_pipes.Goes.{ClientGoes}
 use Rattle.world_events.specs.world_pipes.Piped.{Piped}
-use Rattle.world_events.specs.world_pipes.Standing.{StandsFor}
+use Rattle.world_events.specs.world_pipes.StandsFor.{StandsFor}
 use Rattle.world_events.proofs.of_world_pipes.CallingFollows.{calling_goes}
 use Rattle.world.specs.declared.world.WorldClient.{WorldClient}
 use Rattle.world.specs.Inside.Calling.{Counts, forgetful}

@@ -14,8 +14,8 @@ use Rattle.world.specs.declared.world.WorldClient.{WorldClient}
 use Rattle.world.specs.SlotsAreValid.{AreHoused, leads, leads_of}
 use Rattle.world.specs.Inside.Steps.{GoesOn, GoesOnBy}
 use Rattle.world.specs.Inside.Calling.{forgetful}
-use Rattle.world.specs.Standing.{Steps, WorldGoes, WorldGoesBy, published_along}
-use Rattle.world.specs.Standing.Steps.{rests, goes_on}
+use Rattle.world.specs.StandsFor.{Steps, WorldGoes, WorldGoesBy, published_along}
+use Rattle.world.specs.StandsFor.Steps.{rests, goes_on}
 use Rattle.world.specs.World.{WorldState}
 use Rattle.world.proofs.ClientsStand.{client_at, stand_set}
 use Rattle.world.proofs.Joined.{asked_goes_join, world_stays}

@@ -3,9 +3,9 @@ use Rattle.std.proofs.Common.{◌≡◌, ℕ, zero, suc, List, [], ◌∷◌, So
 use Rattle.std.proofs.lemmas.Option.{same_Some, none-some}
 use Rattle.headline.specs.byte_world.World.{ClientPipes}
 use Rattle.world_events.specs.world_pipes.Piped.{Piped}
-use Rattle.world_events.specs.world_pipes.Standing.{StandsFor as ClientStands}
+use Rattle.world_events.specs.world_pipes.StandsFor.{StandsFor as ClientStands}
 use Rattle.world.specs.declared.world.WorldClient.{WorldClient}
-use Rattle.world.specs.Standing.{ClientsStand}
+use Rattle.world.specs.StandsFor.{ClientsStand}
 
 -- the model's client to which the one at a place corresponds
 pub record StandsAt (cs : List ClientPipes) (i : ℕ) (piped : Piped) : Type 0 where

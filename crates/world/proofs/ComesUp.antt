@@ -16,8 +16,8 @@ use Rattle.world.specs.declared.world.WorldClient.{WorldClient}
 use Rattle.world.specs.SlotsAreValid.{LeadsThere, leads_of}
 use Rattle.world.specs.Found.{with_less}
 use Rattle.world.specs.Inside.Carrying.{TakesUp}
-use Rattle.world.specs.Standing.{GoesTo, StandsFor, WorldGoes}
-use Rattle.world.specs.Standing.Steps.{rests, goes_on}
+use Rattle.world.specs.StandsFor.{GoesTo, StandsFor, WorldGoes}
+use Rattle.world.specs.StandsFor.Steps.{rests, goes_on}
 use Rattle.world.specs.World.{WorldState}
 use Rattle.world.proofs.ClientsStand.{StandsAt, client_at, stand_set}
 use Rattle.world.proofs.GoesDown.{put_down}

@@ -22,8 +22,8 @@ use Rattle.escaping_nodes.specs.world_nodes.GroupSteps.{ActsOrRests, ComesOrRest
 use Rattle.world.specs.Goes.{NodesGo, NodesGoOn}
 use Rattle.world.specs.Goes.Goes.{rests as stands_still, goes_on as then_goes}
 use Rattle.world.specs.Inside.Steps.{GoesOn, NodesStay}
-use Rattle.world.specs.Standing.{WorldGoes}
-use Rattle.world.specs.Standing.Steps.{rests, goes_on}
+use Rattle.world.specs.StandsFor.{WorldGoes}
+use Rattle.world.specs.StandsFor.Steps.{rests, goes_on}
 use Rattle.world.specs.World.{WorldState}
 use Rattle.world.proofs.NodesGoOn.{nodes_forget, nodes_rest, nodes_stay, staying_goes}
 

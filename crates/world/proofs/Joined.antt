@@ -15,8 +15,8 @@ use Rattle.escaping_nodes.specs.world_nodes.Nodes.{NodesState, StandsFor as Node
 use Rattle.world.specs.Goes.{LosesNothing, WorldGoesOn}
 use Rattle.world.specs.Inside.Steps.{GoesOn, GoesOnBy}
 use Rattle.world.specs.declared.world.WorldClient.{WorldClient}
-use Rattle.world.specs.Standing.{ClientsStand, GoesTo, IsReached, KeepsReached, StandsFor, Steps, WorldGoes, WorldGoesBy, asked_on, published_along}
-use Rattle.world.specs.Standing.Steps.{rests, goes_on}
+use Rattle.world.specs.StandsFor.{ClientsStand, GoesTo, IsReached, KeepsReached, StandsFor, Steps, WorldGoes, WorldGoesBy, asked_on, published_along}
+use Rattle.world.specs.StandsFor.Steps.{rests, goes_on}
 use Rattle.world.specs.World.{WorldState}
 use Rattle.world.proofs.NodesGoOn.{nodes_go_join, nodes_join, nodes_rest}
 

@@ -23,7 +23,7 @@ use Rattle.headline.specs.world_base.Core.{rules}
 use Rattle.escaping_nodes.specs.world_nodes.Agreed.{AgreeOn}
 use Rattle.escaping_nodes.specs.world_nodes.Asking.{log_of}
 use Rattle.escaping_nodes.specs.world_nodes.Nodes.{NodesState}
-use Rattle.world_events.specs.world_pipes.Standing.{CanGoOut}
+use Rattle.world_events.specs.world_pipes.StandsFor.{CanGoOut}
 use Rattle.world_events.specs.declared.event.Event.{Event}
 use Rattle.world_events.specs.declared.event.Event.TheVariants as events
 use Rattle.world.specs.declared.connection_slot.ConnectionSlot.{ConnectionSlot}
@@ -35,7 +35,7 @@ use Rattle.world.specs.Happening.{Run}
 use Rattle.world.specs.SlotsAreValid.{AreHoused, leads_of}
 use Rattle.world_events.specs.EscapeEvents.{answer_events, client_events, leaving}
 use Rattle.world.specs.Inside.Escaping.{escaping_events, sent_then}
-use Rattle.world.specs.Standing.{IsReached}
+use Rattle.world.specs.StandsFor.{IsReached}
 use Rattle.world.specs.World.{WorldState}
 use Rattle.world.proofs.AgreedOnlyGrows.{agreed_grows}
 use Rattle.world.proofs.AsksOut.{answers_out}

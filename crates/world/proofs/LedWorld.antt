@@ -30,7 +30,7 @@ use Rattle.world.specs.Escaping.{CanEscape, configuration_of}
 use Rattle.world.specs.Goes.{LosesNothing, NodesGo}
 use Rattle.world.specs.Happening.{Run}
 use Rattle.world.specs.SlotsAreValid.{AreHoused, leads_of}
-use Rattle.world.specs.Standing.{WorldGoes}
+use Rattle.world.specs.StandsFor.{WorldGoes}
 use Rattle.world.specs.World.{WorldState}
 use Rattle.world.proofs.CanLead.{can_be_led, seen_as}
 use Rattle.world.proofs.DeliversOn.{walk}

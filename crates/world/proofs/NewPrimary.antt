@@ -35,7 +35,7 @@ use Rattle.escaping_nodes.specs.world_nodes.Nodes.{cores_of}
 use Rattle.world_events.specs.declared.event.Event.{Event}
 use Rattle.world.specs.Escaping.{CanEscape, is_running}
 use Rattle.world.specs.Found.{port_of}
-use Rattle.world.specs.Standing.{GoesTo, StandsFor}
+use Rattle.world.specs.StandsFor.{GoesTo, StandsFor}
 use Rattle.world.specs.World.{WorldState}
 use Rattle.world.proofs.CanLead.{each_passes, runs_here, seen_as}
 use Rattle.world.proofs.Joined.{reached_on}

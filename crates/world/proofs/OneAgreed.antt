@@ -15,7 +15,7 @@ use Rattle.escaping_nodes.specs.world_nodes.Agreed.{AgreeOn}
 use Rattle.escaping_nodes.specs.world_nodes.Nodes.{NodesState}
 use Rattle.world.specs.World.{WorldState}
 use Rattle.world.specs.Goes.{AreReached}
-use Rattle.world.specs.Standing.{IsReached}
+use Rattle.world.specs.StandsFor.{IsReached}
 
 begins : (config : Config) (past : List (Moment State Command Output)) (xs ys : List Command) → IsAgreed config past xs → IsAgreed config past ys → IsPrefixOf xs ys
 begins config past xs ys x y = by_chosen x.chosen

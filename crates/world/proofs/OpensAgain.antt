@@ -21,7 +21,7 @@ use Rattle.headline.specs.world_base.declared.Port.{Port}
 use Rattle.headline.specs.world_base.Connections.{is_at, is_open_named, is_over}
 use Rattle.headline.specs.world_base.Core.{CoreState, CountedCore}
 use Rattle.world.specs.Found.{port_of}
-use Rattle.world.specs.Standing.{StandsFor}
+use Rattle.world.specs.StandsFor.{StandsFor}
 use Rattle.world.specs.World.{WorldState}
 use Rattle.world.specs.SlotsAreValid.{AreHoused, leads_of}
 use Rattle.world.proofs.Connects.{unused}

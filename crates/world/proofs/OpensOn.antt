@@ -32,8 +32,8 @@ use Rattle.world.specs.Cannot.{IsTaken, is_serving}
 use Rattle.world.specs.Gathering.{Gathers, TakesItem}
 use Rattle.world.specs.Inside.Connecting.{Begins, ConnectsAt, HasNew, HearsOfOne, IsKnown, MayOpenNone, OpensAt, OpensNoneAt}
 use Rattle.world.specs.Inside.Steps.{GoesOn, IsDone}
-use Rattle.world.specs.Standing.{GoesTo, WorldGoes}
-use Rattle.world.specs.Standing.Steps.{rests, goes_on}
+use Rattle.world.specs.StandsFor.{GoesTo, WorldGoes}
+use Rattle.world.specs.StandsFor.Steps.{rests, goes_on}
 use Rattle.world.specs.World.{WorldState}
 use Rattle.world.proofs.CallsMet.{or_nodes}
 use Rattle.world.proofs.ClientGoes.{client_goes}

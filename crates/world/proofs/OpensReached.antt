@@ -13,11 +13,11 @@ use Rattle.headline.specs.byte_world.World.{ClientPipes, Pipe, new_client, openi
 use Rattle.headline.specs.byte_world.Goes.Reached.{begins}
 use Rattle.escaping_nodes.specs.world_nodes.Nodes.{StandsFor as NodesStand}
 use Rattle.world_events.specs.world_pipes.declared.way.Way.{Way}
-use Rattle.world_events.specs.world_pipes.Standing.{StandsFor as ClientStands}
+use Rattle.world_events.specs.world_pipes.StandsFor.{StandsFor as ClientStands}
 use Rattle.world.specs.declared.world.WorldClient.{WorldClient}
 use Rattle.world.specs.Happening.{new_world_client}
 use Rattle.world.specs.SlotsAreValid.{AreHoused, leads, leads_of}
-use Rattle.world.specs.Standing.{ClientsStand, IsReached, StandsFor, asked_on, identifiers}
+use Rattle.world.specs.StandsFor.{ClientsStand, IsReached, StandsFor, asked_on, identifiers}
 use Rattle.world.specs.World.{WorldState}
 use Rattle.world.proofs.ClientsStand.{client_at}
 use Rattle.world.proofs.Joined.{is_reached, is_reached_asked}

@@ -23,7 +23,7 @@ use Rattle.world.specs.Gathering.{AskedWhere, Gathers, GathersAmong, Gives, IsAs
 use Rattle.world.specs.Goes.{NodesGo}
 use Rattle.world.specs.SlotsAreValid.{AreHoused, leads_of}
 use Rattle.world.specs.Inside.Handing.{MayHandDown, MayPutDown}
-use Rattle.world.specs.Standing.{WorldGoes}
+use Rattle.world.specs.StandsFor.{WorldGoes}
 use Rattle.world.specs.World.{WorldState}
 use Rattle.world.proofs.GoesDown.{put_down, puts_down}
 use Rattle.world.proofs.GroupGoes.{acts_go}

@@ -6,7 +6,7 @@ use Rattle.headline.specs.exactly_once.Sides.{Connection}
 use Rattle.headline.specs.byte_world.World.{ClientPipes, Pipe, with_pipe}
 use Rattle.world_events.specs.world_pipes.declared.way.Way.{Way}
 use Rattle.world_events.specs.world_pipes.Piped.{Piped}
-use Rattle.world_events.specs.world_pipes.Standing.{AreWays, IsHolding, IsWay, StandsFor}
+use Rattle.world_events.specs.world_pipes.StandsFor.{AreWays, IsHolding, IsWay, StandsFor}
 use Rattle.world.proofs.Turned.{IsTurned, beside, last_turned, turned_at, turned_last}
 
 -- ---- all connections of a client

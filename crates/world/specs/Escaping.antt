@@ -20,7 +20,7 @@ use Rattle.world_events.specs.declared.event.Event.{Event}
 use Rattle.world.specs.Found.{core_named}
 use Rattle.world.specs.Goes.{LosesNothing}
 use Rattle.world.specs.Happening.{Run}
-use Rattle.world.specs.Standing.{IsReached}
+use Rattle.world.specs.StandsFor.{IsReached}
 use Rattle.world.specs.World.{WorldState}
 
 -- ---- when there is one

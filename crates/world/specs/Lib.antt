@@ -1,6 +1,6 @@
 pub mod World
 pub mod Goes
-pub mod Standing
+pub mod StandsFor
 pub mod SlotsAreValid
 pub mod Inside
 pub mod Found

@@ -9,7 +9,7 @@ ghost use Rattle.world.specs.Found.{core_named, is_named, slot_numbered, way_of}
 ghost use Rattle.world.specs.Goes.{AreReached};
 ghost use Rattle.headline.specs.Promise.{Promise};
 ghost use Rattle.headline.specs.byte_world.Published.{published_of, published_on};
-ghost use Rattle.world.specs.Standing.{IsReached, connections_at};
+ghost use Rattle.world.specs.StandsFor.{IsReached, connections_at};
 
 use crate::connection_slot::ConnectionSlot;
 use crate::world::{World, WorldClient};

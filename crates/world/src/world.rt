@@ -6,14 +6,14 @@ ghost use Rattle.headline.specs.agreement.World.{can_open};
 ghost use Rattle.headline.specs.ballot.Losses.{one_more};
 ghost use Rattle.headline.specs.packet_world.World.{AreApart};
 ghost use Rattle.headline.specs.byte_world.World.{new_client};
-ghost use Rattle.world_events.specs.world_pipes.Standing.{StandsFor};
+ghost use Rattle.world_events.specs.world_pipes.StandsFor.{StandsFor};
 ghost use Rattle.world.specs.Goes.{AgreedGrows, AreReached, CountsOnce, StaysReached, WorldGoesOn};
 ghost use Rattle.world.specs.Asking.{IsAsked, RunAsks};
 ghost use Rattle.world.specs.Happening.{Happens, Opens, Run, new_world_client};
 ghost use Rattle.world.specs.Cannot.{CannotHappen};
 ghost use Rattle.world.specs.Inside.Steps.{GoesAsked, IsCounted, Meets};
 ghost use Rattle.world.specs.Quiet.{TakesNoMemory};
-ghost use Rattle.world.specs.Standing.{ClientsStand, IsReached, KeepsReached, WorldGoesBy, asked_on, identifiers};
+ghost use Rattle.world.specs.StandsFor.{ClientsStand, IsReached, KeepsReached, WorldGoesBy, asked_on, identifiers};
 
 use crate::connection_slot::ConnectionSlot;
 use escaping_client::packet::ClientId;

@@ -16,7 +16,7 @@ use Rattle.ballot.specs.Effect.{Effect}
 use Rattle.ballot.specs.Effect.TheVariants.{To, Out}
 use Rattle.ballot.specs.Message.{Message}
 use Rattle.node_connections.specs.declared.connection.Connection.{Connection}
-use Rattle.node_connections.specs.declared.connection.Stage.TheVariants.{Over, Failed}
+use Rattle.node_connections.specs.declared.connection.ConnectionStage.TheVariants.{Over, Failed}
 use Rattle.node_connections.specs.Connections.{changed, closed, failing, is_open_named, is_over, is_proposed, max_pending, put_out, putting}
 use Rattle.world_base.specs.Core.{CoreState}
 use Rattle.world_base.specs.Going.{AreNamedApart, EachGoesOn, GoesOn, bytes_by, bytes_for}

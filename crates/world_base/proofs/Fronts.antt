@@ -16,8 +16,8 @@ use Rattle.ballot.specs.Effect.{Effect}
 use Rattle.node_connections.specs.declared.port.Port.{Port}
 use Rattle.node_connections.specs.declared.front.Front.{Front}
 use Rattle.node_connections.specs.declared.front.Front.TheVariants as fronts
-use Rattle.node_connections.specs.declared.connection.Stage.{Stage}
-use Rattle.node_connections.specs.declared.connection.Stage.TheVariants.{Awaits, Proposed, Over, Failed}
+use Rattle.node_connections.specs.declared.connection.ConnectionStage.{ConnectionStage}
+use Rattle.node_connections.specs.declared.connection.ConnectionStage.TheVariants.{Awaits, Proposed, Over, Failed}
 use Rattle.node_connections.specs.declared.connection.Connection.{Connection}
 use Rattle.node_connections.specs.Connections.{changed, closed, left_with, is_first, is_proposed, is_open_at}
 use Rattle.world_base.specs.Core.{CoreState, Turn}
@@ -172,7 +172,7 @@ refused_there now port c new code a b r x y found did is turns =
         turns_after a b r x y (changes port change a.core) (Told c)
         (is ∙ ap (λ (k : CoreState). record a { core = k }) (becomes_same port a.core c new change found e)) turns
 
-    by : (stage : Stage) → c.stage ≡ stage → new ≡ (if is_first c.stage then refused code c else closed c) →
+    by : (stage : ConnectionStage) → c.stage ≡ stage → new ≡ (if is_first c.stage then refused code c else closed c) →
         DoesTurn a r x y (if is_first c.stage then quiet (changes port (refused code) a.core) else loses port c a.core)
     by Awaits e is_new =
         rw (e) (rw (e) at (after (refused code) (rw (e) at is_new)))

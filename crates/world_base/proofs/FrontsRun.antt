@@ -12,8 +12,8 @@ use Rattle.ballot.specs.Effect.{Effect}
 use Rattle.node_connections.specs.declared.port.Port.{Port}
 use Rattle.node_connections.specs.declared.front.Front.{Front}
 use Rattle.node_connections.specs.declared.front.Front.TheVariants as fronts
-use Rattle.node_connections.specs.declared.connection.Stage.{Stage}
-use Rattle.node_connections.specs.declared.connection.Stage.TheVariants.{Awaits, Proposed, Over, Failed}
+use Rattle.node_connections.specs.declared.connection.ConnectionStage.{ConnectionStage}
+use Rattle.node_connections.specs.declared.connection.ConnectionStage.TheVariants.{Awaits, Proposed, Over, Failed}
 use Rattle.node_connections.specs.declared.connection.Connection.{Connection}
 use Rattle.node_connections.specs.Connections.{asked, closed, is_first, is_proposed, left_with}
 use Rattle.world_base.specs.Core.{CoreState}
@@ -98,7 +98,7 @@ closed_there : (now : ℕ) (port : Port) (c new : Connection) (a b r : CoreState
 closed_there now port c new a b r x y found shut is ran =
     ends_there now port a r x y (ran_lost port c a b r x y found (is ∙ becomes_same port a c new closed found shut) ran)
 
-first_not_proposed : (stage : Stage) → is_first stage ≡ true → is_proposed stage ≡ false
+first_not_proposed : (stage : ConnectionStage) → is_first stage ≡ true → is_proposed stage ≡ false
 first_not_proposed Awaits e = refl
 first_not_proposed Proposed e = absurd cc
 first_not_proposed Over e = absurd cc

@@ -5,7 +5,7 @@ use Rattle.broker.specs.broker_base.State.{State}
 use Rattle.node_connections.specs.broker_spec.Connection.{ConnectionName}
 use Rattle.node_connections.specs.broker_spec.declared.command.Command.{Command}
 use Rattle.node_connections.specs.broker_spec.declared.command.Output.{Output}
-use Rattle.broker.specs.Standing.{broker_rules}
+use Rattle.broker.specs.StandsFor.{broker_rules}
 use Rattle.ballot.specs.Config.{Config}
 use Rattle.ballot.specs.Effect.{Effect}
 use Rattle.ballot.specs.Replica.{CountedReplica, is_active, opening}

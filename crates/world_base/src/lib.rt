@@ -21,6 +21,6 @@ pub use item::Item;
 pub use laws::{a_gap_is_closed, proposals_are_steps};
 pub use node_connections::broker_spec::{Command, ConnectionName, Output};
 pub use node_connections::{
-    Connection, Handed, Piece, Port, Stage, Standing, broker_spec, packet, topics,
+    Connection, ConnectionStage, Handed, Piece, Port, Standing, broker_spec, packet, topics,
 };
 pub use node_core::NodeCore;

@@ -23,7 +23,7 @@ use crate::stepping_node::SteppingNode;
 use ballot::{Effect, Message};
 use node_connections::broker_spec::{Command, ConnectionName, Output, SizedPacket};
 use node_connections::packet::{ClientId, Connect, Packet};
-use node_connections::{Front, Piece, Port, Stage};
+use node_connections::{ConnectionStage, Front, Piece, Port};
 
 impl SteppingNode {
     /// Takes an item, and reports each connection that fails in it to the broker. Whether memory
@@ -182,7 +182,7 @@ impl SteppingNode {
         &mut self,
         port: Port,
         name: ConnectionName,
-        stage: Stage,
+        stage: ConnectionStage,
         packet: Packet,
         effects: &mut Vec<Effect<Command, Output>>,
     )
@@ -251,7 +251,7 @@ impl SteppingNode {
     fn lose(
         &mut self,
         name: ConnectionName,
-        stage: Stage,
+        stage: ConnectionStage,
         effects: &mut Vec<Effect<Command, Output>>,
     )
         ensures turns { DoesTurn self.old self.new effects.old.items effects.new.items

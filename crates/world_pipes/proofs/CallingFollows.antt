@@ -16,7 +16,7 @@ use Rattle.world_pipes.specs.declared.sending.Sending.TheVariants as sendings
 use Rattle.world_pipes.specs.Following.{CallingFollows, FollowsBy}
 use Rattle.world_pipes.specs.Goes.{ClientGoes, ClientStep}
 use Rattle.world_pipes.specs.Piped.{Calls, Piped, TakesLeave, is_holding, piped}
-use Rattle.world_pipes.specs.Standing.{StandsFor}
+use Rattle.world_pipes.specs.StandsFor.{StandsFor}
 use Rattle.byte_world.specs.World.{after_writing}
 use Rattle.world_pipes.proofs.CallsFollow.{up_follows}
 use Rattle.world_pipes.proofs.CallsOffline.{call_follows, publishing_offline, subscribing_offline, unsubscribing_offline}

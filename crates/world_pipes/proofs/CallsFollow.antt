@@ -25,7 +25,7 @@ use Rattle.world_pipes.specs.Goes.{ClientGoes, ClientStep}
 use Rattle.world_pipes.specs.Piped.{Calls, GoesUp, GoesUpWhere, Piped, TakesLeave, broken, is_holding, piped}
 use Rattle.world_pipes.specs.Piped as pipings
 use Rattle.byte_world.specs.exactly_once.Acceptance.{accepted_on}
-use Rattle.world_pipes.specs.Standing.{AreWays, CanGoOut, StandsFor}
+use Rattle.world_pipes.specs.StandsFor.{AreWays, CanGoOut, StandsFor}
 use Rattle.byte_world.specs.Accepted.{accepted_once}
 use Rattle.world_pipes.proofs.HearingFollows.{IsLeft, finished, left_lost, way_up}
 use Rattle.world_pipes.proofs.ModelsCalls.{IsCalled}

@@ -28,7 +28,7 @@ use Rattle.world_pipes.specs.declared.sending.Sending.TheVariants as sendings
 use Rattle.world_pipes.specs.Following.{CallingFollows}
 use Rattle.world_pipes.specs.Piped.{GoesUpWhere, Piped, is_holding, piped}
 use Rattle.byte_world.specs.exactly_once.Acceptance.{accepted_on}
-use Rattle.world_pipes.specs.Standing.{AreWays, CanGoOut, StandsFor}
+use Rattle.world_pipes.specs.StandsFor.{AreWays, CanGoOut, StandsFor}
 use Rattle.byte_world.specs.Accepted.{accepted_once}
 use Rattle.world_pipes.proofs.CallsFollow.{HasCall, up_follows}
 use Rattle.world_pipes.proofs.Ways.{none_sent}

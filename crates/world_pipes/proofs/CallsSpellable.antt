@@ -27,7 +27,7 @@ use Rattle.client.specs.client_base.State.{ClientState, is_online, used_ids}
 use Rattle.client.specs.client_base.Publishing.{has_free_id, next_id, publish_packet, publish_refusal, published}
 use Rattle.client.specs.client_base.Steps.{Call, asked, disconnected, keeper_step, request_refusal, unless_refused}
 use Rattle.client.proofs.of_client_base.FollowsCalls.{kept_of, publish_outcome}
-use Rattle.world_pipes.specs.Standing.{CanGoOut}
+use Rattle.world_pipes.specs.StandsFor.{CanGoOut}
 use Rattle.world_pipes.proofs.NotRefused.{asked_so, is_published}
 use Rattle.world_pipes.proofs.Spellable.{AllSpelled, lost_fits}
 

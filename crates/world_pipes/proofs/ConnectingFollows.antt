@@ -24,7 +24,7 @@ use Rattle.world_pipes.specs.Following.{ConnectingFollows, FollowsAll}
 use Rattle.world_pipes.specs.Goes.{ClientGoes}
 use Rattle.world_pipes.specs.Piped.{Connects, Piped, is_holding, new_piped, new_way, piped, sent_up}
 use Rattle.byte_world.specs.exactly_once.Acceptance.{accepted_on}
-use Rattle.world_pipes.specs.Standing.{AreWays, CanGoOut, StandsFor}
+use Rattle.world_pipes.specs.StandsFor.{AreWays, CanGoOut, StandsFor}
 use Rattle.byte_world.specs.Accepted.{accepted_once}
 use Rattle.world_pipes.proofs.PacketsHandled.{appended}
 use Rattle.world_pipes.proofs.TakenBack.{opened_and_lost}

@@ -19,7 +19,7 @@ use Rattle.world_pipes.specs.Following.{Follows, HearingFollows, after_losing}
 use Rattle.world_pipes.specs.Goes.{ClientGoes, ClientStep, published_along, published_with}
 use Rattle.world_pipes.specs.Piped.{Hears, Piped, broken, come_down, piped, sent_up}
 use Rattle.byte_world.specs.exactly_once.Acceptance.{accepted_on}
-use Rattle.world_pipes.specs.Standing.{AreWays, CanGoOut, IsWay, StandsFor}
+use Rattle.world_pipes.specs.StandsFor.{AreWays, CanGoOut, IsWay, StandsFor}
 use Rattle.byte_world.specs.Accepted.{accepted_once}
 use Rattle.world_pipes.proofs.PacketsHandled.{GoFar, IsInMidst, all_go, one_goes}
 use Rattle.world_pipes.proofs.StaysOpen.{handled_stays}

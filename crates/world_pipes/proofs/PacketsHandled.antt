@@ -22,7 +22,7 @@ use Rattle.byte_world.specs.ClientSteps.{after_packet}
 use Rattle.byte_world.proofs.OnTheWay.{newly_is}
 use Rattle.world_pipes.specs.Goes.{ClientGoes, ClientStep, published_along, published_with}
 use Rattle.byte_world.specs.exactly_once.Acceptance.{accepted_on}
-use Rattle.world_pipes.specs.Standing.{CanGoOut}
+use Rattle.world_pipes.specs.StandsFor.{CanGoOut}
 use Rattle.byte_world.specs.Accepted.{accepted_once}
 use Rattle.world_pipes.proofs.AcceptedAlike.{accepts_alike}
 use Rattle.world_pipes.proofs.Renamed.{handled_renamed, renamed}

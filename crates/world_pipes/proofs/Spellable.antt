@@ -19,7 +19,7 @@ use Rattle.client.specs.client_base.declared.stage.Stage.TheVariants as stages
 use Rattle.client.specs.client_base.State.{ClientState, lost, publish_kept, resent}
 use Rattle.client.specs.client_base.Answered.{ClientOutcome, awaits_pubrec, on_publish, on_pubrec}
 use Rattle.client.specs.client_base.Calls.{confirmed, discarded, numbered, loses_session, on_first, on_later, received}
-use Rattle.world_pipes.specs.Standing.{CanGoOut}
+use Rattle.world_pipes.specs.StandsFor.{CanGoOut}
 
 -- what a step writes, and what it leaves
 pub record AllSpelled (outcome : ClientOutcome) : Type 0 where

@@ -13,7 +13,7 @@ use Rattle.byte_world.specs.world_base.declared.Port.{Port}
 use Rattle.world_pipes.specs.declared.way.Way.{Way}
 use Rattle.world_pipes.specs.Following.{FollowsAll, after_losing}
 use Rattle.world_pipes.specs.Piped.{Connects, Piped, new_way, piped, taken_back}
-use Rattle.world_pipes.specs.Standing.{AreWays, CanGoOut}
+use Rattle.world_pipes.specs.StandsFor.{AreWays, CanGoOut}
 use Rattle.byte_world.specs.Accepted.{accepted_once}
 use Rattle.world_pipes.proofs.Ways.{losing_goes, losing_publishes, same_pipes}
 

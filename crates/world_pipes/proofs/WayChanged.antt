@@ -7,7 +7,7 @@ use Rattle.byte_world.specs.World.{ClientPipes, Pipe, with_pipe}
 use Rattle.world_pipes.specs.declared.way.Way.{Way}
 use Rattle.world_pipes.specs.FollowingBytes.{FollowsDown, FollowsUp, HasWay, SwappingFollows, TakingUpFollows, index_in_model}
 use Rattle.world_pipes.specs.Piped.{Piped}
-use Rattle.world_pipes.specs.Standing.{AreWays, IsHolding, IsWay, StandsFor}
+use Rattle.world_pipes.specs.StandsFor.{AreWays, IsHolding, IsWay, StandsFor}
 use Rattle.world_pipes.proofs.Newest.{last_splits}
 use Rattle.world_pipes.proofs.Ways.{last_same}
 use Rattle.world_pipes.proofs.WaysApart.{get_seam, parted, pipes_joined, pipes_parted, reverse_seam, stands_below}

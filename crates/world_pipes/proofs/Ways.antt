@@ -15,7 +15,7 @@ use Rattle.world_pipes.specs.declared.way.Way.{Way}
 use Rattle.world_pipes.specs.Following.{FollowsLosing, after_losing}
 use Rattle.world_pipes.specs.Goes.{ClientGoes, ClientStep, published_along, published_with}
 use Rattle.world_pipes.specs.Piped.{Piped, piped}
-use Rattle.world_pipes.specs.Standing.{AreWays, CanGoOut, IsWay}
+use Rattle.world_pipes.specs.StandsFor.{AreWays, CanGoOut, IsWay}
 use Rattle.world_pipes.proofs.Newest.{last_index}
 
 -- ---- the newest

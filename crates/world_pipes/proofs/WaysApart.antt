@@ -5,7 +5,7 @@ use Rattle.std.proofs.lemmas.List.{reverse-append}
 use Rattle.std.specs.Prelude.{slice_get}
 use Rattle.byte_world.specs.World.{Pipe}
 use Rattle.world_pipes.specs.declared.way.Way.{Way}
-use Rattle.world_pipes.specs.Standing.{AreWays, IsWay}
+use Rattle.world_pipes.specs.StandsFor.{AreWays, IsWay}
 
 -- ---- an index of a list
 

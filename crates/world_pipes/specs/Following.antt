@@ -17,7 +17,7 @@ use Rattle.world_pipes.specs.declared.sending.Sending.{Sending}
 use Rattle.world_pipes.specs.declared.sending.Sending.TheVariants as sendings
 use Rattle.world_pipes.specs.Goes.{ClientGoes, published_along}
 use Rattle.world_pipes.specs.Piped.{Hears, Piped, is_holding}
-use Rattle.world_pipes.specs.Standing.{StandsFor}
+use Rattle.world_pipes.specs.StandsFor.{StandsFor}
 
 -- the model's client moves by steps in which it publishes this, and the client in code corresponds
 -- to the one after them

@@ -4,7 +4,7 @@ use Rattle.byte_world.specs.exactly_once.Sides.{Connection}
 use Rattle.byte_world.specs.World.{ClientPipes, Pipe, with_pipe}
 use Rattle.world_pipes.specs.declared.way.Way.{Way}
 use Rattle.world_pipes.specs.Piped.{Piped}
-use Rattle.world_pipes.specs.Standing.{IsWay, StandsFor}
+use Rattle.world_pipes.specs.StandsFor.{IsWay, StandsFor}
 
 -- the index in the model of the connection at this index: the model has the newest first
 abbrev pub index_in_model : ℕ → Piped → ℕ

@@ -1,7 +1,7 @@
 pub mod Piped
 pub mod Held
 pub mod Inside
-pub mod Standing
+pub mod StandsFor
 pub mod Goes
 pub mod Following
 pub mod FollowingBytes

@@ -6,7 +6,7 @@ ghost use Rattle.byte_world.specs.World.{new_client};
 ghost use Rattle.world_pipes.specs.Following.{FollowsLosing};
 ghost use Rattle.world_pipes.specs.FollowingBytes.{SwappingFollows, TakingUpFollows};
 ghost use Rattle.world_pipes.specs.Piped.{is_holding, new_piped};
-ghost use Rattle.world_pipes.specs.Standing.{StandsFor};
+ghost use Rattle.world_pipes.specs.StandsFor.{StandsFor};
 
 use crate::way::Way;
 use byte_world::world_base::Port;

@@ -12,7 +12,7 @@ use Rattle.world.specs.Goes.{NodesGoOn}
 use Rattle.world.specs.Cannot.{CannotHappen}
 use Rattle.world.specs.Doing.{Does}
 use Rattle.world.specs.Happening.{HappensLosing}
-use Rattle.world.specs.Standing.{WorldGoesBy}
+use Rattle.world.specs.StandsFor.{WorldGoesBy}
 use Rattle.world.specs.World.{WorldState}
 
 -- counts do not fall, and each world of the model that corresponded to it moves on, while its

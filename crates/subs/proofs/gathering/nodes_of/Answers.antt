@@ -2,7 +2,7 @@
 use Rattle.std.proofs.Common.{rules, ◌≡◌, ◌∷◌, [], ◌∙◌, sym, ap}
 use Rattle.topics.specs.Text.{levels}
 use Rattle.subs.specs.Gathered.{all_put, told, groups_of}
-use Rattle.subs.specs.Standing.{content_in, rows_of}
+use Rattle.subs.specs.Shown.{content_in, rows_of}
 use Rattle.subs.proofs.RowsGathered.{group_put, groups_put}
 use Rattle.subs.proofs.gathering.nodes_of.Goals as goal
 

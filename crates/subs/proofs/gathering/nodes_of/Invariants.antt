@@ -4,7 +4,7 @@ use Rattle.std.specs.Map.{keys_of}
 use Rattle.std.specs.List.{IsDistinct}
 use Rattle.subs_base.specs.Content.{no_subscriptions}
 use Rattle.subs.specs.Gathered.{all_put, groups_of}
-use Rattle.subs.specs.Standing.{content_in, IsSound}
+use Rattle.subs.specs.Shown.{content_in, IsSound}
 use Rattle.subs.proofs.gathering.nodes_of.Given as goal
 
 abbrev pub invariant-loop-filter : goal.invariant-loop-filter

@@ -1,7 +1,7 @@
 -- The filter at the head was cleared; at the end none is left.
 use Rattle.std.proofs.Common.{rules, ◌≡◌, ◌∷◌, [], ◌∙◌, sym, ap, None}
 use Rattle.subs.specs.Inside.{cleared}
-use Rattle.subs.specs.Standing.{content_in, rows_of}
+use Rattle.subs.specs.Shown.{content_in, rows_of}
 use Rattle.subs.proofs.ContentOfTree.{row_put, cleared_first, cleared_none}
 use Rattle.subs.proofs.tree_index.clear_all.Goals as goal
 

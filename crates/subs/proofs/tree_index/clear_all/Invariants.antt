@@ -1,7 +1,7 @@
 -- Once those that are left are cleared, all are.
 use Rattle.std.proofs.Common.{◌≡◌}
 use Rattle.subs.specs.Inside.{cleared}
-use Rattle.subs.specs.Standing.{content_in, IsSound}
+use Rattle.subs.specs.Shown.{content_in, IsSound}
 use Rattle.subs.proofs.tree_index.clear_all.Given as goal
 
 abbrev pub invariant-loop-filter : goal.invariant-loop-filter

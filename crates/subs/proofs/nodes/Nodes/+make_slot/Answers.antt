@@ -5,7 +5,7 @@ use Rattle.topics.specs.Text.{Levels, levels_of}
 use Rattle.topics.specs.Matching.{is_all}
 use Rattle.subs_base.proofs.ContentAfter.{on_err}
 use Rattle.subs.specs.Inside.{Asked, shape_of}
-use Rattle.subs.specs.Standing.{root_of, rows_of}
+use Rattle.subs.specs.Shown.{root_of, rows_of}
 use Rattle.subs.proofs.TextCut.{path, fewer}
 use Rattle.subs.proofs.ChildIsMade.{none_after}
 use Rattle.subs.proofs.ContentOfTree.{anyhow}

@@ -4,7 +4,7 @@ use Rattle.topics.specs.Text.{Levels}
 use Rattle.std.proofs.lemmas.List.{append_assoc}
 use Rattle.subs.specs.Ways.{led}
 use Rattle.subs.specs.Inside.{shape_of}
-use Rattle.subs.specs.Standing.{root_of}
+use Rattle.subs.specs.Shown.{root_of}
 use Rattle.subs.proofs.TextCut.{fewer}
 use Rattle.subs.proofs.Ways.{led_more}
 use Rattle.subs.proofs.nodes.Nodes.+prune.Goals as goal

@@ -1,6 +1,6 @@
 -- The new node comes after its level, or was taken out again.
 use Rattle.subs.specs.Inside.{shape_of}
-use Rattle.subs.specs.Standing.{root_of}
+use Rattle.subs.specs.Shown.{root_of}
 use Rattle.subs.proofs.ChildIsMade.{made, unmade}
 use Rattle.subs.proofs.nodes.Nodes.add_child.Goals as goal
 

@@ -1,7 +1,7 @@
 -- The levels and one more lead to the child that is there.
 use Rattle.std.proofs.Common.{◌∙◌, sym}
 use Rattle.subs.specs.Inside.{shape_of}
-use Rattle.subs.specs.Standing.{root_of}
+use Rattle.subs.specs.Shown.{root_of}
 use Rattle.subs.proofs.Ways.{led_more}
 use Rattle.subs.proofs.nodes.Nodes.child_or_new.Goals as goal
 

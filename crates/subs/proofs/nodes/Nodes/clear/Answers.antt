@@ -3,7 +3,7 @@ use Rattle.std.proofs.Common.{None, ◌∙◌, sym, ap, is_some}
 use Rattle.topics.specs.Text.{levels}
 use Rattle.subs.specs.Ways.{slot}
 use Rattle.subs.specs.Inside.{shape_of}
-use Rattle.subs.specs.Standing.{root_of, rows_of}
+use Rattle.subs.specs.Shown.{root_of, rows_of}
 use Rattle.subs.proofs.NodeSets.{number_of}
 use Rattle.subs.proofs.SlotIsFound.{from_root, row_missing, nothing_goes, written_at, row_of}
 use Rattle.subs.proofs.nodes.Nodes.clear.Goals as goal

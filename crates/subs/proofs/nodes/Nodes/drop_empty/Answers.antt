@@ -1,7 +1,7 @@
 -- The node that held nothing is given up.
 use Rattle.std.proofs.Common.{sym}
 use Rattle.subs.specs.Inside.{shape_of}
-use Rattle.subs.specs.Standing.{root_of}
+use Rattle.subs.specs.Shown.{root_of}
 use Rattle.subs.proofs.NodeGoes.{gone, bare_after}
 use Rattle.subs.proofs.nodes.Nodes.drop_empty.Goals as goal
 

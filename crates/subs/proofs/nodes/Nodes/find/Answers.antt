@@ -7,7 +7,7 @@ use Rattle.topics.specs.Text.{levels}
 use Rattle.topics.specs.Matching.{starts_with}
 use Rattle.subs_base.proofs.ContentAfter.{on_err}
 use Rattle.subs.specs.Shape.{Shape}
-use Rattle.subs.specs.Standing.{shape}
+use Rattle.subs.specs.Shown.{shape}
 use Rattle.subs.specs.Walk.{GivesSome, found_at, found_named, found_from, found_for}
 use Rattle.subs.proofs.nodes.Nodes.find.Goals as goal
 

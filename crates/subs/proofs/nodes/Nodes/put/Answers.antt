@@ -4,7 +4,7 @@ use Rattle.topics.specs.Text.{levels}
 use Rattle.subs.specs.Ways.{led, slot}
 use Rattle.subs.specs.Inside.{Asked, shape_of, with_rows}
 use Rattle.subs.specs.Rows.{row_at}
-use Rattle.subs.specs.Standing.{root_of}
+use Rattle.subs.specs.Shown.{root_of}
 use Rattle.subs.proofs.Written.{filled, tree_filled}
 use Rattle.subs.proofs.nodes.Nodes.put.Goals as goal
 

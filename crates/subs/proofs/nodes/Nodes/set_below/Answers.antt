@@ -4,7 +4,7 @@ use Rattle.topics.specs.Text.{levels}
 use Rattle.subs_base.proofs.ContentAfter.{on_ok, on_err}
 use Rattle.subs.specs.Ways.{led, slot}
 use Rattle.subs.specs.Inside.{Asked, shape_of, with_asked}
-use Rattle.subs.specs.Standing.{root_of}
+use Rattle.subs.specs.Shown.{root_of}
 use Rattle.subs.proofs.ContentOfTree.{anyhow}
 use Rattle.subs.proofs.SlotIsFound.{written_at, row_of}
 use Rattle.subs.proofs.nodes.Nodes.set_below.Goals as goal

@@ -4,7 +4,7 @@ use Rattle.subs_base.specs.packet.declared.qos.QoS.{QoS}
 use Rattle.topics.specs.Text.{levels}
 use Rattle.subs_base.specs.Content.{Content, without_row}
 use Rattle.subs_base.specs.ListIndex.{content_of}
-use Rattle.subs.specs.Standing.{rows_of}
+use Rattle.subs.specs.Shown.{rows_of}
 use Rattle.subs.proofs.ContentOfTree.{row_put}
 use Rattle.subs.proofs.tree_index.TreeIndexSubIndex.clear.Goals as goal
 

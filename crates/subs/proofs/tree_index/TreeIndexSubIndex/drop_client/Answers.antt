@@ -3,7 +3,7 @@ use Rattle.std.proofs.Common.{◌∙◌, sym, ap, subst}
 use Rattle.subs_base.specs.Content.{without_client}
 use Rattle.subs_base.specs.ListIndex.{content_of}
 use Rattle.subs.specs.Inside.{cleared}
-use Rattle.subs.specs.Standing.{content_in, IsSound}
+use Rattle.subs.specs.Shown.{content_in, IsSound}
 use Rattle.subs.proofs.ContentOfTree.{dropped_none, dropped_all}
 use Rattle.subs.proofs.tree_index.TreeIndexSubIndex.drop_client.Goals as goal
 use Rattle.subs.proofs.tree_index.TreeIndexSubIndex.drop_client.Goals.{in-Some, in_default}

@@ -8,7 +8,7 @@ use Rattle.subs_base.specs.Content.{Content}
 use Rattle.subs_base.specs.Granted.{AppendsGranted, IsGranted, IsWanted}
 use Rattle.subs_base.specs.ListIndex.{content_of}
 use Rattle.subs_base.proofs.ContentAfter.{on_err}
-use Rattle.subs.specs.Standing.{shape, root_of}
+use Rattle.subs.specs.Shown.{shape, root_of}
 use Rattle.subs.specs.Walk.{greatest, GivesSome, found_for}
 use Rattle.subs.proofs.ContentOfTree.{anyhow}
 use Rattle.subs.proofs.Raising.{then_ok}

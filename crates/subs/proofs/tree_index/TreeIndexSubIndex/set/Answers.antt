@@ -3,7 +3,7 @@ use Rattle.std.proofs.Common.{◌≡◌, ◌∙◌, sym, ap, Some, None}
 use Rattle.topics.specs.Text.{levels}
 use Rattle.subs_base.specs.Content.{Content, with_row, without_row}
 use Rattle.subs_base.specs.ListIndex.{content_of}
-use Rattle.subs.specs.Standing.{rows_of}
+use Rattle.subs.specs.Shown.{rows_of}
 use Rattle.subs.proofs.ContentOfTree.{anyhow}
 use Rattle.subs.proofs.ContentOfTree.{row_put, put_back, at_ok, at_err}
 use Rattle.subs.proofs.tree_index.TreeIndexSubIndex.set.Goals as goal

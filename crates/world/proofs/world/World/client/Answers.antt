@@ -4,7 +4,7 @@ use Rattle.headline.specs.Promise.{Promise}
 use Rattle.headline.specs.byte_world.Published.{published_of, published_on}
 use Rattle.escaping_nodes.proofs.of_master.Counting.{get_there}
 use Rattle.world.specs.declared.world.WorldClient.{WorldClient}
-use Rattle.world.specs.Standing.{connections_at}
+use Rattle.world.specs.StandsFor.{connections_at}
 use Rattle.world.specs.World.{WorldState}
 use Rattle.world.proofs.PromiseShown.{promise_shown, same_place}
 use Rattle.world.proofs.world.World.client.Goals as goal

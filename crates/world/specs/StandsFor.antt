@@ -10,7 +10,7 @@ use Rattle.headline.specs.byte_world.World.{ClientPipes, World}
 use Rattle.headline.specs.byte_world.Goes.{Reached, WorldStep}
 use Rattle.headline.specs.byte_world.Published.{published_in, published_on}
 use Rattle.escaping_nodes.specs.world_nodes.Nodes.{StandsFor as NodesStand}
-use Rattle.world_events.specs.world_pipes.Standing.{StandsFor as ClientStands}
+use Rattle.world_events.specs.world_pipes.StandsFor.{StandsFor as ClientStands}
 use Rattle.world.specs.World.{WorldState}
 use Rattle.world.specs.declared.world.WorldClient.{WorldClient}
 
