@@ -71,10 +71,8 @@ fn a_publication_is_sent_again(rt: HostRuntime) {
 #[test]
 fn a_publication_is_given_up(rt: HostRuntime) {
     let lost = Err(UserClientError::Lost);
-    assert_eq!(rt;
-        fault_of_publishing(rt.alloc(), QoS::AtLeastOnce, &[], &[], lost, 2),
-        None
-    );
+    let fault = fault_of_publishing(rt.alloc(), QoS::AtLeastOnce, &[], &[], lost, 2);
+    assert_eq!(rt; fault, None);
     let present = Err(UserClientError::SessionPresent);
     let pieces: &[Pieces] = &[&[SESSION_PRESENT]];
     let fault = fault_of_publishing(rt.alloc(), QoS::ExactlyOnce, pieces, &[CONNECT], present, 0);
