@@ -257,14 +257,37 @@ fn write_all<R: Wait>(
     None
 }
 
-// Says whether what was left before and then the node's answer are written so.
-fn writes<R: Wait>(rt: &R, alloc: Global, spring: &mut Spring, row: &WriteRow) -> bool {
+// What came of a row: how often the device was full and how the writing ended (none if it did not
+// end, or there was no memory), how many faults were counted, and how many bytes are written.
+#[derive(Clone, Copy, Debug, PartialEq, Eq)]
+struct Came {
+    ended: Option<(u64, Flow)>,
+    faults: u64,
+    count: usize,
+}
+
+// Writes what was left before, and then the node's answer. Returns what came, if it is not what the
+// row says.
+fn other_with<R: Wait>(rt: &R, alloc: Global, spring: &mut Spring, row: &WriteRow) -> Option<Came> {
     let (bad_call, kind, blocked, flow, count) = *row;
     let mut sink = Counted::new(Sink::new(alloc, 3, bad_call, kind));
-    let ended = connects(alloc, spring)
-        && write_all(rt, alloc, spring, &mut sink) == Some((blocked, flow));
-    let counted = sink.faults() == u64::from(flow == Flow::Fault);
-    ended && counted && has_written(&sink.into_device(), count)
+    let ended = if connects(alloc, spring) {
+        write_all(rt, alloc, spring, &mut sink)
+    } else {
+        None
+    };
+    let faults = sink.faults();
+    let device = sink.into_device();
+    let is_counted = faults == u64::from(flow == Flow::Fault);
+    if ended == Some((blocked, flow)) && is_counted && has_written(&device, count) {
+        None
+    } else {
+        Some(Came {
+            ended,
+            faults,
+            count: device.bytes().len(),
+        })
+    }
 }
 
 // Says whether the first bytes of all, this many, are written.
@@ -272,21 +295,34 @@ fn has_written(sink: &Sink, count: usize) -> bool {
     sink.bytes().len() == count && ALL.starts_with(sink.bytes())
 }
 
-// Says whether a row comes out with a fresh node as it says.
-fn comes_out<R: Wait>(rt: &R, alloc: Global, row: &WriteRow) -> bool {
+// Returns what came of a row with a fresh node, if it is not what the row says.
+fn other_of_fresh<R: Wait>(rt: &R, alloc: Global, row: &WriteRow) -> Option<Came> {
     match sole(alloc) {
-        Some(mut spring) => writes(rt, alloc, &mut spring, row),
-        None => false,
+        Some(mut spring) => other_with(rt, alloc, &mut spring, row),
+        None => Some(Came {
+            ended: None,
+            faults: 0,
+            count: 0,
+        }),
     }
+}
+
+// The index of a row, and what came of it.
+type Other = (usize, Came);
+
+// Returns the first row of which something else came.
+fn first_other<R: Wait>(rt: &R, alloc: Global) -> Option<Other> {
+    for (index, row) in WRITE_ROWS.iter().enumerate() {
+        if let Some(came) = other_of_fresh(rt, alloc, row) {
+            return Some((index, came));
+        }
+    }
+    None
 }
 
 #[test]
 fn what_was_left_is_written_first(rt: HostRuntime) {
-    let alloc = rt.alloc();
-    let fault = WRITE_ROWS
-        .iter()
-        .position(|row| !comes_out(&rt, alloc, row));
-    assert_eq!(rt; fault, None);
+    assert_eq!(rt; first_other(&rt, rt.alloc()), None);
 }
 
 // How three writes of a stream end, whose device is full at its second call.

@@ -27,34 +27,37 @@ fn sink_of(alloc: Global, most: usize, bad_call: u64) -> Counted<Sink> {
     Counted::new(Sink::new(alloc, most, bad_call, ErrorKind::BrokenPipe))
 }
 
-// Says whether bytes are written so.
-fn writes(device: &mut Counted<Sink>, bytes: &[u8], end: Written, faults: u64) -> bool {
-    device.write_whole(bytes) == end && device.faults() == faults
-}
+// How a write ends, how many bytes are written, and how many faults are counted.
+type Came = (Written, usize, u64);
 
-// Says whether this many bytes of the text are written.
-fn has_written(sink: &Sink, count: usize) -> bool {
-    sink.bytes().len() == count && TEXT.starts_with(sink.bytes())
-}
-
-fn comes_out(alloc: Global, row: &Row) -> bool {
-    let (bad_call, end, count, faults) = *row;
+// Writes the text to a device of which one call fails. Returns what came; none if other bytes are
+// written than the first ones of the text.
+fn came_of(alloc: Global, bad_call: u64) -> Option<Came> {
     let mut device = sink_of(alloc, 3, bad_call);
-    writes(&mut device, TEXT, end, faults) && has_written(&device.into_device(), count)
+    let end = device.write_whole(TEXT);
+    let faults = device.faults();
+    let sink = device.into_device();
+    if TEXT.starts_with(sink.bytes()) {
+        Some((end, sink.bytes().len(), faults))
+    } else {
+        None
+    }
 }
 
 #[test]
 fn what_stands_written_is_a_beginning(rt: HostRuntime) {
-    let alloc = rt.alloc();
-    let fault = ROWS.iter().position(|row| !comes_out(alloc, row));
-    assert_eq!(rt; fault, None);
+    for (bad_call, end, count, faults) in ROWS {
+        let wanted = Some((*end, *count, *faults));
+        assert_eq!(rt; came_of(rt.alloc(), *bad_call), wanted, "{bad_call}");
+    }
 }
 
 #[test]
 fn a_device_that_takes_nothing_stops_the_write(rt: HostRuntime) {
     let mut device = sink_of(rt.alloc(), 0, 0);
-    assert!(rt; writes(&mut device, TEXT, Written::Stopped, 0));
-    assert!(rt; writes(&mut device, b"", Written::Whole, 0));
+    assert_eq!(rt; device.write_whole(TEXT), Written::Stopped);
+    assert_eq!(rt; device.write_whole(b""), Written::Whole);
+    assert_eq!(rt; device.faults(), 0);
 }
 
 // Reads a piece and appends it to those that came: whether it is what the call of this number may
@@ -79,12 +82,31 @@ fn reads(
     }
 }
 
-// Says whether the text arrives whole around a fault of this call, and that fault is counted.
-fn arrives(alloc: Global, room: &mut [u8], bad_call: u64) -> bool {
+// Whether each read gave what it may give, how many bytes arrived, and how many faults are counted.
+type Arrived = (bool, usize, u64);
+
+// Reads the text around a fault of this call. Returns what came, if not the whole text arrives, or
+// that fault is not counted.
+fn other_arrival(alloc: Global, room: &mut [u8], bad_call: u64) -> Option<Arrived> {
     let mut device = Counted::new(Source::new(TEXT, 4, bad_call));
     let mut arrived = Vec::new(alloc);
     let read = (1..7u64).all(|call| reads(&mut device, room, &mut arrived, call, bad_call));
-    read && arrived.as_slice() == TEXT && device.faults() == u64::from(bad_call > 0)
+    let faults = device.faults();
+    if read && arrived.as_slice() == TEXT && faults == u64::from(bad_call > 0) {
+        None
+    } else {
+        Some((read, arrived.len(), faults))
+    }
+}
+
+// Returns the first call around whose fault something else came, and what.
+fn first_other(alloc: Global, room: &mut [u8]) -> Option<(u64, Arrived)> {
+    for bad_call in 0..6u64 {
+        if let Some(arrived) = other_arrival(alloc, room, bad_call) {
+            return Some((bad_call, arrived));
+        }
+    }
+    None
 }
 
 // Ten bytes at four bytes a call are three pieces, and the fourth call finds the end. A fault loses
@@ -93,7 +115,6 @@ fn arrives(alloc: Global, room: &mut [u8], bad_call: u64) -> bool {
 fn each_piece_arrives_around_a_fault(rt: HostRuntime) -> Result<(), Fail> {
     let alloc = rt.alloc();
     let mut room = Vec::from_elem(alloc, 0u8, PIECE_BYTES)?;
-    let fault = (0..6u64).position(|bad_call| !arrives(alloc, room.as_mut_slice(), bad_call));
-    assert_eq!(rt; fault, None);
+    assert_eq!(rt; first_other(alloc, room.as_mut_slice()), None);
     Ok(())
 }
