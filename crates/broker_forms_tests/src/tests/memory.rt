@@ -15,7 +15,7 @@ const SUBSCRIBE: &[u8] = &[0x82, 8, 0, 1, 0, 3, 0x74, 0x2F, 0x23, 2];
 const RETAINED: &[u8] = &[0x35, 8, 0, 3, 0x74, 0x2F, 0x31, 0, 1, 0x78];
 
 /// What happened to a call.
-#[derive(Clone, Copy, PartialEq, Eq)]
+#[derive(Clone, Copy, Debug, PartialEq, Eq)]
 enum Outcome {
     Done,
     NoMemory,
@@ -60,16 +60,23 @@ fn outcome_of_all(alloc: Global, bytes: &mut Vec<u8>) -> Outcome {
     }
 }
 
-fn is_whole_or_free(alloc: Global) -> bool {
+// Returns the outcome and how many bytes came, if not all bytes came, or none for want of memory.
+fn other_outcome(alloc: Global) -> Option<(Outcome, usize)> {
     let mut bytes = Vec::new(alloc);
-    match outcome_of_all(alloc, &mut bytes) {
+    let outcome = outcome_of_all(alloc, &mut bytes);
+    let is_so = match outcome {
         Outcome::Done => bytes.as_slice() == ONE_ENTRY,
         Outcome::NoMemory => bytes.is_empty(),
         Outcome::Wrong => false,
+    };
+    if is_so {
+        None
+    } else {
+        Some((outcome, bytes.len()))
     }
 }
 
 #[test]
 fn memory_is_the_one_free_answer(rt: HostRuntime) {
-    assert!(rt; is_whole_or_free(rt.alloc()));
+    assert_eq!(rt; other_outcome(rt.alloc()), None);
 }

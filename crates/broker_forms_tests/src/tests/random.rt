@@ -142,6 +142,6 @@ fn first_difference(alloc: Global) -> Option<usize> {
 
 // A broker that is frozen and thawed after each of the first commands answers as one that is not.
 #[test]
-fn a_long_list_of_commands(rt: HostRuntime) {
+fn a_broker_frozen_and_thawed_answers_alike(rt: HostRuntime) {
     assert_eq!(rt; first_difference(rt.alloc()), None);
 }

@@ -138,7 +138,7 @@ fn is_read(alloc: Global, front: &[u8], count: u8) -> Option<bool> {
 #[test]
 fn no_more_is_in_flight_than_the_window(rt: HostRuntime) {
     for (front, most, more) in WINDOWS {
-        assert_eq!(rt; is_read(rt.alloc(), front, most), Some(true));
-        assert_eq!(rt; is_read(rt.alloc(), front, more), Some(false));
+        assert_eq!(rt; is_read(rt.alloc(), front, most), Some(true), "{most}");
+        assert_eq!(rt; is_read(rt.alloc(), front, more), Some(false), "{more}");
     }
 }
