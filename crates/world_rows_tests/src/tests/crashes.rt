@@ -134,18 +134,8 @@ const NOBODY: &[Row] = &[
 ];
 
 const TABLES: &[Table] = &[
-    Table {
-        name: "crashed",
-        nodes: 2,
-        members: &[1, 2],
-        rows: CRASHED,
-    },
-    Table {
-        name: "nobody",
-        nodes: 2,
-        members: &[1],
-        rows: NOBODY,
-    },
+    ("crashed", 2, &[1, 2], CRASHED),
+    ("nobody", 2, &[1], NOBODY),
 ];
 
 #[test]

@@ -74,20 +74,7 @@ const IDLE: &[Row] = &[
     Row::Idle(Action::Expel("a", 1)),
 ];
 
-const TABLES: &[Table] = &[
-    Table {
-        name: "expelled",
-        nodes: 1,
-        members: &[1],
-        rows: EXPELLED,
-    },
-    Table {
-        name: "idle",
-        nodes: 2,
-        members: &[1, 2],
-        rows: IDLE,
-    },
-];
+const TABLES: &[Table] = &[("expelled", 1, &[1], EXPELLED), ("idle", 2, &[1, 2], IDLE)];
 
 #[test]
 fn sessions_are_ended(rt: HostRuntime) {

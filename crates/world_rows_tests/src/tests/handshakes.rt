@@ -45,12 +45,7 @@ const WHOLE: &[Row] = &[
     Row::Took("b", 1, 1),
 ];
 
-const TABLES: &[Table] = &[Table {
-    name: "whole",
-    nodes: 1,
-    members: &[1],
-    rows: WHOLE,
-}];
+const TABLES: &[Table] = &[("whole", 1, &[1], WHOLE)];
 
 #[test]
 fn a_publication_reaches_the_subscriber(rt: HostRuntime) {

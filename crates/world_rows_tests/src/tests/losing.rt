@@ -64,27 +64,12 @@ const TAKEN_OVER: &[Row] = &[
 ];
 
 const TABLES: &[Table] = &[
-    Table {
-        name: "abandoned",
-        nodes: 1,
-        members: &[1],
-        rows: ABANDONED,
-    },
-    Table {
-        name: "left",
-        nodes: 1,
-        members: &[1],
-        rows: LEFT,
-    },
-    Table {
-        name: "taken over",
-        nodes: 1,
-        members: &[1],
-        rows: TAKEN_OVER,
-    },
+    ("abandoned", 1, &[1], ABANDONED),
+    ("left", 1, &[1], LEFT),
+    ("taken over", 1, &[1], TAKEN_OVER),
 ];
 
 #[test]
-fn connections_end(rt: HostRuntime) {
+fn lost_connections_close_and_sessions_stay(rt: HostRuntime) {
     assert_eq!(rt; fault_in(rt.alloc(), TABLES), None);
 }

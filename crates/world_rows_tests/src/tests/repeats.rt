@@ -42,18 +42,8 @@ const TICKED: &[Row] = &[
 ];
 
 const TABLES: &[Table] = &[
-    Table {
-        name: "repeated",
-        nodes: 2,
-        members: &[1, 2],
-        rows: REPEATED,
-    },
-    Table {
-        name: "ticked",
-        nodes: 2,
-        members: &[1, 2],
-        rows: TICKED,
-    },
+    ("repeated", 2, &[1, 2], REPEATED),
+    ("ticked", 2, &[1, 2], TICKED),
 ];
 
 #[test]

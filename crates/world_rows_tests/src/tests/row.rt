@@ -43,7 +43,13 @@ pub enum Said {
     Expel(&'static str),
 }
 
-/// What happens in a world, or is seen of it.
+/// What happens in a world, or is seen of it. The rules of `ballot_base` say how many messages are
+/// sent. The primary sends each command to the other members as an Append. Each answers Held, and
+/// once all hold it the primary sends each a Commit. A tick of an active primary sends each the
+/// Append that it lacks, and a Commit. The master sends a NewBallot to the primary of a ballot, and
+/// this a Join to each member before, who answers State. It sends an Install to each other member
+/// of its own, who answers Installed, and then Activate to the master. The master answers
+/// Activated, and the command that starts the ballot follows; or Superseded, if a later one waits.
 pub enum Row {
     /// This happens. Then this many messages were sent in all, and this many commands are agreed.
     Does(Action, u64, u64),
@@ -60,18 +66,9 @@ pub enum Row {
     Agrees(&'static [Said]),
 }
 
-/// A world of this many nodes, these members of ballot 1 with node 1 as primary, and what happens
-/// in it.
-pub struct Table {
-    /// What it shows.
-    pub name: &'static str,
-    /// How many nodes there are.
-    pub nodes: u8,
-    /// The members of ballot 1.
-    pub members: &'static [u8],
-    /// What happens, in order.
-    pub rows: &'static [Row],
-}
+/// What a table shows; how many nodes its world has, the members of ballot 1, whose primary is node
+/// 1; and what happens in it, in order.
+pub type Table = (&'static str, u8, &'static [u8], &'static [Row]);
 
 /// Returns a world of `nodes` nodes and clients `a` and `b`. These are the members of ballot 1, and
 /// node 1 is its primary.
@@ -93,37 +90,45 @@ fn config_of(alloc: Global, members: &[u8], primary: u8) -> Option<Config> {
     })
 }
 
-/// Returns the first of these tables that has a row which does not hold, and the index of that row;
-/// the index after the last one if a step ran out of memory.
-pub fn fault_in(alloc: Global, tables: &[Table]) -> Option<(&'static str, usize)> {
-    for table in tables {
-        if let Some(at) = fault_of(alloc, table) {
-            return Some((table.name, at));
+/// The index of a row that does not hold, the index after the last one if a step ran out of memory;
+/// how many messages were sent then, how many commands are agreed, and which ballot is active.
+pub type Fault = (usize, u64, u64, u64);
+
+/// Returns the first of these tables that has a row which does not hold, and the first such row.
+pub fn fault_in(alloc: Global, tables: &[Table]) -> Option<(&'static str, Fault)> {
+    for (name, nodes, members, rows) in tables {
+        if let Some(fault) = fault_of(alloc, *nodes, members, rows) {
+            return Some((*name, fault));
         }
     }
     None
 }
 
 // Returns the first row of a table that does not hold.
-fn fault_of(alloc: Global, table: &Table) -> Option<usize> {
-    match opened(alloc, table.nodes, table.members) {
-        Some(mut world) => first_fault(alloc, &mut world, table.rows),
-        None => Some(0),
+fn fault_of(alloc: Global, nodes: u8, members: &[u8], rows: &[Row]) -> Option<Fault> {
+    match opened(alloc, nodes, members) {
+        Some(mut world) => first_fault(alloc, &mut world, rows),
+        None => Some((0, 0, 0, 0)),
     }
 }
 
 // Returns the first row that does not hold for this world.
-fn first_fault(alloc: Global, world: &mut World, rows: &[Row]) -> Option<usize> {
+fn first_fault(alloc: Global, world: &mut World, rows: &[Row]) -> Option<Fault> {
     for (at, row) in rows.iter().enumerate() {
         if !is_right(alloc, world, row) {
-            return Some(at);
+            return Some(fault_at(world, at));
         }
     }
     if world.losses() == 0 {
         None
     } else {
-        Some(rows.len())
+        Some(fault_at(world, rows.len()))
     }
+}
+
+/// Returns what this world shows at a row.
+pub fn fault_at(world: &World, at: usize) -> Fault {
+    (at, world.messages(), world.agreed_len(), world.active().0)
 }
 
 /// Says whether a row holds for a world.
@@ -141,6 +146,18 @@ pub fn is_right(alloc: Global, world: &mut World, row: &Row) -> bool {
         Row::Active(ballot) => world.active().0 == *ballot,
         Row::Agrees(list) => agrees_on(world, list),
     }
+}
+
+// Says whether these bytes wait to go up on a connection.
+fn has_up(world: &World, connection: u64, bytes: &[u8]) -> bool {
+    let waiting = world.up(connection);
+    waiting == bytes
+}
+
+// Says whether they wait to go down.
+fn has_down(world: &World, connection: u64, bytes: &[u8]) -> bool {
+    let waiting = world.down(connection);
+    waiting == bytes
 }
 
 // Says whether these commands are agreed, in this order.
@@ -171,18 +188,6 @@ fn is_said(command: &Command, said: &Said) -> bool {
         (Command::Expel(client), Said::Expel(name)) => client.as_str() == *name,
         _ => false,
     }
-}
-
-// Says whether these bytes wait to go up on a connection.
-fn has_up(world: &World, connection: u64, bytes: &[u8]) -> bool {
-    let waiting = world.up(connection);
-    waiting == bytes
-}
-
-// Says whether they wait to go down.
-fn has_down(world: &World, connection: u64, bytes: &[u8]) -> bool {
-    let waiting = world.down(connection);
-    waiting == bytes
 }
 
 /// Says whether the event can happen.

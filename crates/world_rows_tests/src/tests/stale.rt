@@ -1,6 +1,6 @@
 // A primary of a ballot that is over.
 
-use crate::tests::row::{Action, Row, Said, Table, fault_in, is_right, opened};
+use crate::tests::row::{Action, Fault, Row, Said, Table, fault_at, fault_in, is_right, opened};
 use std::alloc::Global;
 use world::World;
 
@@ -27,7 +27,9 @@ const AFTER: &[Said] = &[
 /// The events of the script `stale_primary` of the folder `examples`, with what waits on
 /// connections. The subscriber's PUBREC comes to a primary that another member replaces, and is
 /// lost with it. No PUBREL goes down on any connection, and the subscriber accepts each publication
-/// once. The numbers of `Does`: messages sent, commands agreed.
+/// once. The numbers of `Does`: messages sent, by the rules at `Row`, and commands agreed. Ballot 2
+/// has a sole member: its five messages are NewBallot, two Joins, a State and Activate, and
+/// Activated is the sixth. The tick of node 1 sends the Append that holds the PUBREC, and a Commit.
 pub const STALE: &[Row] = &[
     Row::Does(Action::Open("b", 1), 0, 0),
     Row::Does(Action::Up(1), 1, 0),
@@ -71,12 +73,7 @@ pub const STALE: &[Row] = &[
     Row::Agrees(AFTER),
 ];
 
-const TABLES: &[Table] = &[Table {
-    name: "stale",
-    nodes: 2,
-    members: &[1, 2],
-    rows: STALE,
-}];
+const TABLES: &[Table] = &[("stale", 2, &[1, 2], STALE)];
 
 #[test]
 fn a_stale_primary_is_not_heard(rt: HostRuntime) {
@@ -96,21 +93,24 @@ fn is_free_of_pubrel(world: &World) -> bool {
     (1..4u64).all(|connection| !has_pubrel(world.down(connection)))
 }
 
-// Finds the first row that does not hold, or after which one waits.
-fn first_pubrel(alloc: Global, world: &mut World) -> Option<usize> {
+// Finds the first row that does not hold, or after which one waits, and what the world shows then.
+fn first_pubrel(alloc: Global, world: &mut World) -> Option<(&'static str, Fault)> {
     for (at, row) in STALE.iter().enumerate() {
-        if !is_right(alloc, world, row) || !is_free_of_pubrel(world) {
-            return Some(at);
+        if !is_right(alloc, world, row) {
+            return Some(("the row does not hold", fault_at(world, at)));
+        }
+        if !is_free_of_pubrel(world) {
+            return Some(("a PUBREL waits", fault_at(world, at)));
         }
     }
     None
 }
 
-// Finds the first such row of a fresh world; row 0 if the world does not open.
-fn first_pubrel_from_the_opening(alloc: Global) -> Option<usize> {
+// Finds the first such row of a fresh world.
+fn first_pubrel_from_the_opening(alloc: Global) -> Option<(&'static str, Fault)> {
     match opened(alloc, 2, &[1, 2]) {
         Some(mut world) => first_pubrel(alloc, &mut world),
-        None => Some(0),
+        None => Some(("no world opens", (0, 0, 0, 0))),
     }
 }
 

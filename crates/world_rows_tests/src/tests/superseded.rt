@@ -47,12 +47,7 @@ pub const SUPERSEDED: &[Row] = &[
     Row::Agrees(AFTER),
 ];
 
-const TABLES: &[Table] = &[Table {
-    name: "superseded",
-    nodes: 3,
-    members: &[1],
-    rows: SUPERSEDED,
-}];
+const TABLES: &[Table] = &[("superseded", 3, &[1], SUPERSEDED)];
 
 #[test]
 fn a_ballot_is_superseded(rt: HostRuntime) {

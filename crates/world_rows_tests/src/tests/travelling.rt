@@ -65,18 +65,8 @@ const IDLE: &[Row] = &[
 ];
 
 const TABLES: &[Table] = &[
-    Table {
-        name: "travelled",
-        nodes: 2,
-        members: &[1],
-        rows: TRAVELLED,
-    },
-    Table {
-        name: "idle",
-        nodes: 2,
-        members: &[1, 2],
-        rows: IDLE,
-    },
+    ("travelled", 2, &[1], TRAVELLED),
+    ("idle", 2, &[1, 2], IDLE),
 ];
 
 #[test]

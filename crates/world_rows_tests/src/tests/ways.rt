@@ -188,8 +188,11 @@ fn is_reported_or_counted(alloc: Global) -> bool {
 
 // Runs with each allocation failing in turn.
 #[test]
-fn a_way_out_without_memory(rt: HostRuntime) {
-    assert!(rt; is_reported_or_counted(rt.alloc()));
+fn a_way_out_without_memory_is_refused_or_counted(rt: HostRuntime) {
+    assert!(rt;
+        is_reported_or_counted(rt.alloc()),
+        "it has no end, and no loss"
+    );
 }
 
 #[test]
@@ -217,7 +220,7 @@ fn nothing_leads_out_where_nobody_lives(rt: HostRuntime) {
 }
 
 #[test]
-fn ways_out(rt: HostRuntime) {
+fn each_course_has_its_ways_out(rt: HostRuntime) {
     for course in COURSES {
         let name = course.name;
         assert_eq!(rt; fault_in(rt.alloc(), course), None, "{name}");
