@@ -59,6 +59,7 @@ fn took_nothing(alloc: Global, world: &World) -> bool {
     }
 }
 
+// Says whether all comes as usual or a loss is counted, and the client accepted nothing.
 fn is_well(alloc: Global, world: &mut World) -> bool {
     match events(alloc) {
         Some(events) => {
@@ -68,15 +69,28 @@ fn is_well(alloc: Global, world: &mut World) -> bool {
     }
 }
 
+// What a world shows: how many steps ran out of memory, how many messages were sent, and how many
+// commands are agreed.
+type Shown = (u64, u64, u64);
+
+// Returns what a world shows in the end, if something is not as it is to be.
+fn shown_unless_well(alloc: Global, world: &mut World) -> Option<Shown> {
+    if is_well(alloc, world) {
+        None
+    } else {
+        Some((world.losses(), world.messages(), world.agreed_len()))
+    }
+}
+
 // If memory runs out for a world, or for the events, nothing is asked of it.
-fn is_well_from_the_opening(alloc: Global) -> bool {
+fn shown_from_the_opening(alloc: Global) -> Option<Shown> {
     match opened(alloc, 2, &[1, 2]) {
-        Some(mut world) => is_well(alloc, &mut world),
-        None => true,
+        Some(mut world) => shown_unless_well(alloc, &mut world),
+        None => None,
     }
 }
 
 #[test]
 fn what_finds_no_memory_is_counted(rt: HostRuntime) {
-    assert!(rt; is_well_from_the_opening(rt.alloc()));
+    assert_eq!(rt; shown_from_the_opening(rt.alloc()), None);
 }
