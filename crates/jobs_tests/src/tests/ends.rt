@@ -1,6 +1,6 @@
 // How each job ends: its exit status, and what it writes.
 
-use crate::tests::hand::{does, ends};
+use crate::tests::hand::{does, text_of};
 use jobs::command_line::LineFault;
 use jobs::{JobError, print_fault, refuse, serve_table};
 use std::alloc::Global;
@@ -12,77 +12,61 @@ use std::time::Clock;
 
 // The words of a command line, the exit status, and what comes on standard error; nothing is
 // printed. No server listens on the address of these clients.
-const ENDS: &[(&[&str], u8, &str)] = &[
+const ENDS: &[(&str, u8, &str)] = &[
     (
-        &["vbroker", "serve", "--config", "/nowhere/nodes.toml"],
+        "vbroker serve --config /nowhere/nodes.toml",
         1,
         "vbroker: cannot read /nowhere/nodes.toml: entity not found\n",
     ),
     (
-        &[
-            "vbroker",
-            "pub",
-            "--id",
-            "a",
-            "--topic",
-            "t/#",
-            "--qos",
-            "1",
-            "--message",
-            "x",
-            "127.0.0.1:1",
-        ],
+        "vbroker pub --id a --topic t/# --qos 1 --message x 127.0.0.1:1",
         3,
         "vbroker: refused 8\n",
     ),
     (
-        &[
-            "vbroker",
-            "sub",
-            "--id",
-            "a",
-            "--filter",
-            "t/#/u",
-            "--qos",
-            "1",
-            "--count",
-            "1",
-            "127.0.0.1:1",
-        ],
+        "vbroker sub --id a --filter t/#/u --qos 1 --count 1 127.0.0.1:1",
         3,
         "vbroker: refused 9\n",
     ),
     (
-        &[
-            "vbroker",
-            "pub",
-            "--id",
-            "a",
-            "--topic",
-            "t",
-            "--qos",
-            "1",
-            "--message",
-            "x",
-            "--tries",
-            "1",
-            "127.0.0.1:1",
-        ],
+        "vbroker pub --id a --topic t --qos 1 --message x --tries 1 127.0.0.1:1",
         1,
         "vbroker: lost\n",
     ),
     (
-        &["vbroker", "play", "/nowhere/a.script"],
+        "vbroker play /nowhere/a.script",
         1,
         "vbroker: cannot read /nowhere/a.script: entity not found\n",
     ),
 ];
 
+// Does what the words, separated by blanks, say, over no input. Returns the exit status; none if
+// there was no memory for the words.
+fn does_line<R>(rt: &R, words: &str, output: &mut Vec<u8>, faults: &mut Vec<u8>) -> Option<u8>
+where
+    R: Files + Threads + Wait + Clock + Sync + AllocGlobal,
+    R: Net<Listener = TcpListener, Stream = TcpStream>,
+{
+    let parted: Result<Vec<&str>, _> = words.split(' ').collect(rt.alloc());
+    let mut input = b"".as_slice();
+    match parted {
+        Ok(parted) => Some(does(rt, parted.as_slice(), &mut input, output, faults)),
+        Err(_) => None,
+    }
+}
+
 #[test]
 fn jobs_end_with_their_status_and_text(rt: HostRuntime) {
     for (words, status, told) in ENDS {
-        let is_so = ends(&rt, words, b"".as_slice(), (*status, "", told));
-        assert!(rt; is_so, "{told}");
+        let mut output = Vec::new(rt.alloc());
+        let mut faults = Vec::new(rt.alloc());
+        let ended = does_line(&rt, words, &mut output, &mut faults);
+        let came = (
+            ended,
+            text_of(output.as_slice()),
+            text_of(faults.as_slice()),
+        );
+        assert_eq!(rt; came, (Some(*status), "", *told), "{words}");
     }
 }
 
@@ -113,27 +97,14 @@ const REFUSED_LINES: &[(&str, u8, bool)] = &[
     ),
 ];
 
-// Says whether the words, separated by blanks, are refused in this way.
-fn line_is_refused<R>(rt: &R, words: &str, wanted: u8, is_fault: bool) -> bool
-where
-    R: Files + Threads + Wait + Clock + Sync + AllocGlobal,
-    R: Net<Listener = TcpListener, Stream = TcpStream>,
-{
-    let parted: Result<Vec<&str>, _> = words.split(' ').collect(rt.alloc());
-    let Ok(parted) = parted else {
-        return false;
-    };
-    let mut output = Vec::new(rt.alloc());
-    let mut faults = Vec::new(rt.alloc());
-    let mut input = b"".as_slice();
-    let status = does(rt, parted.as_slice(), &mut input, &mut output, &mut faults);
-    status == wanted && output.is_empty() == is_fault && faults.is_empty() != is_fault
-}
-
 #[test]
 fn lines_are_refused_with_a_status(rt: HostRuntime) {
     for (words, status, is_fault) in REFUSED_LINES {
-        assert!(rt; line_is_refused(&rt, words, *status, *is_fault), "{words}");
+        let mut output = Vec::new(rt.alloc());
+        let mut faults = Vec::new(rt.alloc());
+        let ended = does_line(&rt, words, &mut output, &mut faults);
+        let came = (ended, output.is_empty(), faults.is_empty());
+        assert_eq!(rt; came, (Some(*status), *is_fault, !*is_fault), "{words}");
     }
 }
 

@@ -1,5 +1,6 @@
 // The order to end the session of a client.
 
+use super::hand::text_of;
 use super::orders::{Served, free_port, serve};
 use jobs::command_line::Subscribe;
 use jobs::packet::QoS;
@@ -89,9 +90,9 @@ where
     ordered && lost
 }
 
-// Returns what is not so: the nodes of this table answer the orders, and the client reports that
-// its session is lost.
-fn missed_with<R>(rt: &R, served: &Served) -> Option<&'static str>
+// Returns what is not so: the nodes of this table are served, and the client reports that its
+// session is lost.
+fn missed_with<R>(rt: &R, served: &Served, output: &mut Vec<u8>) -> Option<&'static str>
 where
     R: Files + Threads + Wait + Clock + Sync + AllocGlobal,
     R: Net<Listener = TcpListener, Stream = TcpStream>,
@@ -99,35 +100,38 @@ where
     let Ok((input, orders)) = io::pipe(rt) else {
         return Some("there is a pipe");
     };
-    let (answered, talked) = thread::join(
+    let (is_served, talked) = thread::join(
         rt,
-        || serve(rt, served.table.as_str(), input, ANSWERS),
+        || serve(rt, served.table.as_str(), input, output),
         || talks(rt, orders, served.address.as_str()),
     );
-    match (answered, talked) {
+    match (is_served, talked) {
         (true, true) => None,
-        (false, _) => Some("the orders are answered"),
+        (false, _) => Some("the nodes are served"),
         (true, false) => Some("the orders are given, and the client's session is lost"),
     }
 }
 
 // Returns what is not so of nodes on this port and their client.
-fn missed_at<R>(rt: &R, port: u16) -> Option<&'static str>
+fn missed_at<R>(rt: &R, port: u16, output: &mut Vec<u8>) -> Option<&'static str>
 where
     R: Files + Threads + Wait + Clock + Sync + AllocGlobal,
     R: Net<Listener = TcpListener, Stream = TcpStream>,
 {
     match Served::new(rt.alloc(), port) {
-        Ok(served) => missed_with(rt, &served),
+        Ok(served) => missed_with(rt, &served, output),
         Err(_) => Some("there is memory for a table"),
     }
 }
 
 #[test]
 fn clients_are_expelled(rt: HostRuntime) {
+    let mut output = Vec::new(rt.alloc());
     let missed = match free_port(&rt) {
-        Ok(port) => missed_at(&rt, port),
+        Ok(port) => missed_at(&rt, port, &mut output),
         Err(_) => Some("a port is free"),
     };
-    assert_eq!(rt; missed, None);
+    let came = text_of(output.as_slice());
+    assert_eq!(rt; missed, None, "{came}");
+    assert_eq!(rt; came, ANSWERS);
 }

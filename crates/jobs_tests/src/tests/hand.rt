@@ -5,12 +5,18 @@ use jobs::{perform, refuse};
 use std::io::BufRead;
 use std::net::{Net, TcpListener, TcpStream};
 use std::rt::Files;
+use std::str;
 use std::sync::Wait;
 use std::thread::Threads;
 use std::time::Clock;
 
 /// How a job ends: its exit status, and what it writes on standard output and on standard error.
 pub type End<'a> = (u8, &'a str, &'a str);
+
+/// Returns what was written as a text, so that it can be compared and shown.
+pub fn text_of(written: &[u8]) -> &str {
+    str::from_utf8(written).unwrap_or("not UTF-8")
+}
 
 /// Says whether a command line of these words, over this input, ends so.
 pub fn ends<R>(rt: &R, words: &[&str], input: &[u8], end: End<'_>) -> bool

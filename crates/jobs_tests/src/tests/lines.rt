@@ -140,8 +140,8 @@ fn comes_of(alloc: Global, words: &str, outcome: Outcome<'_>) -> bool {
 }
 
 // What is left out has its default. An empty message is allowed, and one that begins with a hyphen
-// is given after
-// `=`. Options come in any order, and after the addresses too. The program's name may be missing.
+// is given after `=`. Options come in any order, and after the addresses. The program's name may be
+// missing.
 const ROWS: &[(&[&str], Outcome<'static>)] = &[
     (
         &["vbroker", "serve", "--config", "one.toml"],

@@ -2,7 +2,7 @@
 // between them.
 
 use super::hand::does;
-use super::orders::free_port;
+use super::orders::{Served, free_port};
 use std::io::{BufReader, PipeReader, PipeWriter, Write};
 use std::net::{Net, TcpListener, TcpStream};
 use std::rt::Files;
@@ -22,26 +22,21 @@ const PRINTED: &str = "2 0 t/1 x\n";
 // How long the nodes and then the subscriber get to come, in milliseconds.
 const REST: u64 = 3_000;
 
-// A file with a table of two nodes, of which the first serves on an address, and that address.
+// A file with a table of two nodes, of which the first serves on an address.
 #[derive(Drop)]
 struct Table {
     file: String,
-    address: String,
+    served: Served,
 }
 
 impl Table {
     // On this port of the loopback.
     fn new<R: Files + AllocGlobal>(rt: &R, port: u16) -> io::Result<Table> {
         let alloc = rt.alloc();
-        let text = format!(in alloc;
-            "members = [1, 2]\nprimary = 1\n\
-             [[node]]\nid = 1\nlisten = \"127.0.0.1:{port}\"\n\
-             [[node]]\nid = 2\nlisten = \"127.0.0.1:0\"\n"
-        )?;
-        let address = format!(in alloc; "127.0.0.1:{port}")?;
+        let served = Served::new(alloc, port)?;
         let file = format!(in alloc; "/tmp/vbroker_{port}.toml")?;
-        fs::write(rt, file.as_str(), text.as_str())?;
-        Ok(Table { file, address })
+        fs::write(rt, file.as_str(), served.table.as_str())?;
+        Ok(Table { file, served })
     }
 }
 
@@ -142,7 +137,7 @@ where
         "1",
         "--tries",
         "50",
-        table.address.as_str(),
+        table.served.address.as_str(),
     ];
     ends_so(rt, words.as_slice(), PRINTED)
 }
@@ -164,7 +159,7 @@ where
         "2",
         "--message",
         "x",
-        table.address.as_str(),
+        table.served.address.as_str(),
     ];
     thread::sleep(rt, Duration::from_millis(REST));
     ends_so(rt, words.as_slice(), "")

@@ -1,5 +1,6 @@
 // Orders to the nodes of a server, while its two clients run.
 
+use super::hand::text_of;
 use jobs::command_line::{Publish, Subscribe};
 use jobs::packet::QoS;
 use jobs::{publish, serve_table, subscribe};
@@ -60,27 +61,31 @@ where
     Ok(TcpListener::bind(rt, "127.0.0.1:0")?.local_addr()?.port())
 }
 
-/// Says whether the nodes of a table give these answers to the orders that come by a pipe.
-pub(super) fn serve<R>(rt: &R, table: &str, orders: PipeReader, answers: &str) -> bool
+/// Serves the nodes of a table, with orders that come by a pipe, and writes what they answer. Says
+/// whether that succeeds.
+pub(super) fn serve<R>(rt: &R, table: &str, orders: PipeReader, output: &mut Vec<u8>) -> bool
 where
     R: Threads + Wait + Clock + Sync + AllocGlobal,
     R: Net<Listener = TcpListener, Stream = TcpStream>,
 {
     match BufReader::new(rt.alloc(), orders) {
-        Ok(mut input) => are_answered(rt, table, &mut input, answers),
+        Ok(mut input) => is_served(rt, table, &mut input, output),
         Err(_) => false,
     }
 }
 
-fn are_answered<R>(rt: &R, table: &str, input: &mut BufReader<PipeReader>, answers: &str) -> bool
+fn is_served<R>(
+    rt: &R,
+    table: &str,
+    input: &mut BufReader<PipeReader>,
+    output: &mut Vec<u8>,
+) -> bool
 where
     R: Threads + Wait + Clock + Sync + AllocGlobal,
     R: Net<Listener = TcpListener, Stream = TcpStream>,
 {
-    let mut output = Vec::new(rt.alloc());
     let mut faults = Vec::new(rt.alloc());
-    serve_table(rt, table, input, &mut output, &mut faults).is_ok()
-        && output.as_slice() == answers.as_bytes()
+    serve_table(rt, table, input, output, &mut faults).is_ok()
 }
 
 // Says whether `sub` prints what it has to.
@@ -134,44 +139,44 @@ where
     publish(rt, &job).is_ok()
 }
 
-// Gives the orders, and has the clients talk between them: whether these do as they have to.
-fn order<R>(rt: &R, orders: &mut PipeWriter, address: &str) -> bool
+// Says whether both clients do as they have to.
+fn talk<R>(rt: &R, address: &str) -> bool
 where
     R: Threads + Clock + Sync + AllocGlobal,
     R: Net<Listener = TcpListener, Stream = TcpStream>,
 {
-    if orders.write_all(FIRST.as_bytes()).is_err() {
-        return false;
-    }
     thread::sleep(rt, Duration::from_millis(500));
     let (printed, published) = thread::join(rt, || prints(rt, address), || publishes(rt, address));
-    orders.write_all(THEN.as_bytes()).is_ok() && printed && published
+    printed && published
 }
 
-// Gives the orders, and has the clients talk, by a pipe that then ends: whether these do so.
+// Gives the orders, by a pipe that then ends, and has the clients talk between them. Says whether
+// these do as they have to.
 fn order_all<R>(rt: &R, orders: PipeWriter, address: &str) -> bool
 where
     R: Threads + Clock + Sync + AllocGlobal,
     R: Net<Listener = TcpListener, Stream = TcpStream>,
 {
     let mut orders = orders;
-    order(rt, &mut orders, address)
+    orders.write_all(FIRST.as_bytes()).is_ok()
+        && talk(rt, address)
+        && orders.write_all(THEN.as_bytes()).is_ok()
 }
 
 // Returns what is not so of nodes on this port and their clients.
-fn missed_at<R>(rt: &R, port: u16) -> Option<&'static str>
+fn missed_at<R>(rt: &R, port: u16, output: &mut Vec<u8>) -> Option<&'static str>
 where
     R: Files + Threads + Wait + Clock + Sync + AllocGlobal,
     R: Net<Listener = TcpListener, Stream = TcpStream>,
 {
     match Served::new(rt.alloc(), port) {
-        Ok(served) => missed_with(rt, &served),
+        Ok(served) => missed_with(rt, &served, output),
         Err(_) => Some("there is memory for a table"),
     }
 }
 
-// Returns what is not so: the nodes of this table answer the orders, and the clients talk.
-fn missed_with<R>(rt: &R, served: &Served) -> Option<&'static str>
+// Returns what is not so: the nodes of this table are served, and the clients talk.
+fn missed_with<R>(rt: &R, served: &Served, output: &mut Vec<u8>) -> Option<&'static str>
 where
     R: Files + Threads + Wait + Clock + Sync + AllocGlobal,
     R: Net<Listener = TcpListener, Stream = TcpStream>,
@@ -179,23 +184,26 @@ where
     let Ok((input, orders)) = io::pipe(rt) else {
         return Some("there is a pipe");
     };
-    let (answered, talked) = thread::join(
+    let (is_served, talked) = thread::join(
         rt,
-        || serve(rt, served.table.as_str(), input, ANSWERS),
+        || serve(rt, served.table.as_str(), input, output),
         || order_all(rt, orders, served.address.as_str()),
     );
-    match (answered, talked) {
+    match (is_served, talked) {
         (true, true) => None,
-        (false, _) => Some("the orders are answered"),
+        (false, _) => Some("the nodes are served"),
         (true, false) => Some("the orders are given, and the clients talk"),
     }
 }
 
 #[test]
 fn orders_are_answered(rt: HostRuntime) {
+    let mut output = Vec::new(rt.alloc());
     let missed = match free_port(&rt) {
-        Ok(port) => missed_at(&rt, port),
+        Ok(port) => missed_at(&rt, port, &mut output),
         Err(_) => Some("a port is free"),
     };
-    assert_eq!(rt; missed, None);
+    let came = text_of(output.as_slice());
+    assert_eq!(rt; missed, None, "{came}");
+    assert_eq!(rt; came, ANSWERS);
 }

@@ -48,45 +48,22 @@ const WAY: &str = "assign 1 1\n\
     up 2 15\n\
     down 2 4\n";
 
-// Words that ask for a way out of a script, and how they end.
-const ESCAPED: &[(&[&str], &str, End<'static>)] = &[
-    (
-        &["vbroker", "play", "--escape", "1", "--client", "a"],
-        ANSWERED,
-        (0, WAY, ""),
-    ),
-    (
-        &["vbroker", "play", "--escape", "2", "--client", "a"],
-        ANSWERED,
-        (3, "", "vbroker: idle\n"),
-    ),
-    (
-        &["vbroker", "play", "--escape", "1", "--client", "b"],
-        ANSWERED,
-        (3, "", "vbroker: idle\n"),
-    ),
-    (
-        &["vbroker", "play", "--escape", "x", "--client", "a"],
-        ANSWERED,
-        (3, "", "vbroker: refused 20\n"),
-    ),
-    (
-        &["vbroker", "play", "--escape", "1", "--client", ""],
-        ANSWERED,
-        (3, "", "vbroker: refused 6\n"),
-    ),
-    (
-        &["vbroker", "play", "--escape", "1", "--client", "a"],
-        "",
-        (3, "", "vbroker: script line 1\n"),
-    ),
+// The node and the client for which a way out of a script is asked, and how that ends.
+const ESCAPED: &[(&str, &str, &str, End<'static>)] = &[
+    ("1", "a", ANSWERED, (0, WAY, "")),
+    ("2", "a", ANSWERED, (3, "", "vbroker: idle\n")),
+    ("1", "b", ANSWERED, (3, "", "vbroker: idle\n")),
+    ("x", "a", ANSWERED, (3, "", "vbroker: refused 20\n")),
+    ("1", "", ANSWERED, (3, "", "vbroker: refused 6\n")),
+    ("1", "a", "", (3, "", "vbroker: script line 1\n")),
 ];
 
 #[test]
 fn ways_out_are_printed(rt: HostRuntime) {
-    for (words, script, end) in ESCAPED {
-        let is_printed = ends(&rt, words, script.as_bytes(), *end);
-        assert!(rt; is_printed, "{script}");
+    for (node, client, script, end) in ESCAPED {
+        let words = ["vbroker", "play", "--escape", *node, "--client", *client];
+        let is_printed = ends(&rt, words.as_slice(), script.as_bytes(), *end);
+        assert!(rt; is_printed, "{node}, {client}, {script}");
     }
 }
 
