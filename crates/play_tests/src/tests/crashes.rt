@@ -1,9 +1,9 @@
 // A node crashes after an event of a script, each node after each event, and the script continues.
 
+use crate::tests::hand::text_of;
 use crate::tests::scripts::{SCRIPTS, SNAPSHOT_TRAVELS};
-use play::play;
+use play::{PlayError, play};
 use std::alloc::Global;
-use std::str;
 
 // A crash of each node. That of a node which a script does not have is idle.
 const CRASHES: [&[u8]; 3] = [b"crash 1\n", b"crash 2\n", b"crash 3\n"];
@@ -48,8 +48,8 @@ fn tells_no_more(written: &str, own: &str) -> bool {
     true
 }
 
-/// Returns a script with a line put in at this byte.
-pub fn with_line(alloc: Global, script: &[u8], at: usize, line: &[u8]) -> Option<Vec<u8>> {
+// Returns a script with a line put in at this byte.
+fn with_line(alloc: Global, script: &[u8], at: usize, line: &[u8]) -> Option<Vec<u8>> {
     let (front, rest) = script.split_at_checked(at)?;
     let mut edited = Vec::new(alloc);
     edited.extend_from_slice(front).ok()?;
@@ -58,25 +58,25 @@ pub fn with_line(alloc: Global, script: &[u8], at: usize, line: &[u8]) -> Option
     Some(edited)
 }
 
-// Says whether an edited script is played to its end with no loss, and its transcript has no
-// publication that this one has not.
-fn goes_no_further(alloc: Global, script: &[u8], own: &str) -> bool {
+/// Returns the transcript of a script with a line put in at this byte.
+pub fn transcript_with(
+    alloc: Global,
+    script: &str,
+    at: usize,
+    line: &[u8],
+) -> Result<Vec<u8>, PlayError> {
+    let edited = with_line(alloc, script.as_bytes(), at, line).ok_or(PlayError::Memory)?;
     let mut transcript = Vec::new(alloc);
-    if play(alloc, script, &mut transcript).is_err() {
-        return false;
-    }
-    match str::from_utf8(transcript.as_slice()) {
-        Ok(written) => only_grows(written) && tells_no_more(written, own),
-        Err(_) => false,
-    }
+    play(alloc, edited.as_slice(), &mut transcript)?;
+    Ok(transcript)
 }
 
-// Says whether a script goes no further with a line put in at this byte.
+// Says whether a script with a line put in at this byte is played to its end with no loss, and its
+// transcript has no publication that its own one has not.
 fn survives(alloc: Global, row: &[&str; 2], at: usize, line: &[u8]) -> bool {
-    match with_line(alloc, row[0].as_bytes(), at, line) {
-        Some(edited) => goes_no_further(alloc, edited.as_slice(), row[1]),
-        None => false,
-    }
+    let played = transcript_with(alloc, row[0], at, line);
+    let written = text_of(&played);
+    played.is_ok() && only_grows(written) && tells_no_more(written, row[1])
 }
 
 // Says whether a script goes no further with a crash of each node put in at this byte.

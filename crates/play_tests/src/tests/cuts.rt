@@ -1,11 +1,10 @@
 // A node cuts its log after an event of a script, each node after each event, and the script
 // continues as usual.
 
-use crate::tests::crashes::with_line;
+use crate::tests::crashes::transcript_with;
+use crate::tests::hand::text_of;
 use crate::tests::scripts::{PRIMARY_CRASHES, STALE_PRIMARY};
-use play::play;
 use std::alloc::Global;
-use std::str;
 
 // A cut of each node.
 const CUTS: [&[u8]; 2] = [b"cut 1\n", b"cut 2\n"];
@@ -39,17 +38,8 @@ fn is_own_with(written: &str, own: &str, events: usize) -> bool {
 // Says whether a script with a cut inserted at this byte, after this many events, continues as
 // without the cut.
 fn goes_as_ever(alloc: Global, row: &[&str; 2], at: usize, events: usize, line: &[u8]) -> bool {
-    let Some(edited) = with_line(alloc, row[0].as_bytes(), at, line) else {
-        return false;
-    };
-    let mut transcript = Vec::new(alloc);
-    if play(alloc, edited.as_slice(), &mut transcript).is_err() {
-        return false;
-    }
-    match str::from_utf8(transcript.as_slice()) {
-        Ok(written) => is_own_with(written, row[1], events),
-        Err(_) => false,
-    }
+    let played = transcript_with(alloc, row[0], at, line);
+    is_own_with(text_of(&played), row[1], events)
 }
 
 // Says whether a script continues as without it with a cut of each node inserted there.

@@ -1,10 +1,9 @@
 // The result of a text: whether it is a script, and what its lines say.
 
 use crate::tests::worlds::World;
-use play::packet::{ClientId, Payload, QoS};
+use play::packet::{ClientId, Payload};
 use play::script::{Amount, Numbers, Opening, Script, ScriptFault, ScriptLine, read};
 use play::session_base::Publication;
-use play::topics::Filter;
 use std::alloc::{AllocError, Global};
 
 /// The result of a text.
@@ -18,8 +17,16 @@ pub enum Outcome<'a> {
     Opens(&'a World),
     /// It is refused.
     Refused,
-    /// It is refused by this line.
-    Bad(u64),
+}
+
+/// Returns the line by which a text is refused; none if it is a script, or memory ran out.
+pub fn bad_line(alloc: Global, text: &[u8]) -> Option<u64> {
+    let read: Result<Script, ScriptFault> = read(alloc, text);
+    match read {
+        Ok(_) => None,
+        Err(ScriptFault::Line(line)) => Some(line),
+        Err(_) => None,
+    }
 }
 
 /// Says whether reading a text has this outcome.
@@ -27,7 +34,8 @@ pub fn comes(alloc: Global, text: &[u8], outcome: Outcome<'_>) -> bool {
     let read: Result<Script, ScriptFault> = read(alloc, text);
     match read {
         Ok(script) => is_script(alloc, &script, outcome),
-        Err(error) => is_refusal(error, outcome),
+        Err(ScriptFault::Line(_)) => matches!(outcome, Outcome::Refused),
+        Err(_) => false,
     }
 }
 
@@ -38,15 +46,7 @@ fn is_script(alloc: Global, script: &Script, outcome: Outcome<'_>) -> bool {
         }
         Outcome::Counts(count) => script.lines.len() == count,
         Outcome::Opens(world) => is_opened(&script.opening, world),
-        Outcome::Refused | Outcome::Bad(_) => false,
-    }
-}
-
-fn is_refusal(error: ScriptFault, outcome: Outcome<'_>) -> bool {
-    match (error, outcome) {
-        (ScriptFault::Line(_), Outcome::Refused) => true,
-        (ScriptFault::Line(line), Outcome::Bad(number)) => line == number,
-        _ => false,
+        Outcome::Refused => false,
     }
 }
 
@@ -94,7 +94,10 @@ fn spelt(alloc: Global, script_line: &ScriptLine) -> Result<String, AllocError> 
         ScriptLine::Disconnect(client) => format!(in alloc; "disconnect {client}"),
         ScriptLine::Notice(connection) => format!(in alloc; "notice {connection}"),
         ScriptLine::Publish(client, sent) => publication(alloc, client, sent),
-        ScriptLine::Subscribe(client, filter, qos) => subscription(alloc, client, filter, *qos),
+        ScriptLine::Subscribe(client, filter, qos) => {
+            let level = qos.number();
+            format!(in alloc; "subscribe {client} {filter} {level}")
+        }
         ScriptLine::Unsubscribe(client, filter) => {
             format!(in alloc; "unsubscribe {client} {filter}")
         }
@@ -113,15 +116,10 @@ fn assignment(alloc: Global, members: &Numbers, primary: u64) -> Result<String, 
     Ok(line)
 }
 
-fn carrying(
-    alloc: Global,
-    way: &str,
-    connection: u64,
-    amount: Amount,
-) -> Result<String, AllocError> {
+fn carrying(alloc: Global, way: &str, number: u64, amount: Amount) -> Result<String, AllocError> {
     match amount {
-        Amount::All => format!(in alloc; "{way} {connection} all"),
-        Amount::Bytes(count) => format!(in alloc; "{way} {connection} {count}"),
+        Amount::All => format!(in alloc; "{way} {number} all"),
+        Amount::Bytes(count) => format!(in alloc; "{way} {number} {count}"),
     }
 }
 
@@ -142,14 +140,4 @@ fn payload(alloc: Global, payload: &Payload) -> Result<String, AllocError> {
         text.push_str(format!(in alloc; "{byte:02x}")?.as_str())?;
     }
     Ok(text)
-}
-
-fn subscription(
-    alloc: Global,
-    client: &ClientId,
-    filter: &Filter,
-    qos: QoS,
-) -> Result<String, AllocError> {
-    let level = qos.number();
-    format!(in alloc; "subscribe {client} {filter} {level}")
 }

@@ -1,7 +1,7 @@
 // Texts that are no scripts: the first bad line is named, and nothing is played.
 
 use crate::tests::hand::outcome_of;
-use crate::tests::reading::{Outcome, comes};
+use crate::tests::reading::bad_line;
 use play::PlayError;
 use play::script::ScriptFault;
 use std::alloc::{AllocError, Global};
@@ -129,11 +129,11 @@ const BAD_LINES: &[&str] = &[
     "world 2 1,2 1 a",
 ];
 
-// Says whether the text that these make is refused by this line.
-fn is_bad(alloc: Global, before: &str, line: &str, after: &str, number: u64) -> bool {
+// Returns the line by which the text that these make is refused.
+fn bad_line_of(alloc: Global, before: &str, line: &str, after: &str) -> Option<u64> {
     match format!(in alloc; "{before}{line}{after}") {
-        Ok(text) => comes(alloc, text.as_str().as_bytes(), Outcome::Bad(number)),
-        Err(_) => false,
+        Ok(text) => bad_line(alloc, text.as_str().as_bytes()),
+        Err(_) => None,
     }
 }
 
@@ -141,7 +141,7 @@ fn is_bad(alloc: Global, before: &str, line: &str, after: &str, number: u64) -> 
 fn no_worlds_are_refused_at_line_1(rt: HostRuntime) {
     for line in NO_WORLDS {
         for rest in ["", "\n", "\ntick 1\n", "\nnothing\n"] {
-            assert!(rt; is_bad(rt.alloc(), "", line, rest, 1), "{line}");
+            assert_eq!(rt; bad_line_of(rt.alloc(), "", line, rest), Some(1), "{line}");
         }
     }
 }
@@ -157,15 +157,16 @@ const BEFORE: &[(&str, u64)] = &[
 fn lines_without_their_form_are_refused(rt: HostRuntime) {
     for line in BAD_LINES {
         for (before, number) in BEFORE {
-            let is_refused = is_bad(rt.alloc(), before, line, "\nnothing\n", *number);
-            assert!(rt; is_refused, "{line}");
+            let bad = bad_line_of(rt.alloc(), before, line, "\nnothing\n");
+            assert_eq!(rt; bad, Some(*number), "{line}");
         }
     }
 }
 
-// A line that is no text is refused as any other.
+// Bytes with a line that is no text, and its number: it is refused as any other.
 const NO_TEXTS: &[(&[u8], u64)] = &[
     (b"\xFF\n", 1),
+    (b"world 2 1,2 1 a\nopen a 1\nabandon \xFF\n", 3),
     (b"world 2 1,2 1 \xC3\n", 1),
     (b"world 2 1,2 1 a\nabandon \xC3\xA9\nabandon \xC3\n", 3),
     (b"world 2 1,2 1 a\nnothing\nabandon \xFF\n", 2),
@@ -174,7 +175,9 @@ const NO_TEXTS: &[(&[u8], u64)] = &[
 #[test]
 fn lines_that_are_no_text_are_refused(rt: HostRuntime) {
     for (text, number) in NO_TEXTS {
-        assert!(rt; comes(rt.alloc(), text, Outcome::Bad(*number)), "{number}");
+        assert_eq!(rt; bad_line(rt.alloc(), text), Some(*number), "{text:?}");
+        let outcome = outcome_of(rt.alloc(), text);
+        assert_eq!(rt; outcome, (Err(PlayError::Line(*number)), 0), "{text:?}");
     }
 }
 
@@ -209,10 +212,4 @@ fn nothing_is_played_before_a_bad_line(rt: HostRuntime) {
         let outcome = outcome_of(rt.alloc(), text.as_bytes());
         assert_eq!(rt; outcome, (Err(PlayError::Line(*line)), 0), "{text}");
     }
-}
-
-#[test]
-fn a_line_that_is_no_text_is_bad(rt: HostRuntime) {
-    let text = b"world 2 1,2 1 a\nopen a 1\nabandon \xFF\n".as_slice();
-    assert_eq!(rt; outcome_of(rt.alloc(), text), (Err(PlayError::Line(3)), 0));
 }

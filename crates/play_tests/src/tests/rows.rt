@@ -39,15 +39,13 @@ const IDLE: &[&str] = &[
     "unsubscribe a t/#",
 ];
 
+const IS_IDLE: &str = "0 idle\nend agreed=0 active=1\n";
+
 #[test]
 fn what_cannot_happen_is_idle(rt: HostRuntime) {
     for line in IDLE {
         let played = played_with(rt.alloc(), line);
-        assert_eq!(rt;
-            text_of(&played),
-            "0 idle\nend agreed=0 active=1\n",
-            "{line}"
-        );
+        assert_eq!(rt; text_of(&played), IS_IDLE, "{line}");
     }
 }
 

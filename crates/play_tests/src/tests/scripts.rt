@@ -1,4 +1,8 @@
 // Whole scripts with their transcripts, as they are in the folder `examples` of the repository.
+// `msgs` follows from the rules of `ballot_base`. A command of m members takes m - 1 messages of
+// each kind: Append, Held and Commit. A ballot takes NewBallot, a Join to each member before, one
+// State, Install and Installed for each other member, Activate, Activated, and its first command. A
+// tick of an active primary sends each other member the Append that it lacks, and a Commit.
 
 /// The primary answers a CONNECT once its backup holds it.
 pub const ANSWER_WAITS_FOR_THE_BACKUP: [&str; 2] = [
@@ -191,7 +195,7 @@ pub const STALE_PRIMARY: [&str; 2] = [
 ];
 
 /// A ballot waits for its activation when the next one is assigned, and never becomes active.
-pub const BALLOT_IS_PUT_OUT: [&str; 2] = [
+pub const BALLOT_IS_SUPERSEDED: [&str; 2] = [
     "world 3 1 1 a\n\
     assign 1,2 2\n\
     deliver 0\n\
@@ -335,6 +339,6 @@ pub const SCRIPTS: [&[&str; 2]; 6] = [
     &CONFIGURATION_CHANGES,
     &PRIMARY_CRASHES,
     &STALE_PRIMARY,
-    &BALLOT_IS_PUT_OUT,
+    &BALLOT_IS_SUPERSEDED,
     &CLIENT_IS_EXPELLED,
 ];

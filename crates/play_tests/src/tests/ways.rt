@@ -60,12 +60,7 @@ fn way_of(alloc: Global, script: &str, members: &[u8], client: &str) -> Result<V
 }
 
 // Returns the transcript of a script that is followed by its way out.
-fn played_out(
-    alloc: Global,
-    script: &str,
-    members: &[u8],
-    client: &str,
-) -> Result<Vec<u8>, PlayError> {
+fn played(alloc: Global, script: &str, members: &[u8], client: &str) -> Result<Vec<u8>, PlayError> {
     let way = way_of(alloc, script, members, client)?;
     let lines = str::from_utf8(way.as_slice()).unwrap_or("not UTF-8");
     let whole = format!(in alloc; "{script}{lines}")?;
@@ -101,7 +96,7 @@ fn ways_are_told(rt: HostRuntime) {
 #[test]
 fn ways_are_played(rt: HostRuntime) {
     for (row, members, client, agreed, active) in WAYS {
-        let played = played_out(rt.alloc(), row[0], members, client);
+        let played = played(rt.alloc(), row[0], members, client);
         let written = text_of(&played);
         let end = format!(in rt.alloc(); "end agreed={agreed} active={active}\n");
         let end = end.expect(&rt, "memory is left");

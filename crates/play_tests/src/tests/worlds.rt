@@ -2,7 +2,7 @@
 
 use crate::tests::reading::{Outcome, comes};
 use crate::tests::scripts::{
-    ANSWER_WAITS_FOR_THE_BACKUP, BALLOT_IS_PUT_OUT, CONFIGURATION_CHANGES, PRIMARY_CRASHES,
+    ANSWER_WAITS_FOR_THE_BACKUP, BALLOT_IS_SUPERSEDED, CONFIGURATION_CHANGES, PRIMARY_CRASHES,
     STALE_PRIMARY,
 };
 use std::alloc::Global;
@@ -14,17 +14,15 @@ const SCRIPTS: &[(&[&str; 2], usize)] = &[
     (&PRIMARY_CRASHES, 17),
     (&PRIMARY_CRASHES, 34),
     (&STALE_PRIMARY, 32),
-    (&BALLOT_IS_PUT_OUT, 18),
+    (&BALLOT_IS_SUPERSEDED, 18),
 ];
 
 // Each line of these scripts is read as it is written.
 #[test]
 fn scripts_are_read_as_written(rt: HostRuntime) {
     for (script, count) in SCRIPTS {
-        assert!(rt;
-            is_read_as_written(rt.alloc(), script[0], *count),
-            "{count}"
-        );
+        let is_read = is_read_as_written(rt.alloc(), script[0], *count);
+        assert!(rt; is_read, "{count}");
     }
 }
 
@@ -79,10 +77,7 @@ const WORLDS: &[World] = &[
 fn first_lines_open_worlds(rt: HostRuntime) {
     for world in WORLDS {
         let line = world.0.as_bytes();
-        assert!(rt;
-            comes(rt.alloc(), line, Outcome::Opens(world)),
-            "{}",
-            world.0
-        );
+        let is_opened = comes(rt.alloc(), line, Outcome::Opens(world));
+        assert!(rt; is_opened, "{}", world.0);
     }
 }
