@@ -44,7 +44,7 @@ pub record IsHandled (count : ℕ) (came : Stream) (down went : List ℕ) : Type
   pub handled : List Packet
   pub counted : length handled ≡ count
   pub whole : Each IsPacket handled
-  pub is : spelled handled ++ (came.held ++ down) ≡ went
+  pub is : spelled handled ++ (came.bytes ++ down) ≡ went
   pub sound : came.failed ≡ false
 
 -- more goes down
@@ -54,24 +54,24 @@ more_down count came down went more h =
       handled = h.handled;
       counted = h.counted;
       whole = h.whole;
-      is = ap (λ l. spelled h.handled ++ l) (sym (append_assoc came.held down more)) ∙ sym (append_assoc (spelled h.handled) (came.held ++ down) more) ∙ ap (λ l. l ++ more) h.is;
+      is = ap (λ l. spelled h.handled ++ l) (sym (append_assoc came.bytes down more)) ∙ sym (append_assoc (spelled h.handled) (came.bytes ++ down) more) ∙ ap (λ l. l ++ more) h.is;
       sound = h.sound;
     }
 
 -- a piece comes to the client
 pub piece_down : (count : ℕ) (came : Stream) (down piece rest went : List ℕ) → down ≡ piece ++ rest → IsHandled count came down went
-    → IsHandled count (record came { held = came.held ++ piece }) rest went
+    → IsHandled count (record came { bytes = came.bytes ++ piece }) rest went
 piece_down count came down piece rest went e h =
     record {
       handled = h.handled;
       counted = h.counted;
       whole = h.whole;
-      is = ap (λ l. spelled h.handled ++ l) (append_assoc came.held piece rest ∙ ap (λ l. came.held ++ l) (sym e)) ∙ h.is;
+      is = ap (λ l. spelled h.handled ++ l) (append_assoc came.bytes piece rest ∙ ap (λ l. came.bytes ++ l) (sym e)) ∙ h.is;
       sound = h.sound;
     }
 
 -- the next packet is handled
-pub one_handled : (count : ℕ) (came left : Stream) (down went : List ℕ) (packet : Packet) → GoesOnWith came.held packet left.held → left.failed ≡ false → IsHandled count came down went
+pub one_handled : (count : ℕ) (came left : Stream) (down went : List ℕ) (packet : Packet) → GoesOnWith came.bytes packet left.bytes → left.failed ≡ false → IsHandled count came down went
     → IsHandled (suc count) left down went
 one_handled count came left down went packet (front, sp, kp, e) sound h =
     let long = length-append h.handled (packet ∷ []) in
@@ -81,9 +81,9 @@ one_handled count came left down went packet (front, sp, kp, e) sound h =
       handled = h.handled ++ packet ∷ [];
       counted = omega (arith, long, counted);
       whole = each_append IsPacket h.handled (packet ∷ []) h.whole (kp, tt);
-      is = ap (λ l. l ++ (left.held ++ down)) (spelled_push h.handled packet)
-          ∙ append_assoc (spelled h.handled) (spelling packet) (left.held ++ down)
-          ∙ ap (λ l. spelled h.handled ++ l) (sym (append_assoc (spelling packet) left.held down) ∙ ap (λ l. l ++ down) (sym (e ∙ ap (λ l. l ++ left.held) same)))
+      is = ap (λ l. l ++ (left.bytes ++ down)) (spelled_push h.handled packet)
+          ∙ append_assoc (spelled h.handled) (spelling packet) (left.bytes ++ down)
+          ∙ ap (λ l. spelled h.handled ++ l) (sym (append_assoc (spelling packet) left.bytes down) ∙ ap (λ l. l ++ down) (sym (e ∙ ap (λ l. l ++ left.bytes) same)))
           ∙ h.is;
       sound = sound;
     }

@@ -68,7 +68,7 @@ step_holds v w went h (is_turned_away n port now d core unused after none) = tur
 step_holds v w went h (comes_up i j c κ p piece rest now d has is) = comes_holds v went i j c κ p piece rest now d has is h
 step_holds v w went h (goes_down i j c κ p d has) = goes_holds v went i j c κ p d has h
 step_holds v w went h (arrives i j c κ p piece rest has is) =
-    let q : Pipe = record p { down = rest; came = record p.came { held = p.came.held ++ piece } } in
+    let q : Pipe = record p { down = rest; came = record p.came { bytes = p.came.bytes ++ piece } } in
     client_holds v went i j c _ κ κ p q has (set_at c j κ p q has.connection has.pipe refl refl) (arrives_holds went κ p piece rest is (h.each i c j κ p has)) h
 step_holds v w went h (handles i c κ others p pipes packet left at first piped is_open cut spelled) =
     handles_hold v went i c κ others p pipes packet left at first piped cut spelled h

@@ -235,7 +235,7 @@ first_at c later κ μ others p q pipes are piped now now_piped name node port =
 -- ---- what a client does with one
 
 pub arrives_holds : {nodes : ℕ} {config : Config} {g : Group} (went : GroupTrace nodes config g) (κ : Connection) (p : Pipe) (piece rest : List ℕ) → p.down ≡ piece ++ rest → PipeHolds went κ p
-    → PipeHolds went κ (record p { down = rest; came = record p.came { held = p.came.held ++ piece } })
+    → PipeHolds went κ (record p { down = rest; came = record p.came { bytes = p.came.bytes ++ piece } })
 arrives_holds went κ p piece rest cut h = record { placed = h.placed; up = h.up; down = piece_down κ.handled p.came p.down piece rest (went_down κ.name went) cut h.down }
 
 -- it writes, and may have handled a packet

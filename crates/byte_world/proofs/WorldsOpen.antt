@@ -108,7 +108,7 @@ module _ {nodes : ℕ} {config : Config} (v : World) (went : GroupTrace nodes co
     κ_new = new_connection c.keeper.client end.name
 
     abbrev p_new : Pipe
-    p_new = record { node = n; port = port; up = spelled (packets_of κ_new.written); down = []; came = record { held = []; failed = false } }
+    p_new = record { node = n; port = port; up = spelled (packets_of κ_new.written); down = []; came = record { bytes = []; failed = false } }
 
     abbrev later : ClientPipes
     later = after_connecting end.name n port c

@@ -27,7 +27,7 @@ after_connecting x n port c =
         port = port;
         up = spelled (packets_of (new_connection c.keeper.client x).written);
         down = [];
-        came = record { held = []; failed = false };
+        came = record { bytes = []; failed = false };
       } ∷ c.pipes;
     }
 

@@ -71,7 +71,7 @@ pub data WorldStep (w : World) : World → Type 0 where
       HasPipe w i c j κ p → p.down ≡ piece ++ rest →
       WorldStep w (with_client i
       (with_pipe j
-      (record p { down = rest; came = record p.came { held = p.came.held ++ piece } }) c) w)
+      (record p { down = rest; came = record p.came { bytes = p.came.bytes ++ piece } }) c) w)
   -- a client handles the next packet that came whole on the connection that it holds
   handles : (i : ℕ) (c : ClientPipes) (κ : Connection) (others : List Connection) (p : Pipe)
       (pipes : List Pipe) (packet : Packet) (left : Stream) →

@@ -28,7 +28,7 @@ pub record IsInOrder (agreed : List Command) (κ : Connection) (p : Pipe) : Type
   pub handled : List Packet
   pub counted : length handled ≡ κ.handled
   pub whole : Each IsPacket handled
-  pub down : IsPrefixOf (spelled handled ++ (p.came.held ++ p.down)) (answers_to κ.name agreed)
+  pub down : IsPrefixOf (spelled handled ++ (p.came.bytes ++ p.down)) (answers_to κ.name agreed)
   pub sound : p.came.failed ≡ false
 
 -- each connection of each client is in order, by the list on which the nodes agree at the end of

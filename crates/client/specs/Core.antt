@@ -18,7 +18,7 @@ pub record Core : Type 0 where
 
 -- nothing has come yet
 abbrev pub nothing_read : Stream
-nothing_read = record { held = []; failed = false }
+nothing_read = record { bytes = []; failed = false }
 
 -- a new client: it never was connected, has read nothing, and has nothing to write
 abbrev pub new_core : List ℕ → ℕ → Core

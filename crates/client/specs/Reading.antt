@@ -58,7 +58,7 @@ EndsWith core (Err cause) new = StopsFor cause core × (new ≡ gone core)
 
 -- the piece is appended to what is not yet read
 abbrev pub fed : List ℕ → Core → Core
-fed piece core = record core { unread = record core.unread { held = core.unread.held ++ piece } }
+fed piece core = record core { unread = record core.unread { bytes = core.unread.bytes ++ piece } }
 
 -- what a piece of the server's bytes does to a client
 abbrev pub OnBytes : List ℕ → Stage → Core → Result (Unit {0}) ClientError → Core → Type 0

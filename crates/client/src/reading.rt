@@ -64,7 +64,7 @@ impl ClientCore {
     fn read_one(&mut self) -> Result<bool, ClientError>
         ensures one { ReadsOne self.old result self.new }
         ensures shorter { result ≡ Ok true →
-            length self.new.unread.held < length self.old.unread.held }
+            length self.new.unread.bytes < length self.old.unread.bytes }
     {
         match self.next_packet() {
             Ok(Some(packet)) => match self.handle(packet) {

@@ -69,8 +69,8 @@ cuts_of bytes [] held b none = (b, none)
 cuts_of bytes (p ∷ ps) held (left, goes, more) none = (left, goes, cuts_of left ps held more none)
 
 pub none_left : NoPacketIsLeft
-none_left fed given s t ran takes = cuts_of fed given s.held (ran-begins fed given s ran) (no_front s.held _ takes.1)
+none_left fed given s t ran takes = cuts_of fed given s.bytes (ran-begins fed given s ran) (no_front s.bytes _ takes.1)
 
 pub cuttings_agree : NoneBeginsAnother → CuttingsAgree
 cuttings_agree law fed given others s t u v ran takes ran' takes' =
-    one-way law fed given others s.held u.held (none_left fed given s t ran takes) (none_left fed others u v ran' takes')
+    one-way law fed given others s.bytes u.bytes (none_left fed given s t ran takes) (none_left fed others u v ran' takes')

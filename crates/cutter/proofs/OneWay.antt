@@ -40,10 +40,10 @@ begins-last : (bytes : List ℕ) (ps : List Packet) (p : Packet) (rest left : Li
 begins-last bytes [] p rest left b g = (left, subst (λ (z : List ℕ). GoesOnWith z p left) (sym b) g, refl)
 begins-last bytes (q ∷ ps) p rest left (l, h, more) g = (l, h, begins-last l ps p rest left more g)
 
-pub ran-begins : (fed : List ℕ) (given : List Packet) (s : Stream) → Ran fed given s → Begins fed given s.held
+pub ran-begins : (fed : List ℕ) (given : List Packet) (s : Stream) → Ran fed given s → Begins fed given s.bytes
 ran-begins fed given s begins = refl
-ran-begins fed given s (feeds {fed = f} {s = t} piece r) = begins-more f given t.held piece (ran-begins f given t r)
-ran-begins fed given s (gives {given = g} {s = t} p r k) = begins-last fed g p t.held s.held (ran-begins fed g t r) k.2
+ran-begins fed given s (feeds {fed = f} {s = t} piece r) = begins-more f given t.bytes piece (ran-begins f given t r)
+ran-begins fed given s (gives {given = g} {s = t} p r k) = begins-last fed g p t.bytes s.bytes (ran-begins fed g t r) k.2
 ran-begins fed given s (answers {s = t} result r e k) = subst (λ (z : List ℕ). Begins fed given z) (sym e) (ran-begins fed given t r)
 
 front-of : NoneBeginsAnother → (bytes : List ℕ) (ps qs : List Packet) (held rest : List ℕ) → Begins bytes ps held → CutsInto bytes qs rest → (later : List Packet) × (qs ≡ ps ++ later)
@@ -55,4 +55,4 @@ front-of law bytes (p ∷ ps) (q ∷ qs) held rest b c =
     (k.0, ap₂ (λ (z : Packet) (zs : List Packet). z ∷ zs) (sym h.0) k.1)
 
 pub stream-packets : NoneBeginsAnother → PacketsOfTheStream
-stream-packets law fed given s r packets rest c = front-of law fed given packets s.held rest (ran-begins fed given s r) c
+stream-packets law fed given s r packets rest c = front-of law fed given packets s.bytes rest (ran-begins fed given s r) c

@@ -34,13 +34,13 @@ pipe_grows written handled s under_way bytes p h spelled packet =
     record {
       rest = h.rest ++ p ∷ [];
       is = ap (λ z. z ++ p ∷ []) h.is ∙ append_assoc handled h.rest (p ∷ []);
-      joined = subst (Joins (h.rest ++ p ∷ [])) (append_assoc s.held under_way bytes) (joins_more h.rest (s.held ++ under_way) bytes p h.joined spelled packet);
+      joined = subst (Joins (h.rest ++ p ∷ [])) (append_assoc s.bytes under_way bytes) (joins_more h.rest (s.bytes ++ under_way) bytes p h.joined spelled packet);
       sound = h.sound;
     }
 
 pub pipe_carries : PipeCarries
 pipe_carries written handled s piece under_way h =
-    record { rest = h.rest; is = h.is; joined = subst (Joins h.rest) (sym (append_assoc s.held piece under_way)) h.joined; sound = h.sound }
+    record { rest = h.rest; is = h.is; joined = subst (Joins h.rest) (sym (append_assoc s.bytes piece under_way)) h.joined; sound = h.sound }
 
 -- ---- taking
 
@@ -54,13 +54,13 @@ nothing_there p (first ∷ front) rest s e = no_bytes first (front ++ rest) e
 pub pipe_gives : PipeGives
 pipe_gives written handled s t under_way p h takes = by h.rest h.is h.joined takes.2
   where
-    by : (rest : List Packet) → written ≡ handled ++ rest → Joins rest (s.held ++ under_way) → GoesOnWith s.held p t.held → IsPiped written (handled ++ p ∷ []) t under_way
+    by : (rest : List Packet) → written ≡ handled ++ rest → Joins rest (s.bytes ++ under_way) → GoesOnWith s.bytes p t.bytes → IsPiped written (handled ++ p ∷ []) t under_way
     by [] is j (front, sp, kp, e) =
-        absurd (nothing_there p front (t.held ++ under_way) sp (sym (append_assoc front t.held under_way) ∙ ap (λ z. z ++ under_way) (sym e) ∙ j))
+        absurd (nothing_there p front (t.bytes ++ under_way) sp (sym (append_assoc front t.bytes under_way) ∙ ap (λ z. z ++ under_way) (sym e) ∙ j))
     by (q ∷ rest) is (other, left, sq, kq, eq, j) (front, sp, kp, e) =
-        let same : front ++ (t.held ++ under_way) ≡ other ++ left = sym (append_assoc front t.held under_way) ∙ ap (λ z. z ++ under_way) (sym e) ∙ eq in
-        let one = none_begins p q front other (t.held ++ under_way) left kp kq sp sq same in
-        let left_is : t.held ++ under_way ≡ left = append_cancel_left front (t.held ++ under_way) left (same ∙ ap (λ z. z ++ left) (sym one.1)) in
+        let same : front ++ (t.bytes ++ under_way) ≡ other ++ left = sym (append_assoc front t.bytes under_way) ∙ ap (λ z. z ++ under_way) (sym e) ∙ eq in
+        let one = none_begins p q front other (t.bytes ++ under_way) left kp kq sp sq same in
+        let left_is : t.bytes ++ under_way ≡ left = append_cancel_left front (t.bytes ++ under_way) left (same ∙ ap (λ z. z ++ left) (sym one.1)) in
         record {
           rest = rest;
           is = is ∙ ap (λ x. handled ++ x ∷ rest) (sym one.0) ∙ sym (append_assoc handled (p ∷ []) rest);
@@ -110,6 +110,6 @@ no_fault (p ∷ rest) held under_way fault (front, left, sp, kp, e, j) f =
     two_kinds (p, left) (fault_of fault) (sym (ap verdict e ∙ verdict_again p front left kp sp) ∙ stays)
 
 pub pipe_has_no_fault : PipeHasNoFault
-pipe_has_no_fault written handled s t under_way (errors.Decode fault) h takes = absurd (no_fault h.rest s.held under_way fault h.joined takes.1)
+pipe_has_no_fault written handled s t under_way (errors.Decode fault) h takes = absurd (no_fault h.rest s.bytes under_way fault h.joined takes.1)
 pipe_has_no_fault written handled s t under_way errors.Memory h takes = refl
 pipe_has_no_fault written handled s t under_way errors.Failed h takes = absurd (both_ways s.failed h.sound takes.0)

@@ -14,17 +14,17 @@ OneCut = (bytes : List ℕ) (packets others : List Packet) (rest left : List ℕ
 -- that changes nothing needs no case.
 pub data Ran : List ℕ → List Packet → Stream → Type 0 where
   -- no call yet
-  begins : Ran [] [] (record { held = []; failed = false })
+  begins : Ran [] [] (record { bytes = []; failed = false })
   -- it is fed a piece
   feeds : {fed : List ℕ} {given : List Packet} {s : Stream} (piece : List ℕ)
-      → Ran fed given s → Ran (fed ++ piece) given (record s { held = s.held ++ piece })
+      → Ran fed given s → Ran (fed ++ piece) given (record s { bytes = s.bytes ++ piece })
   -- it gives a packet
   gives : {fed : List ℕ} {given : List Packet} {s t : Stream} (packet : Packet)
       → Ran fed given s → Takes s (Ok (Some packet)) t → Ran fed (given ++ packet ∷ []) t
   -- it answers that no whole packet is there, or that there is a fault
   answers : {fed : List ℕ} {given : List Packet} {s t : Stream}
       (result : Result (Option Packet) CutError)
-      → Ran fed given s → t.held ≡ s.held → Takes s result t → Ran fed given t
+      → Ran fed given s → t.bytes ≡ s.bytes → Takes s result t → Ran fed given t
 
 -- what was given is a prefix of the packets of the bytes that were fed
 abbrev pub PacketsOfTheStream : Type 0
@@ -42,14 +42,14 @@ EveryStreamIsCut = (bytes : List ℕ) → AreBytes bytes
     → (packets : List Packet) × (rest : List ℕ) × CutsInto bytes packets rest
 
 -- after an answer that no whole packet is there, what was given are all packets of the bytes that
--- were fed, and what is held is the rest
+-- were fed, and what is not taken is the rest
 abbrev pub NoPacketIsLeft : Type 0
 NoPacketIsLeft =
     (fed : List ℕ) (given : List Packet) (s t : Stream) → Ran fed given s → Takes s (Ok None) t
-    → CutsInto fed given s.held
+    → CutsInto fed given s.bytes
 
 -- two cutters that were fed the same bytes, cut anywhere, gave the same and hold the same
 abbrev pub CuttingsAgree : Type 0
 CuttingsAgree = (fed : List ℕ) (given others : List Packet) (s t u v : Stream)
     → Ran fed given s → Takes s (Ok None) t → Ran fed others u → Takes u (Ok None) v
-    → (given ≡ others) × (s.held ≡ u.held)
+    → (given ≡ others) × (s.bytes ≡ u.bytes)

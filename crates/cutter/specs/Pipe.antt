@@ -18,12 +18,12 @@ Joins (p ∷ ps) bytes =
 pub record IsPiped (written handled : List Packet) (s : Stream) (under_way : List ℕ) : Type 0 where
   pub rest : List Packet
   pub is : written ≡ handled ++ rest
-  pub joined : Joins rest (s.held ++ under_way)
+  pub joined : Joins rest (s.bytes ++ under_way)
   pub sound : s.failed ≡ false
 
 -- nothing is written yet
 abbrev pub PipeOpens : Type 0
-PipeOpens = IsPiped [] [] (record { held = []; failed = false }) []
+PipeOpens = IsPiped [] [] (record { bytes = []; failed = false }) []
 
 -- a packet is written: its spelling is added at the far end
 abbrev pub PipeGrows : Type 0
@@ -37,7 +37,7 @@ abbrev pub PipeCarries : Type 0
 PipeCarries =
     (written handled : List Packet) (s : Stream) (piece under_way : List ℕ)
     → IsPiped written handled s (piece ++ under_way)
-    → IsPiped written handled (record s { held = s.held ++ piece }) under_way
+    → IsPiped written handled (record s { bytes = s.bytes ++ piece }) under_way
 
 -- the next packet that the cutter gives is the next one written
 abbrev pub PipeGives : Type 0

@@ -13,7 +13,7 @@ use Rattle.cutter.specs.declared.error.CutError.TheVariants as errors
 
 -- the bytes that came and are not taken yet, and whether a fault was found
 pub record Stream : Type 0 where
-  pub held : List ℕ
+  pub bytes : List ℕ
   pub failed : Bool
 
 -- the bytes begin with the spelling of this packet, and these follow
@@ -37,15 +37,15 @@ IsFault (faults.Malformed kind) bytes =
     (kind ≢ kinds.Memory) × (verdict bytes ≡ Err (stops.Malformed kind))
 IsFault (faults.Refused code) bytes = verdict bytes ≡ Err (stops.Refused code)
 
--- what a call of `next` answers, and what is held after it
+-- what a call of `next` answers, and what is not taken after it
 abbrev pub Takes : Stream → Result (Option Packet) CutError → Stream → Type 0
 Takes old (Ok (Some packet)) new =
-    (old.failed ≡ false) × (verdict old.held ≡ Ok (packet, new.held))
-    × GoesOnWith old.held packet new.held × (new.failed ≡ false)
+    (old.failed ≡ false) × (verdict old.bytes ≡ Ok (packet, new.bytes))
+    × GoesOnWith old.bytes packet new.bytes × (new.failed ≡ false)
 Takes old (Ok None) new =
-    (old.failed ≡ false) × (verdict old.held ≡ Err stops.More) × (new ≡ old)
+    (old.failed ≡ false) × (verdict old.bytes ≡ Err stops.More) × (new ≡ old)
 Takes old (Err (errors.Decode fault)) new =
-    (old.failed ≡ false) × IsFault fault old.held × (new ≡ record old { failed = true })
+    (old.failed ≡ false) × IsFault fault old.bytes × (new ≡ record old { failed = true })
 Takes old (Err errors.Memory) new =
-    (old.failed ≡ false) × (new ≡ old) × MayNeedMemory old.held
+    (old.failed ≡ false) × (new ≡ old) × MayNeedMemory old.bytes
 Takes old (Err errors.Failed) new = (old.failed ≡ true) × (new ≡ old)

@@ -15,7 +15,7 @@ use std::marker::Model;
 /// no difference to the packets that are taken.
 #[derive(Drop)]
 pub struct Cutter {
-    held: BytesMut,
+    bytes: BytesMut,
     failed: bool,
     alloc: Global,
 }
@@ -25,16 +25,16 @@ impl Model for Cutter {
 
     ghost Value = { Stream };
 
-    ghost view = { λ cutter. record { held = cutter.held.items; failed = cutter.failed } };
+    ghost view = { λ cutter. record { bytes = cutter.bytes.items; failed = cutter.failed } };
 }
 
 impl Cutter {
     /// Returns a cutter at the beginning of a stream.
     pub fn new(alloc: Global) -> Cutter
-        ensures { result ≡ record { held = []; failed = false } }
+        ensures { result ≡ record { bytes = []; failed = false } }
     {
         Cutter {
-            held: BytesMut::new(alloc),
+            bytes: BytesMut::new(alloc),
             failed: false,
             alloc,
         }
@@ -42,16 +42,16 @@ impl Cutter {
 
     /// Returns how many bytes came and are not taken yet.
     pub fn len(&self) -> usize
-        ensures { result ≡ length self.now.held }
+        ensures { result ≡ length self.now.bytes }
     {
-        self.held.len()
+        self.bytes.len()
     }
 
     /// Appends the next piece of the stream. After `Memory`, which a piece without bytes never
     /// gets, nothing has changed; `Failed` comes exactly after a fault of the stream.
     pub fn feed(&mut self, piece: &[u8]) -> Result<(), CutError>
         ensures ok { OnOk result
-            (self.new ≡ record self.old { held = self.old.held ++ piece.now }) }
+            (self.new ≡ record self.old { bytes = self.old.bytes ++ piece.now }) }
         ensures failed { IsErrOf result CutError.Failed ↔ (self.old.failed ≡ true) }
         ensures fault { OnErr result (self.new ≡ self.old) }
         ensures memory { (self.old.failed ≡ false) → OnErr result (IsErrOf result CutError.Memory) }
@@ -60,7 +60,7 @@ impl Cutter {
         if self.failed {
             return Err(CutError::Failed);
         }
-        self.held.extend_from_slice(piece)?;
+        self.bytes.extend_from_slice(piece)?;
         Ok(())
     }
 
@@ -73,9 +73,9 @@ impl Cutter {
         if self.failed {
             return Err(CutError::Failed);
         }
-        match decode(self.alloc, &self.held) {
+        match decode(self.alloc, &self.bytes) {
             Ok(Step::Whole(packet, len)) => {
-                self.held.advance(len);
+                self.bytes.advance(len);
                 Ok(Some(packet))
             }
             Ok(Step::More) => Ok(None),

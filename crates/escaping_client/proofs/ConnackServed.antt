@@ -48,28 +48,28 @@ no_fault bytes e (faults.Refused code) f = two_stops (verdict bytes) stops.More 
     two_stops r s t g h ne = ne (let same : s ≡ t = cc in same)
 
 module _ (piece : List ℕ) (old : Core) (whole : verdict piece ≡ Ok (connack, [])) (opened : old.state.stage ≡ stages.Opened) (fresh : old.unread ≡ nothing_read) where
-  held_is : (fed piece old).unread.held ≡ piece
-  held_is = ap (λ (s : Stream). s.held ++ piece) fresh
+  held_is : (fed piece old).unread.bytes ≡ piece
+  held_is = ap (λ (s : Stream). s.bytes ++ piece) fresh
 
-  stands : verdict (fed piece old).unread.held ≡ Ok (connack, [])
+  stands : verdict (fed piece old).unread.bytes ≡ Ok (connack, [])
   stands = ap verdict held_is ∙ whole
 
   -- before the CONNACK, or after it
   record After (core : Core) : Type 0 where
     served : IsServed core
-    read : core.unread.held ≡ []
+    read : core.unread.bytes ≡ []
 
   -- the next packet is the CONNACK
-  reads_it : (packet : Packet) (next : Core) → Reads (fed piece old) packet next → (packet ≡ connack) × (next.unread.held ≡ []) × (next.state ≡ old.state)
+  reads_it : (packet : Packet) (next : Core) → Reads (fed piece old) packet next → (packet ≡ connack) × (next.unread.bytes ≡ []) × (next.state ≡ old.state)
   reads_it packet next reads =
-      let z = same_packet (verdict (fed piece old).unread.held) packet connack next.unread.held [] reads.0.1 stands in (z.0, z.1, reads.1)
+      let z = same_packet (verdict (fed piece old).unread.bytes) packet connack next.unread.bytes [] reads.0.1 stands in (z.0, z.1, reads.1)
 
   turn_is : (packet : Packet) (next : Core) → Reads (fed piece old) packet next → outcome_of packet next ≡ received connack stages.Opened old.state
   turn_is packet next reads =
       let z = reads_it packet next reads in
       ap (λ (p : Packet). outcome_of p next) z.0 ∙ ap (λ (s : ClientState). received connack s.stage s) z.2 ∙ ap (λ (s : Stage). received connack s old.state) opened
 
-  nothing_more : (core : Core) → core.unread.held ≡ [] → verdict core.unread.held ≡ Err stops.More
+  nothing_more : (core : Core) → core.unread.bytes ≡ [] → verdict core.unread.bytes ≡ Err stops.More
   nothing_more core e = ap verdict e ∙ nothing_whole
 
   handled : (last : Core) → Handles (fed piece old) last → (last ≡ fed piece old) ⊎ After last
@@ -83,17 +83,17 @@ module _ (piece : List ℕ) (old : Core) (whole : verdict piece ≡ Ok (connack,
           let state = done.0 ∙ ap (λ (u : ClientOutcome). u.state) turn in
           inr (record {
             served = record { online = ap (λ (k : ClientState). is_online k.stage) state; present = ap (λ (k : ClientState). k.present) state };
-            read = ap (λ (x : Stream). x.held) done.2 ∙ (reads_it packet t r).1;
+            read = ap (λ (x : Stream). x.bytes) done.2 ∙ (reads_it packet t r).1;
           })
-      by (inr z) = absurd (ok_not_err (verdict s.unread.held) (packet, t.unread.held) stops.More reads.0.1 (nothing_more s z.read))
+      by (inr z) = absurd (ok_not_err (verdict s.unread.bytes) (packet, t.unread.bytes) stops.More reads.0.1 (nothing_more s z.read))
 
   -- it does not end before the CONNACK
   none_stops : (cause : ClientError) → StopsFor cause (fed piece old) → ⊥
   none_stops cause (inl (fault, rest, takes, is)) = by fault takes.1
     where
-      by : (f : DecodeFault) → IsFault f (fed piece old).unread.held → ⊥
-      by (faults.Malformed kind) f = ok_not_err (verdict (fed piece old).unread.held) (connack, []) (stops.Malformed kind) stands f.1
-      by (faults.Refused code) f = ok_not_err (verdict (fed piece old).unread.held) (connack, []) (stops.Refused code) stands f
+      by : (f : DecodeFault) → IsFault f (fed piece old).unread.bytes → ⊥
+      by (faults.Malformed kind) f = ok_not_err (verdict (fed piece old).unread.bytes) (connack, []) (stops.Malformed kind) stands f.1
+      by (faults.Refused code) f = ok_not_err (verdict (fed piece old).unread.bytes) (connack, []) (stops.Refused code) stands f
   none_stops cause (inr (packet, next, reads, refused)) =
       refuses (outcome_of packet next).refusal cause refused (ap (λ (u : ClientOutcome). u.refusal) (turn_is packet next reads))
     where
@@ -101,16 +101,16 @@ module _ (piece : List ℕ) (old : Core) (whole : verdict piece ≡ Ok (connack,
       refuses o e f g = cc
 
   -- nor after it
-  none_stops_after : (cause : ClientError) (last : Core) → last.unread.held ≡ [] → StopsFor cause last → ⊥
-  none_stops_after cause last empty (inl (fault, rest, takes, is)) = no_fault last.unread.held (nothing_more last empty) fault takes.1
+  none_stops_after : (cause : ClientError) (last : Core) → last.unread.bytes ≡ [] → StopsFor cause last → ⊥
+  none_stops_after cause last empty (inl (fault, rest, takes, is)) = no_fault last.unread.bytes (nothing_more last empty) fault takes.1
   none_stops_after cause last empty (inr (packet, next, reads, refused)) =
-      ok_not_err (verdict last.unread.held) (packet, next.unread.held) stops.More reads.0.1 (nothing_more last empty)
+      ok_not_err (verdict last.unread.bytes) (packet, next.unread.bytes) stops.More reads.0.1 (nothing_more last empty)
 
   -- so it ends after it
   ends : (last new : Core) (result : Result (Unit {0}) ClientError) → (result ≡ Err errors.Memory → ⊥) → (last ≡ fed piece old) ⊎ After last → EndsWith last result new →
       (result ≡ Ok tt) × IsServed new
   ends last new (Ok done) memory (inl same) z =
-      absurd (ok_not_err (verdict (fed piece old).unread.held) (connack, []) stops.More stands (ap (λ (k : Core). verdict k.unread.held) (sym same) ∙ z.0.1))
+      absurd (ok_not_err (verdict (fed piece old).unread.bytes) (connack, []) stops.More stands (ap (λ (k : Core). verdict k.unread.bytes) (sym same) ∙ z.0.1))
   ends last new (Ok done) memory (inr after) z = (refl, subst IsServed (sym z.1) after.served)
   ends last new (Err errors.Memory) memory either z = absurd (memory refl)
   ends last new (Err errors.SessionLost) memory (inl same) (packet, next, reads, refused, done) =

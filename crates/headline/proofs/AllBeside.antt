@@ -65,7 +65,7 @@ step_goes apart v w went s (is_turned_away n port now d core unused after none) 
 step_goes apart v w went s (comes_up i j c κ p piece rest now d has is) holds = pipe_beside apart v went d.after i j c (record p { up = rest }) s d.step has.client holds
 step_goes apart v w went s (goes_down i j c κ p d has) holds = pipe_beside apart v went d.after i j c _ s d.step has.client holds
 step_goes apart v w went s (arrives i j c κ p piece rest has is) holds =
-    pipe_rests v went i j c (record p { down = rest; came = record p.came { held = p.came.held ++ piece } }) s has.client holds
+    pipe_rests v went i j c (record p { down = rest; came = record p.came { bytes = p.came.bytes ++ piece } }) s has.client holds
 step_goes apart v w went s (handles i c κ others p pipes packet left at first piped is_open cut spelled) holds =
     handles_so v went i c κ others p pipes packet left s at first piped is_open cut holds
 

@@ -191,7 +191,7 @@ pub connects_so : {nodes : ℕ} {config : Config} {cs : List Client} → AreApar
 connects_so {cs = cs} apart v went i n c x port now d s at holds =
     let later = after_connecting x n port c in
     let κ : Connection = new_connection c.keeper.client x in
-    let p : Pipe = record { node = n; port = port; up = spelled (packets_of κ.written); down = []; came = record { held = []; failed = false } } in
+    let p : Pipe = record { node = n; port = port; up = spelled (packets_of κ.written); down = []; came = record { bytes = []; failed = false } } in
     group_beside apart (with_client i later (record v { group = d.after })) v.group went s.so d.step
     (λ agreed is.
     subst (Beside cs agreed) (sym (set_mapped pipes_alone v.clients i later))

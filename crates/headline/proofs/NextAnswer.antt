@@ -40,7 +40,7 @@ next_of (p ∷ handled) (q ∷ put) held rest left packet whole fits e goes =
 -- if what was handled, spelled, with the bytes that came and those in transit, is a prefix of the
 -- spelled answers
 pub next_answer : (handled put : List Packet) (came left : Stream) (down : List ℕ) (packet : Packet) → Each IsPacket handled → Each IsPacket put → came.failed ≡ false
-    → IsPrefixOf (spelled handled ++ (came.held ++ down)) (spelled put) → Takes came (Ok (Some packet)) left → slice_get put (length handled) ≡ Some packet
+    → IsPrefixOf (spelled handled ++ (came.bytes ++ down)) (spelled put) → Takes came (Ok (Some packet)) left → slice_get put (length handled) ≡ Some packet
 next_answer handled put came left down packet whole fits sound front takes =
-    next_of handled put came.held (down ++ front.rest) left.held packet whole fits
-    (front.is ∙ ap (λ l. l ++ front.rest) (sym (append_assoc (spelled handled) came.held down)) ∙ append_assoc (spelled handled ++ came.held) down front.rest) takes.2
+    next_of handled put came.bytes (down ++ front.rest) left.bytes packet whole fits
+    (front.is ∙ ap (λ l. l ++ front.rest) (sym (append_assoc (spelled handled) came.bytes down)) ∙ append_assoc (spelled handled ++ came.bytes) down front.rest) takes.2

@@ -62,7 +62,7 @@ abbrev pub the_port : Port
 the_port = record { 0 = 0 }
 
 abbrev pub pipe_with : List ℕ → List ℕ → List ℕ → Pipe
-pipe_with up down held = record { node = 0; port = the_port; up = up; down = down; came = record { held = held; failed = false } }
+pipe_with up down held = record { node = 0; port = the_port; up = up; down = down; came = record { bytes = held; failed = false } }
 
 abbrev pub client_with : Keeper → Connection → Pipe → ClientPipes
 client_with keeper κ p = record { keeper = keeper; connections = κ ∷ []; pipes = p ∷ [] }
@@ -123,7 +123,7 @@ module _ {core : CoreState} {keeper : Keeper} {κ : Connection} {up down held : 
         trail = subst (λ (s : Side). Reached 1 one_node (writer ∷ [])
             (world_with r.group (client_with s.keeper s.connection (pipe_with (up ++ spelled (newly_written (κ ∷ []) (s.connection ∷ []))) down rest)))) (sym same)
             (goes_on r.trail (handles 0 (client_with keeper κ (pipe_with up down held)) κ [] (pipe_with up down held) [] packet
-            (record { held = rest; failed = false }) refl refl refl is_open
+            (record { bytes = rest; failed = false }) refl refl refl is_open
             (refl, ap verdict e ∙ verdict_again packet (spelling packet) rest whole spells, (spelling packet, spells, whole, e), refl)
             (subst (λ (s : Side). CanBeSpelled (κ ∷ []) (s.connection ∷ [])) same fits)));
         stands = r.stands;

@@ -22,7 +22,7 @@ impl Model for Unread {
 
     ghost Value = { List ℕ };
 
-    ghost view = { λ unread. unread.cutter.held };
+    ghost view = { λ unread. unread.cutter.bytes };
 
     ghost invariant = { λ unread. unread.cutter.failed ≡ false };
 }

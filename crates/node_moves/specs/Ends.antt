@@ -76,7 +76,7 @@ came_on x _ = []
 
 -- what a node holds for a connection is the stream of a cutter that found no fault
 abbrev pub stream_of : List ℕ → Stream
-stream_of unread = record { held = unread; failed = false }
+stream_of unread = record { bytes = unread; failed = false }
 
 -- whether no packet was read
 abbrev pub is_nothing : List Packet → Bool

@@ -40,7 +40,7 @@ impl Subscriptions {
         ensures { OnOk result
             (bytes.new.items ≡ bytes.old.items ++ counted one_byte held_bytes self.now) }
     {
-        bytes.push(self.held.len() as u8)?;
+        bytes.push(self.filters.len() as u8)?;
         self.write_each(bytes)
     }
 
@@ -48,7 +48,7 @@ impl Subscriptions {
     fn write_each(&self, bytes: &mut Vec<u8>) -> Result<(), AllocError>
         ensures { OnOk result (bytes.new.items ≡ bytes.old.items ++ flat_map held_bytes self.now) }
     {
-        for (filter, qos) in &self.held {
+        for (filter, qos) in &self.filters {
             write_held(filter, *qos, bytes)?;
         }
         Ok(())

@@ -14,7 +14,7 @@ use std::marker::Model;
 /// Filters, each with the QoS that was granted last, in the order of their first granting.
 #[derive(Drop)]
 pub(crate) struct Subscriptions {
-    pub(crate) held: IndexMap<Filter, QoS>,
+    pub(crate) filters: IndexMap<Filter, QoS>,
 }
 
 impl Model for Subscriptions {
@@ -23,7 +23,7 @@ impl Model for Subscriptions {
 
     ghost Value = { List HeldFilter };
 
-    ghost view = { λ subscriptions. subscriptions.held.entries };
+    ghost view = { λ subscriptions. subscriptions.filters.entries };
 }
 
 impl Subscriptions {
@@ -32,7 +32,7 @@ impl Subscriptions {
         ensures { result ≡ [] }
     {
         Subscriptions {
-            held: IndexMap::new(alloc),
+            filters: IndexMap::new(alloc),
         }
     }
 
@@ -40,21 +40,21 @@ impl Subscriptions {
     pub(crate) fn len(&self) -> usize
         ensures { result ≡ length self.now }
     {
-        self.held.len()
+        self.filters.len()
     }
 
     /// Returns all of them.
     pub(crate) fn all(&self) -> &IndexMap<Filter, QoS>
         ensures { result.now.entries ≡ self.now }
     {
-        &self.held
+        &self.filters
     }
 
     /// Says whether the filter is among them.
     pub(crate) fn contains(&self, filter: &Filter) -> bool
         ensures { result ≡ is_held filter.now self.now }
     {
-        self.held.contains_key(filter)
+        self.filters.contains_key(filter)
     }
 
     /// Sets a filter: an identical filter gets the new QoS in its place, and a new one is appended.
@@ -63,7 +63,7 @@ impl Subscriptions {
         ensures err { OnErr result (self.new ≡ self.old) }
         ensures held { is_held filter self.old ≡ true → IsOk result }
     {
-        self.held.insert(filter, qos)?;
+        self.filters.insert(filter, qos)?;
         Ok(())
     }
 
@@ -71,7 +71,7 @@ impl Subscriptions {
     pub(crate) fn remove(&mut self, filter: &Filter)
         ensures { self.new ≡ without_filter filter.now self.old }
     {
-        self.held.retain(|held, _qos| !(*filter == *held));
+        self.filters.retain(|held, _qos| !(*filter == *held));
     }
 
     /// Returns the greatest QoS of the filters that match the topic.
@@ -80,7 +80,7 @@ impl Subscriptions {
         ensures { result ≡ granted_qos topic.now self.now }
     {
         let mut best = None;
-        for (filter, qos) in &self.held {
+        for (filter, qos) in &self.filters {
             if matches(filter, topic) {
                 best = Some(greater(*qos, best));
             }

@@ -37,12 +37,12 @@ impl Rows {
                 *self = Rows::One(client.clone()?, qos);
                 Ok(())
             }
-            Rows::One(held, kept) => {
-                if *held == *client {
+            Rows::One(owner, kept) => {
+                if *owner == *client {
                     *kept = qos;
                     return Ok(());
                 }
-                *self = both(alloc, held, *kept, client, qos)?;
+                *self = both(alloc, owner, *kept, client, qos)?;
                 Ok(())
             }
             Rows::Many(rows) => set_client(rows, client, qos),
@@ -56,8 +56,8 @@ impl Rows {
     {
         match self {
             Rows::Empty => false,
-            Rows::One(held, _) => {
-                let found = *held == *client;
+            Rows::One(owner, _) => {
+                let found = *owner == *client;
                 if found {
                     *self = Rows::Empty;
                 }
@@ -82,15 +82,15 @@ impl Rows {
 // Returns the rows of two clients.
 fn both(
     alloc: Global,
-    held: &ClientId,
+    owner: &ClientId,
     kept: QoS,
     client: &ClientId,
     qos: QoS,
 ) -> Result<Rows, AllocError>
-    ensures { IfOk result (λ rows. SetsAt (One held.now kept) rows client.now (Some qos)) }
+    ensures { IfOk result (λ rows. SetsAt (One owner.now kept) rows client.now (Some qos)) }
 {
     let mut rows = BTreeMap::new(alloc);
-    rows.insert(held.clone()?, kept)?;
+    rows.insert(owner.clone()?, kept)?;
     rows.insert(client.clone()?, qos)?;
     Ok(Rows::Many(rows))
 }

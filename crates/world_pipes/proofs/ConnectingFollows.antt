@@ -115,7 +115,7 @@ connected node port old core m x s opens =
           port = port;
           up = spelled (packets.Connect (record { client = m.keeper.client; clean = false; keep_alive = 0 }) ∷ []);
           down = [];
-          came = record { held = []; failed = false };
+          came = record { bytes = []; failed = false };
         };
         further = m.pipes;
         pipes = refl;

@@ -183,7 +183,7 @@ hearing_follows count old new result m s up h =
     let ways = newest_way old.ways h.older h.way m.pipes further p h.newest held.pipes s.ways in
     let piece = take count h.way.down in
     let rest = drop count h.way.down in
-    let p₁ : Pipe = record p { down = rest; came = record p.came { held = p.came.held ++ piece } } in
+    let p₁ : Pipe = record p { down = rest; came = record p.came { bytes = p.came.bytes ++ piece } } in
     let m₁ : ClientPipes = with_pipe 0 p₁ m in
     let counted : suc (length others) ≡ suc (length further) = sym (ap length held.connections) ∙ s.many ∙ ap length held.pipes in
     let many : length others ≡ length further = omega (arith, counted) in
@@ -201,7 +201,7 @@ hearing_follows count old new result m s up h =
       pipes = ap (λ l. set l 0 p₁) held.pipes;
       leads = (refl, refl, refl);
       up = held.up ∙ ap (λ (way : Way). way.up) (sym same) ∙ sym (append-nil h.way.up) ∙ ap (λ l. h.way.up ++ l) (sym held.sent);
-      came = ap (λ (c : Stream). record c { held = c.held ++ piece }) held.came;
+      came = ap (λ (c : Stream). record c { bytes = c.bytes ++ piece }) held.came;
     } in
     let r = has_read piece old.core.state.stage old.core h.core h.read up h.heard in
     let l = ends h.way.up r.last h.core m₁ others p₁ further h.read (handled_stays (fed piece old.core) r.last r.handled up)

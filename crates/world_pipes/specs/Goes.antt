@@ -25,7 +25,7 @@ pub data ClientStep (c : ClientPipes) : ClientPipes → Type 0 where
       p.down ≡ piece ++ rest →
       ClientStep c
       (with_pipe j
-      (record p { down = rest; came = record p.came { held = p.came.held ++ piece } }) c)
+      (record p { down = rest; came = record p.came { bytes = p.came.bytes ++ piece } }) c)
   -- it handles the next packet that came whole on the connection that it holds
   handles : (κ : Connection) (others : List Connection) (p : Pipe) (pipes : List Pipe)
       (packet : Packet) (left : Stream) → c.connections ≡ κ ∷ others →

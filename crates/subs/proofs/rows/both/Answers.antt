@@ -8,6 +8,6 @@ use Rattle.subs.proofs.rows.both.Goals as goal
 
 pub returns : goal.returns
 returns c =
-    two_set c.new-rows.result c.insert.new.self c.insert-2.new.self c.args.held.now c.args.client.now c.args.kept c.args.qos c.new-rows.ensures.empty
+    two_set c.new-rows.result c.insert.new.self c.insert-2.new.self c.args.owner.now c.args.client.now c.args.kept c.args.qos c.new-rows.ensures.empty
     (subst (λ (k : List ℕ). Updates (slice_cmp nat_cmp) c.new-rows.result c.insert.new.self k (Some c.args.kept)) c.in_ok-clone.ensures.cases c.in_ok-insert.ensures.updates)
     (subst (λ (k : List ℕ). Updates (slice_cmp nat_cmp) c.insert.new.self c.insert-2.new.self k (Some c.args.qos)) c.in_ok-clone-2.ensures.cases c.in_ok-insert-2.ensures.updates)

@@ -6,4 +6,4 @@ abbrev pub invariant-loop : goal.invariant-loop
 invariant-loop l = Handles l.initial.self l.self
 
 abbrev pub decreases-loop : goal.decreases-loop
-decreases-loop l = length l.self.unread.held
+decreases-loop l = length l.self.unread.bytes

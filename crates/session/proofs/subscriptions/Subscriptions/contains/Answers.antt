@@ -6,5 +6,5 @@ use Rattle.session.proofs.subscriptions.Subscriptions.contains.Goals as goal
 pub returns : goal.returns
 returns c =
     c.contains_key.ensures
-    ∙ held_is_found c.args.filter.now c.self.inside.held.entries
+    ∙ held_is_found c.args.filter.now c.self.inside.filters.entries
     ∙ ap (is_held c.args.filter.now) c.self.view_is

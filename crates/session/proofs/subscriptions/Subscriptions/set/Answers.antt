@@ -7,9 +7,9 @@ use Rattle.session.proofs.subscriptions.Subscriptions.set.Goals as goal
 pub returns-clause-ok : goal.returns-clause-ok
 returns-clause-ok c =
     c.in_ok-insert.ensures.entries
-    ∙ set_as_entry c.args.filter c.args.qos c.self.inside.held.entries
+    ∙ set_as_entry c.args.filter c.args.qos c.self.inside.filters.entries
     ∙ ap (with_subscription (c.args.filter, c.args.qos)) c.self.view_is
 
 pub returns-in_err-insert-clause-held : goal.returns-in_err-insert-clause-held
 returns-in_err-insert-clause-held c held =
-    absurd (never_missed c.args.filter c.self.inside.held.entries c.in_err-insert.ensures.absent (ap (is_held c.args.filter) c.self.view_is ∙ held))
+    absurd (never_missed c.args.filter c.self.inside.filters.entries c.in_err-insert.ensures.absent (ap (is_held c.args.filter) c.self.view_is ∙ held))

@@ -9,27 +9,27 @@ use Rattle.subs.proofs.rows.Rows.clear.Goals as goal
 
 pub returns-then-found-clause-found : goal.returns-then-found-clause-found
 returns-then-found-clause-found c =
-    let same : bytes_eq c.in-One.held c.args.client.now ≡ true = sym c.eq-found.ensures ∙ c.if-found.true in
+    let same : bytes_eq c.in-One.owner c.args.client.now ≡ true = sym c.eq-found.ensures ∙ c.if-found.true in
     c.if-found.true
-    ∙ sym (ap is_some (ap (λ rows. row_at rows c.args.client.now) c.in-One.is ∙ some_at c.in-One.held c.args.client.now c.in-One.field-1 same))
+    ∙ sym (ap is_some (ap (λ rows. row_at rows c.args.client.now) c.in-One.is ∙ some_at c.in-One.owner c.args.client.now c.in-One.field-1 same))
 
 pub returns-then-found-clause-after : goal.returns-then-found-clause-after
 returns-then-found-clause-after c =
-    let same : bytes_eq c.in-One.held c.args.client.now ≡ true = sym c.eq-found.ensures ∙ c.if-found.true in
+    let same : bytes_eq c.in-One.owner c.args.client.now ≡ true = sym c.eq-found.ensures ∙ c.if-found.true in
     subst (λ (old : Rows). SetsAt old Empty c.args.client.now None) (sym c.in-One.is)
-    (one_cleared c.in-One.held c.args.client.now c.in-One.field-1 same)
+    (one_cleared c.in-One.owner c.args.client.now c.in-One.field-1 same)
 
 pub returns-else-found-clause-found : goal.returns-else-found-clause-found
 returns-else-found-clause-found c =
-    let apart : bytes_eq c.in-One.held c.args.client.now ≡ false = sym c.eq-found.ensures ∙ c.if-found.false in
+    let apart : bytes_eq c.in-One.owner c.args.client.now ≡ false = sym c.eq-found.ensures ∙ c.if-found.false in
     c.if-found.false
-    ∙ sym (ap is_some (ap (λ rows. row_at rows c.args.client.now) c.in-One.is ∙ none_at c.in-One.held c.args.client.now c.in-One.field-1 apart))
+    ∙ sym (ap is_some (ap (λ rows. row_at rows c.args.client.now) c.in-One.is ∙ none_at c.in-One.owner c.args.client.now c.in-One.field-1 apart))
 
 pub returns-else-found-clause-after : goal.returns-else-found-clause-after
 returns-else-found-clause-after c =
-    let apart : bytes_eq c.in-One.held c.args.client.now ≡ false = sym c.eq-found.ensures ∙ c.if-found.false in
-    subst (λ (old : Rows). SetsAt old (One c.in-One.held c.in-One.field-1) c.args.client.now None) (sym c.in-One.is)
-    (one_stays c.in-One.held c.args.client.now c.in-One.field-1 apart)
+    let apart : bytes_eq c.in-One.owner c.args.client.now ≡ false = sym c.eq-found.ensures ∙ c.if-found.false in
+    subst (λ (old : Rows). SetsAt old (One c.in-One.owner c.in-One.field-1) c.args.client.now None) (sym c.in-One.is)
+    (one_stays c.in-One.owner c.args.client.now c.in-One.field-1 apart)
 
 pub returns-in-Many-clause-after : goal.returns-in-Many-clause-after
 returns-in-Many-clause-after c =

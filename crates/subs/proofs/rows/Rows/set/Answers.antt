@@ -11,15 +11,15 @@ use Rattle.subs.proofs.rows.Rows.set.Goals as goal
 
 pub returns-then-eq-clause-ok : goal.returns-then-eq-clause-ok
 returns-then-eq-clause-ok c =
-    let same : bytes_eq c.in-One.held c.args.client.now ≡ true = sym c.eq.ensures ∙ c.if-eq.true in
-    subst (λ (old : Rows). SetsAt old (One c.in-One.held c.args.qos) c.args.client.now (Some c.args.qos)) (sym c.in-One.is)
-    (one_set c.in-One.held c.args.client.now c.in-One.kept c.args.qos same)
+    let same : bytes_eq c.in-One.owner c.args.client.now ≡ true = sym c.eq.ensures ∙ c.if-eq.true in
+    subst (λ (old : Rows). SetsAt old (One c.in-One.owner c.args.qos) c.args.client.now (Some c.args.qos)) (sym c.in-One.is)
+    (one_set c.in-One.owner c.args.client.now c.in-One.kept c.args.qos same)
 
 pub returns-in_err-self-in-One-clause-absent : goal.returns-in_err-self-in-One-clause-absent
 returns-in_err-self-in-One-clause-absent c =
-    let apart : bytes_eq c.in-One.held c.args.client.now ≡ false = sym c.eq.ensures ∙ c.if-eq.false in
+    let apart : bytes_eq c.in-One.owner c.args.client.now ≡ false = sym c.eq.ensures ∙ c.if-eq.false in
     anyhow c.from_residual-in_err-self-in-One.result
-    (ap (λ rows. row_at rows c.args.client.now) c.in-One.is ∙ none_at c.in-One.held c.args.client.now c.in-One.kept apart)
+    (ap (λ rows. row_at rows c.args.client.now) c.in-One.is ∙ none_at c.in-One.owner c.args.client.now c.in-One.kept apart)
 
 pub returns-in_ok-clone-in-Empty-clause-ok : goal.returns-in_ok-clone-in-Empty-clause-ok
 returns-in_ok-clone-in-Empty-clause-ok c =
