@@ -218,7 +218,7 @@ impl SteppingNode {
     }
 
     /// Returns how many bytes of the open connection of a port are not yet read.
-    pub fn held(&self, port: Port) -> usize
+    pub fn unread_len(&self, port: Port) -> usize
         ensures { result ≡ unread_of (open_at port self.now.core) }
     {
         match self.index_at(port) {

@@ -137,7 +137,7 @@ impl SteppingNode {
         ensures run { Ran
             (ReadsAll now port) self.old.core self.new.core effects.old.items effects.new.items }
     {
-        for _packet in 0..self.held(port) {
+        for _packet in 0..self.unread_len(port) {
             if !self.read_next(port, now, effects) {
                 return;
             }

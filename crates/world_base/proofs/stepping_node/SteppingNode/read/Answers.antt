@@ -19,7 +19,7 @@ loop-packet-init c = record {
 pub returns-then-not-read_next-clause-turns : goal.returns-then-not-read_next-clause-turns
 returns-then-not-read_next-clause-turns c =
     let few : suc c.loop-packet._packet ≤ unread_of (open_at c.args.port c.args.self.now.core) =
-    omega (arith, c.loop-packet-test.true, c.held-packet-end.ensures) in
+    omega (arith, c.loop-packet-test.true, c.unread_len-packet-end.ensures) in
     repeats_enough (reads_next c.args.now c.args.port) (suc c.loop-packet._packet) (unread_of (open_at c.args.port c.args.self.now.core))
     c.args.self.now c.read_next.new.self c.args.effects.now.items c.read_next.new.effects.items few
     (repeats_more (reads_next c.args.now c.args.port) c.loop-packet._packet c.args.self.now c.loop-packet.self c.read_next.new.self
@@ -30,7 +30,7 @@ returns-then-not-read_next-clause-turns c =
 pub returns-then-not-read_next-clause-run : goal.returns-then-not-read_next-clause-run
 returns-then-not-read_next-clause-run c =
     let few : suc c.loop-packet._packet ≤ unread_of (open_at c.args.port c.args.self.now.core) =
-    omega (arith, c.loop-packet-test.true, c.held-packet-end.ensures) in
+    omega (arith, c.loop-packet-test.true, c.unread_len-packet-end.ensures) in
     ran_as (Repeated (unread_of (open_at c.args.port c.args.self.now.core)) (ReadsNext c.args.now c.args.port))
     (ReadsAll c.args.now c.args.port) c.args.self.now.core c.args.self.now.core _ _ _ (λ did runs. runs)
     (ran_enough (ReadsNext c.args.now c.args.port) (suc c.loop-packet._packet) (unread_of (open_at c.args.port c.args.self.now.core))

@@ -2,7 +2,7 @@ use Rattle.std.proofs.Common.{◌≡◌, Some, sym, ap, ◌∙◌}
 use Rattle.node_connections.specs.Connections.{is_open_at}
 use Rattle.world_base.specs.Reading.{open_at, unread_of}
 use Rattle.world_base.proofs.Indices.{none_found, found_there}
-use Rattle.world_base.proofs.stepping_node.SteppingNode.held.Goals as goal
+use Rattle.world_base.proofs.stepping_node.SteppingNode.unread_len.Goals as goal
 
 pub returns-in-Some : goal.returns-in-Some
 returns-in-Some c =
