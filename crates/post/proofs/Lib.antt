@@ -2,6 +2,7 @@ mod CarriesJoin
 mod CountsStand
 mod HighestFound
 mod MasterIsReachable
+mod MayBeGiven
 mod NoneAmong
 mod OutboxKept
 pub use Rattle.master.proofs.of_lists as of_lists

@@ -1,7 +1,9 @@
--- NoneAmong.antt: a number that no node has is not among the nodes' numbers.
-use Rattle.std.proofs.Common.{◌≡◌, ◌≢◌, ℕ, suc, ◌==◌, false, List, [], ◌∷◌, length, Option, Some, None, refl, arith}
-use Rattle.std.specs.List.{AllWithin}
+-- NoneAmong.antt: a number that no node has is not among the nodes' numbers, and one that a node has is.
+use Rattle.std.proofs.Common.{◌≡◌, ◌≢◌, ℕ, zero, suc, ◌<◌, ◌==◌, nat_lt, is_some, false, true, List, [], ◌∷◌, length, Option, Some, None, refl, ◌∙◌, ap, arith}
+use Rattle.std.specs.List.{AllWithin, HoldsAt}
 use Rattle.std.specs.Option.{MatchOption}
+use Rattle.std.proofs.lemmas.Bool.{eq-eqb, or_left, or_right}
+use Rattle.std.proofs.lemmas.List.{length-map}
 use Rattle.std.proofs.lemmas.Option.{none-some}
 use Rattle.std.proofs.Common.{sym}
 use Rattle.master.specs.lists.Lists.{has_id}
@@ -25,3 +27,30 @@ none_among number (peer ∷ peers) apart =
       not_same number peer.number (apart 0 peer (omega arith) (omega arith)),
       none_among number peers (λ k d low high. apart (suc k) d (omega arith) (omega (arith, high))),
     )
+
+one_among : (number : ℕ) (peers : List Peer) (at : ℕ) (found : Peer) → at < length peers
+    → HoldsAt (λ peer. peer ≡ found) peers at → found.number ≡ number → has_id number (numbers_of peers) ≡ true
+one_among number [] at found below is names = absurd (omega (arith, below))
+one_among number (peer ∷ peers) zero found below is names =
+    or_left (number == peer.number) (has_id number (numbers_of peers))
+    (eq-eqb number peer.number (sym (ap (λ (one : Peer). one.number) (is peer) ∙ names)))
+one_among number (peer ∷ peers) (suc at) found below is names =
+    or_right (number == peer.number) (has_id number (numbers_of peers))
+    (one_among number peers at found (omega (arith, below)) (λ other. is other) names)
+
+-- a node is found exactly if one has the number
+pub found_among : {A : Type 0} (peer_of : A → Peer) (number : ℕ) (peers : List Peer) (found : Option A)
+    → MatchOption found (AllWithin (λ peer. peer.number ≢ number) peers 0 (length peers))
+    (λ one. ((peer_of one).number ≡ number) × (at : ℕ) × (at < length peers)
+    × HoldsAt (λ peer. peer ≡ peer_of one) peers at
+    × AllWithin (λ peer. peer.number ≢ number) peers 0 at)
+    → is_some found ≡ has_id number (numbers_of peers)
+found_among peer_of number peers None known = sym (none_among number peers known)
+found_among peer_of number peers (Some one) known =
+    sym (one_among number peers known.1 (peer_of one) known.2 known.3 known.0)
+
+-- as many nodes as numbers
+pub several : (count : ℕ) (peers : List Peer) (numbers : List ℕ) → count ≡ length peers → numbers_of peers ≡ numbers
+    → nat_lt 1 count ≡ nat_lt 1 (length numbers)
+several count peers numbers counts names =
+    ap (nat_lt 1) (counts ∙ (sym (length-map peers (λ (peer : Peer). peer.number)) ∙ ap length names))

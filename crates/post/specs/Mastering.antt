@@ -1,6 +1,7 @@
 -- What the master of a program answers, and which states it reaches.
-use Rattle.std.specs.Prelude.{◌≡◌, ℕ, Option, Some, None}
-use Rattle.master.specs.agreement.MasterState.{MasterState, opening_master, refusal}
+use Rattle.std.specs.Prelude.{◌≡◌, ℕ, ◌<◌, ◌≤◌, true, Option, Some, None}
+use Rattle.master.specs.agreement.MasterState.{MasterState, max_ballot, opening_master, refusal}
+use Rattle.master.specs.ballot_base.LawfulConfig.{is_lawful}
 use Rattle.master.specs.snapshots.Masters.{MasterOutcome, activated, assigned}
 use Rattle.master.specs.declared.activation.Activation.{Activation}
 use Rattle.master.specs.declared.activation.Activation.TheVariants as activation
@@ -67,3 +68,10 @@ pub record WasAnswered (receiver : ℕ) (message : Message Command) : Type 0 whe
   pub outcome : MasterOutcome Command
   pub answers : Answers master outcome
   pub is : record { receiver = receiver; message = message } ≡ message_of outcome
+
+-- A configuration may get this ballot by an order: a ballot may have its members and its primary,
+-- and the number comes after that of the first ballot, up to the last.
+pub record MayGet (config : Config) (ballot : ℕ) : Type 0 where
+  pub lawful : is_lawful config.members config.primary ≡ true
+  pub after_first : 1 < ballot
+  pub up_to_last : ballot ≤ max_ballot

@@ -1,9 +1,10 @@
 // The nodes of a program, and their master.
 
-ghost use Rattle.std.specs.Prelude.{◌≡◌, IfOk, IfSome, IsErrOf, IsOk, None, false, true};
+ghost use Rattle.std.specs.Prelude.{◌≡◌, ◌&&◌, IfOk, IfSome, IsErrOf, IsOk, None, Ok, OnOk, OnSome, false, is_some, length, nat_lt, true};
 ghost use Rattle.master.specs.ballot_base.LawfulConfig.{is_lawful};
 ghost use Rattle.master.specs.lists.Lists.{has_id};
-ghost use Rattle.post.specs.Numbers.{numbers_of};
+ghost use Rattle.post.specs.Mastering.{MayGet};
+ghost use Rattle.post.specs.Numbers.{are_nodes, is_node, numbers_of};
 
 use crate::carrier::{Carrier, Given, carry_all};
 use crate::choosing::{Shown, primary_of};
@@ -75,7 +76,16 @@ impl Cluster {
     /// It becomes active once each of its members holds all that was agreed. `BadMembers` comes for
     /// members that no ballot may have, and for one that is no node here. If memory runs out,
     /// nothing changes.
-    pub fn assign<R: Wait>(&self, rt: &R, config: Config) -> Result<u64, OrderError> {
+    pub fn assign<R: Wait>(&self, rt: &R, config: Config) -> Result<u64, OrderError>
+        ensures given { IfOk result (λ ballot. MayGet config ballot) }
+        ensures nodes { OnOk result (are_nodes self.now config.members ≡ true) }
+        ensures bad { IsErrOf result (OrderError.Refused AssignError.BadMembers)
+            → (is_lawful config.members config.primary && are_nodes self.now config.members)
+            ≡ false }
+        ensures spent { IsErrOf result (OrderError.Refused AssignError.BallotsSpent)
+            → (is_lawful config.members config.primary && are_nodes self.now config.members)
+            ≡ true }
+    {
         if !self.has_all(config.members.as_slice()) {
             return Err(OrderError::Refused(AssignError::BadMembers));
         }
@@ -89,7 +99,9 @@ impl Cluster {
     /// stopped, and was not ordered to crash before. The order is queued for the node, and then the
     /// call waits until the node has stopped, some 40 ms at most. If memory runs out, the node is
     /// not crashed.
-    pub fn crash<R: Wait + Clock>(&self, rt: &R, number: u8) -> Result<bool, Memory> {
+    pub fn crash<R: Wait + Clock>(&self, rt: &R, number: u8) -> Result<bool, Memory>
+        ensures none { is_node self.now number ≡ false → result ≡ Ok false }
+    {
         let Some(node) = self.node(number) else {
             return Ok(false);
         };
@@ -134,7 +146,9 @@ impl Cluster {
 
     /// Returns the status of a node after its last change. There is none if no node has this
     /// number, or if it is not served within a second.
-    pub fn status<R: Wait + Clock>(&self, rt: &R, number: u8) -> Option<Status> {
+    pub fn status<R: Wait + Clock>(&self, rt: &R, number: u8) -> Option<Status>
+        ensures { OnSome result (is_node self.now number ≡ true) }
+    {
         let node = self.node(number)?;
         for _ in 0..LOOKS {
             let status = node.status(rt);
@@ -147,18 +161,30 @@ impl Cluster {
     }
 
     /// Says whether there are several nodes.
-    pub fn are_several(&self) -> bool {
+    pub fn are_several(&self) -> bool
+        ensures { result ≡ nat_lt 1 (length self.now) }
+    {
         self.nodes.len() > 1
     }
 
     // Says whether each of these numbers is that of a node.
-    fn has_all(&self, numbers: &[u8]) -> bool {
-        numbers.iter().all(|number| self.node(*number).is_some())
+    fn has_all(&self, numbers: &[u8]) -> bool
+        ensures { result ≡ are_nodes self.now numbers.now }
+    {
+        numbers.iter().all(|number| self.has(*number))
+    }
+
+    // Says whether a node has this number.
+    fn has(&self, number: u8) -> bool
+        ensures { result ≡ is_node self.now number }
+    {
+        self.node(number).is_some()
     }
 
     /// Returns the node of a number.
     pub fn node(&self, number: u8) -> Option<&Peer>
         ensures some { IfSome result (λ node. node.now.number ≡ number) }
+        ensures is { is_some result ≡ is_node self.now number }
         ensures none { result ≡ None → has_id number self.now ≡ false }
     {
         self.nodes.iter().find(|node| node.number == number)

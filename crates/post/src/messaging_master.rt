@@ -9,7 +9,7 @@ ghost use Rattle.master.specs.snapshots.Masters.{assigned};
 ghost use Rattle.node.specs.Command.{Command};
 ghost use Rattle.node.specs.Effect.TheVariants.{To};
 ghost use Rattle.post.specs.Queued.{WasAnswered, WasGiven};
-ghost use Rattle.post.specs.Mastering.{answer_to, body_of, master_after, message_if, message_of};
+ghost use Rattle.post.specs.Mastering.{MayGet, answer_to, body_of, master_after, message_if, message_of};
 
 use crate::cluster::Cluster;
 use crate::order_error::OrderError;
@@ -123,6 +123,7 @@ impl MessagingMaster {
         config: Config,
     ) -> Result<(u64, Answer), OrderError>
         ensures ballot { IfOk result (λ r. r.0 ≡ self.old.given + 1) }
+        ensures given { IfOk result (λ r. MayGet config r.0) }
         ensures answer { IfOk result (λ r. r.1 ≡ message_of (assigned Command self.old config)) }
         ensures state { OnOk result (self.new ≡ (assigned Command self.old config).state) }
         ensures taken { OnOk result (refusal self.old config ≡ None) }

@@ -1,6 +1,6 @@
 // What waits for a node.
 
-ghost use Rattle.std.specs.Prelude.{◌≡◌, ◌↔◌, ◌+◌, ◌++◌, ◌∷◌, [], None, Some, true, false, IfOk, IsErrOf, OnErr, OnOk};
+ghost use Rattle.std.specs.Prelude.{◌≡◌, ◌↔◌, ◌+◌, ◌++◌, ◌∷◌, [], Some, true, false, IfOk, IsErrOf, OnErr, OnOk};
 ghost use Rattle.std.specs.List.{list_any};
 ghost use Rattle.master.specs.agreement.MasterState.{refusal};
 ghost use Rattle.master.specs.agreement.MasterState.AssignRefusal.{bad_members, ballots_spent};
@@ -9,7 +9,7 @@ ghost use Rattle.node.specs.Lists.{Each};
 ghost use Rattle.node.specs.declared.Item.TheVariants.{Peer};
 ghost use Rattle.master.specs.snapshots.Masters.{assigned};
 ghost use Rattle.post.specs.Queued.{IsPosted, IsQueued};
-ghost use Rattle.post.specs.Mastering.{message_of};
+ghost use Rattle.post.specs.Mastering.{MayGet, message_of};
 ghost use Rattle.post.specs.Superseding.{newest, still_waiting, supersedes_one};
 ghost use Rattle.post.specs.Waiting.{has_room, is_of_node};
 ghost use Rattle.post.specs.Waking.{is_long, wakes};
@@ -134,12 +134,12 @@ impl Outbox {
     ) -> Result<u64, OrderError>
         requires { config.primary ≡ self.old.number }
         ensures ballot { IfOk result (λ ballot. ballot ≡ master.old.given + 1) }
+        ensures given { IfOk result (λ ballot. MayGet config ballot) }
         ensures queued { OnOk result (self.new ≡ record self.old {
           items = self.old.items
               ++ Peer (message_of (assigned Command master.old config)).message ∷ [];
         }) }
         ensures state { OnOk result (master.new ≡ (assigned Command master.old config).state) }
-        ensures taken { OnOk result (refusal master.old config ≡ None) }
         ensures bad { IsErrOf result (OrderError.Refused AssignError.BadMembers)
             → refusal master.old config ≡ Some bad_members }
         ensures spent { IsErrOf result (OrderError.Refused AssignError.BallotsSpent)

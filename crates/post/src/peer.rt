@@ -1,7 +1,9 @@
 // A node as the other nodes of its program see it.
 
-ghost use Rattle.std.specs.Prelude.{◌≡◌, ◌≤◌};
+ghost use Rattle.std.specs.Prelude.{◌≡◌, ◌≤◌, IfOk, IsErrOf, false, true};
+ghost use Rattle.master.specs.ballot_base.LawfulConfig.{is_lawful};
 ghost use Rattle.node.specs.Lists.{Each};
+ghost use Rattle.post.specs.Mastering.{MayGet};
 ghost use Rattle.post.specs.Queued.{IsPosted, IsQueued};
 
 use crate::messaging_master::{Answer, MessagingMaster};
@@ -10,6 +12,7 @@ use crate::outbox::Outbox;
 use crate::outgoing::Outgoing;
 use crate::waker::Waker;
 use crate::waking::is_urgent;
+use master::AssignError;
 use node::packet::ClientId;
 use node::{Config, Intake, Item, Memory, PIECE_BYTES, Status};
 use std::alloc::Global;
@@ -114,6 +117,11 @@ impl Peer {
         config: Config,
     ) -> Result<u64, OrderError>
         requires { config.primary ≡ self.now.number }
+        ensures given { IfOk result (λ ballot. MayGet config ballot) }
+        ensures bad { IsErrOf result (OrderError.Refused AssignError.BadMembers)
+            → is_lawful config.members config.primary ≡ false }
+        ensures spent { IsErrOf result (OrderError.Refused AssignError.BallotsSpent)
+            → is_lawful config.members config.primary ≡ true }
     {
         let ballot = self.assign_locked(rt, alloc, master, config);
         self.waker.wake(rt);
@@ -130,6 +138,11 @@ impl Peer {
         config: Config,
     ) -> Result<u64, OrderError>
         requires { config.primary ≡ self.now.number }
+        ensures given { IfOk result (λ ballot. MayGet config ballot) }
+        ensures bad { IsErrOf result (OrderError.Refused AssignError.BadMembers)
+            → is_lawful config.members config.primary ≡ false }
+        ensures spent { IsErrOf result (OrderError.Refused AssignError.BallotsSpent)
+            → is_lawful config.members config.primary ≡ true }
     {
         let mut master = master.lock(rt);
         let mut outbox = self.outbox.lock(rt);

@@ -1,3 +1,5 @@
+mod BusyAdded
 mod CountsAll
 mod HandedByTap
 pub mod KeepsItsPort
+mod LanesAdded

@@ -1,14 +1,27 @@
 -- The connections that are listed, in the order in which they are written to.
-use Rattle.std.specs.Prelude.{ℕ, zero, suc, ◌%◌, ◌^◌, ◌==◌, Bool, bit_and, nat_le, not}
-use Rattle.std.specs.Prelude.{List, [], ◌∷◌, ◌++◌, Option, None, Some, if◌then◌else◌}
+use Rattle.std.specs.Prelude.{◌≡◌, ℕ, zero, suc, ◌≤◌, ◌%◌, ◌^◌, ◌==◌, Bool, false, bit_and, nat_le, not}
+use Rattle.std.specs.Prelude.{List, [], ◌∷◌, ◌++◌, length, Option, None, Some, if◌then◌else◌}
 use Rattle.slab.specs.Slab.{Slab, get}
 use Rattle.node.specs.declared.Port.{Port}
+use Rattle.node.specs.Lists.{Each}
 use Rattle.streams.specs.declared.link.Link.{Link}
 use Rattle.streams.specs.declared.idle_lanes.IdleLanes.{IdleLanes}
+
+-- whether two ports are of one lane
+abbrev pub is_of_lane : Port → Port → Bool
+is_of_lane port other = port.0 % 64 == other.0 % 64
 
 -- the lane of a port is one of these lanes
 abbrev pub is_idle : IdleLanes → Port → Bool
 is_idle lanes port = not (bit_and lanes.0 (2 ^ (port.0 % 64)) == 0)
+
+-- Connections were added to a list, after what was there: at most so many, and none whose lane is
+-- idle.
+pub record AddsBusy (idle : IdleLanes) (most : ℕ) (before after : List Link) : Type 0 where
+  pub added : List Link
+  pub is : after ≡ before ++ added
+  pub busy : Each (λ link. is_idle idle link.port ≡ false) added
+  pub few : length added ≤ most
 
 -- the connection that is listed at an index, by what is there: an index may be taken by one that is
 -- not yet listed

@@ -1,6 +1,8 @@
 // The threads that wait at a node's listener for clients, and the connections that are served.
 
-ghost use Rattle.std.specs.Prelude.{◌≡◌, IfErr, IfSome};
+ghost use Rattle.std.specs.Prelude.{◌≡◌, ◌<◌, ◌≤◌, IfErr, IfSome, map};
+ghost use Rattle.std.specs.Arc.{arc_value};
+ghost use Rattle.streams.specs.Listing.{AddsBusy};
 
 use crate::closing::{Closed, Waiting};
 use crate::idle_lanes::IdleLanes;
@@ -66,7 +68,9 @@ impl ConnectionTable {
     }
 
     /// Takes an index for a connection. There is none if [`MAX_CONNECTIONS`] are taken.
-    pub(crate) fn take_index<R: Wait>(&self, rt: &R) -> Option<usize> {
+    pub(crate) fn take_index<R: Wait>(&self, rt: &R) -> Option<usize>
+        ensures { IfSome result (λ index. index < MAX_CONNECTIONS) }
+    {
         self.links.lock(rt).take()
     }
 
@@ -88,7 +92,10 @@ impl ConnectionTable {
         idle: IdleLanes,
         first: usize,
         busy: &mut Vec<Arc<Link, Global>>,
-    ) {
+    )
+        ensures { AddsBusy idle MAX_CONNECTIONS
+            (map arc_value busy.old.items) (map arc_value busy.new.items) }
+    {
         let first = first.min(usize::from(MAX_CONNECTIONS));
         let _ = self.links.lock(rt).add_busy(idle, first, busy);
     }
@@ -99,7 +106,10 @@ impl ConnectionTable {
         &self,
         rt: &R,
         first: usize,
-    ) -> Option<(usize, Arc<Link, Global>)> {
+    ) -> Option<(usize, Arc<Link, Global>)>
+        ensures from { IfSome result (λ found. first < found.0) }
+        ensures within { IfSome result (λ found. found.0 ≤ MAX_CONNECTIONS) }
+    {
         let links = self.links.lock(rt);
         let (index, link) = links.first_from(first)?;
         Some((index + 1, Arc::try_clone(link).ok()?))

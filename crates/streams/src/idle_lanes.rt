@@ -1,6 +1,8 @@
 // Which lanes have a connection that is open and has nothing to hand over.
 
-ghost use Rattle.std.specs.Prelude.{◌≡◌, ◌%◌, ◌^◌};
+ghost use Rattle.std.specs.Prelude.{◌≡◌, ◌%◌, ◌^◌, ◌||◌};
+ghost use Rattle.std.specs.List.{list_any};
+ghost use Rattle.node.specs.declared.Port.{Port};
 
 use node::Port;
 
@@ -10,15 +12,25 @@ use node::Port;
 pub struct IdleLanes(pub u64);
 
 impl IdleLanes {
-    ghost use Rattle.streams.specs.Listing.{is_idle};
+    ghost use Rattle.streams.specs.Listing.{is_idle, is_of_lane};
 
-    /// Returns the lanes of these ports.
-    pub fn of(ports: &[Port]) -> IdleLanes {
-        let mut lanes = 0u64;
+    /// Returns the lanes of these ports, and no others.
+    pub fn of(ports: &[Port]) -> IdleLanes
+        ensures { (port : Port) → is_idle result port ≡ list_any (is_of_lane port) ports.now }
+    {
+        let mut lanes = IdleLanes(0);
         for port in ports {
-            lanes |= bit(*port);
+            lanes = lanes.add(*port);
         }
-        IdleLanes(lanes)
+        lanes
+    }
+
+    // Returns these lanes and that of a port.
+    fn add(self, port: Port) -> IdleLanes
+        ensures { (other : Port) →
+            is_idle result other ≡ (is_idle self other || is_of_lane other port) }
+    {
+        IdleLanes(self.0 | bit(port))
     }
 
     /// Says whether the lane of a port is one of these.

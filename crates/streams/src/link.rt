@@ -68,7 +68,9 @@ impl Link {
     }
 
     /// Returns its stream, to be read.
-    pub fn source(&self) -> Patient<'_> {
+    pub fn source(&self) -> Patient<'_>
+        ensures { result.stream.now ≡ arc_value self.now.stream }
+    {
         Patient::new(&self.stream)
     }
 

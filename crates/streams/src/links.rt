@@ -1,6 +1,6 @@
 // The connections that a node serves, each at an index of its own.
 
-ghost use Rattle.std.specs.Prelude.{◌≡◌, ℕ, ◌<◌, ◌≤◌, ◌++◌, None, Some, map, option_copied, true};
+ghost use Rattle.std.specs.Prelude.{◌≡◌, ℕ, ◌<◌, ◌≤◌, ◌-◌, ◌++◌, None, Some, false, map, option_copied, true};
 ghost use Rattle.std.specs.Prelude.{IfNone, IfOk, IfSome};
 ghost use Rattle.std.specs.Arc.{arc_value};
 ghost use Rattle.slab.specs.Slab.{ContainsKey, Updates, get, slab_len};
@@ -23,7 +23,7 @@ pub(crate) struct Links {
 }
 
 impl Links {
-    ghost use Rattle.streams.specs.Listing.{busy_at, busy_between, listed_at};
+    ghost use Rattle.streams.specs.Listing.{AddsBusy, busy_at, busy_between, listed_at};
 
     /// Returns a table without connections, with memory for all. The only error is that memory runs
     /// out.
@@ -121,10 +121,14 @@ impl Links {
         busy: &mut Vec<Arc<Link, Global>>,
     ) -> bool
         requires { first ≤ MAX_CONNECTIONS }
-        ensures { result ≡ true → map arc_value busy.new.items
+        ensures all { result ≡ true → map arc_value busy.new.items
             ≡ map arc_value busy.old.items
             ++ busy_between arc_value idle self.now.slots first MAX_CONNECTIONS
             ++ busy_between arc_value idle self.now.slots 0 first }
+
+        // If some are left out, too.
+        ensures adds { AddsBusy idle MAX_CONNECTIONS
+            (map arc_value busy.old.items) (map arc_value busy.new.items) }
     {
         let after = self.add_between(idle, first, usize::from(MAX_CONNECTIONS), busy);
         let before = self.add_between(idle, 0, first, busy);
@@ -141,8 +145,10 @@ impl Links {
         busy: &mut Vec<Arc<Link, Global>>,
     ) -> bool
         requires { first ≤ end }
-        ensures { result ≡ true → map arc_value busy.new.items
+        ensures all { result ≡ true → map arc_value busy.new.items
             ≡ map arc_value busy.old.items ++ busy_between arc_value idle self.now.slots first end }
+        ensures adds { AddsBusy idle (end - first)
+            (map arc_value busy.old.items) (map arc_value busy.new.items) }
     {
         let mut all = true;
         for index in first..end {
@@ -152,11 +158,12 @@ impl Links {
     }
 
     // Adds the connection that is listed at an index, unless its lane is idle. Returns whether it
-    // was added, or did not have to be.
+    // was added, or did not have to be. If not, nothing changes.
     fn add_at(&self, idle: IdleLanes, index: usize, busy: &mut Vec<Arc<Link, Global>>) -> bool
-        ensures { result ≡ true → map arc_value busy.new.items
+        ensures added { result ≡ true → map arc_value busy.new.items
             ≡ map arc_value busy.old.items
             ++ busy_at arc_value idle (listed_at (get self.now.slots index)) }
+        ensures left { result ≡ false → busy.new.items ≡ busy.old.items }
     {
         let Some(link) = self.at(index) else {
             return true;

@@ -1,6 +1,8 @@
 // Where a node accepts its clients, and the table of its connections.
 
-ghost use Rattle.std.specs.Prelude.{◌≡◌, IfErr, IfOk, IfSome};
+ghost use Rattle.std.specs.Prelude.{◌≡◌, ◌<◌, ◌≤◌, IfErr, IfOk, IfSome, map};
+ghost use Rattle.std.specs.Arc.{arc_value};
+ghost use Rattle.streams.specs.Listing.{AddsBusy};
 
 use crate::closing::Closed;
 use crate::connection_table::ConnectionTable;
@@ -104,7 +106,9 @@ impl Listener {
     }
 
     /// Takes an index for a connection. There is none if [`MAX_CONNECTIONS`] are taken.
-    pub fn take_index<R: Wait>(&self, rt: &R) -> Option<usize> {
+    pub fn take_index<R: Wait>(&self, rt: &R) -> Option<usize>
+        ensures { IfSome result (λ index. index < MAX_CONNECTIONS) }
+    {
         self.connections.take_index(rt)
     }
 
@@ -127,13 +131,19 @@ impl Listener {
         idle: IdleLanes,
         first: usize,
         busy: &mut Vec<Arc<Link, Global>>,
-    ) {
+    )
+        ensures { AddsBusy idle MAX_CONNECTIONS
+            (map arc_value busy.old.items) (map arc_value busy.new.items) }
+    {
         self.connections.add_busy(rt, idle, first, busy);
     }
 
     /// Returns the first connection that is listed at this index or after it, and the index after
     /// that.
-    pub fn link_from<R: Wait>(&self, rt: &R, first: usize) -> Option<(usize, Arc<Link, Global>)> {
+    pub fn link_from<R: Wait>(&self, rt: &R, first: usize) -> Option<(usize, Arc<Link, Global>)>
+        ensures from { IfSome result (λ found. first < found.0) }
+        ensures within { IfSome result (λ found. found.0 ≤ MAX_CONNECTIONS) }
+    {
         self.connections.link_from(rt, first)
     }
 }

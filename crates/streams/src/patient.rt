@@ -1,5 +1,7 @@
 // A stream that is read until something comes.
 
+ghost use Rattle.std.specs.Prelude.{◌≡◌};
+
 use std::io::{ErrorKind, Read};
 use std::net::TcpStream;
 use std::{hint, io};
@@ -13,7 +15,9 @@ pub struct Patient<'a> {
 
 impl<'a> Patient<'a> {
     /// Returns a reader of this stream.
-    pub fn new(stream: &'a TcpStream) -> Patient<'a> {
+    pub fn new(stream: &'a TcpStream) -> Patient<'a>
+        ensures { result.stream.now ≡ stream.now }
+    {
         Patient { stream }
     }
 }

@@ -1,5 +1,6 @@
 use Rattle.std.proofs.Common.{◌∙◌}
 use Rattle.post.proofs.MasterIsReachable.{answered_order, given_so, reachable_by_order, not_refused}
+use Rattle.post.proofs.MayBeGiven.{may_get}
 use Rattle.post.proofs.messaging_master.MessagingMaster.assign.Goals as goal
 
 pub invariant_of-result : goal.invariant_of-result
@@ -16,3 +17,9 @@ invariant_of-self-2 c =
     reachable_by_order c.self.inside.master _ c.args.config c.self.invariant
     (not_refused _ (λ bad. given_so _ _ (c.in-Ok.ensures.bad.1 bad)) (λ spent. given_so _ _ (c.in-Ok.ensures.spent.1 spent)))
     c.assign.ensures.state
+
+pub returns-clause-given : goal.returns-clause-given
+returns-clause-given c =
+    may_get c.self.inside.master c.args.config c.in-Ok.ballot c.self.invariant
+    (not_refused _ (λ bad. given_so _ _ (c.in-Ok.ensures.bad.1 bad)) (λ spent. given_so _ _ (c.in-Ok.ensures.spent.1 spent)))
+    c.in-Ok.ensures.ok

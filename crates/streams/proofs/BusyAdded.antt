@@ -1,0 +1,77 @@
+-- BusyAdded.antt: connections that are added one after another, none of an idle lane.
+use Rattle.std.proofs.Common.{◌≡◌, ℕ, zero, suc, ◌+◌, ◌≤◌, Bool, true, false, nat_le, if◌then◌else◌, List, [], ◌∷◌, ◌++◌, length, Option, Some, None, refl, sym, ◌∙◌, ap, arith, add-one, append-nil, append_assoc, length-append}
+use Rattle.std.proofs.lemmas.Bool.{cond-false, cond-true, le-leb, lt-leb}
+use Rattle.node.specs.Lists.{Each}
+use Rattle.slab.specs.Slab.{Slab, get}
+use Rattle.streams.specs.Listing.{AddsBusy, busy_at, busy_between, is_idle, listed_at}
+use Rattle.streams.specs.declared.idle_lanes.IdleLanes.{IdleLanes}
+use Rattle.streams.specs.declared.link.Link.{Link}
+
+each_join : {A : Type 0} (P : A → Type 0) (xs ys : List A) → Each P xs → Each P ys → Each P (xs ++ ys)
+each_join P [] ys first next = next
+each_join P (x ∷ xs) ys first next = (first.0, each_join P xs ys first.1 next)
+
+pub adds_none : (idle : IdleLanes) (most : ℕ) (before after : List Link) → after ≡ before → AddsBusy idle most before after
+adds_none idle most before after same = record {
+  added = [];
+  is = same ∙ sym (append-nil before);
+  busy = tt;
+  few = omega arith;
+}
+
+-- the connection of one index, if its lane is not idle and there is memory for it
+pub adds_at : {A : Type 0} (link_of : A → Link) (idle : IdleLanes) (before after : List Link) (all : Bool) (slot : Option A)
+    → (all ≡ true → after ≡ before ++ busy_at link_of idle slot) → (all ≡ false → after ≡ before)
+    → AddsBusy idle 1 before after
+adds_at link_of idle before after false slot is same = adds_none idle 1 before after (same refl)
+adds_at link_of idle before after true None is same = adds_none idle 1 before after (is refl ∙ append-nil before)
+adds_at link_of idle before after true (Some link) is same = by (is_idle idle (link_of link).port) refl (is refl)
+  where
+    by : (b : Bool) → is_idle idle (link_of link).port ≡ b
+        → after ≡ before ++ (if b then [] else link_of link ∷ []) → AddsBusy idle 1 before after
+    by true idles is = adds_none idle 1 before after (is ∙ append-nil before)
+    by false busy is = record { added = link_of link ∷ []; is = is; busy = (busy, tt); few = omega arith }
+
+-- no index lies between one and itself
+pub between_none : {A : Type 0} (link_of : A → Link) (idle : IdleLanes) (slots : Slab (Option A)) (first : ℕ)
+    → busy_between link_of idle slots first first ≡ []
+between_none link_of idle slots zero = refl
+between_none link_of idle slots (suc n) =
+    cond-false (nat_le (suc n) n) (busy_between link_of idle slots (suc n) n ++ busy_at link_of idle (listed_at (get slots n))) []
+    (lt-leb (suc n) n (omega arith))
+
+-- one index more
+pub between_more : {A : Type 0} (link_of : A → Link) (idle : IdleLanes) (slots : Slab (Option A)) (first at : ℕ)
+    (before mid after : List Link) → first ≤ at
+    → mid ≡ before ++ busy_between link_of idle slots first at
+    → after ≡ mid ++ busy_at link_of idle (listed_at (get slots at))
+    → after ≡ before ++ busy_between link_of idle slots first (at + 1)
+between_more link_of idle slots first at before mid after least was adds =
+    let one = busy_at link_of idle (listed_at (get slots at)) in
+    let others = busy_between link_of idle slots first at in
+    adds
+    ∙ (ap (λ (links : List Link). links ++ one) was
+    ∙ (append_assoc before others one
+    ∙ ap (λ (links : List Link). before ++ links)
+        (sym (ap (busy_between link_of idle slots first) (add-one at)
+            ∙ cond-true (nat_le first at) (others ++ one) [] (le-leb first at least)))))
+
+-- more that are added
+pub adds_join : (idle : IdleLanes) (few more most : ℕ) (before between after : List Link)
+    → AddsBusy idle few before between → AddsBusy idle more between after → few + more ≤ most
+    → AddsBusy idle most before after
+adds_join idle few more most before between after first next sum = record {
+  added = first.added ++ next.added;
+  is = next.is ∙ (ap (λ (links : List Link). links ++ next.added) first.is ∙ append_assoc before first.added next.added);
+  busy = each_join (λ (link : Link). is_idle idle link.port ≡ false) first.added next.added first.busy next.busy;
+  few = let a = first.few in let b = next.few in omega (arith, length-append first.added next.added, a, b, sum);
+}
+
+pub adds_wider : (idle : IdleLanes) (few most : ℕ) (before after : List Link)
+    → AddsBusy idle few before after → few ≤ most → AddsBusy idle most before after
+adds_wider idle few most before after adds least = record {
+  added = adds.added;
+  is = adds.is;
+  busy = adds.busy;
+  few = let a = adds.few in omega (arith, a, least);
+}

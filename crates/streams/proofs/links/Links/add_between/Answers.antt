@@ -1,0 +1,31 @@
+use Rattle.std.proofs.Common.{◌-◌, ◌+◌, ◌++◌, List, map, refl, sym, ◌∙◌, ap, arith, append-nil}
+use Rattle.std.specs.Arc.{arc_value}
+use Rattle.std.proofs.lemmas.Grind.{common_steps}
+use Rattle.streams.proofs.BusyAdded.{adds_at, adds_join, adds_none, adds_wider, between_more, between_none}
+use Rattle.streams.specs.declared.link.Link.{Link}
+use Rattle.streams.proofs.links.Links.add_between.Goals as goal
+
+pub loop-index-init : goal.loop-index-init
+loop-index-init c = record {
+  all = λ _.
+      sym (ap (λ (links : List Link). map arc_value c.args.busy.now.items ++ links)
+          (between_none arc_value c.args.idle c.args.self.now.slots c.args.first)
+          ∙ append-nil (map arc_value c.args.busy.now.items));
+  adds = adds_none _ _ _ _ refl;
+}
+
+pub loop-index-preserved : goal.loop-index-preserved
+loop-index-preserved c = record {
+  all = grind (arith, common_steps, c.loop-index.invariant.all, c.add_at.ensures.added, between_more);
+  adds =
+      adds_join c.args.idle (c.loop-index.index - c.args.first) 1 (c.loop-index.index + 1 - c.args.first) _ _ _
+      c.loop-index.invariant.adds
+      (adds_at arc_value c.args.idle _ _ c.add_at.result _ c.add_at.ensures.added
+      (λ no. ap (map arc_value) (c.add_at.ensures.left no)))
+      (omega arith);
+}
+
+pub returns-clause-adds : goal.returns-clause-adds
+returns-clause-adds c =
+    adds_wider c.args.idle (c.loop-index.index - c.args.first) (c.args.end - c.args.first) _ _ c.loop-index.invariant.adds
+    (omega arith)
