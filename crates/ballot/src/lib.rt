@@ -7,7 +7,8 @@ mod replica;
 
 pub use ballot_base::machine::{Halted, Machine, Memory, ThawFault};
 pub use ballot_base::{
-    Body, Config, Effect, Log, MASTER, MAX_NODE, Members, Message, Role, Status, copy_log, machine,
+    Body, Config, Effect, Log, MASTER, MAX_MEMBERS, MAX_NODE, Members, Message, Role, Status,
+    copy_log, machine,
 };
 pub use error::{OpeningError, ProposeError};
 pub use replica::{MAX_PLACES, Replica};

@@ -6,6 +6,10 @@ use Rattle.std.specs.List.{list_any}
 abbrev pub max_node : ℕ
 max_node = 15
 
+-- how many members a ballot has at most
+abbrev pub max_members : ℕ
+max_members = 7
+
 -- the numbers rise strictly from above `last`, up to the greatest
 abbrev pub are_rising : ℕ → List ℕ → Bool
 are_rising last [] = true
@@ -17,4 +21,4 @@ abbrev pub is_lawful : List ℕ → ℕ → Bool
 is_lawful members primary =
     are_rising 0 members
     && (nat_le 1 (length members)
-    && (nat_le (length members) 7 && list_any (λ member. member == primary) members))
+    && (nat_le (length members) max_members && list_any (λ member. member == primary) members))

@@ -10,6 +10,9 @@ use std::marker::Model;
 /// The greatest number of a node.
 pub const MAX_NODE: u8 = 15;
 
+/// How many members a ballot has at most.
+pub const MAX_MEMBERS: usize = 7;
+
 /// The numbers of nodes, in the order in which they were given.
 #[derive(Drop)]
 pub struct Members {
@@ -72,6 +75,6 @@ impl Config {
             }
             last = *member;
         }
-        1 <= members.len() && members.len() <= 7 && members.contains(&self.primary)
+        1 <= members.len() && members.len() <= MAX_MEMBERS && members.contains(&self.primary)
     }
 }

@@ -14,7 +14,7 @@ mod status;
 mod taking;
 
 pub use applying::{apply_dropping, apply_places};
-pub use config::{Config, MAX_NODE, Members};
+pub use config::{Config, MAX_MEMBERS, MAX_NODE, Members};
 pub use copying::copy_log;
 pub use following::{forget, least_held, least_raised, others_of, progress_of_others, raise};
 pub use log::Log;

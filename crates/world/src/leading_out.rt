@@ -15,7 +15,7 @@ ghost use Rattle.world.specs.Inside.Escaping.{IsFetchedFrom, escaping_events};
 use crate::world::World;
 use escaping_client::packet::ClientId;
 use escaping_nodes::ways_out::ways_are_short;
-use headline::ballot::MAX_PLACES;
+use headline::ballot::{MAX_MEMBERS, MAX_PLACES};
 use headline::world_base::{Config, Members, Memory};
 use std::alloc::Global;
 use world_events::{EscapeError, Event, push_answers, push_client, push_group};
@@ -151,7 +151,7 @@ impl World {
     ) -> Result<Vec<Event>, Memory>
         requires first { config ≡ configuration_of config.members }
         requires some { 1 ≤ length config.members }
-        requires few { length config.members ≤ 7 }
+        requires few { length config.members ≤ MAX_MEMBERS }
         requires placed { index < length self.now.nodes.master.members }
         requires there { at < length self.now.clients }
         ensures { IfOk result
