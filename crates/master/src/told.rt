@@ -6,10 +6,13 @@ ghost use Rattle.ballot.specs.lists.Lists.{In};
 ghost use Rattle.master.specs.Inside.{HasCounted, least_but_one, next_least};
 
 use ballot::machine::Memory;
-use ballot::{Body, Message};
+use ballot::{Body, MAX_NODE, Message};
 use std::alloc::Global;
 use std::marker::Model;
 use std::mem::swap;
+
+/// How many numbers there are up to the greatest of a node, with 0.
+const NUMBERS: usize = MAX_NODE as usize + 1;
 
 /// How many places the node of each number acknowledged in one ballot: the greatest number in a
 /// Held or an Installed of the node. Its calls take no memory, except `new`.
@@ -41,7 +44,7 @@ impl Told {
         ensures ballot { IfOk result (λ told. told.ballot ≡ ballot) }
         ensures counted { IfOk result (λ told. (m : ℕ) → get_or told.held m 0 ≡ 0) }
     {
-        let held = Vec::from_slice(alloc, &[0; 16])?;
+        let held = Vec::from_slice(alloc, &[0; NUMBERS])?;
         Ok(Told { ballot, held })
     }
 
@@ -65,7 +68,7 @@ impl Told {
             Body::Installed(ballot, held) | Body::Held(ballot, held) => (ballot, held),
             _ => return,
         };
-        if ballot == self.ballot && message.from < 16 {
+        if ballot == self.ballot && message.from <= MAX_NODE {
             let told = &mut self.held[message.from as usize];
             *told = held.max(*told);
         }
