@@ -1,6 +1,7 @@
 -- The past of a list of commands, and the limits of this broker.
 use Rattle.std.specs.Prelude.{ℕ, if◌then◌else◌, Bool, true, false, List, [], ◌∷◌}
 use Rattle.retained.specs.Retained.{max_topics}
+use Rattle.session_base.specs.Session.{max_entries, max_subscriptions}
 use Rattle.broker_spec.specs.Place.{Place, Past, Limits}
 use Rattle.broker_spec.specs.Window.{wide_window}
 use Rattle.broker_spec.specs.Marks.{mark_of}
@@ -36,8 +37,8 @@ abbrev pub limits_with : (Past → ℕ) → Limits
 limits_with window =
     record {
       sessions = max_sessions;
-      subscriptions = 64;
-      entries = 4096;
+      subscriptions = max_subscriptions;
+      entries = max_entries;
       retained = max_topics;
       window = window;
     }

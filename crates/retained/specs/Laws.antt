@@ -8,6 +8,7 @@ use Rattle.std.specs.Ordering.{nat_cmp}
 use Rattle.packet.specs.declared.qos.QoS.{QoS}
 use Rattle.retained.specs.declared.retained_publication.RetainedPublication.{RetainedPublication}
 use Rattle.retained.specs.Retained.{RetainedTopics, IsRising, publication_on, after_put, is_refused}
+use Rattle.retained.specs.Retained.{max_topics}
 
 -- a publication with RETAIN 1
 pub record Put : Type 0 where
@@ -51,4 +52,4 @@ LastIsRetained = (puts : List Put) (content : RetainedTopics) → After puts con
 -- the topics come in rising order, each once, and are 16,384 at most
 abbrev pub StaysInBounds : Type 0
 StaysInBounds = (puts : List Put) (content : RetainedTopics) → After puts content
-    → IsRising content × (length content ≤ 16384)
+    → IsRising content × (length content ≤ max_topics)

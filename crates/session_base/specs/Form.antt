@@ -15,7 +15,7 @@ use Rattle.session_base.specs.declared.awaits.Awaits.TheVariants as waits_for
 use Rattle.session_base.specs.Publication.{is_answered, is_acknowledged}
 use Rattle.session_base.specs.Subscriptions.{HeldFilter}
 use Rattle.session_base.specs.Queue.{Flight}
-use Rattle.session_base.specs.Session.{SessionState}
+use Rattle.session_base.specs.Session.{SessionState, max_entries, max_subscriptions}
 use Rattle.session_base.specs.Counted.{keep, counted_at}
 pub use Rattle.session_base.specs.Writing.{long_number, one_byte, publication_bytes, held_bytes}
 pub use Rattle.session_base.specs.Writing.{awaits_bytes, flight_bytes, state_bytes}
@@ -106,10 +106,10 @@ flight_at bytes = do
 -- and waiting
 unfoldable pub state_at : ℕ → List ℕ → Result (SessionState × List ℕ) Stop
 state_at window bytes = do
-  subscriptions ← counted_at byte_at is_new_filter held_at 64 bytes
+  subscriptions ← counted_at byte_at is_new_filter held_at max_subscriptions bytes
   received ← counted_at number_at is_above id_at 65535 subscriptions.1
   in_flight ← counted_at number_at may_follow flight_at window received.1
-  waiting ← counted_at number_at anything waiting_at (4096 - length in_flight.0) in_flight.1
+  waiting ← counted_at number_at anything waiting_at (max_entries - length in_flight.0) in_flight.1
   Ok (
     record {
       subscriptions = subscriptions.0;

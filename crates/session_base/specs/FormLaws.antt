@@ -8,7 +8,7 @@ use Rattle.lists.specs.Lists.{IsDistinct}
 use Rattle.session_base.specs.KeepingLaws.{AreFiltersApart}
 use Rattle.session_base.specs.OrderLaws.{IsReleasedFirst}
 use Rattle.session_base.specs.Queue.{ids_of}
-use Rattle.session_base.specs.Session.{SessionState}
+use Rattle.session_base.specs.Session.{SessionState, max_entries, max_subscriptions}
 use Rattle.session_base.specs.InRange.{IsHeld, IsQueue}
 use Rattle.session_base.specs.Form.{state_bytes, state_at}
 
@@ -17,12 +17,12 @@ use Rattle.session_base.specs.Form.{state_bytes, state_at}
 pub record HasForm (s : SessionState) : Type 0 where
   pub filters_apart : AreFiltersApart s.subscriptions
   pub filters : AllByRecursion IsHeld s.subscriptions
-  pub few_filters : length s.subscriptions ≤ 64
+  pub few_filters : length s.subscriptions ≤ max_subscriptions
   pub rising : IsStrictlySortedBy nat_cmp s.received
   pub received : AllByRecursion IsId s.received
   pub distinct : IsDistinct (ids_of s.queue.in_flight)
   pub released_first : IsReleasedFirst s.queue.in_flight
-  pub queue : IsQueue 4096 s.queue
+  pub queue : IsQueue max_entries s.queue
 
 -- no more of its entries are in flight than the window allows
 abbrev pub FitsIn : ℕ → SessionState → Type 0
@@ -31,7 +31,7 @@ FitsIn window s = length s.queue.in_flight ≤ window
 -- whatever bytes follow, and whatever the window is, if no more is in flight
 abbrev pub FrozenIsRead : Type 0
 FrozenIsRead =
-    (window : ℕ) → window ≤ 4096 → (s : SessionState) (rest : List ℕ) → HasForm s →
+    (window : ℕ) → window ≤ max_entries → (s : SessionState) (rest : List ℕ) → HasForm s →
     FitsIn window s →
     state_at window (state_bytes s ++ rest) ≡ Ok (s, rest)
 
@@ -42,7 +42,7 @@ AreBytes bytes = (i : ℕ) → get_or bytes i 0 < 256
 -- a session that was read has a form
 abbrev pub ReadHasForm : Type 0
 ReadHasForm =
-    (window : ℕ) → window ≤ 4096 → (bytes : List ℕ) → AreBytes bytes →
+    (window : ℕ) → window ≤ max_entries → (bytes : List ℕ) → AreBytes bytes →
     IfOk (state_at window bytes) (λ x. HasForm x.0 × FitsIn window x.0 × AreBytes x.1)
 
 -- what was read is written as it stood, in front of the bytes that are left

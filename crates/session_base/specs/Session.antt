@@ -10,6 +10,14 @@ pub record SessionState : Type 0 where
   pub received : List ℕ
   pub queue : Queue
 
+-- how many subscriptions a session has at most
+abbrev pub max_subscriptions : ℕ
+max_subscriptions = 64
+
+-- how many entries a session has in flight and waiting at most
+abbrev pub max_entries : ℕ
+max_entries = 4096
+
 -- a session with nothing in it
 abbrev pub empty_session : SessionState
 empty_session = record { subscriptions = []; received = []; queue = empty_queue }
