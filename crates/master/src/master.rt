@@ -12,8 +12,9 @@ use crate::error::AssignError;
 use ballot::{Config, Members};
 use std::marker::Model;
 
-/// The greatest ballot that can be given.
-pub const MAX_BALLOT: u64 = 1 << 32;
+/// The greatest ballot that can be given. It is also `MAX_BALLOT` of `broker_spec`, which names
+/// connections by their ballot.
+pub const MAX_BALLOT: u64 = 0x1_0000_0000;
 
 /// The active ballot with its members, and at most one ballot that waits to be activated. None of
 /// its calls takes memory.
