@@ -3,6 +3,12 @@
 ghost use Rattle.std.specs.Prelude.{◌≡◌, ◌≤◌};
 ghost use Rattle.broker_spec.specs.Window.{IsWindowSize, narrow_window, wide_window, window_of};
 
+/// The window of a fresh broker, and of every broker from a `Start` on.
+const WIDE_WINDOW: u8 = 64;
+
+/// The window of a broker that was read from form 1, until a `Start`.
+const NARROW_WINDOW: u8 = 16;
+
 /// How many entries of a session are in flight at most (MQTT 4.6): 64, or 16 in a broker that was
 /// read from form 1, until a ballot begins.
 #[derive(Clone, Copy, Debug, PartialEq, Eq)]
@@ -28,21 +34,23 @@ impl Window {
     pub fn wide() -> Window
         ensures { result ≡ wide_window }
     {
-        Window { size: 64 }
+        Window { size: WIDE_WINDOW }
     }
 
     /// Returns the window of a broker that was read from form 1, until a `Start`.
     pub fn narrow() -> Window
         ensures { result ≡ narrow_window }
     {
-        Window { size: 16 }
+        Window {
+            size: NARROW_WINDOW,
+        }
     }
 
     /// Returns the window of this size, if there is one.
     pub fn of(size: u8) -> Option<Window>
         ensures { result ≡ window_of size }
     {
-        if size == 16 || size == 64 {
+        if size == NARROW_WINDOW || size == WIDE_WINDOW {
             return Some(Window { size });
         }
         None
