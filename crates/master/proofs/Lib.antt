@@ -1,6 +1,6 @@
+pub mod AgreedLength
 pub mod Archived
 pub mod Calling
-pub mod Counted
 pub mod Counting
 pub mod EarlierMembers
 pub mod Groups

@@ -26,7 +26,7 @@ use Rattle.snapshots.proofs.PastsKept.{StandsFor, past_stands}
 use Rattle.snapshots.proofs.Views.{get_whole}
 use Rattle.master.specs.Inside.{HasCounted, HoldsAt, IsShort, ToldIn, held_by, least_but_one}
 use Rattle.master.specs.Inside.Losing.{IsRead}
-use Rattle.master.proofs.Counted.{counted_length, member_front, sole_length, some_long}
+use Rattle.master.proofs.AgreedLength.{counted_length, member_front, sole_length, some_long}
 use Rattle.master.proofs.Lawful.{AreLawful, past_lawful}
 use Rattle.master.proofs.WholeTold.{counted_whole}
 

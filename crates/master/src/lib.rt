@@ -20,6 +20,7 @@ pub use copying::{config_of, copy_of};
 pub use error::AssignError;
 pub use event::{Event, Idle};
 pub use group::Group;
+pub use inputs::counted;
 pub use master::{MAX_BALLOT, Master};
 pub use opening::can_open;
 pub use recording::record;

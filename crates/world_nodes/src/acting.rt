@@ -15,13 +15,12 @@ ghost use Rattle.world_nodes.specs.GroupSteps.{ActsOrRests, ComesOrRests, Master
 ghost use Rattle.byte_world.specs.world_base.Core.{CountedCore};
 ghost use Rattle.world_nodes.specs.Inside.{IsPassedOver, RunsAt, WasSent};
 
-use crate::keeping::counted;
 use crate::nodes::Nodes;
 use crate::turning::{cut_back, pass_over, take_in};
 use byte_world::world_base::{
     Body, BrokerMachine, Command, Config, Item, Members, Memory, Message,
 };
-use master::{Idle, answer_of, config_of, record, send};
+use master::{Idle, answer_of, config_of, counted, record, send};
 
 impl Nodes {
     /// Lets a node that runs take an item. `Idle` comes if it is unknown or has stopped.

@@ -1,9 +1,9 @@
 // Messages are kept after those that were sent.
 
-ghost use Rattle.std.specs.Prelude.{◌≡◌, ◌++◌, ◌∷◌, [], ◌&&◌, if◌then◌else◌};
+ghost use Rattle.std.specs.Prelude.{◌≡◌, ◌++◌, ◌∷◌, []};
 ghost use Rattle.std.specs.Bool.{OnTrue, OnFalse};
 ghost use Rattle.master.specs.snapshots.World.{messages};
-ghost use Rattle.master.specs.ballot.Losses.{Thinned, one_more};
+ghost use Rattle.master.specs.ballot.Losses.{Thinned};
 ghost use Rattle.world_nodes.specs.Inside.{Keeps};
 
 use byte_world::world_base::{Command, Effect, Message, Output};
@@ -32,17 +32,5 @@ fn keep(effect: Effect<Command, Output>, sent: &mut Vec<(u8, Message<Command>)>)
     match effect {
         Effect::To(receiver, message) => sent.push((receiver, message)).is_ok(),
         Effect::Out(_, _) => true,
-    }
-}
-
-/// Returns the count of losses after a step of two parts, each of which was whole or not. It
-/// saturates at 2^64 - 1.
-pub fn counted(losses: u64, first: bool, second: bool) -> u64
-    ensures { result ≡ (if first && second then losses else one_more losses) }
-{
-    if first && second {
-        losses
-    } else {
-        losses.saturating_add(1)
     }
 }
