@@ -3,12 +3,12 @@
 ghost use Rattle.std.specs.Prelude.{◌≡◌, false, map, IfOk, OnOk, OnErr, IsErrOf};
 ghost use Rattle.cutter.specs.packet.Spelling.{IsListed, AppendsSpelling};
 ghost use Rattle.cutter.specs.packet.declared.packet.Packet.TheVariants as packets;
-ghost use Rattle.client_base.specs.session_base.Publication.{delivery_at};
 ghost use Rattle.client_base.specs.State.{publish_kept};
 ghost use Rattle.client.specs.Core.{AppendsAll};
 
+use client_base::session_base::delivery;
 use client_base::{ClientError, KeptPublication};
-use cutter::packet::{ClientId, Connect, Delivery, Packet, PacketId, Publish, QoS, encode};
+use cutter::packet::{ClientId, Connect, Packet, PacketId, Publish, encode};
 use std::alloc::AllocError;
 
 /// Appends a packet to what is written. The callers ensure that it is not over the size limit.
@@ -43,17 +43,6 @@ pub(crate) fn write_connect(
         keep_alive,
     });
     write(&connect, out)
-}
-
-// Returns the QoS, DUP and identifier of a PUBLISH.
-fn delivery(qos: QoS, dup: bool, id: PacketId) -> Delivery
-    ensures { result ≡ delivery_at qos dup id }
-{
-    match qos {
-        QoS::AtMostOnce => Delivery::AtMostOnce,
-        QoS::AtLeastOnce => Delivery::AtLeastOnce(dup, id),
-        QoS::ExactlyOnce => Delivery::ExactlyOnce(dup, id),
-    }
 }
 
 /// Returns the PUBLISH of a kept publication, with this DUP. The only error is that memory ran out.

@@ -2,12 +2,12 @@
 
 ghost use Rattle.std.specs.Prelude.{◌≡◌, false, [], ◌∷◌, ◌++◌, IfOk, OnOk, OnErr};
 ghost use Rattle.session_base.specs.packet.declared.packet.Packet.TheVariants as packets;
-ghost use Rattle.session_base.specs.Publication.{publish_of, delivery_at};
+ghost use Rattle.session_base.specs.Publication.{publish_of};
 ghost use Rattle.session_base.specs.Queue.{is_puback, is_pubrec, is_pubcomp, awaited};
 ghost use Rattle.session_base.specs.Sending.{sent_anew};
 
-use session_base::packet::{Delivery, Packet, PacketId, Publish, QoS};
-use session_base::{Awaits, Publication};
+use session_base::packet::{Packet, PacketId, Publish, QoS};
+use session_base::{Awaits, Publication, delivery};
 use std::alloc::AllocError;
 
 /// Says whether the entry waits for PUBACK.
@@ -78,16 +78,5 @@ pub(crate) fn packet_anew(id: PacketId, awaits: &Awaits) -> Result<Packet, Alloc
             publish_packet(publication, true, id)
         }
         Awaits::Pubcomp => Ok(Packet::Pubrel(id)),
-    }
-}
-
-// Returns how a PUBLISH at this QoS is delivered.
-fn delivery(qos: QoS, dup: bool, id: PacketId) -> Delivery
-    ensures { result ≡ delivery_at qos dup id }
-{
-    match qos {
-        QoS::AtMostOnce => Delivery::AtMostOnce,
-        QoS::AtLeastOnce => Delivery::AtLeastOnce(dup, id),
-        QoS::ExactlyOnce => Delivery::ExactlyOnce(dup, id),
     }
 }

@@ -1,6 +1,9 @@
 // A publication: what a PUBLISH carries, without how it is delivered (MQTT 3.3).
 
-use packet::{Payload, QoS};
+ghost use Rattle.std.specs.Prelude.{◌≡◌};
+ghost use Rattle.session_base.specs.Publication.{delivery_at};
+
+use packet::{Delivery, PacketId, Payload, QoS};
 use packet_base::topics::TopicName;
 
 /// A publication, MQTT's Application Message, as a session's queue holds it.
@@ -14,4 +17,15 @@ pub struct Publication {
     pub topic: TopicName,
     /// What it carries.
     pub payload: Payload,
+}
+
+/// Returns how a PUBLISH at this QoS is delivered.
+pub fn delivery(qos: QoS, dup: bool, id: PacketId) -> Delivery
+    ensures { result ≡ delivery_at qos dup id }
+{
+    match qos {
+        QoS::AtMostOnce => Delivery::AtMostOnce,
+        QoS::AtLeastOnce => Delivery::AtLeastOnce(dup, id),
+        QoS::ExactlyOnce => Delivery::ExactlyOnce(dup, id),
+    }
 }
