@@ -1,6 +1,6 @@
 // How the bytes of a connection ended.
 
-/// How [`listen`](crate::listen) ended.
+/// How [`report_connection`](crate::report_connection) ended.
 #[derive(Clone, Copy, Debug, PartialEq, Eq)]
 pub enum Ending {
     /// The connection was refused: nothing was read.

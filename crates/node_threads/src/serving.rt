@@ -13,7 +13,7 @@ use std::alloc::Global;
 use std::net::TcpStream;
 use std::sync::{Arc, Wait};
 use std::time::{Clock, Duration};
-use streams::connection::{Counted, listen};
+use streams::connection::{Counted, report_connection};
 use streams::{Closed, Link, forget};
 
 /// How long a write may wait before the rest is left to the blocked writer, in milliseconds.
@@ -110,7 +110,13 @@ impl<'a, J: NodeNaming, S: Stated<J>, G: Gate> ServedNode<'a, J, S, G> {
         };
         let mut source = Counted::new(link.source());
         // However it ended, this was reported to the node.
-        let _ending = listen(rt, self.shared.alloc, link.port, &mut source, &mut reporter);
+        let _ending = report_connection(
+            rt,
+            self.shared.alloc,
+            link.port,
+            &mut source,
+            &mut reporter,
+        );
         reporter.lane
     }
 }

@@ -5,7 +5,9 @@ ghost use Rattle.std.specs.Prelude.{◌≡◌};
 
 use super::fakes::{Sink, Source};
 use connection::node_base::Counted;
-use connection::{Ending, Flow, Hearer, Outflow, Outlet, Tap, Unwritten, listen, write_out};
+use connection::{
+    Ending, Flow, Hearer, Outflow, Outlet, Tap, Unwritten, report_connection, write_out,
+};
 use node::mailbox::{Inbox, Lane, Naming, Receiver};
 use node::{Config, Handed, Item, Members, Memory, NodeCore, Piece, Port};
 use std::alloc::Global;
@@ -121,7 +123,13 @@ fn ends<J: Naming, R: Wait + Clock>(
     match lane {
         Some(lane) => {
             let mut source = Counted::new(Source::new(CONNECT, 4, bad_call));
-            let ended = listen(rt, alloc, PORT, &mut source, &mut OneLane { lane, is_open });
+            let ended = report_connection(
+                rt,
+                alloc,
+                PORT,
+                &mut source,
+                &mut OneLane { lane, is_open },
+            );
             ended == ending && source.faults() == u64::from(ending == Ending::Fault)
         }
         None => false,

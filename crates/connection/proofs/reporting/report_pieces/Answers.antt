@@ -1,6 +1,6 @@
 use Rattle.std.proofs.Common.{refl, sym, subst, ◌∙◌}
 use Rattle.connection.proofs.PiecesJoin.{ends_behind, none_for_memory, none_yet, one_more, refused}
-use Rattle.connection.proofs.listening.hear_on.Goals as goal
+use Rattle.connection.proofs.reporting.report_pieces.Goals as goal
 
 pub returns-in_default-clause-hears : goal.returns-in_default-clause-hears
 returns-in_default-clause-hears g c = none_for_memory _ _ _ _
@@ -16,8 +16,8 @@ pub loop-preserved : goal.loop-preserved
 loop-preserved g c = record {
   can = tt;
   ends = tt;
-  heard = one_more _ _ _ _ _ _ _ _ _ _ c.loop.invariant.heard c.in-Ok-hear_piece.ensures.hears;
-  faults = c.in-Ok-hear_piece.ensures.faults ∙ c.loop.invariant.faults;
+  heard = one_more _ _ _ _ _ _ _ _ _ _ c.loop.invariant.heard c.in-Ok-report_piece.ensures.hears;
+  faults = c.in-Ok-report_piece.ensures.faults ∙ c.loop.invariant.faults;
 }
 
 pub returns-then-not-lets_in-clause-hears : goal.returns-then-not-lets_in-clause-hears

@@ -15,7 +15,7 @@ use world_base::{Item, Piece, Port};
 
 /// Reports a connection: that it was opened, then each piece that the device gives, then that it
 /// ended, however it did.
-pub fn listen<R: Wait + Clock, H: Hearer, D: Read>(
+pub fn report_connection<R: Wait + Clock, H: Hearer, D: Read>(
     rt: &R,
     alloc: Global,
     port: Port,
@@ -34,14 +34,14 @@ pub fn listen<R: Wait + Clock, H: Hearer, D: Read>(
 {
     let opened = hearer.now(rt);
     hearer.report(rt, Item::Opened(port, opened));
-    let ending = hear_on(rt, alloc, port, opened, device, hearer);
+    let ending = report_pieces(rt, alloc, port, opened, device, hearer);
     hearer.report(rt, Item::Ended(port));
     ending
 }
 
 // Reports each piece that the device gives, until it ends, for a connection that was opened at a
 // time, if it is accepted.
-fn hear_on<R: Wait + Clock, H: Hearer, D: Read>(
+fn report_pieces<R: Wait + Clock, H: Hearer, D: Read>(
     rt: &R,
     alloc: Global,
     port: Port,
@@ -63,7 +63,7 @@ fn hear_on<R: Wait + Clock, H: Hearer, D: Read>(
     let room = bytes.as_mut_slice();
     let mut last = opened;
     for _ in rt.forever() {
-        match hear_piece(rt, alloc, port, last, device, room, hearer) {
+        match report_piece(rt, alloc, port, last, device, room, hearer) {
             Ok(now) => last = now,
             Err(ending) => return ending,
         }
@@ -73,7 +73,7 @@ fn hear_on<R: Wait + Clock, H: Hearer, D: Read>(
 
 // Reads a piece by one call of the device and reports it, with a time that is not before the last
 // one. Returns that time, or how the connection ended.
-fn hear_piece<R: Wait + Clock, H: Hearer, D: Read>(
+fn report_piece<R: Wait + Clock, H: Hearer, D: Read>(
     rt: &R,
     alloc: Global,
     port: Port,

@@ -1,6 +1,6 @@
 use Rattle.std.specs.Prelude.{◌≡◌}
 use Rattle.connection.specs.Inside.{HearsSome}
-use Rattle.connection.proofs.listening.hear_on.Given as goal
+use Rattle.connection.proofs.reporting.report_pieces.Given as goal
 
 abbrev pub invariant-loop : goal.invariant-loop
 invariant-loop g l = record {
