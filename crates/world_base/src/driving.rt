@@ -158,7 +158,7 @@ impl SteppingNode {
             effects.old.items effects.new.items }
     {
         match effect {
-            Effect::Out(_, output) => self.serve(&output),
+            Effect::Out(_, output) => self.perform(&output),
             Effect::To(receiver, message) => {
                 if effects.push(Effect::To(receiver, message)).is_err() {
                     self.out_of_memory = true;
@@ -167,8 +167,8 @@ impl SteppingNode {
         }
     }
 
-    // Does an output on its connection.
-    fn serve(&mut self, output: &Output)
+    // Performs an output on its connection.
+    fn perform(&mut self, output: &Output)
         ensures does { Does self.old self.new (served_by output.now self.old.core) }
         ensures run { Serves output.now self.old.core self.new.core }
     {

@@ -3,7 +3,7 @@ use Rattle.world_base.proofs.stepping_node.SteppingNode.handle.Goals as goal
 
 pub returns-in-Out-clause-run : goal.returns-in-Out-clause-run
 returns-in-Out-clause-run c =
-    rw c.in-Out.is (delivered_output c.in-Out.field-0 c.in-Out.output c.args.self.now.core c.serve.new.self.core c.args.effects.now.items c.serve.ensures.run)
+    rw c.in-Out.is (delivered_output c.in-Out.field-0 c.in-Out.output c.args.self.now.core c.perform.new.self.core c.args.effects.now.items c.perform.ensures.run)
 
 pub returns-then-is_err-clause-run : goal.returns-then-is_err-clause-run
 returns-then-is_err-clause-run c =
