@@ -23,7 +23,7 @@ use Rattle.broker_rows.proofs.LeavingSteps.{leaving_step}
 use Rattle.broker_rows.proofs.NobodysSteps.{nobodys_packet_step}
 use Rattle.broker_tables.specs.declared.tables.Tables.{Tables}
 use Rattle.broker_tables.specs.Tables.{state_in, stepped, IsConsistent}
-use Rattle.broker_tables.specs.Inside.{is_handshake, is_violation}
+use Rattle.broker_tables.specs.Inside.{is_handshake, ends_connection}
 use Rattle.broker_tables.proofs.FoundByMaps.{is_nobodys}
 use Rattle.broker_tables.proofs.Losses.{loss_step}
 
@@ -50,7 +50,7 @@ pingreq_of tables x c step is =
     owned tables x c is (λ d kept e. pingreq_step usual_limits 64 (state_in tables) x d kept (record { sound = step.sound; owner = e }))
 
 -- it ends its connection
-leaves : (tables : Tables) (row : Client × ClientSession) (packet : Packet) → is_violation packet ≡ true →
+leaves : (tables : Tables) (row : Client × ClientSession) (packet : Packet) → ends_connection packet ≡ true →
     is_leaving (owned_mark usual_limits (state_in tables) row packet) ≡ true
 leaves tables row (packets.Connect connect) e = refl
 leaves tables row (packets.Connack connack) e = refl
@@ -61,7 +61,7 @@ leaves tables row packets.Disconnect e = refl
 leaves tables row _ e = absurd (cc)
 
 pub violation_of : (tables : Tables) (x : ConnectionName) (c : Client) (packet : Packet) → IsConsistent tables →
-    owners_in tables.sessions.entries x ≡ Some c → is_violation packet ≡ true →
+    owners_in tables.sessions.entries x ≡ Some c → ends_connection packet ≡ true →
     stepped tables (commands.Packet x packet) ≡ ((stepped tables (commands.Lost x)).0, outputs.Close x ∷ [])
 unfolding stepped
 violation_of tables x c packet step is wrong =
@@ -71,7 +71,7 @@ violation_of tables x c packet step is wrong =
     ∙ ap (λ s. (s, outputs.Close x ∷ [])) (sym (ap (λ q. q.0) (loss_step tables x d kept served))))
 
 -- a packet that is none of the others is a PINGREQ
-pub only_pingreq : (packet : Packet) → is_handshake packet ≡ false → is_violation packet ≡ false →
+pub only_pingreq : (packet : Packet) → is_handshake packet ≡ false → ends_connection packet ≡ false →
     ((p : Publish) → packet ≡ packets.Publish p → ⊥) → ((s : Subscribe) → packet ≡ packets.Subscribe s → ⊥) →
     ((u : Unsubscribe) → packet ≡ packets.Unsubscribe u → ⊥) → packet ≡ packets.Pingreq
 only_pingreq packets.Pingreq h v np ns nu = refl

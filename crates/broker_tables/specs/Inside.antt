@@ -19,16 +19,16 @@ is_handshake (packets.Pubrel id) = true
 is_handshake (packets.Pubcomp id) = true
 is_handshake _ = false
 
--- whether it ends its connection: DISCONNECT, and what a client may not send (MQTT 3.1.0, 3.14.4,
--- 4.8)
-abbrev pub is_violation : Packet → Bool
-is_violation (packets.Connect connect) = true
-is_violation (packets.Connack connack) = true
-is_violation (packets.Suback suback) = true
-is_violation (packets.Unsuback id) = true
-is_violation packets.Pingresp = true
-is_violation packets.Disconnect = true
-is_violation _ = false
+-- whether it ends its connection: DISCONNECT, and what a client may not send (MQTT-3.1.0-2,
+-- MQTT 3.14.4, 4.8)
+abbrev pub ends_connection : Packet → Bool
+ends_connection (packets.Connect connect) = true
+ends_connection (packets.Connack connack) = true
+ends_connection (packets.Suback suback) = true
+ends_connection (packets.Unsuback id) = true
+ends_connection packets.Pingresp = true
+ends_connection packets.Disconnect = true
+ends_connection _ = false
 
 -- what its sender is sent for a step of a handshake
 abbrev pub handshake_sends : ℕ → Packet → SessionState → List Packet

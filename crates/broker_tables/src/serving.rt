@@ -3,7 +3,7 @@
 ghost use Rattle.std.specs.Prelude.{◌≡◌, ◌++◌, Some, IfOk, OnOk};
 ghost use Rattle.broker_rows.specs.broker_spec.declared.command.Command.TheVariants as commands;
 ghost use Rattle.broker_rows.specs.Owners.{owners_in};
-ghost use Rattle.broker_tables.specs.Inside.{is_handshake, is_violation};
+ghost use Rattle.broker_tables.specs.Inside.{is_handshake, ends_connection};
 ghost use Rattle.broker_tables.specs.Tables.{IsConsistent, IsTied, state_in, stepped};
 
 use crate::tables::Tables;
@@ -56,7 +56,7 @@ impl Tables {
         if is_handshake(packet) {
             return self.handshake(connection, client, packet, out);
         }
-        if is_violation(packet) {
+        if ends_connection(packet) {
             self.close(connection, out)?;
             return Ok(());
         }
@@ -93,10 +93,10 @@ fn is_handshake(packet: &Packet) -> bool
     )
 }
 
-// Says whether it ends its connection: DISCONNECT, and what a client may not send (MQTT 3.1.0,
-// 4.8).
-fn is_violation(packet: &Packet) -> bool
-    ensures { result ≡ is_violation packet.now }
+// Says whether it ends its connection: DISCONNECT, and what a client may not send (MQTT-3.1.0-2,
+// MQTT 3.14.4, 4.8).
+fn ends_connection(packet: &Packet) -> bool
+    ensures { result ≡ ends_connection packet.now }
 {
     matches!(
         packet,

@@ -6,25 +6,25 @@ use Rattle.broker_tables.specs.Tables.{stepped}
 use Rattle.broker_tables.proofs.Packets.{violation_of, pingreq_of, only_pingreq}
 use Rattle.broker_tables.proofs.tables.Tables.serve.Goals as goal
 
-pub returns-then-is_violation-clause-state : goal.returns-then-is_violation-clause-state
-returns-then-is_violation-clause-state c =
+pub returns-then-ends_connection-clause-state : goal.returns-then-ends_connection-clause-state
+returns-then-ends_connection-clause-state c =
     c.in_ok-close.ensures.state
     ∙ sym (ap (λ p. p.0)
     (violation_of c.args.self.now c.args.connection c.args.client.now c.args.packet.now c.requires.consistent c.requires.served
-    (sym c.is_violation.ensures ∙ c.if-is_violation.true)))
+    (sym c.ends_connection.ensures ∙ c.if-ends_connection.true)))
 
-pub returns-then-is_violation-clause-outputs : goal.returns-then-is_violation-clause-outputs
-returns-then-is_violation-clause-outputs c =
+pub returns-then-ends_connection-clause-outputs : goal.returns-then-ends_connection-clause-outputs
+returns-then-ends_connection-clause-outputs c =
     c.in_ok-close.ensures.outputs
     ∙ ap (λ given. c.args.out.now.items ++ given)
     (sym (ap (λ p. p.1)
     (violation_of c.args.self.now c.args.connection c.args.client.now c.args.packet.now c.requires.consistent c.requires.served
-    (sym c.is_violation.ensures ∙ c.if-is_violation.true))))
+    (sym c.ends_connection.ensures ∙ c.if-ends_connection.true))))
 
 pub returns-in_ok-push-in_default : goal.returns-in_ok-push-in_default
 returns-in_ok-push-in_default c =
     let ping : c.args.packet.now ≡ packets.Pingreq
-    = only_pingreq c.args.packet.now (sym c.is_handshake.ensures ∙ c.if-is_handshake.false) (sym c.is_violation.ensures ∙ c.if-is_violation.false)
+    = only_pingreq c.args.packet.now (sym c.is_handshake.ensures ∙ c.if-is_handshake.false) (sym c.ends_connection.ensures ∙ c.if-ends_connection.false)
     c.in_default.not-Publish c.in_default.not-Subscribe c.in_default.not-Unsubscribe in
     let is = ap (λ packet. stepped c.args.self.now (commands.Packet c.args.connection packet)) ping
     ∙ pingreq_of c.args.self.now c.args.connection c.args.client.now c.requires.consistent c.requires.served in
