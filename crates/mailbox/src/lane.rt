@@ -74,7 +74,7 @@ impl<T: Drop, J: Naming> Lane<T, J> {
 
     /// Returns a receipt of what the lane has sent so far.
     pub fn receipt(&mut self) -> Receipt<T, J>
-        ensures tells { result ≡ record {
+        ensures says { result ≡ record {
           inbox = self.old.inbox;
           bounds = record nothing { lane = self.old.lane; sent = length self.old.sent };
         } }

@@ -102,7 +102,7 @@ impl<T: Drop, J: Naming> Receiver<T, J> {
     /// Returns a receipt of how many items were taken so far, and that each lane sends at most
     /// 2^55.
     pub fn receipt(&mut self) -> Receipt<T, J>
-        ensures tells { result ≡ record {
+        ensures says { result ≡ record {
           inbox = self.old.inbox;
           bounds = record nothing {
             taken = length self.old.taken;

@@ -88,7 +88,7 @@ impl<J: NodeNaming> NodeState<J> {
     /// Returns a receipt of how many items it has taken so far, and that each lane sends at most
     /// 2^55.
     pub fn receipt(&mut self) -> Receipt<Item, J>
-        ensures tells { result ≡ record {
+        ensures says { result ≡ record {
           inbox = self.old.taker.inbox;
           bounds = record nothing {
             taken = length self.old.taker.taken;

@@ -104,7 +104,7 @@ impl<'g, J: NodeNaming, G: Gate> Node<'g, J, NodeState<J>, G> {
 
         // It is about a node that was the replay of what was taken. It says how many items of each
         // lane these were, which are the first that the lane sent, and where its log begins.
-        ensures tells { ReportsOn (J.first_of self.entry.number) lanes.new result }
+        ensures reports { ReportsOn (J.first_of self.entry.number) lanes.new result }
     {
         let Node {
             state,

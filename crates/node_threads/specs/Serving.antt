@@ -39,7 +39,7 @@ pub data ReportsEach (lane : ℕ) (before : List Item) : ℕ → List Item → T
 -- a lane sent what any number of its connections bring
 pub record SendsRow (lane : ℕ) (before after : List Item) : Type 0 where
   pub count : ℕ
-  pub tells : ReportsEach lane before count after
+  pub reports : ReportsEach lane before count after
 
 -- Why a lane of a node's connections serves no more: the witness is of this node's listener, or
 -- there is none, and the lane served one connection at each of its ports.

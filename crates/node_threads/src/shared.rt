@@ -42,7 +42,7 @@ impl<'a, J: NodeNaming, G: Gate> Shared<'a, J, NodeState<J>, G> {
         ensures whole { IfOk result (λ report.
             All (ArrivesWhole report.taken.items report.left.items) lanes.new) }
         ensures lanes { OnOk result (map unmet lanes.new ≡ map unmet lanes.old) }
-        ensures tells { IfOk result (λ report.
+        ensures reports { IfOk result (λ report.
             ReportsOn (J.first_of self.entry.node.number) lanes.new report) }
         ensures err { OnErr result (AreItsLanes self.entry.node lanes.old → ⊥) }
     {

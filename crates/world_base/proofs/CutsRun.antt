@@ -18,7 +18,7 @@ pub record ReplicaCut (core : CoreState) (new : CountedReplica State Command) (r
   pub done : result ≡ true → (can_cut core.replica.state ≡ true) × (new ≡ record core.replica { state = cut rules core.replica.state })
   pub thaws : result ≡ true → rules.thawed (rules.frozen core.replica.state.machine) ≡ Some core.replica.state.machine
   pub same : result ≡ false → new.state ≡ core.replica.state
-  pub tells : result ≡ false → can_cut core.replica.state ≡ true → new.losses ≡ one_more core.replica.losses
+  pub counts : result ≡ false → can_cut core.replica.state ≡ true → new.losses ≡ one_more core.replica.losses
   pub idle : can_cut core.replica.state ≡ false → (result ≡ false) × (new ≡ core.replica)
 
 pub cut_runs : (core : CoreState) (new : CountedReplica State Command) (result : Bool) → ReplicaCut core new result →
@@ -29,7 +29,7 @@ cut_runs core new false r = by_need (cases_Bool (can_cut core.replica.state))
     lost : can_cut core.replica.state ≡ true → new ≡ record core.replica { losses = one_more core.replica.losses }
     lost can =
         ap (λ (s : ReplicaState State Command). let z : CountedReplica State Command = record { state = s; losses = new.losses } in z) (r.same refl)
-        ∙ ap (λ k. let z : CountedReplica State Command = record { state = core.replica.state; losses = k } in z) (r.tells refl can)
+        ∙ ap (λ k. let z : CountedReplica State Command = record { state = core.replica.state; losses = k } in z) (r.counts refl can)
 
     by_need : (can_cut core.replica.state ≡ true) ⊎ (can_cut core.replica.state ≡ false) → Cuts core (quietly (record core { replica = new }))
     by_need (inl can) = forgets_cut can (ap (λ (x : CountedReplica State Command). quietly (record core { replica = x })) (lost can))
@@ -44,7 +44,7 @@ cut_exactly core new true r same below =
 cut_exactly core new false r same below = by_need (cases_Bool (can_cut core.replica.state))
   where
     by_need : (can_cut core.replica.state ≡ true) ⊎ (can_cut core.replica.state ≡ false) → record core { replica = new } ≡ cuts core
-    by_need (inl can) = let e : new.losses ≡ min (core.replica.losses + 1) (2 ^ 64 - 1) = r.tells refl can in absurd (omega (arith, e, same, below))
+    by_need (inl can) = let e : new.losses ≡ min (core.replica.losses + 1) (2 ^ 64 - 1) = r.counts refl can in absurd (omega (arith, e, same, below))
     by_need (inr cannot) = rw cannot (ap (λ (x : CountedReplica State Command). let z : CoreState = record core { replica = x } in z) (r.idle cannot).1)
 
 -- so it is what was done, unless memory ran out

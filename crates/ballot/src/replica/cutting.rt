@@ -30,7 +30,7 @@ impl<M: Machine> Replica<M> {
 
         // If nothing was dropped.
         ensures same { result ≡ false → self.new.state ≡ self.old.state }
-        ensures tells { result ≡ false → can_cut self.old.state ≡ true →
+        ensures counts { result ≡ false → can_cut self.old.state ≡ true →
             self.new.losses ≡ one_more self.old.losses }
         ensures idle { can_cut self.old.state ≡ false →
             (result ≡ false) × (self.new ≡ self.old) }

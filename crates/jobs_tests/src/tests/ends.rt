@@ -170,7 +170,7 @@ fn is_told(alloc: Global, fault: JobError, text: &str, status: u8) -> bool {
 }
 
 #[test]
-fn faults_are_told_so(rt: HostRuntime) {
+fn faults_have_their_texts(rt: HostRuntime) {
     let alloc = rt.alloc();
     let text = "vbroker: out of memory\n";
     assert!(rt; is_told(alloc, JobError::Memory, text, 1), "{text}");

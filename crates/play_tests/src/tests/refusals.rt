@@ -188,7 +188,7 @@ fn told(alloc: Global) -> Result<String, AllocError> {
 }
 
 #[test]
-fn a_refusal_is_told_so(rt: HostRuntime) {
+fn a_refusal_has_its_text(rt: HostRuntime) {
     let text = told(rt.alloc());
     assert!(rt; text.is_ok_and(|text| text.as_str() == "script line 7; out of memory"));
 }

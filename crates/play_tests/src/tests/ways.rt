@@ -84,7 +84,7 @@ fn idle_lines(transcript: &str) -> usize {
 }
 
 #[test]
-fn ways_are_told(rt: HostRuntime) {
+fn ways_have_their_lines(rt: HostRuntime) {
     let script = ANSWER_WAITS_FOR_THE_BACKUP[0];
     let alone = way_of(rt.alloc(), script, &[2], "a");
     assert_eq!(rt; text_of(&alone), ALONE);
@@ -113,7 +113,7 @@ const NO_WAYS: &[(&[u8], &str, PlayError)] = &[
 ];
 
 #[test]
-fn no_way_is_told(rt: HostRuntime) {
+fn a_refused_way_has_its_reason(rt: HostRuntime) {
     let script = ANSWER_WAITS_FOR_THE_BACKUP[0];
     for (members, client, error) in NO_WAYS {
         let refused = way_of(rt.alloc(), script, members, client).err();

@@ -84,7 +84,7 @@ invariant_of-self-2 g c =
       counts_cut c.self.inside.losses c.counted-self-inside-2.result c.self.inside.nodes.items c.args.at c.index_mut-replica.result.now c.cut.new.self there.0
           (below_of c.self.inside.nodes.items c.args.at there.0 there.1) c.index_mut-replica.ensures.value
           (same_replica c.self.inside.nodes.items c.args.at c.index_mut-replica.result.now there.0 c.index_mut-replica.ensures.value there.1) there.2
-          (c.cut.ensures.tells c.if-cut.false) (omega arith) c.counted-self-inside-2.ensures c.self.invariant.2,
+          (c.cut.ensures.counts c.if-cut.false) (omega arith) c.counted-self-inside-2.ensures c.self.invariant.2,
     )
 
 pub returns : goal.returns

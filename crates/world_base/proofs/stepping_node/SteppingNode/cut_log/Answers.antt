@@ -4,10 +4,10 @@ use Rattle.world_base.proofs.stepping_node.SteppingNode.cut_log.Goals as goal
 pub returns-clause-run : goal.returns-clause-run
 returns-clause-run c =
     rw (c.note_losses.ensures.kept, ← c.self.view_is) (cut_runs _ c.cut.new.self c.cut.result
-    (record { done = c.cut.ensures.done; thaws = c.cut.ensures.thaws; same = c.cut.ensures.same; tells = c.cut.ensures.tells; idle = c.cut.ensures.idle }))
+    (record { done = c.cut.ensures.done; thaws = c.cut.ensures.thaws; same = c.cut.ensures.same; counts = c.cut.ensures.counts; idle = c.cut.ensures.idle }))
 
 pub returns-clause-does : goal.returns-clause-does
 returns-clause-does c =
     rw (← c.self.view_is) (cut_does _ c.note_losses.new.self c.cut.new.self c.cut.result c.losses-before.result
-    (record { done = c.cut.ensures.done; thaws = c.cut.ensures.thaws; same = c.cut.ensures.same; tells = c.cut.ensures.tells; idle = c.cut.ensures.idle })
+    (record { done = c.cut.ensures.done; thaws = c.cut.ensures.thaws; same = c.cut.ensures.same; counts = c.cut.ensures.counts; idle = c.cut.ensures.idle })
     c.losses-before.ensures c.note_losses.ensures.kept c.note_losses.ensures.none)
