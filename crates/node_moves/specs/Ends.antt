@@ -86,7 +86,7 @@ is_nothing (p ∷ ps) = false
 -- Of the packets that a client writes these were read, and these bytes are still to come.
 pub data IsEnd (x : ConnectionName) (core : CoreState) (written read : List Packet)
     (under_way : List ℕ) : Type 0 where
-  -- the node has not given the name yet: all that is written is under way
+  -- the node has not given the name yet: all that is written is in transit
   not_yet : Precedes core.last_name x → read ≡ [] → IsPiped written [] (stream_of []) under_way →
       IsEnd x core written read under_way
   -- it has the connection open, and holds the bytes that were not read

@@ -2,7 +2,7 @@
 //! them; it holds at most the newest.
 #![tactic(auto)]
 
-mod bytes_under_way;
+mod bytes_in_transit;
 mod calling;
 mod connecting;
 mod hearing;

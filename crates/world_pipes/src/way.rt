@@ -3,7 +3,7 @@
 ghost use Rattle.std.specs.Prelude.{◌≡◌};
 ghost use Rattle.world_pipes.specs.Piped.{new_way};
 
-use crate::bytes_under_way::BytesUnderWay;
+use crate::bytes_in_transit::BytesInTransit;
 use byte_world::world_base::Port;
 use std::alloc::Global;
 
@@ -15,9 +15,9 @@ pub struct Way {
     /// By which the node knows it.
     pub port: Port,
     /// What the client wrote and the node did not get yet.
-    pub up: BytesUnderWay,
+    pub up: BytesInTransit,
     /// What the node handed over and the client did not get yet.
-    pub down: BytesUnderWay,
+    pub down: BytesInTransit,
 }
 
 impl Way {
@@ -28,8 +28,8 @@ impl Way {
         Way {
             node,
             port,
-            up: BytesUnderWay::new(alloc),
-            down: BytesUnderWay::new(alloc),
+            up: BytesInTransit::new(alloc),
+            down: BytesInTransit::new(alloc),
         }
     }
 }

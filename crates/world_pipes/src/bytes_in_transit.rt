@@ -9,13 +9,13 @@ use std::mem;
 
 /// Bytes in transit in one direction, in order.
 #[derive(Drop)]
-pub struct BytesUnderWay {
+pub struct BytesInTransit {
     bytes: Vec<u8>,
     // How many bytes at the front have come.
     come: usize,
 }
 
-impl Model for BytesUnderWay {
+impl Model for BytesInTransit {
     ghost use Rattle.std.specs.Prelude.{List, ℕ, ◌≤◌, drop, length};
 
     ghost Value = { List ℕ };
@@ -25,12 +25,12 @@ impl Model for BytesUnderWay {
     ghost invariant = { λ way. way.come ≤ length way.bytes.items };
 }
 
-impl BytesUnderWay {
+impl BytesInTransit {
     /// Returns an empty buffer.
-    pub fn new(alloc: Global) -> BytesUnderWay
+    pub fn new(alloc: Global) -> BytesInTransit
         ensures { result ≡ [] }
     {
-        BytesUnderWay {
+        BytesInTransit {
             bytes: Vec::new(alloc),
             come: 0,
         }
