@@ -25,4 +25,4 @@ pub use master::{MAX_BALLOT, Master};
 pub use opening::can_open;
 pub use recording::record;
 pub use sending::{answer_of, asks_for, send};
-pub use told::{Told, turn_over};
+pub use told::{Told, follow_ballot};

@@ -109,11 +109,11 @@ fn second_least(told: &[u64], slots: &[u8]) -> u64
     pair.1
 }
 
-/// Replaces the counters of the ballot before by those of the new one, if another ballot has become
-/// active.
-pub fn turn_over(told: &mut Told, next: &mut Told, before: u64, after: u64)
+/// Exchanges the counters of the active ballot with those of the ballot that waited, if another
+/// ballot has become active.
+pub fn follow_ballot(told: &mut Told, next: &mut Told, before: u64, after: u64)
     ensures stays { before ≡ after → (told.new ≡ told.old) × (next.new ≡ next.old) }
-    ensures turns { (before ≡ after → ⊥) → (told.new ≡ next.old) × (next.new ≡ told.old) }
+    ensures swaps { (before ≡ after → ⊥) → (told.new ≡ next.old) × (next.new ≡ told.old) }
 {
     if before != after {
         swap(told, next);

@@ -156,7 +156,7 @@ impl Nodes {
         let (before, _) = self.master.active();
         let activation = self.master.activate(ballot);
         let (after, _) = self.master.active();
-        self.counters.turn_over(before, after);
+        self.counters.follow_ballot(before, after);
         let kept = send(&mut self.sent, from, answer_of(activation, ballot));
         self.losses = counted(self.losses, kept, true);
     }

@@ -5,7 +5,7 @@ ghost use Rattle.master.specs.lists.Lists.{In};
 ghost use Rattle.master.specs.Inside.{HasCounted, least_but_one};
 
 use byte_world::world_base::{Command, Memory, Message};
-use master::{Told, turn_over};
+use master::{Told, follow_ballot};
 use std::alloc::Global;
 
 /// What was acknowledged in the active ballot, and in the one that waits. Its calls take no memory,
@@ -41,13 +41,13 @@ impl Counters {
     }
 
     /// Notes that the active ballot was this one, and is that one now.
-    pub fn turn_over(&mut self, before: u64, after: u64)
+    pub fn follow_ballot(&mut self, before: u64, after: u64)
         ensures stays { before ≡ after →
             (self.new.told ≡ self.old.told) × (self.new.next ≡ self.old.next) }
-        ensures turns { (before ≡ after → ⊥) →
+        ensures swaps { (before ≡ after → ⊥) →
             (self.new.told ≡ self.old.next) × (self.new.next ≡ self.old.told) }
     {
-        turn_over(&mut self.told, &mut self.next, before, after);
+        follow_ballot(&mut self.told, &mut self.next, before, after);
     }
 
     /// Counts what the messages from an index on acknowledge.

@@ -19,7 +19,7 @@ use crate::event::{Event, Idle};
 use crate::inputs::{Taken, counted};
 use crate::recording::record;
 use crate::sending::{answer_of, asks_for, send};
-use crate::told::turn_over;
+use crate::told::follow_ballot;
 use ballot::machine::{Machine, Memory};
 use ballot::{Body, Config, MAX_PLACES, Members};
 
@@ -129,7 +129,7 @@ impl<M: Machine> Group<M> {
         let (before, _) = self.master.active();
         let activation = self.master.activate(ballot);
         let (after, _) = self.master.active();
-        turn_over(&mut self.told, &mut self.next, before, after);
+        follow_ballot(&mut self.told, &mut self.next, before, after);
         let kept = send(&mut self.sent, from, answer_of(activation, ballot));
         self.losses = counted(self.losses, kept, true);
     }

@@ -15,11 +15,11 @@ invariant_of-self g c =
     let world = master_sends c.self.inside.archive.items c.self.inside.nodes.items c.self.inside.sent.items c.send-kept.new.sent.items c.self.inside.left.items c.self.inside.losses c.counted-self-inside.result
     (activated _ m c.args.ballot c.args.from m.waiting) c.answer_of.result c.send-kept.result body c.send-kept.ensures.kept c.send-kept.ensures.lost c.counted-self-inside.ensures in (
       c.self.invariant.0,
-      group_answers rules _ _ c.args.from c.args.ballot c.self.inside.told c.self.inside.next c.turn_over.new.told c.turn_over.new.next c.self.invariant.1 sent
+      group_answers rules _ _ c.args.from c.args.ballot c.self.inside.told c.self.inside.next c.follow_ballot.new.told c.follow_ballot.new.next c.self.invariant.1 sent
           c.activate-activation.ensures.state (world_is world)
-          (turned c.self.inside.told c.self.inside.next c.turn_over.new.told c.turn_over.new.next m.active c.activate-activation.new.self.active
-          (λ e. c.turn_over.ensures.stays (c.active-before.ensures.ballot ∙ e ∙ sym c.active-after.ensures.ballot))
-          (λ ne. c.turn_over.ensures.turns (λ e. ne (sym c.active-before.ensures.ballot ∙ e ∙ c.active-after.ensures.ballot)))),
+          (turned c.self.inside.told c.self.inside.next c.follow_ballot.new.told c.follow_ballot.new.next m.active c.activate-activation.new.self.active
+          (λ e. c.follow_ballot.ensures.stays (c.active-before.ensures.ballot ∙ e ∙ sym c.active-after.ensures.ballot))
+          (λ ne. c.follow_ballot.ensures.swaps (λ e. ne (sym c.active-before.ensures.ballot ∙ e ∙ c.active-after.ensures.ballot)))),
       counts_told c.send-kept.result _ c.self.inside.losses c.counted-self-inside.result c.self.inside.nodes.items (omega arith) c.counted-self-inside.ensures
           c.self.invariant.2,
     )

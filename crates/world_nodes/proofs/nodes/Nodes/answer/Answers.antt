@@ -44,7 +44,7 @@ pub invariant_of-self : goal.invariant_of-self
 invariant_of-self c =
     let m = c.self.inside.master in
     let counters = c.self.inside.counters in
-    let turned_to = c.turn_over.new.self in
+    let turned_to = c.follow_ballot.new.self in
     let sent = rw (← c.self.view_is) at c.requires in
     let body = answer_is c.args.ballot (is_granted m c.args.ballot m.waiting) c.activate-activation.result c.answer_of.result
     c.activate-activation.ensures.answer c.answer_of.ensures.granted c.answer_of.ensures.refused in
@@ -57,5 +57,5 @@ invariant_of-self c =
     } in old) c.args.from c.args.ballot c.activate-activation.new.self c.answer_of.result c.send-kept.new.sent.items c.send-kept.result c.counted-self-inside.result
     counters.told counters.next turned_to.told turned_to.next c.self.invariant sent c.activate-activation.ensures.state body c.send-kept.ensures.kept c.send-kept.ensures.lost
     (turned counters.told counters.next turned_to.told turned_to.next m.active c.activate-activation.new.self.active
-    (λ e. c.turn_over.ensures.stays (c.active-before.ensures.ballot ∙ e ∙ sym c.active-after.ensures.ballot))
-    (λ ne. c.turn_over.ensures.turns (λ e. ne (sym c.active-before.ensures.ballot ∙ e ∙ c.active-after.ensures.ballot))))
+    (λ e. c.follow_ballot.ensures.stays (c.active-before.ensures.ballot ∙ e ∙ sym c.active-after.ensures.ballot))
+    (λ ne. c.follow_ballot.ensures.swaps (λ e. ne (sym c.active-before.ensures.ballot ∙ e ∙ c.active-after.ensures.ballot))))
