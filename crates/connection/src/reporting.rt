@@ -54,7 +54,7 @@ fn report_pieces<R: Wait + Clock, H: Hearer, D: Read>(
     ensures let_in { WasLet H.lets (was_let_in result) }
     ensures faults { device.new.faults ≡ faults_after result device.old.faults }
 {
-    if !hearer.lets_in(rt) {
+    if !hearer.let_in(rt) {
         return Ending::Refused;
     }
     let Ok(mut bytes) = Vec::from_elem(alloc, 0u8, PIECE_BYTES) else {

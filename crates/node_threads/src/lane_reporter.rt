@@ -49,7 +49,7 @@ impl<'e, 'a, J: NodeNaming, S: Stated<J>, G: Gate> Hearer for LaneReporter<'e, '
     // A port that is not yet reported to the node counts as one that the node closed, so a link is
     // listed after that. A connection that the node did not take, because it is no primary, is not
     // read.
-    fn lets_in<R: Wait>(&self, rt: &R) -> bool {
+    fn let_in<R: Wait>(&self, rt: &R) -> bool {
         let Ok(link) = Arc::try_clone(self.link) else {
             return false;
         };

@@ -52,7 +52,7 @@ impl<J: Naming> Hearer for OneLane<J> {
         unreachable!()
     }
 
-    fn lets_in<R: Wait>(&self, _rt: &R) -> bool {
+    fn let_in<R: Wait>(&self, _rt: &R) -> bool {
         self.is_open
     }
 }

@@ -20,23 +20,23 @@ loop-preserved g c = record {
   faults = c.in-Ok-report_piece.ensures.faults ∙ c.loop.invariant.faults;
 }
 
-pub returns-then-not-lets_in-clause-hears : goal.returns-then-not-lets_in-clause-hears
-returns-then-not-lets_in-clause-hears g c = refused _ _ _ _
+pub returns-then-not-let_in-clause-hears : goal.returns-then-not-let_in-clause-hears
+returns-then-not-let_in-clause-hears g c = refused _ _ _ _
 
-pub returns-then-not-lets_in-clause-let_in : goal.returns-then-not-lets_in-clause-let_in
-returns-then-not-lets_in-clause-let_in g c = record {
+pub returns-then-not-let_in-clause-let_in : goal.returns-then-not-let_in-clause-let_in
+returns-then-not-let_in-clause-let_in g c = record {
   hearer = c.args.hearer.now;
-  answered = subst (g.H.Hearer.lets c.args.hearer.now) c.if-not-lets_in.true c.lets_in.ensures;
+  answered = subst (g.H.Hearer.lets c.args.hearer.now) c.if-not-let_in.true c.let_in.ensures;
 }
 
 pub returns-in_default-clause-let_in : goal.returns-in_default-clause-let_in
 returns-in_default-clause-let_in g c = record {
   hearer = c.args.hearer.now;
-  answered = subst (g.H.Hearer.lets c.args.hearer.now) c.if-not-lets_in.false c.lets_in.ensures;
+  answered = subst (g.H.Hearer.lets c.args.hearer.now) c.if-not-let_in.false c.let_in.ensures;
 }
 
 pub returns-in-Err-clause-let_in : goal.returns-in-Err-clause-let_in
 returns-in-Err-clause-let_in g c = record {
   hearer = c.args.hearer.now;
-  answered = subst (g.H.Hearer.lets c.args.hearer.now) (c.if-not-lets_in.false ∙ sym c.in-Err.ensures.read) c.lets_in.ensures;
+  answered = subst (g.H.Hearer.lets c.args.hearer.now) (c.if-not-let_in.false ∙ sym c.in-Err.ensures.read) c.let_in.ensures;
 }
