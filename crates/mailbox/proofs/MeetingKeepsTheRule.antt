@@ -7,7 +7,7 @@ use lib.ListN.{get_elem?}
 use Rattle.crossbeam_queue.specs.Fifo.{Forks, Merges, Learns}
 use Rattle.crossbeam_queue.proofs.Lists.{at_set}
 use Rattle.mailbox.specs.declared.view.View.{View}
-use Rattle.mailbox.specs.Delivery.{items_of, FitsLane, FitsReceiver, FitsBounds, Delivers, Moment}
+use Rattle.mailbox.specs.Delivery.{items_of, FitsLane, FitsReceiver, FitsBounds, Delivers, Knew}
 use Rattle.mailbox.specs.Inside.{nobody, joined, Learned, receiver_part, lane_part}
 use Rattle.mailbox.proofs.ItemsOfALane.{items_of-append}
 use Rattle.mailbox.proofs.EachView.{Each, each_set, each_snoc}
@@ -127,5 +127,5 @@ module _ {T : Type 0} where
       }
 
   -- at any moment the inbox holds what its rule allows
-  pub moments : (port : ℕ) (v : View T) → Learns Delivers port v (Moment v)
+  pub moments : (port : ℕ) (v : View T) → Learns Delivers port v (Knew v)
   moments port v items views h at = record { views = views; port = port; holds = h; knows = at }

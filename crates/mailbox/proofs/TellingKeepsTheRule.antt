@@ -10,7 +10,7 @@ use Rattle.crossbeam_queue.specs.Fifo.{Forks, Merges, Held}
 use Rattle.crossbeam_queue.proofs.Lists.{at_set}
 use Rattle.mailbox.specs.declared.view.Bounds.{Bounds}
 use Rattle.mailbox.specs.declared.view.View.{View}
-use Rattle.mailbox.specs.Delivery.{items_of, FitsLane, FitsReceiver, FitsBounds, Delivers, Moment}
+use Rattle.mailbox.specs.Delivery.{items_of, FitsLane, FitsReceiver, FitsBounds, Delivers, Knew}
 use Rattle.mailbox.specs.declared.inbox.TheConstants.{MAX_ITEMS}
 use Rattle.mailbox.specs.Ends.{HasArrived, IsFullByReceipt, Receipted, Sender, Taker}
 use Rattle.mailbox.specs.Inside.{ended, heard, lane_knows, nobody, receiver_knows}
@@ -121,7 +121,7 @@ module _ {T : Type 0} where
       }
 
   -- if the inbox holds nothing, all is taken that the receiver knows to be sent
-  arrived : (v : View T) → v.gets ≡ true → Held 0 (Moment v) → v.bounds.sent ≤ length (items_of v.bounds.lane v.taken)
+  arrived : (v : View T) → v.gets ≡ true → Held 0 (Knew v) → v.bounds.sent ≤ length (items_of v.bounds.lane v.taken)
   arrived v gets (items, size, moment) =
       let h = moment.holds in
       let known = (h.fits moment.port v moment.knows).1 gets in
@@ -139,7 +139,7 @@ module _ {T : Type 0} where
       → v.gets ≡ true
       → v.taken ≡ receiver.taken
       → w.bounds ≡ receipt.bounds
-      → Held 0 (Moment heard')
+      → Held 0 (Knew heard')
       → IfNone result (HasArrived receipt receiver.taken)
   has_arrived (Some x) v w heard' receiver receipt is gets taken bounds empty = tt
   has_arrived None v w heard' receiver receipt is gets taken bounds empty =
@@ -149,7 +149,7 @@ module _ {T : Type 0} where
       (subst (λ (u : View T). u.bounds.sent ≤ length (items_of u.bounds.lane u.taken)) is here)
 
   -- if the inbox is full, the lane knows that at least this many items will ever be sent
-  pub full : (v : View T) (size : ℕ) → Held size (Moment v) → v.bounds.taken + size + v.may ≤ v.bounds.most
+  pub full : (v : View T) (size : ℕ) → Held size (Knew v) → v.bounds.taken + size + v.may ≤ v.bounds.most
   full v size (items, is, moment) =
       let h = moment.holds in
       let bounds = (h.fits moment.port v moment.knows).2 in
@@ -163,7 +163,7 @@ module _ {T : Type 0} where
       → v.may ≡ 2 ^ 55 - length v.sent
       → v.sent ≡ lane.sent
       → w.bounds ≡ receipt.bounds
-      → Held size (Moment heard')
+      → Held size (Knew heard')
       → IsFullByReceipt lane receipt
   is_full v w heard' size lane receipt is room may sent bounds held =
       let here = full heard' size held in

@@ -99,8 +99,8 @@ pub record Delivers {T : Type 0} (items : List (ℕ × T)) (views : List (View T
       × FitsReceiver reader taken made port v
       × FitsBounds sent taken most v
 
--- a moment at which the inbox held these items and one of its passes knew this
-pub record Moment {T : Type 0} (v : View T) (items : List (ℕ × T)) : Type 0 where
+-- one of an inbox's passes knew this while the inbox held these items
+pub record Knew {T : Type 0} (v : View T) (items : List (ℕ × T)) : Type 0 where
   pub views : List (View T)
   pub port : ℕ
   pub holds : Delivers items views

@@ -4,7 +4,7 @@ use Rattle.crossbeam_queue.specs.Fifo.{Held}
 use Rattle.mailbox.specs.declared.inbox.TheConstants.{MAX_ITEMS}
 use Rattle.mailbox.specs.declared.lane.TheConstants.{MAX_SENT}
 use Rattle.mailbox.specs.declared.view.Bounds.{Bounds}
-use Rattle.mailbox.specs.Delivery.{items_of, lane_view, taker_view, Moment}
+use Rattle.mailbox.specs.Delivery.{items_of, lane_view, taker_view, Knew}
 
 -- how many items an inbox holds at most
 abbrev pub max_items : ℕ
@@ -47,7 +47,7 @@ module _ {T : Type 0} where
   abbrev pub WasFull : Sender T → Receipted → Type 0
   WasFull s receipt =
       Held MAX_ITEMS
-      (Moment (lane_view s.lane s.sent s.met (MAX_SENT - length s.sent) receipt.bounds))
+      (Knew (lane_view s.lane s.sent s.met (MAX_SENT - length s.sent) receipt.bounds))
 
   -- as far as the receipt says, there may be no room: what was taken, what the inbox can hold and
   -- what this lane may still send do not exceed what all lanes will ever send
@@ -61,7 +61,7 @@ module _ {T : Type 0} where
 
   -- at one moment, at which everything that the receipt says was true, the inbox held nothing
   abbrev pub WasEmpty : Taker T → Receipted → Type 0
-  WasEmpty r receipt = Held 0 (Moment (taker_view r.lanes r.taken receipt.bounds))
+  WasEmpty r receipt = Held 0 (Knew (taker_view r.lanes r.taken receipt.bounds))
 
   -- every item that was sent, as far as the receipt says, is among these items that were taken
   abbrev pub HasArrived : Receipted → List (ℕ × T) → Type 0

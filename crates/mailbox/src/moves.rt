@@ -34,9 +34,9 @@ impl<T> Outcome<(u8, T), View<T>> for Sends {
 }
 
 impl<T> Lesson<(u8, T), View<T>> for Sends {
-    ghost use Rattle.mailbox.specs.Delivery.{Moment};
+    ghost use Rattle.mailbox.specs.Delivery.{Knew};
 
-    ghost fact = { Moment };
+    ghost fact = { Knew };
 }
 
 /// The pop by which the receiver takes an item of any lane.
@@ -49,9 +49,9 @@ impl<T> Outcome<(u8, T), View<T>> for Takes {
 }
 
 impl<T> Lesson<(u8, T), View<T>> for Takes {
-    ghost use Rattle.mailbox.specs.Delivery.{Moment};
+    ghost use Rattle.mailbox.specs.Delivery.{Knew};
 
-    ghost fact = { Moment };
+    ghost fact = { Knew };
 }
 
 /// The receiver makes the next lane.

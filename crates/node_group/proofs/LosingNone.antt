@@ -8,7 +8,7 @@ use Rattle.node_moves.specs.RunProposals.{bytes_on}
 use Rattle.node_moves.specs.Hearing.{HearsAtFirst, IsCalm}
 use Rattle.node_moves.specs.LossyParts.{inputs_of}
 use Rattle.node_moves.specs.LossyRuns.{AllFreeze, Freezes, LossyRuns, all_inputs}
-use Rattle.node_moves.specs.LossyRuns.{HearsAtFirst as FirstLosing, IsCalm as CalmLosing, bytes_on as bytes_losing}
+use Rattle.node_moves.specs.LossyRuns.{HearsAtFirst as FirstLosing, HearsNothing as CalmLosing, bytes_on as bytes_losing}
 use Rattle.node_moves.specs.LossyMoves.LossyMoves.{exactly}
 use Rattle.node_moves.specs.LossyRuns.LossyRuns.{rests as rests_losing, goes_on as goes_losing}
 use Rattle.node_moves.specs.Moves.{Moves, Runs}

@@ -20,7 +20,7 @@ use Rattle.node_moves.specs.Keeping.{AreOfTheBallot}
 use Rattle.node_moves.specs.LossyLaws.{AreWhereItServes}
 use Rattle.node_moves.specs.LossyMoves.{LossyMoves}
 use Rattle.node_moves.specs.LossyParts.{proposal_of}
-use Rattle.node_moves.specs.LossyRuns.{HearsAtFirst, IsCalm, LossyRuns}
+use Rattle.node_moves.specs.LossyRuns.{HearsAtFirst, HearsNothing, LossyRuns}
 use Rattle.node_moves.specs.LossyMoves.LossyMoves.{exactly, first_losing, later_losing, tells_losing, expels_losing}
 use Rattle.node_moves.specs.LossyRuns.LossyRuns.{rests, goes_on}
 use Rattle.node_moves.specs.Moves.{Moves}
@@ -104,7 +104,7 @@ orderly_after core turn m o = (losses_read_in_order core turn m o).0
 where_it_serves : (core : CoreState) → AreOfTheBallot core → AreWhereItServes core
 where_it_serves core of serving = of
 
-calm_run : {core : CoreState} {turn : Turn} (run : LossyRuns core turn) → IsCalm run → IsOrderly core → AreWhereItServes core → RunsWell run
+calm_run : {core : CoreState} {turn : Turn} (run : LossyRuns core turn) → HearsNothing run → IsOrderly core → AreWhereItServes core → RunsWell run
 calm_run rests calm o of = record { orderly = o; names = of; puts = tt }
 calm_run {core = core} (goes_on {first = first} m run) calm o of =
     let r = calm_run run calm.1 (orderly_after core first m o) (lossy_names_keep_their_ballot.moves core first m o calm.0 of) in

@@ -22,7 +22,7 @@ use Rattle.node_moves.specs.Ends.{IsOrderly}
 use Rattle.node_moves.specs.Keeping.{AreOfTheBallot}
 use Rattle.node_moves.specs.LossyMoves.{LossyMoves}
 use Rattle.node_moves.specs.LossyParts.{came_on, given_in, hears_in, inputs_in}
-use Rattle.node_moves.specs.LossyRuns.{AllFreeze, Freezes, HearsAtFirst, IsCalm, LossyRuns, all_inputs, bytes_on}
+use Rattle.node_moves.specs.LossyRuns.{AllFreeze, Freezes, HearsAtFirst, HearsNothing, LossyRuns, all_inputs, bytes_on}
 use Rattle.node_moves.specs.LossyRuns.LossyRuns.{rests, goes_on}
 use Rattle.node_moves.specs.Moves.{and_then}
 use Rattle.node_moves.proofs.Kept.{left_true}
@@ -173,7 +173,7 @@ no_move g n core kept at t came =
     subst (λ (h : Group). Steps g came h [] (λ x. []) (λ x. []))
     (same_group g n core at ∙ ap (λ (l : Given). after_turn g n (keeping l (quiet core)) []) (sym (nothing_kept kept t))) (nothing_steps g came)
 
-calm_steps : {config : Config} (g : Group) (n : ℕ) (core : CoreState) (turn : Turn) (run : LossyRuns core turn) (kept : Given) → IsCalm run → IsOrderly core → slice_get g.nodes n ≡ Some core
+calm_steps : {config : Config} (g : Group) (n : ℕ) (core : CoreState) (turn : Turn) (run : LossyRuns core turn) (kept : Given) → HearsNothing run → IsOrderly core → slice_get g.nodes n ≡ Some core
     → WereSent g n (all_inputs run) → AllFreeze run → Thinned kept turn.messages → {earlier : List (Moment State Command Output)} (came : Moments rules config (moment_of g ∷ earlier))
     → Steps g came (after_turn (with_record g (recorded_in g.archive run)) n (keeping kept turn) (all_given run)) (put_in_run run) (λ x. bytes_on x run) (λ x. handed_losing x run)
 calm_steps g n core turn rests kept calm o at sent frozen t came = no_move g n core kept at t came

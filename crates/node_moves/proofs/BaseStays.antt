@@ -15,7 +15,7 @@ use Rattle.world_base.specs.declared.item.Item.TheVariants.{Cut}
 use Rattle.node_moves.specs.LossyMoves.{LossyMoves}
 use Rattle.node_moves.specs.LossyParts.{hears_in}
 use Rattle.node_moves.specs.LossyMoves.LossyMoves.{exactly, hears_losing, first_losing, later_losing, tells_losing, expels_losing, forgets, halts, fails, unheard, drops}
-use Rattle.node_moves.specs.LossyRuns.{IsCalm, LossyRuns}
+use Rattle.node_moves.specs.LossyRuns.{HearsNothing, LossyRuns}
 use Rattle.node_moves.specs.LossyRuns.LossyRuns.{rests, goes_on}
 use Rattle.node_moves.specs.Moves.{Moves, Runs}
 use Rattle.node_moves.specs.Moves.NodeCall.{takes}
@@ -47,7 +47,7 @@ calm_base core turn unheard calm = refl
 calm_base core turn (drops port piece) calm = base_of core turn.core (at_replica port closed core)
 
 -- so it is in a run of such moves
-pub calm_run_base : {core : CoreState} {turn : Turn} (run : LossyRuns core turn) → IsCalm run → turn.core.replica.state.log.base ≡ core.replica.state.log.base
+pub calm_run_base : {core : CoreState} {turn : Turn} (run : LossyRuns core turn) → HearsNothing run → turn.core.replica.state.log.base ≡ core.replica.state.log.base
 calm_run_base rests calm = refl
 calm_run_base {core = core} (goes_on {first = first} m run) calm = calm_run_base run calm.1 ∙ calm_base core first m calm.0
 

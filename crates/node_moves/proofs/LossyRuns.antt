@@ -29,7 +29,7 @@ use Rattle.world_base.specs.Reading.{changes, open_at, refused}
 use Rattle.world_base.specs.Turns.{quiet}
 use Rattle.node_moves.specs.LossyMoves.{LossyMoves, forgetful, halting, turn_of}
 use Rattle.node_moves.specs.LossyParts.{came_on, hears_in, inputs_in, is_handing}
-use Rattle.node_moves.specs.LossyRuns.{AllFreeze, CutsNothing, Freezes, HandsNothing, HearsAtFirst, IsCalm, LossyRuns, all_inputs, bytes_on, cuts_in, exactly_cuts}
+use Rattle.node_moves.specs.LossyRuns.{AllFreeze, CutsNothing, Freezes, HandsNothing, HearsAtFirst, HearsNothing, LossyRuns, all_inputs, bytes_on, cuts_in, exactly_cuts}
 use Rattle.node_moves.specs.LossyMoves.LossyMoves.{exactly, hears_losing, first_losing, later_losing, tells_losing, expels_losing, forgets, halts, fails, unheard, drops}
 use Rattle.node_moves.specs.LossyRuns.LossyRuns.{rests, goes_on}
 use Rattle.node_moves.specs.Keeping.{moves_replica}
@@ -223,7 +223,7 @@ still_reads now port core did (ends runs) = still_ends port core did runs
 
 -- ---- a step
 
-calm_of : {core : CoreState} {turn : Turn} (run : LossyRuns core turn) → AreStill run → IsCalm run
+calm_of : {core : CoreState} {turn : Turn} (run : LossyRuns core turn) → AreStill run → HearsNothing run
 calm_of rests still = tt
 calm_of (goes_on m run) still = (still.0.0, calm_of run still.1)
 
@@ -248,7 +248,7 @@ pub still_cuts : {core : CoreState} {turn : Turn} (m : LossyMoves core turn) →
 still_cuts (exactly m) calm = exactly_still m calm
 still_cuts m calm = refl
 
-pub calm_cuts_none : {core : CoreState} {turn : Turn} (run : LossyRuns core turn) → IsCalm run → CutsNothing run
+pub calm_cuts_none : {core : CoreState} {turn : Turn} (run : LossyRuns core turn) → HearsNothing run → CutsNothing run
 calm_cuts_none rests calm = tt
 calm_cuts_none (goes_on m run) calm = (still_cuts m calm.0, calm_cuts_none run calm.1)
 

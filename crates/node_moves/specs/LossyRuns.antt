@@ -27,14 +27,14 @@ pub data LossyRuns : CoreState → Turn → Type 0 where
       LossyRuns first.core next → LossyRuns core (and_then first next)
 
 -- in no move of a run the replica receives something
-abbrev pub IsCalm : {core : CoreState} {turn : Turn} → LossyRuns core turn → Type 0
-IsCalm rests = Unit {0}
-IsCalm (goes_on m run) = (hears_in m ≡ false) × IsCalm run
+abbrev pub HearsNothing : {core : CoreState} {turn : Turn} → LossyRuns core turn → Type 0
+HearsNothing rests = Unit {0}
+HearsNothing (goes_on m run) = (hears_in m ≡ false) × HearsNothing run
 
 -- in no move of a run except the first the replica receives something
 abbrev pub HearsAtFirst : {core : CoreState} {turn : Turn} → LossyRuns core turn → Type 0
 HearsAtFirst rests = Unit {0}
-HearsAtFirst (goes_on m run) = IsCalm run
+HearsAtFirst (goes_on m run) = HearsNothing run
 
 -- the commands that a node proposes in a run, in order
 abbrev pub proposals_of : {core : CoreState} {turn : Turn} → LossyRuns core turn → List Command

@@ -18,7 +18,7 @@ use Rattle.node_connections.specs.Connections.{has_failed}
 use Rattle.world_base.specs.declared.item.Item.{Item}
 use Rattle.world_base.specs.declared.item.Item.TheVariants.{Peer}
 use Rattle.world_base.specs.Core.{CoreState, rules}
-use Rattle.world_base.specs.Inside.{IsCalm, Running}
+use Rattle.world_base.specs.Inside.{Running, WithoutFailure}
 use Rattle.world_base.specs.Losses.{IsHeardQuietly, ReadsNone}
 
 -- a list with something at its end has something
@@ -50,7 +50,7 @@ pub heard_quietly : (message : Message Command) (old mid new : Running) (replica
     (old.core.replica.state.stopped ≡ true → (replica ≡ old.core.replica) × (after ≡ before)) →
     mid ≡ record old { core = record old.core { replica = replica } } → losses ≡ old.core.replica.losses →
     (mid.core.replica.losses ≡ losses → losses < 2 ^ 64 - 1 → new ≡ mid) →
-    IsHeardQuietly message old.core → ReadsNone message old.core → IsCalm old new × (after ≡ [])
+    IsHeardQuietly message old.core → ReadsNone message old.core → WithoutFailure old new × (after ≡ [])
 heard_quietly message old mid new replica before after losses empty step still stays is was notes quiet reads = (
   record {
     out_of_memory = ap (λ (r : Running). r.out_of_memory) becomes;
@@ -81,12 +81,12 @@ heard_quietly message old mid new replica before after losses empty step still s
     becomes = notes same_losses (subst (λ (k : ℕ). k < 2 ^ 64 - 1) (sym was) quiet.1) ∙ is
 
 -- with what it gave, which is nothing
-pub delivers_calmly : (a b c : Running) (given : List (Effect Command Output)) → IsCalm a b × (given ≡ []) → (given ≡ [] → c ≡ b) → IsCalm a c
-delivers_calmly a b c given heard nothing = subst (λ (r : Running). IsCalm a r) (sym (nothing heard.1)) heard.0
+pub delivers_calmly : (a b c : Running) (given : List (Effect Command Output)) → WithoutFailure a b × (given ≡ []) → (given ≡ [] → c ≡ b) → WithoutFailure a c
+delivers_calmly a b c given heard nothing = subst (λ (r : Running). WithoutFailure a r) (sym (nothing heard.1)) heard.0
 
 -- the item
 pub peer_calmly : (message seen : Message Command) (item : Item) (a b : Running) → item ≡ Peer seen → item ≡ Peer message →
-    (IsHeardQuietly seen a.core → ReadsNone seen a.core → IsCalm a b) → IsHeardQuietly message a.core → ReadsNone message a.core → IsCalm a b
+    (IsHeardQuietly seen a.core → ReadsNone seen a.core → WithoutFailure a b) → IsHeardQuietly message a.core → ReadsNone message a.core → WithoutFailure a b
 peer_calmly message seen item a b is same calm =
     let e : seen ≡ message = cc in
-    subst (λ (m : Message Command). IsHeardQuietly m a.core → ReadsNone m a.core → IsCalm a b) e calm
+    subst (λ (m : Message Command). IsHeardQuietly m a.core → ReadsNone m a.core → WithoutFailure a b) e calm

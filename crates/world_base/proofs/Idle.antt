@@ -17,7 +17,7 @@ use Rattle.node_connections.specs.declared.connection.Connection.{Connection}
 use Rattle.node_connections.specs.Connections.{changed, closed, has_failed, holding, is_open_at, is_proposed}
 use Rattle.world_base.specs.Core.{CoreState, Turn}
 use Rattle.world_base.specs.Failing.{loses_all_failed}
-use Rattle.world_base.specs.Inside.{IsCalm, Ran, Running, DoesTurn}
+use Rattle.world_base.specs.Inside.{Ran, Running, DoesTurn, WithoutFailure}
 use Rattle.world_base.specs.KeepAlive.{ends_all_silent, ends_silent}
 use Rattle.world_base.specs.Losses.{DoesNothing, IsHeardQuietly, IsIgnored, ReadsNone, TakesNoMemory, was_proposed}
 use Rattle.world_base.specs.Lossy.{Account, Drives, Repeated, quietly}
@@ -179,7 +179,7 @@ pub quiet_ignored : (a b : Running) → (find has_failed a.core.connections ≡ 
     b.out_of_memory ≡ a.out_of_memory
 quiet_ignored a b none failed = ap (λ (r : Running). r.out_of_memory) (none failed)
 
-calm_then : (a b c : Running) → IsCalm a b → (find has_failed b.core.connections ≡ None → c ≡ b) → find has_failed a.core.connections ≡ None →
+calm_then : (a b c : Running) → WithoutFailure a b → (find has_failed b.core.connections ≡ None → c ≡ b) → find has_failed a.core.connections ≡ None →
     c.out_of_memory ≡ a.out_of_memory
 calm_then a b c calm none failed = ap (λ (r : Running). r.out_of_memory) (none (calm.failed failed)) ∙ calm.out_of_memory
 
@@ -189,7 +189,7 @@ heeded item a c ignored is decides idle = (let e = decides.1 idle in absurd cc)
 
 -- a message that has an effect is heard quietly
 heard_then : (message : Message Command) (a b c : Running) (ignored : Bool) → ignored ≡ false → (ignored ≡ true) ↔ DoesNothing (Peer message) a.core →
-    (IsHeardQuietly message a.core → ReadsNone message a.core → IsCalm a b) → (find has_failed b.core.connections ≡ None → c ≡ b) →
+    (IsHeardQuietly message a.core → ReadsNone message a.core → WithoutFailure a b) → (find has_failed b.core.connections ≡ None → c ≡ b) →
     IsIgnored (Receives message) a.core ⊎ IsHeardQuietly message a.core → ReadsNone message a.core → find has_failed a.core.connections ≡ None →
     c.out_of_memory ≡ a.out_of_memory
 heard_then message a b c ignored is decides heard none (inl idle) reads failed = heeded (Peer message) a c ignored is decides (idle, reads)
@@ -198,8 +198,8 @@ heard_then message a b c ignored is decides heard none (inr quiet) reads failed 
 -- what takes no memory, and does something, is a message that is heard quietly, a crash or the end
 -- of a connection whose CONNECT was not proposed
 pub quiet_otherwise : (item : Item) (a b c : Running) (ignored : Bool) → ignored ≡ false → (ignored ≡ true) ↔ DoesNothing item a.core →
-    ((message : Message Command) → item ≡ Peer message → IsHeardQuietly message a.core → ReadsNone message a.core → IsCalm a b) →
-    (item ≡ Crash → IsCalm a b) → ((port : Port) → item ≡ Ended port → was_proposed (open_at port a.core) ≡ false → IsCalm a b) →
+    ((message : Message Command) → item ≡ Peer message → IsHeardQuietly message a.core → ReadsNone message a.core → WithoutFailure a b) →
+    (item ≡ Crash → WithoutFailure a b) → ((port : Port) → item ≡ Ended port → was_proposed (open_at port a.core) ≡ false → WithoutFailure a b) →
     (find has_failed b.core.connections ≡ None → c ≡ b) → TakesNoMemory item a.core → find has_failed a.core.connections ≡ None → c.out_of_memory ≡ a.out_of_memory
 quiet_otherwise (Peer message) a b c ignored is decides heard crash ended none takes failed =
     heard_then message a b c ignored is decides (heard message refl) none takes.0 takes.1 failed
@@ -223,7 +223,7 @@ closing_fails_none test (c ∷ cs) none = by (test c) (has_failed c) refl (closi
     by false false is rest e = rw is (rest e)
 
 pub ended_calmly : (port q : Port) (item : Item) (a b : Running) → item ≡ Ended q → item ≡ Ended port →
-    (was_proposed (open_at q a.core) ≡ false → b ≡ record a { core = changes q closed a.core }) → was_proposed (open_at port a.core) ≡ false → IsCalm a b
+    (was_proposed (open_at q a.core) ≡ false → b ≡ record a { core = changes q closed a.core }) → was_proposed (open_at port a.core) ≡ false → WithoutFailure a b
 unfolding changes
 ended_calmly port q item a b is same closes unproposed =
     let e : q ≡ port = cc in

@@ -26,7 +26,7 @@ pub record Running : Type 0 where
   pub out_of_memory : Bool
 
 -- memory did not run out, and no connection failed
-pub record IsCalm (old new : Running) : Type 0 where
+pub record WithoutFailure (old new : Running) : Type 0 where
   pub out_of_memory : new.out_of_memory ≡ old.out_of_memory
   pub failed : find has_failed old.core.connections ≡ None →
       find has_failed new.core.connections ≡ None

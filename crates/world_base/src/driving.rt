@@ -4,7 +4,7 @@ ghost use Rattle.std.specs.Prelude.{◌≡◌, ◌<◌, ◌-◌, ◌^◌, false,
 ghost use Rattle.ballot.specs.Protocol.Input.{Receives, Ticks};
 ghost use Rattle.ballot.specs.Serving.{proposed};
 ghost use Rattle.world_base.specs.Core.{rules, serves};
-ghost use Rattle.world_base.specs.Inside.{Acts, Answered, Delivered, Does, DoesTurn, Hears, IsCalm, ProposedBy, Ran};
+ghost use Rattle.world_base.specs.Inside.{Acts, Answered, Delivered, Does, DoesTurn, Hears, ProposedBy, Ran, WithoutFailure};
 ghost use Rattle.world_base.specs.Losses.{IsHeardQuietly, ReadsNone};
 ghost use Rattle.world_base.specs.Lossy.{Drives, Serves, quietly};
 ghost use Rattle.world_base.specs.LossyStep.{Cuts};
@@ -55,7 +55,7 @@ impl SteppingNode {
         ensures run { Ran (Drives (Receives message)) self.old.core self.new.core
             effects.old.items effects.new.items }
         ensures quiet { IsHeardQuietly message self.old.core → ReadsNone message self.old.core →
-            IsCalm self.old self.new }
+            WithoutFailure self.old self.new }
     {
         let mut given = Vec::new(self.alloc);
         self.hear(message, &mut given);
@@ -70,7 +70,7 @@ impl SteppingNode {
         ensures acts { Acts (heard (Receives message) self.old.core.replica.state)
             self.old.core self.new.core given.new.items }
         ensures quiet { IsHeardQuietly message self.old.core → ReadsNone message self.old.core →
-            IsCalm self.old self.new × (given.new.items ≡ []) }
+            WithoutFailure self.old self.new × (given.new.items ≡ []) }
     {
         let before = self.replica.losses();
         // A replica that stops counts a loss, and one that has stopped does nothing.

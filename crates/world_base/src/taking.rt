@@ -5,7 +5,7 @@ ghost use Rattle.std.specs.List.{find};
 ghost use Rattle.node_connections.specs.broker_spec.declared.command.Command.TheVariants as commands;
 ghost use Rattle.node_connections.specs.broker_spec.Sized.{IsSized};
 ghost use Rattle.node_connections.specs.Connections.{closed, has_failed, holding, is_first, is_proposed};
-ghost use Rattle.world_base.specs.Inside.{BeginsOrSays, DoesTurn, IsCalm, Ran, ReportsLost};
+ghost use Rattle.world_base.specs.Inside.{BeginsOrSays, DoesTurn, Ran, ReportsLost, WithoutFailure};
 ghost use Rattle.world_base.specs.declared.item.Item.TheVariants as items;
 ghost use Rattle.world_base.specs.Losses.{DoesNothing, IsHeardQuietly, ReadsNone, TakesNoMemory, was_proposed};
 ghost use Rattle.world_base.specs.Lossy.{quietly};
@@ -69,10 +69,10 @@ impl SteppingNode {
             (TakesIn item) self.old.core self.new.core effects.old.items effects.new.items }
         ensures heard { (message : Message Command) → item ≡ items.Peer message →
             IsHeardQuietly message self.old.core → ReadsNone message self.old.core →
-            IsCalm self.old self.new }
-        ensures crash { item ≡ items.Crash → IsCalm self.old self.new }
+            WithoutFailure self.old self.new }
+        ensures crash { item ≡ items.Crash → WithoutFailure self.old self.new }
         ensures ended { (port : Port) → item ≡ items.Ended port →
-            was_proposed (open_at port self.old.core) ≡ false → IsCalm self.old self.new }
+            was_proposed (open_at port self.old.core) ≡ false → WithoutFailure self.old self.new }
     {
         match item {
             Item::Peer(message) => self.receive(message, effects),
