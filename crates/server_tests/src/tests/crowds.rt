@@ -43,7 +43,7 @@ const TABLES: &[Table] = &[
 ];
 
 #[test]
-fn crowds_are_served(rt: HostRuntime) {
+fn a_node_serves_sixty_and_makes_room(rt: HostRuntime) {
     assert_eq!(rt; fault_in(&rt, TABLES), None);
 }
 

@@ -25,7 +25,7 @@ const TABLES: &[Table] = &[
 ];
 
 #[test]
-fn sessions_go_on(rt: HostRuntime) {
+fn sessions_outlive_their_nodes(rt: HostRuntime) {
     assert_eq!(rt; fault_in(&rt, TABLES), None);
 }
 
