@@ -37,7 +37,7 @@ pub const MAX_PLACES: u64 = 1 << 40;
 pub struct Replica<M: Machine> {
     // Gives memory for lists and messages.
     alloc: Global,
-    // The number of the node, from 1 to 15.
+    // The number of the node, from 1 to `MAX_NODE`.
     id: u8,
     // The ballot that it joined; 0 before the first.
     joined: u64,

@@ -56,7 +56,7 @@ impl Members {
 /// The configuration of a ballot: its members and which of them is its primary.
 #[derive(Drop)]
 pub struct Config {
-    /// 1 to 7 nodes, strictly rising, each from 1 to 15.
+    /// 1 to 7 nodes, strictly rising, each from 1 to [`MAX_NODE`].
     pub members: Members,
     /// One of the members.
     pub primary: u8,

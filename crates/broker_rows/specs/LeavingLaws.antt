@@ -1,5 +1,5 @@
--- What ends a served client's connection (MQTT 3.1.0, 3.14.4, 4.8): its session stays without one,
--- and a clean session ends (MQTT 3.1.2.4).
+-- What ends a served client's connection (MQTT-3.1.0-2, MQTT 3.14.4, 4.8): its session stays
+-- without one, and a clean session ends (MQTT 3.1.2.4).
 use Rattle.std.specs.Prelude.{◌≡◌, ℕ, true, Bool, [], ◌∷◌, None}
 use Rattle.subs.specs.packet.declared.packet.Packet.{Packet}
 use Rattle.broker_base.specs.Connection.{ConnectionName}

@@ -102,7 +102,8 @@ FifthTopicIsRefused =
 
 -- ---- connections
 
--- a Connect on a connection that serves a client closes and ends it; no session begins (MQTT 3.1.0)
+-- a Connect on a connection that serves a client closes and ends it; no session begins
+-- (MQTT-3.1.0-2)
 abbrev pub ConnectOnACurrentConnection : Type 0
 ConnectOnACurrentConnection =
     Gives usual_limits (connect 1 a ∷ [])

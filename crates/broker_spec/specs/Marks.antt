@@ -62,7 +62,8 @@ grants limits content held room [] = []
 -- ---- marks
 
 -- The mark of a packet of a client's current connection. A PUBLISH is a repeat, or refused, or
--- taken. Packets that only a server sends, and a second CONNECT, are violations (MQTT 3.1.0, 4.8).
+-- taken. Packets that only a server sends, and a second CONNECT, are violations (MQTT-3.1.0-2,
+-- MQTT 4.8).
 abbrev pub packet_mark : Limits → Past → Client → Packet → Mark
 packet_mark limits past c (packets.Publish p) =
     if is_repeat past c p.delivery then Mark.Repeat c else

@@ -72,7 +72,7 @@ Closes packet =
     (gets 1 packet ∷ gets 1 packets.Pingreq ∷ [])
     ((Close (nth 1) ∷ []) ∷ [] ∷ [])
 
--- a second CONNECT, DISCONNECT, and what only a server sends (MQTT 3.1.0, 3.14.4, 4.8)
+-- a second CONNECT, DISCONNECT, and what only a server sends (MQTT-3.1.0-2, MQTT 3.14.4, 4.8)
 abbrev pub ViolationsClose : Type 0
 ViolationsClose =
     Closes (packets.Connect (record { client = b; clean = false; keep_alive = 60 }))

@@ -144,7 +144,7 @@ pub fn an_expelled_session_is_gone()
 {}
 
 /// Only the last accepted connection of a client counts, also if the client sends a second CONNECT
-/// (MQTT 3.1.0, 3.1.4).
+/// (MQTT-3.1.0-2, MQTT 3.1.4).
 pub fn last_connection_is_live()
     ensures live { LastConnectionIsLive }
     ensures violation { ConnectOnACurrentConnection }

@@ -11,7 +11,7 @@ use std::fmt;
 use std::marker::Model;
 
 /// A packet that can be written down, as a packet in a log has to be: its body has at most
-/// 1,048,572 bytes and none of its lists is empty. Its value in contracts is the packet.
+/// `MAX_BODY` bytes and none of its lists is empty. Its value in contracts is the packet.
 #[derive(Debug, Drop)]
 pub struct SizedPacket {
     packet: Packet,
@@ -31,7 +31,7 @@ impl Model for SizedPacket {
 /// Why a packet cannot be written down.
 #[derive(Clone, Copy, Debug, PartialEq, Eq)]
 pub enum Unspellable {
-    /// Its body has more than 1,048,572 bytes, this broker's own limit.
+    /// Its body has more than `MAX_BODY` bytes, this broker's own limit.
     TooLarge,
     /// A SUBSCRIBE, SUBACK or UNSUBSCRIBE without an entry (MQTT 3.8.3, 3.9.3, 3.10.3).
     Shape,
@@ -62,7 +62,7 @@ impl Error for Unspellable {}
 
 impl SizedPacket {
     /// Returns this packet, if it can be written down. `TooLarge` comes exactly if its body has
-    /// more than 1,048,572 bytes, `Shape` if only a list of it is empty.
+    /// more than `MAX_BODY` bytes, `Shape` if only a list of it is empty.
     pub fn new(packet: Packet) -> Result<SizedPacket, Unspellable>
         ensures value { IfOk result (λ sized. sized ≡ packet) }
         ensures ok { IsOk result ↔ IsSized packet }

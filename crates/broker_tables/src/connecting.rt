@@ -40,8 +40,8 @@ pub(crate) enum Admission {
 }
 
 impl Tables {
-    /// Does a Connect. On a connection that is a client's current one it is a violation (MQTT
-    /// 3.1.0).
+    /// Does a Connect. On a connection that is a client's current one it is a violation
+    /// (MQTT-3.1.0-2).
     pub(crate) fn connect(
         &mut self,
         connection: ConnectionName,
@@ -70,9 +70,9 @@ impl Tables {
         Ok(())
     }
 
-    // Says what an accepted Connect does. A session continues if it exists and neither it nor the
-    // Connect is clean. Otherwise one begins, if the client has one or there is room for one
-    // more (MQTT 3.1.2.4).
+    // Says what a Connect does that is no violation. A session continues if it exists and neither
+    // it nor the Connect is clean. Otherwise one begins, if the client has one or there is room for
+    // one more (MQTT 3.1.2.4). If there is none, the client is turned away.
     fn admission(&self, client: &ClientId, clean: bool) -> Admission
         ensures goes_on { result ≡ GoesOn → goes_on_in (state_in self.now) client.now clean ≡ true }
         ensures begins { result ≡ Begins → begins_in (state_in self.now) client.now clean ≡ true }

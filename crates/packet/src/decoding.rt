@@ -23,7 +23,7 @@ pub enum Step {
 /// Reads the packet at the front of the bytes; bytes may follow it.
 ///
 /// The first fault from the left is answered. Of the first byte it is `PacketType`, `Qos` or
-/// `Flags`. Of the Remaining Length it is `Length`, or `TooLarge` if it is over 1,048,572.
+/// `Flags`. Of the Remaining Length it is `Length`, or `TooLarge` if it is over `MAX_BODY`.
 ///
 /// Once the whole body is there, its fields are looked at in their order:
 ///

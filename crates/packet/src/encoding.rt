@@ -10,7 +10,7 @@ use crate::packet::{MAX_BODY, Packet};
 use packet_base::{length_size, put_byte, put_length};
 
 /// Appends the spelling of a packet to the vector. `TooLarge` comes exactly if the body has more
-/// than 1,048,572 bytes, and before memory is needed; `Memory` if the vector had too little
+/// than [`MAX_BODY`] bytes, and before memory is needed; `Memory` if the vector had too little
 /// capacity and could not grow. After an error the vector is unchanged.
 pub fn encode(packet: &Packet, out: &mut Vec<u8>) -> Result<(), EncodeFault>
     requires listed { IsListed packet.now }

@@ -94,7 +94,7 @@ impl Packet {
         }
     }
 
-    /// Says whether `encode` would answer `TooLarge`: whether the body has more than 1,048,572
+    /// Says whether `encode` would answer `TooLarge`: whether the body has more than [`MAX_BODY`]
     /// bytes.
     pub fn is_too_large(&self) -> bool
         ensures { IsTrue result ↔ IsTooLarge self.now }

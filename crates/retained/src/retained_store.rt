@@ -21,7 +21,8 @@ use std::marker::Model;
 /// The most topics of which a publication is retained.
 pub const MAX_TOPICS: usize = 16_384;
 
-/// For each topic its last publication with RETAIN 1 (MQTT 3.3.1.3), at most 16,384 of them.
+/// For each topic its last publication with RETAIN 1 (MQTT 3.3.1.3), at most [`MAX_TOPICS`] of
+/// them.
 #[derive(Debug, Drop)]
 pub struct RetainedStore {
     topics: BTreeMap<TopicName, RetainedPublication>,

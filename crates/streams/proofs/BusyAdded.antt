@@ -53,8 +53,8 @@ between_more link_of idle slots first at before mid after least was adds =
     ∙ (ap (λ (links : List Link). links ++ one) was
     ∙ (append_assoc before others one
     ∙ ap (λ (links : List Link). before ++ links)
-        (sym (ap (busy_between link_of idle slots first) (add-one at)
-            ∙ cond-true (nat_le first at) (others ++ one) [] (le-leb first at least)))))
+    (sym (ap (busy_between link_of idle slots first) (add-one at)
+    ∙ cond-true (nat_le first at) (others ++ one) [] (le-leb first at least)))))
 
 -- more that are added
 pub adds_join : (idle : IdleLanes) (few more most : ℕ) (before between after : List Link)

@@ -15,8 +15,8 @@ is_of_lane port other = port.0 % 64 == other.0 % 64
 abbrev pub is_idle : IdleLanes → Port → Bool
 is_idle lanes port = not (bit_and lanes.0 (2 ^ (port.0 % 64)) == 0)
 
--- Connections were added to a list, after what was there: at most so many, and none whose lane is
--- idle.
+-- Connections were added to a list, after what was there: at most as many as `most` says, and none
+-- whose lane is idle.
 pub record AddsBusy (idle : IdleLanes) (most : ℕ) (before after : List Link) : Type 0 where
   pub added : List Link
   pub is : after ≡ before ++ added

@@ -13,8 +13,9 @@ use slab::Slab;
 use std::alloc::{AllocError, Global};
 use std::sync::Arc;
 
-/// The connections that a node serves, sixty at most, each at an index of its own. An index is
-/// taken before its connection is reported to the node; the connection is listed there after that.
+/// The connections that a node serves, at most [`MAX_CONNECTIONS`], each at an index of its own. An
+/// index is taken before its connection is reported to the node; the connection is listed there
+/// after that.
 #[derive(Drop)]
 pub(crate) struct Links {
     slots: Slab<Option<Arc<Link, Global>>>,
@@ -37,7 +38,7 @@ impl Links {
         Ok(Links { slots })
     }
 
-    /// Takes an index. There is none if sixty are taken.
+    /// Takes an index. There is none if [`MAX_CONNECTIONS`] are taken.
     pub(crate) fn take(&mut self) -> Option<usize>
         ensures below { IfSome result (λ index. index < MAX_CONNECTIONS) }
         ensures free { IfSome result (λ index. get self.old.slots index ≡ None) }

@@ -23,7 +23,7 @@ pub enum MalformedKind {
     Text,
     /// A Packet Identifier of zero (MQTT 2.3.1), or a Client Identifier outside its limits.
     Identifier,
-    /// A QoS above 2 (MQTT 3.3.1.2, 3.8.3).
+    /// A QoS above 2 (MQTT 3.3.1.2, 3.8.3), or a SUBACK byte outside its table (MQTT 3.9.3).
     Qos,
     /// A Topic Name that is empty, too long, or has a wildcard (MQTT 4.7).
     Topic,

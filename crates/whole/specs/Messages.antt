@@ -15,8 +15,8 @@ pub data Body (C : Type 0) : Type 0 where
   Activated : ℕ → Body C  -- the ballot is active
   Superseded : ℕ → Body C  -- a later ballot was given
   Append : ℕ → ℕ → C → Body C  -- the command at a place
-  Held : ℕ → ℕ → Body C  -- the sender holds so many places
-  Commit : ℕ → ℕ → Body C  -- every member holds so many places
+  Held : ℕ → ℕ → Body C  -- how many places the sender holds
+  Commit : ℕ → ℕ → Body C  -- how many places every member holds
 
 -- a message: what is said, with its sender; node 0 is the master
 pub record Message (C : Type 0) : Type 0 where

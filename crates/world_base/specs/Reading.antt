@@ -56,7 +56,7 @@ says port name packet core =
     then proposes (commands.Packet name packet) core
     else quiet (changes port closed core)
 
--- the first packet of a connection must be a CONNECT (MQTT 3.1.0-1)
+-- the first packet of a connection must be a CONNECT (MQTT-3.1.0-1)
 abbrev pub begins : Port → ConnectionName → Packet → CoreState → Turn
 begins port name (packets.Connect connect) core =
     asks port name connect (changes port (asked connect.keep_alive) core)

@@ -177,7 +177,7 @@ impl SteppingNode {
         true
     }
 
-    // Takes a packet that was read: the first must be a CONNECT (MQTT 3.1.0-1).
+    // Takes a packet that was read: the first must be a CONNECT (MQTT-3.1.0-1).
     fn take(
         &mut self,
         port: Port,

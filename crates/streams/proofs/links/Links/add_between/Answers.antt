@@ -9,8 +9,8 @@ pub loop-index-init : goal.loop-index-init
 loop-index-init c = record {
   all = λ _.
       sym (ap (λ (links : List Link). map arc_value c.args.busy.now.items ++ links)
-          (between_none arc_value c.args.idle c.args.self.now.slots c.args.first)
-          ∙ append-nil (map arc_value c.args.busy.now.items));
+      (between_none arc_value c.args.idle c.args.self.now.slots c.args.first)
+      ∙ append-nil (map arc_value c.args.busy.now.items));
   adds = adds_none _ _ _ _ refl;
 }
 
