@@ -7,7 +7,7 @@ use lib.ListN.{get_elem?}
 use Rattle.crossbeam_queue.specs.Fifo.{Forks, Merges, Learns}
 use Rattle.crossbeam_queue.proofs.Lists.{at_set}
 use Rattle.mailbox.specs.declared.view.View.{View}
-use Rattle.mailbox.specs.Delivery.{items_of, FitsLane, FitsReceiver, FitsBounds, Delivers, Knew}
+use Rattle.mailbox.specs.Delivery.{items_of, FitsLane, FitsReceiver, FitsBounds, FitsRule, Knew}
 use Rattle.mailbox.specs.Inside.{nobody, joined, Learned, receiver_part, lane_part}
 use Rattle.mailbox.proofs.ItemsOfALane.{items_of-append}
 use Rattle.mailbox.proofs.EachView.{Each, each_set, each_snoc}
@@ -18,7 +18,7 @@ module _ {T : Type 0} where
   pub parts : (port : ℕ) (v : View T)
       → v.sends ≡ true
       → v.gets ≡ true
-      → Forks Delivers port v (receiver_part v) (lane_part v)
+      → Forks FitsRule port v (receiver_part v) (lane_part v)
   parts port v sends gets items views h at =
       let lane = (h.fits port v at).0 sends in
       let known = (h.fits port v at).1 gets in
@@ -66,7 +66,7 @@ module _ {T : Type 0} where
       → v.gets ≡ true
       → v.sends ≡ false
       → w.sends ≡ true
-      → Merges Delivers port v other w (joined v w) nobody
+      → Merges FitsRule port v other w (joined v w) nobody
   meets port v other w gets silent sends items views h at apart there =
       let both : View T = joined v w in
       let vs : List (View T) = slice_set views port both in
@@ -109,7 +109,7 @@ module _ {T : Type 0} where
   pub learns : (port : ℕ) (v : View T)
       → v.sends ≡ true
       → v.gets ≡ true
-      → Learns Delivers port v (λ _. Learned v)
+      → Learns FitsRule port v (λ _. Learned v)
   learns port v sends gets items views h at =
       let lane = (h.fits port v at).0 sends in
       let known = (h.fits port v at).1 gets in
@@ -127,5 +127,5 @@ module _ {T : Type 0} where
       }
 
   -- at any moment the inbox holds what its rule allows
-  pub moments : (port : ℕ) (v : View T) → Learns Delivers port v (Knew v)
+  pub moments : (port : ℕ) (v : View T) → Learns FitsRule port v (Knew v)
   moments port v items views h at = record { views = views; port = port; holds = h; knows = at }

@@ -5,7 +5,7 @@ use mathlib.Core.Option.{some, some-ne-none}
 use lib.ListN.{get_elem?}
 use Rattle.crossbeam_queue.specs.Fifo.{Forks}
 use Rattle.mailbox.specs.declared.view.View.{View}
-use Rattle.mailbox.specs.Delivery.{nothing, receiver_view, FitsLane, FitsReceiver, FitsBounds, Delivers}
+use Rattle.mailbox.specs.Delivery.{nothing, receiver_view, FitsLane, FitsReceiver, FitsBounds, FitsRule}
 use Rattle.mailbox.specs.Inside.{dealing, dealt, nobody, sealed}
 use Rattle.mailbox.proofs.EachView.{each_set, each_snoc}
 use Rattle.mailbox.proofs.Rights.{rights_set, rights_snoc, rights_split}
@@ -13,7 +13,7 @@ use Rattle.mailbox.proofs.PassNumbers.{repassed, repassed-same, repassed-other, 
 
 module _ {T : Type 0} where
   -- an inbox that was not used yet
-  pub begins : Delivers {T = T} [] (receiver_view 0 [] (2 ^ 64) (2 ^ 64) nothing ∷ [])
+  pub begins : FitsRule {T = T} [] (receiver_view 0 [] (2 ^ 64) (2 ^ 64) nothing ∷ [])
   begins = record {
     reader = 0;
     made = 0;
@@ -38,7 +38,7 @@ module _ {T : Type 0} where
   pub deals : (port : ℕ) (v : View T)
       → v.gets ≡ true
       → 2 ^ 55 ≤ v.may
-      → Forks Delivers port v (dealing v) (dealt v)
+      → Forks FitsRule port v (dealing v) (dealt v)
   deals port v gets has items views h at =
       let known = (h.fits port v at).1 gets in
       let left : View T = dealing v in
@@ -85,7 +85,7 @@ module _ {T : Type 0} where
             );
       }
 
-  pub lends : (port : ℕ) (v : View T) → v.sends ≡ true → v.gets ≡ false → Forks Delivers port v nobody v
+  pub lends : (port : ℕ) (v : View T) → v.sends ≡ true → v.gets ≡ false → Forks FitsRule port v nobody v
   lends port v sends gets items views h at =
       let known = (h.fits port v at).0 sends in
       let vs : List (View T) = slice_set views port nobody in
@@ -122,7 +122,7 @@ module _ {T : Type 0} where
       }
 
   -- the receiver makes no lane any more, so that no more items will be sent than its lanes may
-  pub seals : (port : ℕ) (v : View T) → Forks Delivers port v (sealed v) nobody
+  pub seals : (port : ℕ) (v : View T) → Forks FitsRule port v (sealed v) nobody
   seals port v items views h at =
       let mine = h.fits port v at in
       let less : h.most - v.may ≤ h.most = omega arith in

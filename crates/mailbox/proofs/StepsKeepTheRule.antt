@@ -4,7 +4,7 @@ use Rattle.std.proofs.Common.{sym, ◌∙◌, ap, subst, inl, inr, ⊎_elim, app
 use native.Mathlib.Decide.{ℕ_discrete}
 use Rattle.crossbeam_queue.specs.Fifo.{Pushes, Pops}
 use Rattle.mailbox.specs.declared.view.View.{View}
-use Rattle.mailbox.specs.Delivery.{items_of, FitsLane, FitsReceiver, FitsBounds, Delivers}
+use Rattle.mailbox.specs.Delivery.{items_of, FitsLane, FitsReceiver, FitsBounds, FitsRule}
 use Rattle.mailbox.specs.Inside.{Sent, Took}
 use Rattle.mailbox.proofs.ItemsOfALane.{items_of-append, items_of-same, items_of-other}
 use Rattle.mailbox.proofs.EachView.{each_set}
@@ -62,7 +62,7 @@ module _ {T : Type 0} where
       → x.0 ≡ v.lane
       → length v.sent < 2 ^ 55
       → 0 < v.may
-      → Pushes Delivers n port v x (Sent v x)
+      → Pushes FitsRule n port v x (Sent v x)
   sends n port v x lane mine short has items views room h at =
       let w : View T = record v { sent = v.sent ++ x.1 ∷ []; may = v.may - 1 } in
       let known = (h.fits port v at).0 lane in
@@ -111,7 +111,7 @@ module _ {T : Type 0} where
       )
 
   -- a lane of which something is held was made
-  made_before : (items : List (ℕ × T)) (views : List (View T)) (x : ℕ × T) (h : Delivers (x ∷ items) views)
+  made_before : (items : List (ℕ × T)) (views : List (View T)) (x : ℕ × T) (h : FitsRule (x ∷ items) views)
       → x.0 < h.made
   made_before items views x h = lt_of_not-le (λ far.
       let all : items_of x.0 h.taken ++ items_of x.0 (x ∷ items) ≡ [] =
@@ -121,7 +121,7 @@ module _ {T : Type 0} where
       omega (arith, length-append (items_of x.0 h.taken) (items_of x.0 (x ∷ items)), size, one))
 
   -- a lane of which something is held is not spent as far as it was taken
-  short_before : (items : List (ℕ × T)) (views : List (View T)) (x : ℕ × T) (h : Delivers (x ∷ items) views)
+  short_before : (items : List (ℕ × T)) (views : List (View T)) (x : ℕ × T) (h : FitsRule (x ∷ items) views)
       → length (items_of x.0 h.taken) < 2 ^ 55
   short_before items views x h =
       let all : items_of x.0 h.taken ++ items_of x.0 (x ∷ items) ≡ h.sent x.0 =
@@ -138,7 +138,7 @@ module _ {T : Type 0} where
       let size = ap length (items_of-append lane taken (x ∷ [])) in
       omega (arith, length-append (items_of lane taken) (items_of lane (x ∷ [])), size)
 
-  pub takes : (port : ℕ) (v : View T) → v.gets ≡ true → Pops Delivers port v (Took v)
+  pub takes : (port : ℕ) (v : View T) → v.gets ≡ true → Pops FitsRule port v (Took v)
   takes port v gets x items views h at =
       let known = (h.fits port v at).1 gets in
       let w : View T = record v { taken = v.taken ++ x ∷ [] } in

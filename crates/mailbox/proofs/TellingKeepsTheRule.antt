@@ -10,7 +10,7 @@ use Rattle.crossbeam_queue.specs.Fifo.{Forks, Merges, Held}
 use Rattle.crossbeam_queue.proofs.Lists.{at_set}
 use Rattle.mailbox.specs.declared.view.Bounds.{Bounds}
 use Rattle.mailbox.specs.declared.view.View.{View}
-use Rattle.mailbox.specs.Delivery.{items_of, FitsLane, FitsReceiver, FitsBounds, Delivers, Knew}
+use Rattle.mailbox.specs.Delivery.{items_of, FitsLane, FitsReceiver, FitsBounds, FitsRule, Knew}
 use Rattle.mailbox.specs.declared.inbox.TheConstants.{MAX_ITEMS}
 use Rattle.mailbox.specs.Ends.{HasArrived, IsFullByReceipt, Receipted, Sender, Taker}
 use Rattle.mailbox.specs.Inside.{ended, heard, lane_knows, nobody, receiver_knows}
@@ -21,10 +21,10 @@ use Rattle.mailbox.proofs.PassNumbers.{not_false}
 module _ {T : Type 0} where
   -- a pass of its own that knows nothing but these bounds
   tells : (port : ℕ) (v : View T) (bounds : Bounds)
-      → ((items : List (ℕ × T)) (views : List (View T)) (h : Delivers items views)
+      → ((items : List (ℕ × T)) (views : List (View T)) (h : FitsRule items views)
       → get_elem? views port ≡ some v
       → FitsBounds h.sent h.taken h.most (record (nobody {T = T}) { bounds = bounds }))
-      → Forks Delivers port v v (record nobody { bounds = bounds })
+      → Forks FitsRule port v v (record nobody { bounds = bounds })
   tells port v bounds so items views h at =
       let new : View T = record nobody { bounds = bounds } in
       let F : ℕ → View T → Type 0 = λ j u. FitsLane h.pass_of h.sent h.taken h.made j u × FitsReceiver h.reader h.taken h.made j u × FitsBounds h.sent h.taken h.most u in
@@ -46,19 +46,19 @@ module _ {T : Type 0} where
             ((λ p. absurd (not_false p)), (λ p. absurd (not_false p)), so items views h at);
       }
 
-  pub lane_knows_so : (port : ℕ) (v : View T) → v.sends ≡ true → Forks Delivers port v v (lane_knows v)
+  pub lane_knows_so : (port : ℕ) (v : View T) → v.sends ≡ true → Forks FitsRule port v v (lane_knows v)
   lane_knows_so port v sends =
       tells port v (lane_knows v).bounds (λ items views h at.
       let same = ap length ((h.fits port v at).0 sends).1 in (omega (arith, same), omega arith, h.finite, h.finite))
 
-  pub receiver_knows_so : (port : ℕ) (v : View T) → v.gets ≡ true → Forks Delivers port v v (receiver_knows v)
+  pub receiver_knows_so : (port : ℕ) (v : View T) → v.gets ≡ true → Forks FitsRule port v v (receiver_knows v)
   receiver_knows_so port v gets =
       tells port v (receiver_knows v).bounds (λ items views h at.
       let same = ap length ((h.fits port v at).1 gets).1 in
       (omega arith, omega (arith, same), (h.fits port v at).2.3, h.finite))
 
   -- a lane that sends no more gives its rights up
-  pub ends : (port : ℕ) (v : View T) → v.sends ≡ true → Forks Delivers port v nobody (ended v)
+  pub ends : (port : ℕ) (v : View T) → v.sends ≡ true → Forks FitsRule port v nobody (ended v)
   ends port v sends items views h at =
       let mine = (h.fits port v at).2 in
       let same = ap length ((h.fits port v at).0 sends).1 in
@@ -92,7 +92,7 @@ module _ {T : Type 0} where
       }
 
   pub hears : (port : ℕ) (v : View T) (other : ℕ) (w : View T)
-      → Merges Delivers port v other w (heard v w) nobody
+      → Merges FitsRule port v other w (heard v w) nobody
   hears port v other w items views h at apart there =
       let both : View T = heard v w in
       let was : get_elem? views other ≡ some w =

@@ -80,7 +80,7 @@ module _ {T : Type 0} where
       × (most ≤ v.all)
 
 -- the rule, over what the inbox holds and what each pass knows
-pub record Delivers {T : Type 0} (items : List (ℕ × T)) (views : List (View T)) : Type 0 where
+pub record FitsRule {T : Type 0} (items : List (ℕ × T)) (views : List (View T)) : Type 0 where
   pub reader : ℕ
   pub made : ℕ
   pub pass_of : ℕ → ℕ
@@ -103,5 +103,5 @@ pub record Delivers {T : Type 0} (items : List (ℕ × T)) (views : List (View T
 pub record Knew {T : Type 0} (v : View T) (items : List (ℕ × T)) : Type 0 where
   pub views : List (View T)
   pub port : ℕ
-  pub holds : Delivers items views
+  pub holds : FitsRule items views
   pub knows : get_elem? views port ≡ some v

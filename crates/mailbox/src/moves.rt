@@ -11,9 +11,9 @@ pub struct DeliveryRule;
 
 impl<T> Protocol<(u8, T), View<T>> for DeliveryRule {
     ghost use Rattle.std.specs.Prelude.{◌^◌, []};
-    ghost use Rattle.mailbox.specs.Delivery.{Delivers, nothing, receiver_view};
+    ghost use Rattle.mailbox.specs.Delivery.{FitsRule, nothing, receiver_view};
 
-    ghost holds = { Delivers };
+    ghost holds = { FitsRule };
 
     ghost first = { receiver_view 0 [] (2 ^ 64) (2 ^ 64) nothing };
 }

@@ -110,13 +110,7 @@ impl<'a, J: NodeNaming, S: Stated<J>, G: Gate> ServedNode<'a, J, S, G> {
         };
         let mut source = Counted::new(link.source());
         // However it ended, this was reported to the node.
-        let _ending = report_connection(
-            rt,
-            self.shared.alloc,
-            link.port,
-            &mut source,
-            &mut reporter,
-        );
+        let _ = report_connection(rt, self.shared.alloc, link.port, &mut source, &mut reporter);
         reporter.lane
     }
 }

@@ -55,7 +55,7 @@ abbrev pub new_world_client : List ℕ → WorldClient
 new_world_client name = record { name = name; piped = new_piped name }
 
 -- a world as it opens: no client was ever connected
-pub record Opens (nodes : ℕ) (config : Config) (clients : List Client)
+pub record WorldOpens (nodes : ℕ) (config : Config) (clients : List Client)
     (w : WorldState) : Type 0 where
   pub group : StandsFor (opening_group nodes config) w.nodes
   pub whole : w.nodes.losses ≡ 0

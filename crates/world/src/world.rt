@@ -9,7 +9,7 @@ ghost use Rattle.headline.specs.byte_world.World.{new_client};
 ghost use Rattle.world_events.specs.world_pipes.StandsFor.{StandsFor};
 ghost use Rattle.world.specs.Goes.{AgreedGrows, AreReached, CountsOnce, StaysReached, WorldGoesOn};
 ghost use Rattle.world.specs.Asking.{IsAsked, RunAsks};
-ghost use Rattle.world.specs.Happening.{Happens, Opens, Run, new_world_client};
+ghost use Rattle.world.specs.Happening.{Happens, Run, WorldOpens, new_world_client};
 ghost use Rattle.world.specs.Cannot.{CannotHappen};
 ghost use Rattle.world.specs.Inside.Steps.{GoesAsked, IsCounted, Meets};
 ghost use Rattle.world.specs.Quiet.{TakesNoMemory};
@@ -82,7 +82,7 @@ impl World {
             (λ world. (reached : IsReached nodes config clients.now world)
             × (asked_on reached ≡ [])) }
         ensures clients { IfOk result (λ world. identifiers world.clients ≡ clients.now) }
-        ensures opens { IfOk result (λ world. Opens nodes config clients.now world) }
+        ensures opens { IfOk result (λ world. WorldOpens nodes config clients.now world) }
 
         // The nodes agree.
         ensures reached { IfOk result (λ world. AreReached nodes config world.nodes) }
