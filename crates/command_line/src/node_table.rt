@@ -7,14 +7,15 @@ use ballot_base::Config;
 pub struct NodeTable {
     /// The configuration of ballot 1. It is lawful, and its members are among the nodes.
     pub config: Config,
-    /// The nodes, in the order of the table. Their numbers are from 1 to 15, and none occurs twice.
+    /// The nodes, in the order of the table. Their numbers are from 1 to `MAX_NODE`, and none
+    /// occurs twice.
     pub nodes: Vec<ListeningNode>,
 }
 
 /// A node, and where it listens.
 #[derive(Drop)]
 pub struct ListeningNode {
-    /// Its number, 1 to 15.
+    /// Its number, 1 to `MAX_NODE`.
     pub id: u8,
     /// The address and the port, as `127.0.0.1:1883`; they are not checked here.
     pub listen: String,

@@ -15,7 +15,7 @@ use std::alloc::Global;
 /// The world at the beginning.
 #[derive(Drop)]
 pub struct Opening {
-    /// How many nodes there are, at most 15, numbered from 1.
+    /// How many nodes there are, at most `MAX_NODE`, numbered from 1.
     pub nodes: u8,
     /// The configuration of the first ballot, all of whose members are nodes.
     pub config: Config,
