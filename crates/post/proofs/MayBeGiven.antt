@@ -1,10 +1,10 @@
 -- MayBeGiven.antt: what the master gives to a configuration is a ballot after the first, and what it
 -- refuses is told by the configuration alone, as long as a number is left.
-use Rattle.std.proofs.Common.{◌≡◌, ℕ, ◌+◌, ◌<◌, ◌≤◌, ◌==◌, ◌&&◌, Bool, true, false, nat_le, if◌then◌else◌, List, [], ◌∷◌, length, Option, Some, None, refl, sym, ◌∙◌, subst, inl, inr, arith, leb-false}
+use Rattle.std.proofs.Common.{◌≡◌, ℕ, ◌+◌, ◌≤◌, ◌==◌, ◌&&◌, Bool, true, false, nat_le, if◌then◌else◌, List, [], ◌∷◌, length, Option, Some, None, refl, sym, ◌∙◌, subst, inl, inr, arith, leb-false}
 use Rattle.std.specs.Prelude.{◌⊎◌}
-use Rattle.std.specs.List.{list_all, list_any}
-use Rattle.std.proofs.lemmas.Bool.{and_from, and_left, and_parts, and_right, eqb-true, or_cases, true≢false}
-use Rattle.master.specs.agreement.MasterState.{AssignRefusal, MasterState, activating, max_ballot, refusal}
+use Rattle.std.specs.List.{list_any}
+use Rattle.std.proofs.lemmas.Bool.{and_parts, eqb-true, or_cases}
+use Rattle.master.specs.agreement.MasterState.{MasterState, activating, max_ballot, refusal}
 use Rattle.master.specs.agreement.MasterState.AssignRefusal.{bad_members, ballots_spent}
 use Rattle.master.specs.ballot_base.LawfulConfig.{are_rising, is_lawful}
 use Rattle.master.specs.lists.Lists.{has_id}

@@ -1,9 +1,10 @@
 use Rattle.std.proofs.Common.{◌-◌, ◌+◌, ◌++◌, List, map, refl, sym, ◌∙◌, ap, arith, append-nil}
 use Rattle.std.specs.Arc.{arc_value}
-use Rattle.std.proofs.lemmas.Grind.{common_steps}
-use Rattle.streams.proofs.BusyAdded.{adds_at, adds_join, adds_none, adds_wider, between_more, between_none}
+use Rattle.std.proofs.lemmas.Bool.{false≢true}
 use Rattle.streams.specs.declared.link.Link.{Link}
+use Rattle.streams.proofs.BusyAdded.{adds_at, adds_join, adds_none, adds_wider, between_more, between_none}
 use Rattle.streams.proofs.links.Links.add_between.Goals as goal
+use Rattle.streams.proofs.links.Links.add_between.Goals.{then-add_at, else-add_at}
 
 pub loop-index-init : goal.loop-index-init
 loop-index-init c = record {
@@ -16,7 +17,12 @@ loop-index-init c = record {
 
 pub loop-index-preserved : goal.loop-index-preserved
 loop-index-preserved c = record {
-  all = grind (arith, common_steps, c.loop-index.invariant.all, c.add_at.ensures.added, between_more);
+  all = elim c.if-add_at.branch [
+    | then-add_at w ↦ λ had.
+        between_more arc_value c.args.idle c.args.self.now.slots c.args.first c.loop-index.index _ _ _ (omega arith)
+        (c.loop-index.invariant.all (sym w.all-is ∙ had)) (c.add_at.ensures.added w.if-add_at.true)
+    | else-add_at w ↦ λ had. absurd (false≢true (sym (w.all-is ∙ w.if-add_at.false) ∙ had))
+  ];
   adds =
       adds_join c.args.idle (c.loop-index.index - c.args.first) 1 (c.loop-index.index + 1 - c.args.first) _ _ _
       c.loop-index.invariant.adds
