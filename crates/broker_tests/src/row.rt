@@ -32,7 +32,7 @@ pub(crate) type Row<'a> = (Event<'a>, &'a [Answer<'a>]);
 pub(crate) enum Came {
     /// No answer: the event makes no command, or memory ran out.
     Nothing,
-    /// Only so many of the wanted answers.
+    /// Some of the wanted answers are missing: how many came.
     TooFew(usize),
     /// Another answer, by its index: this connection was closed.
     Closed(usize, u64),

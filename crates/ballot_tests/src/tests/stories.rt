@@ -26,7 +26,7 @@ pub enum Run {
 pub enum Fault {
     /// A node did not open.
     Unopened,
-    /// This step went otherwise; after the last step the replica shows this, and so many effects
+    /// This step went otherwise. After the last step the replica shows this, and how many effects
     /// are there.
     Step(usize, Status, usize),
     /// This step went otherwise; after the last step nodes 1 and 2 show this.

@@ -185,7 +185,7 @@ fn first_unlike(bytes: &[u8], wanted: &[u8]) -> Option<usize> {
     }
 }
 
-/// Finds what is otherwise if a broker is frozen, after so many steps, to the bytes of this form.
+/// Finds what is otherwise if a broker is frozen after these steps to the bytes of this form.
 pub(crate) fn other_bytes(
     alloc: Global,
     broker: &BrokerMachine,

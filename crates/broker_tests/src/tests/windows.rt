@@ -114,7 +114,7 @@ fn other_routed(alloc: Global, broker: &mut BrokerMachine, sent: u8) -> Option<F
     None
 }
 
-/// Finds what is otherwise: of seventeen publications a broker sends so many at once, and then it
+/// Finds what is otherwise: a broker sends this many of seventeen publications at once, and then it
 /// answers these rows, which are part 1. Part 0 are the rows before.
 pub(crate) fn other_sent(
     alloc: Global,
