@@ -4,7 +4,7 @@ use Rattle.std.specs.List.{list_all, list_any}
 use Rattle.toml.specs.Data.{Data, Members, array, integer, member, no_members, string, table}
 use Rattle.toml.specs.Parse.{parse_document}
 use Rattle.toml.specs.View.{items_of}
-use Rattle.ballot_base.specs.LawfulConfig.{is_lawful}
+use Rattle.ballot_base.specs.LawfulConfig.{is_lawful, max_node}
 use Rattle.command_line.specs.declared.node_table.ListeningNode.{ListeningNode}
 use Rattle.command_line.specs.declared.node_table.NodeTable.{NodeTable}
 
@@ -31,10 +31,10 @@ document_of t = member (codes "members") (list_data number t.config.members)
 abbrev pub has : List ListeningNode → ℕ → Bool
 has nodes id = list_any (λ (node : ListeningNode). node.id == id) nodes
 
--- each number is from 1 to 15, and none occurs twice
+-- each number is from 1 to the greatest of a node, and none occurs twice
 abbrev pub are_told_apart : List ListeningNode → Bool
 are_told_apart [] = true
-are_told_apart (node ∷ nodes) = (nat_le 1 node.id && nat_le node.id 15)
+are_told_apart (node ∷ nodes) = (nat_le 1 node.id && nat_le node.id max_node)
     && (not (has nodes node.id) && are_told_apart nodes)
 
 -- the nodes can be told apart, and the members of ballot 1 are among them

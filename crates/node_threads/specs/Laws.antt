@@ -11,7 +11,8 @@ PortsDiffer =
     port_of lane count ≡ port_of other number →
     (lane ≡ other) × (count ≡ number)
 
--- No two nodes, whose numbers are at most 15, have their logs cut after the same tick.
+-- No two nodes, whose numbers are at most 15 (`max_node` of `ballot_base`), have their logs cut
+-- after the same tick.
 abbrev pub CutsComeApart : Type 0
 CutsComeApart =
     (node other ticks : ℕ) → node ≤ 15 → other ≤ 15 →

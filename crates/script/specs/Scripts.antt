@@ -2,7 +2,7 @@
 use Rattle.std.specs.Prelude.{◌≡◌, ◌==◌, ◌&&◌, ◌-◌, ◌+◌, ℕ, suc, zero, Bool, true, not, nat_le, if◌then◌else◌, List, [], ◌∷◌, length, slice_index, take, codes, bytes_eq, Some, ◌⊎◌}
 use Rattle.std.specs.List.{list_all, list_any, slice_split}
 use Rattle.std.specs.Str.{IsUtf8}
-use Rattle.ballot_base.specs.LawfulConfig.{is_lawful}
+use Rattle.ballot_base.specs.LawfulConfig.{is_lawful, max_node}
 use Rattle.script.specs.Fields.{Text, clients_of, fields_of, number_of, numbers_of}
 use Rattle.script.specs.Lines.{IsLine}
 use Rattle.script.specs.declared.error.ScriptFault.{ScriptFault}
@@ -24,9 +24,9 @@ lines_of text = slice_split (λ byte. byte == 10) (without_last_feed text)
 abbrev pub are_nodes : ℕ → List ℕ → Bool
 are_nodes nodes members = list_all (λ member. nat_le member nodes) members
 
--- at most 15 nodes, and members of them that a ballot may have
+-- at most `max_node` nodes, and members of them that a ballot may have
 abbrev pub is_lawful_opening : ℕ → List ℕ → ℕ → Bool
-is_lawful_opening nodes members primary = nat_le nodes 15
+is_lawful_opening nodes members primary = nat_le nodes max_node
     && (are_nodes nodes members && is_lawful members primary)
 
 -- one of the clients is this one

@@ -1,13 +1,14 @@
 -- What the functions that read a TOML document ensure.
 use Rattle.std.specs.Prelude.{◌≡◌, ℕ, Bool, true, List, nat_le}
 use Rattle.std.specs.List.{list_all}
+use Rattle.ballot_base.specs.LawfulConfig.{max_node}
 use Rattle.ballot_base.specs.declared.config.Config.{Config}
 use Rattle.command_line.specs.declared.node_table.ListeningNode.{ListeningNode}
 use Rattle.command_line.specs.declared.node_table.NodeTable.{NodeTable}
 
 -- a number that a node may have, or 0
 abbrev pub is_small : ℕ → Bool
-is_small n = nat_le n 15
+is_small n = nat_le n max_node
 
 -- whether a node's number is such a number
 abbrev pub has_small_id : ListeningNode → Bool

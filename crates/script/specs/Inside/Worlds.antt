@@ -1,5 +1,6 @@
 -- The world that the fields of the first line open.
 use Rattle.std.specs.Prelude.{ℕ, Bool, ◌&&◌, nat_le, if◌then◌else◌, List, [], ◌∷◌, codes, bytes_eq, Option, Some, None}
+use Rattle.ballot_base.specs.LawfulConfig.{max_node}
 use Rattle.script.specs.Fields.{Text, clients_of, number_of, numbers_of}
 use Rattle.script.specs.Scripts.{are_distinct, is_lawful_opening}
 use Rattle.script.specs.Inside.LineReading.{with}
@@ -21,9 +22,9 @@ abbrev pub values_of : Opening → Values
 values_of opening = values opening.nodes opening.config.members opening.config.primary
     opening.clients.items
 
--- whether a number is at most 15, as a number of a node is
+-- whether a number is at most the greatest of a node
 abbrev pub is_small : ℕ → Bool
-is_small n = nat_le n 15
+is_small n = nat_le n max_node
 
 -- values with which a world may open
 abbrev pub checked : Option Values → Option Values
