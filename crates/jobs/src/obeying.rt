@@ -8,7 +8,7 @@ ghost use Rattle.jobs.specs.declared.obeying.Order.TheVariants as orders;
 use crate::job_error::JobError;
 use command_line::ListeningNode;
 use command_line::packet::ClientId;
-use server::{Cluster, Config, Members, Memory, Status};
+use server::{Cluster, Config, Idle, MAX_NODE, Members, Memory, ProposeError, Status};
 use std::alloc::Global;
 use std::io::{BufRead, ErrorKind, Write};
 use std::sync::Wait;
@@ -28,12 +28,6 @@ enum Order {
     /// The session of a client ends.
     Expel(ClientId),
 }
-
-/// The refusal of a line that is no order, and of a crash of a node that does not run.
-const NO_ORDER: u8 = 24;
-
-/// The refusal of an order that only an active primary can obey, if no node is one.
-const NO_PRIMARY: u8 = 18;
 
 /// Obeys the lines of the input to its end or to `quit`, and answers each. The only fault is an
 /// input that cannot be read.
@@ -68,7 +62,7 @@ fn next_order<I: BufRead>(alloc: Global, input: &mut I) -> Result<Result<Order, 
         Ok(0) => Ok(Ok(Order::Quit)),
         Ok(_) => Ok(order_of(alloc, line.as_str().trim_end_matches('\n'))),
         Err(error) => match error.kind() {
-            ErrorKind::InvalidData => Ok(Err(NO_ORDER)),
+            ErrorKind::InvalidData => Ok(Err(no_order())),
             ErrorKind::OutOfMemory => {
                 // The rest of the line is no order.
                 input.skip_until(b'\n').ok().ok_or(JobError::Input)?;
@@ -93,8 +87,13 @@ fn order_of(alloc: Global, line: &str) -> Result<Order, u8> {
             members: members_of(alloc, members)?,
             primary: number_of(primary)?,
         })),
-        _ => Err(NO_ORDER),
+        _ => Err(no_order()),
     }
+}
+
+// Returns the refusal of a line that is no order, and of a crash of a node that does not run.
+fn no_order() -> u8 {
+    Idle.number()
 }
 
 // Returns the order to end the session of the client with this identifier, or the number by which
@@ -114,11 +113,11 @@ fn expel_of(alloc: Global, client: &str) -> Result<Order, u8>
 // is not part of a number.
 fn number_of(word: &str) -> Result<u8, u8> {
     if word.starts_with('+') {
-        return Err(NO_ORDER);
+        return Err(no_order());
     }
     match word.parse::<u64>() {
         Ok(number) => Ok(u8::try_from(number).unwrap_or(u8::MAX)),
-        Err(_) => Err(NO_ORDER),
+        Err(_) => Err(no_order()),
     }
 }
 
@@ -156,7 +155,7 @@ where
             Ok(true) => {
                 let _ = writeln!(output, "crashed {number}");
             }
-            Ok(false) => refuse(output, NO_ORDER),
+            Ok(false) => refuse(output, no_order()),
             Err(error) => refuse(output, error.number()),
         },
         Order::Expel(client) => expel(rt, cluster, &client, output),
@@ -173,7 +172,7 @@ where
         Ok(true) => {
             let _ = writeln!(output, "expel {client}");
         }
-        Ok(false) => refuse(output, NO_PRIMARY),
+        Ok(false) => refuse(output, ProposeError::NotActive.number()),
         Err(error) => refuse(output, error.number()),
     }
 }
@@ -189,7 +188,7 @@ where
     R: Wait + Clock,
     O: Write,
 {
-    for number in 1..=15u8 {
+    for number in 1..=MAX_NODE {
         if nodes.iter().any(|node| node.id == number) {
             if let Some(status) = cluster.status(rt, number) {
                 print_status(number, &status, output);

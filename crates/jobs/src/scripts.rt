@@ -15,13 +15,10 @@ use crate::reading::{bytes_of, rest_of};
 use command_line::packet::ClientId;
 use command_line::{Escape, Play};
 use play::{PlayError, escape, play};
-use server::Memory;
+use server::{Memory, OpeningError};
 use std::alloc::Global;
 use std::io::{BufRead, Write};
 use std::rt::Files;
-
-/// The number by which a word is refused that is no list of members.
-const BAD_MEMBERS: u8 = 20;
 
 /// Plays the script of a file, or of the input if no file is named, and writes its transcript, or a
 /// way out of the world in which it ends.
@@ -57,7 +54,7 @@ fn print_way<O: Write>(
     let members = match members_of(alloc, job.members) {
         Ok(members) => members,
         Err(number) if number == Memory.number() => return Err(JobError::Memory),
-        Err(_) => return Err(JobError::Refused(BAD_MEMBERS)),
+        Err(_) => return Err(JobError::Refused(OpeningError::BadMembers.number())),
     };
     let client = match client_of(alloc, job.client) {
         Ok(client) => client,

@@ -21,5 +21,5 @@ pub use report::Report;
 pub use running::{Node, Stated};
 pub use world_base::{
     Body, Command, Config, ConnectionName, Effect, Handed, Item, MAX_NODE, Members, Memory,
-    Message, NodeCore, OpeningError, Output, Piece, Port, Standing, Status, packet,
+    Message, NodeCore, OpeningError, Output, Piece, Port, ProposeError, Standing, Status, packet,
 };

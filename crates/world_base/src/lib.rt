@@ -13,7 +13,8 @@ mod taking;
 
 pub use ballot;
 pub use ballot::{
-    Body, Config, Effect, MAX_NODE, Members, Memory, Message, OpeningError, Status, machine,
+    Body, Config, Effect, MAX_NODE, Members, Memory, Message, OpeningError, ProposeError, Status,
+    machine,
 };
 pub use broker;
 pub use broker::BrokerMachine;
