@@ -18,7 +18,7 @@ use packet::{ClientId, MAX_BODY, Payload};
 use session_base::{Publication, body_length, keep, read_flag, read_long_number, read_qos};
 use std::alloc::Global;
 
-/// Memory ran out.
+/// Stops a reading because memory ran out. It is also `OUT_OF_MEMORY` of `session`.
 pub(crate) const OUT_OF_MEMORY: Stop = Stop::Malformed(MalformedKind::Memory);
 
 // ---- the window

@@ -23,7 +23,8 @@ use Rattle.exactly_once.specs.Sides.{Connection}
 use Rattle.packet_world.specs.World.{End, ClientEnds, World, with_client}
 use Rattle.packet_world.specs.Goes.{HasPipe, Reached}
 
--- the broker's machine, with the wide window, frozen to form 2
+-- the broker's machine, with the wide window, frozen to form 2: the rules of `broker`, whose code
+-- no model uses
 abbrev pub broker_rules : Rules State Command Output
 broker_rules =
     record {

@@ -89,7 +89,7 @@ impl Subscriptions {
     }
 }
 
-// Returns the greater of two QoS, the second of which may be missing.
+// Returns the greater of two QoS, the second of which may be missing, as `greater` of `subs_base`.
 fn greater(qos: QoS, best: Option<QoS>) -> QoS
     ensures { result ≡ greater_qos qos best }
 {

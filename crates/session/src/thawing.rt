@@ -25,7 +25,7 @@ use session_base::{Awaits, Publication, keep, read_flight, read_held, read_waiti
 use std::alloc::Global;
 use std::collections::VecDeque;
 
-/// Stops a reading because memory ran out.
+/// Stops a reading because memory ran out. It is also `OUT_OF_MEMORY` of `broker`.
 const OUT_OF_MEMORY: Stop = Stop::Malformed(MalformedKind::Memory);
 
 impl Subscriptions {
