@@ -40,16 +40,16 @@ number_of text = if is_decimal text && nat_lt (digits_value 10 text) (2 ^ 64)
     then Some (digits_value 10 text) else None
 
 -- the QoS of a number; there are three
-abbrev pub level_of : Option ℕ → Option QoS
-level_of None = None
-level_of (Some number) =
+abbrev pub qos_of_number : Option ℕ → Option QoS
+qos_of_number None = None
+qos_of_number (Some number) =
     if number == 0 then Some qualities.AtMostOnce else
     if number == 1 then Some qualities.AtLeastOnce else
     if number == 2 then Some qualities.ExactlyOnce else None
 
 -- a QoS is written as its number (MQTT 4.3)
 unfoldable pub qos_of : Text → Option QoS
-qos_of text = level_of (number_of text)
+qos_of text = qos_of_number (number_of text)
 
 -- 0 or 1
 abbrev pub bit_of : Option ℕ → Option Bool
