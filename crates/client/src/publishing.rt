@@ -102,8 +102,8 @@ impl ClientCore {
         Ok(())
     }
 
-    /// Returns the identifier of the next publication. [`ClientError::WindowFull`] comes if 64
-    /// publications are kept, or no identifier is free.
+    /// Returns the identifier of the next publication. [`ClientError::WindowFull`] comes if
+    /// `MAX_KEPT` publications are kept, or no identifier is free.
     pub(crate) fn publication_id(&self) -> Result<PacketId, ClientError>
         ensures { PublicationId self.now.state result }
     {

@@ -21,9 +21,9 @@ next_id state = least_free (used_ids state)
 abbrev pub has_free_id : ClientState → Bool
 has_free_id state = nat_lt (next_id state) 65536
 
--- how many publications a client keeps
-abbrev pub window : ℕ
-window = 64
+-- the most publications that a client keeps
+abbrev pub max_kept : ℕ
+max_kept = 64
 
 -- the PUBLISH of a publication, with the next identifier
 abbrev pub publish_packet : Publication → ClientState → Packet
@@ -33,11 +33,11 @@ publish_packet p state = packets.Publish (publish_of false (next_id state) p)
 abbrev pub is_over_limit : Packet → Bool
 is_over_limit packet = nat_lt max_body (length (body packet))
 
--- why a publication is refused: at QoS 1 and 2 if the window is full, at QoS 0 while the client is
--- offline, or as too large
+-- why a publication is refused: at QoS 1 and 2 if `max_kept` are kept or no identifier is free, at
+-- QoS 0 while the client is offline, or as too large
 abbrev pub publish_refusal : Publication → ClientState → Option ClientError
 publish_refusal p state =
-    if is_answered p.qos && not (nat_lt (kept_count state) window && has_free_id state)
+    if is_answered p.qos && not (nat_lt (kept_count state) max_kept && has_free_id state)
     then Some errors.WindowFull else
     if not (is_answered p.qos) && not (is_online state.stage) then Some errors.NotActive else
     if is_over_limit (publish_packet p state) then Some errors.TooLarge else None
