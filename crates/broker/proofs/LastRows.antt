@@ -8,7 +8,7 @@ use Rattle.std.specs.List.{AllByRecursion, last_or}
 use Rattle.std.specs.List.Sorted.{IsStrictlySortedBy}
 use Rattle.std.specs.Map.{keys_of}
 use Rattle.std.proofs.lemmas.Cmp.{nat_list_cmp_total}
-use Rattle.session_base.specs.Counted.{keep, last_of}
+use Rattle.session_base.specs.Counted.{check_form, last_of}
 use Rattle.broker_tables.specs.broker_spec.Place.{by_bytes}
 use Rattle.broker_form.specs.Follows.{is_after}
 
@@ -18,7 +18,7 @@ less Equal e = absurd (cc)
 less Greater e = absurd (cc)
 
 -- reading continues if the test is true
-pub kept_where : (test : Bool) → {done : Unit {0}} → keep test ≡ Ok done → test ≡ true
+pub kept_where : (test : Bool) → {done : Unit {0}} → check_form test ≡ Ok done → test ≡ true
 kept_where true e = refl
 kept_where false e = absurd (cc)
 

@@ -4,7 +4,7 @@
 ghost use Rattle.std.specs.Prelude.{◌≡◌, true, Ok, IfOk};
 ghost use Rattle.packet.specs.ClientId.{is_client};
 ghost use Rattle.packet.specs.packet_base.Outcome.{Gives, Reads};
-ghost use Rattle.session_base.specs.Counted.{keep};
+ghost use Rattle.session_base.specs.Counted.{check_form};
 ghost use Rattle.broker_form.specs.Form.{client_at, connection_at, head_at, name_at, retainable};
 ghost use Rattle.broker_form.specs.Form.{retained_at, row_at, size_at, wide_number_at};
 
@@ -15,7 +15,7 @@ use broker_tables::session::Session;
 use packet::packet_base::{Reader, Stop};
 use packet::topics::{MalformedKind, TopicName};
 use packet::{ClientId, MAX_BODY, Payload};
-use session_base::{Publication, body_length, keep, read_flag, read_long_number, read_qos};
+use session_base::{Publication, body_length, check_form, read_flag, read_long_number, read_qos};
 use std::alloc::Global;
 
 /// Stops a reading because memory ran out. It is also `OUT_OF_MEMORY` of `session`.
@@ -30,7 +30,7 @@ pub(crate) fn read_head(reader: &mut Reader) -> Result<Window, Stop>
     ensures { Reads (λ x. x) result reader.new (head_at reader.old) }
 {
     let form = reader.byte()?;
-    keep(form == 1 || form == 2)?;
+    check_form(form == 1 || form == 2)?;
     if form == 1 {
         return Ok(Window::narrow());
     }
@@ -63,7 +63,7 @@ pub(crate) fn read_row(
     let client = read_client(alloc, reader)?;
     let clean = read_flag(reader)?;
     let connection = read_connection(reader)?;
-    keep(!clean || connection.is_some())?;
+    check_form(!clean || connection.is_some())?;
     let state = Session::read(alloc, window.size(), reader)?;
     let row = ClientRow {
         clean,
@@ -84,7 +84,7 @@ fn read_client(alloc: Global, reader: &mut Reader) -> Result<ClientId, Stop>
 
 // Returns the Client Identifier of a text.
 fn client_of(alloc: Global, text: &str) -> Result<ClientId, Stop>
-    ensures test { Gives (λ client. tt) result (keep (is_client text.now)) }
+    ensures test { Gives (λ client. tt) result (check_form (is_client text.now)) }
     ensures value { IfOk result (λ client. client ≡ text.now) }
 {
     match ClientId::new(alloc, text) {
@@ -163,7 +163,9 @@ fn retainable(publication: Publication) -> Result<(TopicName, RetainedPublicatio
         (retainable
         (publication.topic, record { qos = publication.qos; payload = publication.payload })) }
 {
-    keep(!publication.payload.as_slice().is_empty() && body_length(&publication) <= MAX_BODY)?;
+    check_form(
+        !publication.payload.as_slice().is_empty() && body_length(&publication) <= MAX_BODY,
+    )?;
     let kept = RetainedPublication {
         qos: publication.qos,
         payload: publication.payload,

@@ -16,7 +16,7 @@ use broker_tables::broker_spec::{ConnectionName, Window};
 use broker_tables::{ClientRow, MAX_SESSIONS};
 use packet::ClientId;
 use packet::packet_base::{Reader, Stop};
-use session_base::keep;
+use session_base::check_form;
 use std::alloc::{AllocError, Global};
 use std::collections::BTreeMap;
 
@@ -38,7 +38,7 @@ impl Rows {
         ensures owned { IfOk result AreOwned }
     {
         let count = reader.number()?;
-        keep(usize::from(count) <= MAX_SESSIONS)?;
+        check_form(usize::from(count) <= MAX_SESSIONS)?;
         read_rows(alloc, window, count, reader)
     }
 
@@ -60,7 +60,7 @@ impl Rows {
             (client, row) result self.new.sessions.entries }
         ensures owned { OnOk result (AreOwned self.new) }
     {
-        keep(self.may_follow(&client, &row))?;
+        check_form(self.may_follow(&client, &row))?;
         match self.put_last(client, row) {
             Ok(()) => Ok(()),
             Err(_) => Err(OUT_OF_MEMORY),

@@ -26,7 +26,7 @@ use broker_tables::{ClientRow, Tables};
 use packet::packet_base::{Reader, Stop};
 use packet::topics::{Filter, TopicName};
 use packet::{ClientId, QoS};
-use session_base::keep;
+use session_base::check_form;
 use std::alloc::{AllocError, Global};
 use std::collections::BTreeMap;
 
@@ -72,7 +72,7 @@ fn read_retained(alloc: Global, reader: &mut Reader) -> Result<RetainedStore, St
         (counted_at number_at topic_follows retained_at MAX_TOPICS reader.old) }
 {
     let count = reader.number()?;
-    keep(usize::from(count) <= MAX_TOPICS)?;
+    check_form(usize::from(count) <= MAX_TOPICS)?;
     read_topics(alloc, count, reader)
 }
 
@@ -99,7 +99,7 @@ fn add_topic(
     requires { length retained.old < MAX_TOPICS }
     ensures { Adds topic_follows retained.old (topic, kept) result retained.new }
 {
-    keep(is_after(retained, &topic))?;
+    check_form(is_after(retained, &topic))?;
     match retained.keep(topic, kept) {
         Ok(()) => Ok(()),
         Err(_) => Err(OUT_OF_MEMORY),

@@ -9,7 +9,7 @@ use Rattle.packet.specs.ClientId.{is_client}
 use Rattle.packet.specs.Spelling.{max_body}
 use Rattle.broker_spec.specs.retained.declared.retained_publication.RetainedPublication.{RetainedPublication}
 use Rattle.broker_spec.specs.retained.Retained.{max_topics}
-use Rattle.session_base.specs.Counted.{keep, counted_at}
+use Rattle.session_base.specs.Counted.{check_form, counted_at}
 use Rattle.session_base.specs.Form.{long_number_at, flag_at, qos_at, body_length, state_at}
 use Rattle.broker_spec.specs.Connection.{ConnectionName, is_connection_name}
 use Rattle.broker_spec.specs.Place.{Client}
@@ -31,7 +31,7 @@ unfoldable pub name_at : List ℕ → Result (Option ConnectionName × List ℕ)
 name_at bytes = do
   ballot ← wide_number_at bytes
   count ← wide_number_at ballot.1
-  keep (is_connection_name (record { ballot = ballot.0; count = count.0 }))
+  check_form (is_connection_name (record { ballot = ballot.0; count = count.0 }))
   Ok (Some (record { ballot = ballot.0; count = count.0 }), count.1)
 
 -- whether there is a current connection, and which
@@ -43,7 +43,7 @@ connection_at bytes =
 unfoldable pub client_at : List ℕ → Result (Client × List ℕ) Stop
 client_at bytes = do
   client ← text_at bytes
-  keep (is_client client.0)
+  check_form (is_client client.0)
   Ok client
 
 -- a clean session has a connection; no more of a session is in flight than this window
@@ -52,7 +52,7 @@ row_at window bytes = do
   client ← client_at bytes
   clean ← flag_at client.1
   connection ← connection_at clean.1
-  keep (not clean.0 || is_some connection.0)
+  check_form (not clean.0 || is_some connection.0)
   state ← state_at window connection.1
   Ok ((client.0, record { clean = clean.0; connection = connection.0; state = state.0 }), state.1)
 
@@ -64,7 +64,7 @@ is_retainable row =
 -- any other publication stops the reading
 abbrev pub retainable : List ℕ × RetainedPublication → Result (List ℕ × RetainedPublication) Stop
 retainable row = do
-  keep (is_retainable row)
+  check_form (is_retainable row)
   Ok row
 
 -- a topic with what is retained of it
@@ -83,14 +83,14 @@ retained_at bytes = do
 unfoldable pub size_at : List ℕ → Result (ℕ × List ℕ) Stop
 size_at bytes = do
   size ← byte_at bytes
-  keep (is_window_size size.0)
+  check_form (is_window_size size.0)
   Ok size
 
 -- the number of the form, and the window: the narrow one in form 1
 unfoldable pub head_at : List ℕ → Result (ℕ × List ℕ) Stop
 head_at bytes = do
   form ← byte_at bytes
-  keep ((form.0 == 1) || (form.0 == 2))
+  check_form ((form.0 == 1) || (form.0 == 2))
   if form.0 == 1 then Ok (narrow_window, form.1) else size_at form.1
 
 -- at most `max_sessions` sessions and `max_topics` topics, and nothing after them

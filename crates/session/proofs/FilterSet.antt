@@ -5,7 +5,7 @@ use Rattle.std.proofs.lemmas.Bool.{or_parts}
 use Rattle.std.specs.Map.{lookup}
 use Rattle.indexmap.specs.IndexMap.{insert_entry}
 use Rattle.session_base.specs.packet.declared.qos.QoS.{QoS}
-use Rattle.session_base.specs.Counted.{keep}
+use Rattle.session_base.specs.Counted.{check_form}
 use Rattle.session_base.specs.Subscriptions.{HeldFilter, is_held, with_subscription}
 
 -- a filter is set in its place, or comes last
@@ -38,7 +38,7 @@ new_comes_last filter qos (first ∷ others) new =
     rw parts.0 (ap (λ rest. first ∷ rest) (new_comes_last filter qos others parts.1))
 
 -- reading continues if the test is true
-pub kept_where : (test : Bool) → {done : Unit {0}} → keep test ≡ Ok done → test ≡ true
+pub kept_where : (test : Bool) → {done : Unit {0}} → check_form test ≡ Ok done → test ≡ true
 kept_where true e = refl
 kept_where false e = absurd (cc)
 

@@ -21,7 +21,7 @@ use indexmap::IndexMap;
 use session_base::packet::{PacketId, QoS};
 use session_base::packet_base::{Reader, Stop};
 use session_base::topics::{Filter, MalformedKind};
-use session_base::{Awaits, Publication, keep, read_flight, read_held, read_waiting};
+use session_base::{Awaits, Publication, check_form, read_flight, read_held, read_waiting};
 use std::alloc::Global;
 use std::collections::VecDeque;
 
@@ -36,7 +36,7 @@ impl Subscriptions {
             (counted_at byte_at is_new_filter held_at MAX_SUBSCRIPTIONS reader.old) }
     {
         let count = reader.byte()?;
-        keep(usize::from(count) <= MAX_SUBSCRIPTIONS)?;
+        check_form(usize::from(count) <= MAX_SUBSCRIPTIONS)?;
         read_filters(alloc, count, reader)
     }
 
@@ -44,7 +44,7 @@ impl Subscriptions {
     fn add(&mut self, filter: Filter, qos: QoS) -> Result<(), Stop>
         ensures { Adds is_new_filter self.old (filter, qos) result self.new }
     {
-        keep(!self.contains(&filter))?;
+        check_form(!self.contains(&filter))?;
         match self.set(filter, qos) {
             Ok(()) => Ok(()),
             Err(_) => Err(OUT_OF_MEMORY),
@@ -81,7 +81,7 @@ impl Received {
     fn add(&mut self, id: PacketId) -> Result<(), Stop>
         ensures { Adds is_above self.old id result self.new }
     {
-        keep(self.is_above(id))?;
+        check_form(self.is_above(id))?;
         match self.insert(id) {
             Ok(()) => Ok(()),
             Err(_) => Err(OUT_OF_MEMORY),
@@ -162,7 +162,7 @@ fn read_counted_flights(
         (counted_at number_at may_follow flight_at window reader.old) }
 {
     let count = reader.number()?;
-    keep(usize::from(count) <= window)?;
+    check_form(usize::from(count) <= window)?;
     read_flights(alloc, count, reader)
 }
 
@@ -191,7 +191,7 @@ fn add_flight(
 ) -> Result<(), Stop>
     ensures { Adds may_follow in_flight.old.entries (id, awaits) result in_flight.new.entries }
 {
-    keep(may_follow(in_flight, id, &awaits))?;
+    check_form(may_follow(in_flight, id, &awaits))?;
     match put_last(in_flight, id, awaits) {
         Ok(()) => Ok(()),
         Err(_) => Err(OUT_OF_MEMORY),
@@ -234,7 +234,7 @@ fn read_all_waiting(
         (counted_at number_at anything waiting_at most reader.old) }
 {
     let count = reader.number()?;
-    keep(usize::from(count) <= most)?;
+    check_form(usize::from(count) <= most)?;
     read_publications(alloc, count, reader)
 }
 

@@ -8,7 +8,7 @@ use Rattle.packet_base.specs.Outcome.{StopsBy}
 use Rattle.packet_base.specs.Lists.{ItemAt}
 use Rattle.packet_base.specs.Reading.{◌>>=◌, ◌>>◌}
 use Rattle.packet_base.proofs.ItemsInALoop.{stops_at, stops_cases}
-use Rattle.session_base.specs.Counted.{keep, items_after, Adds}
+use Rattle.session_base.specs.Counted.{check_form, items_after, Adds}
 
 module _ {A : Type 0} (follows : List A → A → Bool) (item : ItemAt A) where
   abbrev Read : Type 0
@@ -19,7 +19,7 @@ module _ {A : Type 0} (follows : List A → A → Bool) (item : ItemAt A) where
 
   -- one item, and the rest
   abbrev turn_of : ℕ → List A → List ℕ → Read
-  turn_of n front bytes = item bytes >>= (λ one. keep (follows front one.0) >> items_after follows item n (front ++ one.0 ∷ []) one.1)
+  turn_of n front bytes = item bytes >>= (λ one. check_form (follows front one.0) >> items_after follows item n (front ++ one.0 ∷ []) one.1)
 
   turn_is : (n i : ℕ) (front : List A) (bytes : List ℕ) → i < n → left n i front bytes ≡ turn_of (n - (i + 1)) front bytes
   unfolding items_after

@@ -10,8 +10,8 @@ use Rattle.packet_base.specs.Reading.{◌>>=◌, ◌>>◌, check}
 use Rattle.packet_base.specs.Lists.{ItemAt}
 
 -- continues if the test is true; otherwise the bytes are not of the form
-abbrev pub keep : Bool → Result (Unit {0}) Stop
-keep test = check test (stops.Malformed kinds.Shape)
+abbrev pub check_form : Bool → Result (Unit {0}) Stop
+check_form test = check test (stops.Malformed kinds.Shape)
 
 -- the last one of those that were read, if there is one
 abbrev pub last_of : {A : Type 0} → List A → Option A
@@ -22,7 +22,7 @@ unfoldable pub items_after : {A : Type 0} → (List A → A → Bool) → ItemAt
     Result (List A × List ℕ) Stop
 items_after follows item zero front bytes = Ok (front, bytes)
 items_after follows item (suc more) front bytes =
-    item bytes >>= (λ one. keep (follows front one.0)
+    item bytes >>= (λ one. check_form (follows front one.0)
     >> items_after follows item more (front ++ one.0 ∷ []) one.1)
 
 -- the count, no more than `most`, and the items
@@ -30,7 +30,7 @@ unfoldable pub counted_at : {A : Type 0} → ItemAt ℕ → (List A → A → Bo
     Result (List A × List ℕ) Stop
 counted_at count follows item most bytes = do
   many ← count bytes
-  keep (nat_le many.0 most)
+  check_form (nat_le many.0 most)
   items_after follows item many.0 [] many.1
 
 -- items as they are written: their count, then one after another

@@ -16,7 +16,7 @@ use Rattle.session_base.specs.Publication.{is_answered, is_acknowledged}
 use Rattle.session_base.specs.Subscriptions.{HeldFilter}
 use Rattle.session_base.specs.Queue.{Flight}
 use Rattle.session_base.specs.Session.{SessionState, max_entries, max_subscriptions}
-use Rattle.session_base.specs.Counted.{keep, counted_at}
+use Rattle.session_base.specs.Counted.{check_form, counted_at}
 pub use Rattle.session_base.specs.Writing.{long_number, one_byte, publication_bytes, held_bytes}
 pub use Rattle.session_base.specs.Writing.{awaits_bytes, flight_bytes, state_bytes}
 pub use Rattle.session_base.specs.Writing.{HasLength, IsWritable}
@@ -27,7 +27,7 @@ pub use Rattle.session_base.specs.Follows.{may_follow, anything}
 unfoldable pub flag_at : List ℕ → Result (Bool × List ℕ) Stop
 flag_at bytes = do
   byte ← byte_at bytes
-  keep (nat_lt byte.0 2)
+  check_form (nat_lt byte.0 2)
   Ok (byte.0 == 1, byte.1)
 
 -- a number of four bytes
@@ -51,7 +51,7 @@ body_length p = 2 + length p.topic + (if is_answered p.qos then 2 else 0) + leng
 -- a publication whose PUBLISH is within the limit
 abbrev pub sized : Publication → Result Publication Stop
 sized p = do
-  keep (nat_le (body_length p) max_body)
+  check_form (nat_le (body_length p) max_body)
   Ok p
 
 -- a publication: RETAIN, QoS, topic, and the payload with its length before it
@@ -76,21 +76,21 @@ held_at bytes = do
 unfoldable pub waiting_at : List ℕ → Result (Publication × List ℕ) Stop
 waiting_at bytes = do
   p ← publication_at bytes
-  keep (is_answered p.0.qos)
+  check_form (is_answered p.0.qos)
   Ok p
 
 -- one that waits for PUBACK is of QoS 1, one that waits for PUBREC of QoS 2
 unfoldable pub sent_at : Bool → List ℕ → Result (Awaits × List ℕ) Stop
 sent_at acknowledged bytes = do
   p ← waiting_at bytes
-  keep (if acknowledged then is_acknowledged p.0.qos else not (is_acknowledged p.0.qos))
+  check_form (if acknowledged then is_acknowledged p.0.qos else not (is_acknowledged p.0.qos))
   Ok (if acknowledged then waits_for.Puback p.0 else waits_for.Pubrec p.0, p.1)
 
 -- what an entry waits for, by a byte of 0 to 2
 unfoldable pub awaits_at : List ℕ → Result (Awaits × List ℕ) Stop
 awaits_at bytes = do
   state ← byte_at bytes
-  keep (nat_lt state.0 3)
+  check_form (nat_lt state.0 3)
   if state.0 == 2 then Ok (waits_for.Pubcomp, state.1) else sent_at (state.0 == 0) state.1
 
 -- an entry in flight: its identifier, and what it waits for

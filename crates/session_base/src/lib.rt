@@ -20,7 +20,7 @@ pub use packet_base;
 pub use packet_base::topics;
 pub use publication::{Publication, delivery};
 pub use reading::{
-    body_length, keep, read_flag, read_flight, read_held, read_long_number, read_publication,
+    body_length, check_form, read_flag, read_flight, read_held, read_long_number, read_publication,
     read_qos, read_waiting,
 };
 pub use writing::{

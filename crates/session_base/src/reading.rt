@@ -5,7 +5,7 @@ ghost use Rattle.std.specs.Prelude.{◌≡◌, Ok};
 ghost use Rattle.packet.specs.QoS.{qos_of};
 ghost use Rattle.packet.specs.Spelling.{max_body};
 ghost use Rattle.packet_base.specs.Outcome.{Gives, Reads};
-ghost use Rattle.session_base.specs.Counted.{keep};
+ghost use Rattle.session_base.specs.Counted.{check_form};
 ghost use Rattle.session_base.specs.Form.{flag_at, long_number_at, qos_at, body_length};
 ghost use Rattle.session_base.specs.Form.{publication_at, held_at, waiting_at, sent_at};
 ghost use Rattle.session_base.specs.Form.{awaits_at, flight_at};
@@ -16,9 +16,9 @@ use packet_base::topics::{Filter, MalformedKind};
 use packet_base::{Reader, Stop};
 use std::alloc::Global;
 
-/// Continues if the test holds; otherwise the bytes are not of the form.
-pub fn keep(test: bool) -> Result<(), Stop>
-    ensures { Gives (λ x. x) result (keep test) }
+/// Checks a form: the error, `Shape`, comes if the test does not hold.
+pub fn check_form(test: bool) -> Result<(), Stop>
+    ensures { Gives (λ x. x) result (check_form test) }
 {
     if test {
         return Ok(());
@@ -32,7 +32,7 @@ pub fn read_flag(reader: &mut Reader) -> Result<bool, Stop>
     ensures { Reads (λ x. x) result reader.new (flag_at reader.old) }
 {
     let byte = reader.byte()?;
-    keep(byte < 2)?;
+    check_form(byte < 2)?;
     Ok(byte == 1)
 }
 
@@ -81,7 +81,7 @@ pub fn read_publication(alloc: Global, reader: &mut Reader) -> Result<Publicatio
         topic,
         payload,
     };
-    keep(body_length(&publication) <= MAX_BODY)?;
+    check_form(body_length(&publication) <= MAX_BODY)?;
     Ok(publication)
 }
 
@@ -123,7 +123,7 @@ pub fn read_waiting(alloc: Global, reader: &mut Reader) -> Result<Publication, S
     ensures { Reads (λ x. x) result reader.new (waiting_at reader.old) }
 {
     let publication = read_publication(alloc, reader)?;
-    keep(publication.qos != QoS::AtMostOnce)?;
+    check_form(publication.qos != QoS::AtMostOnce)?;
     Ok(publication)
 }
 
@@ -143,7 +143,7 @@ fn read_awaits(alloc: Global, reader: &mut Reader) -> Result<Awaits, Stop>
     ensures { Reads (λ x. x) result reader.new (awaits_at reader.old) }
 {
     let state = reader.byte()?;
-    keep(state < 3)?;
+    check_form(state < 3)?;
     if state == 2 {
         return Ok(Awaits::Pubcomp);
     }
@@ -156,7 +156,7 @@ fn read_sent(alloc: Global, acknowledged: bool, reader: &mut Reader) -> Result<A
     ensures { Reads (λ x. x) result reader.new (sent_at acknowledged reader.old) }
 {
     let publication = read_waiting(alloc, reader)?;
-    keep(acknowledged == (publication.qos == QoS::AtLeastOnce))?;
+    check_form(acknowledged == (publication.qos == QoS::AtLeastOnce))?;
     if acknowledged {
         return Ok(Awaits::Puback(publication));
     }
