@@ -9,9 +9,9 @@ use Rattle.client_base.specs.History.{StandsFor, WritesMore}
 
 -- whether a call has an effect: one that is refused changes nothing, and a packet comes on an open
 -- connection
-abbrev pub IsTaken : Call → ClientState → Type 0
-IsTaken (Call.Receives packet) state = is_open state.stage ≡ true
-IsTaken call state = (keeper_step call state).refusal ≡ None
+abbrev pub HasEffect : Call → ClientState → Type 0
+HasEffect (Call.Receives packet) state = is_open state.stage ≡ true
+HasEffect call state = (keeper_step call state).refusal ≡ None
 
 -- what the step writes comes after what was written, and first on a connection that it opens
 abbrev pub WritesSo : Call → Connection ℕ → Connection ℕ → List Packet → Type 0
@@ -23,7 +23,7 @@ WritesSo call before after packets = WritesMore before after packets
 abbrev pub CallsFollow : Type 0
 CallsFollow =
     (call : Call) (fresh : ℕ) (side : Side ℕ) (state : ClientState) →
-    state.keep_alive ≡ 0 → StandsFor side.keeper state → IsTaken call state →
+    state.keep_alive ≡ 0 → StandsFor side.keeper state → HasEffect call state →
     let after = keeper_goes fresh call side in
     StandsFor after.keeper (keeper_step call state).state
     × WritesSo call side.connection after.connection (keeper_step call state).writes

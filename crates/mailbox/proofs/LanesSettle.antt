@@ -8,7 +8,7 @@ use Rattle.std.proofs.Math.Seq.{take-append_seam}
 use Rattle.std.specs.List.{All}
 use Rattle.mailbox.specs.Delivery.{items_of}
 use Rattle.mailbox.specs.Ends.{Sender, Taker, fresh_lanes, as_made, AreAllLanes, ArrivesWhole, unmet}
-use Rattle.mailbox.specs.Kept.{IsTaken}
+use Rattle.mailbox.specs.Kept.{IsDrained}
 use Rattle.mailbox.proofs.ItemsOfALane.{items_of-append}
 
 -- a fact that reads only f of each element goes over to a list with the same f of each
@@ -72,7 +72,7 @@ module _ {T : Type 0} where
       → count ≡ length new.sent
       → met ≡ count
       → taken' ≡ taken
-      → IsTaken taken' new
+      → IsDrained taken' new
   met_all taken taken' old new met count is first counted equal same =
       let sent : new.sent ≡ old.sent = ap (λ (s : Sender T). s.sent) is in
       let size = ap length sent in
@@ -83,7 +83,7 @@ module _ {T : Type 0} where
   arrives : (counts : List ℕ) (before now left : List (ℕ × T)) (s : Sender T)
       → now ≡ before ++ left
       → slice_index counts s.lane ≡ length (items_of s.lane before)
-      → IsTaken now s
+      → IsDrained now s
       → ArrivesWhole counts left s
   arrives counts before now left s is counted all =
       let a : List T = items_of s.lane before in
@@ -95,7 +95,7 @@ module _ {T : Type 0} where
       → now ≡ before ++ left
       → ((k : ℕ) → k < r.lanes → slice_index counts k ≡ length (items_of k before))
       → AreAllLanes r lanes
-      → All (IsTaken now) lanes
+      → All (IsDrained now) lanes
       → All (ArrivesWhole counts left) lanes
   settled counts before now left r lanes is counted are all k d within =
       arrives counts before now left (slice_index_or lanes k d) is

@@ -74,5 +74,5 @@ pub record TakesMore {T : Type 0} (old new : Taker T) (list longer : List (ℕ �
   pub listed : longer ≡ list ++ more
 
 -- all that a lane sent was taken
-abbrev pub IsTaken : {T : Type 0} → List (ℕ × T) → Sender T → Type 0
-IsTaken taken s = items_of s.lane taken ≡ s.sent
+abbrev pub IsDrained : {T : Type 0} → List (ℕ × T) → Sender T → Type 0
+IsDrained taken s = items_of s.lane taken ≡ s.sent

@@ -3,7 +3,7 @@
 ghost use Rattle.std.specs.Prelude.{◌≡◌, ◌++◌, ◌∷◌, [], ◌<◌, ◌≤◌, length, take, ◌*◌, ◌^◌, IfSome, IfNone, IfOk, OnOk, All, EachIndex, IsTrue, ◌↔◌, map, slice_index, vec_capacity};
 ghost use Rattle.mailbox.specs.Delivery.{items_of, nothing};
 ghost use Rattle.mailbox.specs.Ends.{Taker, Sender, WasEmpty, HasArrived, AreAllLanes, ArrivesWhole, unmet};
-ghost use Rattle.mailbox.specs.Kept.{TakesMore, IsTaken};
+ghost use Rattle.mailbox.specs.Kept.{TakesMore, IsDrained};
 
 use crate::inbox::MAX_ITEMS;
 use crate::lane::Lane;
@@ -159,7 +159,7 @@ impl<T: Drop, J: Naming> Receiver<T, J> {
             slice_index counts.new k ≡ length (items_of k self.old.taken)) }
 
         // All that was sent is taken.
-        ensures arrived { All (IsTaken self.new.taken) lanes.new }
+        ensures arrived { All (IsDrained self.new.taken) lanes.new }
 
         // Those left over were taken now, and nothing was sent.
         ensures taken { self.new ≡ record self.old { taken = self.old.taken ++ left.new.items } }
@@ -196,7 +196,7 @@ impl<T: Drop, J: Naming> Receiver<T, J> {
     // Says whether all that these lanes sent was taken.
     fn meets_all(&mut self, lanes: &mut [Lane<T, J>]) -> bool
         requires { All (λ s. s.inbox ≡ self.old.inbox) lanes.old }
-        ensures all { IsTrue result → All (IsTaken self.old.taken) lanes.new }
+        ensures all { IsTrue result → All (IsDrained self.old.taken) lanes.new }
         ensures receiver { self.new ≡ self.old }
         ensures lanes { map unmet lanes.new ≡ map unmet lanes.old }
     {

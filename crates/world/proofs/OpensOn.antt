@@ -28,7 +28,7 @@ use Rattle.world.specs.Found.{Named, core_named, is_named, port_of, with_piped}
 use Rattle.world.specs.Doing.{Does as HappenDoes}
 use Rattle.world.specs.Opening.{NoneOpens, OpensNone, OpensOne, OpensUnless, is_full, next_number, with_connection}
 use Rattle.world.specs.Happening.{HappensLosing}
-use Rattle.world.specs.Cannot.{IsTaken, is_serving}
+use Rattle.world.specs.Cannot.{CannotOpen, is_serving}
 use Rattle.world.specs.Gathering.{Gathers, TakesItem}
 use Rattle.world.specs.Inside.Connecting.{Begins, ConnectsAt, HasNew, HearsOfOne, IsKnown, MayOpenNone, OpensAt, OpensNoneAt}
 use Rattle.world.specs.Inside.Steps.{GoesOn, IsDone}
@@ -155,8 +155,8 @@ pub open_meets : (name : List ℕ) (at node : ℕ) (old new : WorldState) (clien
     → IsDone (events.Open name node) old new ⊎ HappensLosing (events.Open name node) old new
 open_meets name at node old new client first stands free serving left begins = by begins
   where
-    can : (IsTaken (core_named name old.clients) ⊎ (is_serving (node_of old.nodes.nodes node) ≡ false)) → ⊥
-    can (inl taken) = both_ways _ free (subst IsTaken (core_found name old.clients at client first stands) taken)
+    can : (CannotOpen (core_named name old.clients) ⊎ (is_serving (node_of old.nodes.nodes node) ≡ false)) → ⊥
+    can (inl taken) = both_ways _ free (subst CannotOpen (core_found name old.clients at client first stands) taken)
     can (inr idle) = both_ways _ idle serving
 
     none : (mid : WorldState) → MayOpenNone at node old mid → (mid ≡ old) ⊎ HappenDoes false (events.Open name node) old mid
@@ -191,14 +191,14 @@ pub full_meets : (name : List ℕ) (at node : ℕ) (old : WorldState) (client : 
 full_meets name at node old client first stands free serving none =
     record { can = can; does = inl refl; exact = λ whole. spent true name node old old none refl; uncounted = refl }
   where
-    can : (IsTaken (core_named name old.clients) ⊎ (is_serving (node_of old.nodes.nodes node) ≡ false)) → ⊥
-    can (inl taken) = both_ways _ free (subst IsTaken (core_found name old.clients at client first stands) taken)
+    can : (CannotOpen (core_named name old.clients) ⊎ (is_serving (node_of old.nodes.nodes node) ≡ false)) → ⊥
+    can (inl taken) = both_ways _ free (subst CannotOpen (core_found name old.clients at client first stands) taken)
     can (inr idle) = both_ways _ idle serving
 
 -- a client that holds a connection opens none
 pub is_taken : (name : List ℕ) (w : WorldState) (at : ℕ) (client : WorldClient) → position (is_named name) w.clients ≡ Some at → slice_get w.clients at ≡ Some client
-    → is_holding client.piped ≡ true → IsTaken (core_named name w.clients)
-is_taken name w at client first stands holds = subst IsTaken (sym (core_found name w.clients at client first stands)) holds
+    → is_holding client.piped ≡ true → CannotOpen (core_named name w.clients)
+is_taken name w at client first stands holds = subst CannotOpen (sym (core_found name w.clients at client first stands)) holds
 
 pub is_free : (w : WorldState) (at : ℕ) (client : WorldClient) → slice_get w.clients at ≡ Some client → is_holding client.piped ≡ false
     → IfSome (slice_get w.clients at) (λ found. is_holding found.piped ≡ false)

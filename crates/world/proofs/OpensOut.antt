@@ -34,7 +34,7 @@ use Rattle.world_events.specs.declared.event.Event.{Event}
 use Rattle.world_events.specs.declared.event.Event.TheVariants as events
 use Rattle.world.specs.declared.connection_slot.ConnectionSlot.{ConnectionSlot}
 use Rattle.world.specs.declared.world.WorldClient.{WorldClient}
-use Rattle.world.specs.Cannot.{IsTaken, is_serving}
+use Rattle.world.specs.Cannot.{CannotOpen, is_serving}
 use Rattle.world.specs.Opening.{OpensOne, OpensUnless, is_full, next_number, with_connection}
 use Rattle.world.specs.Found.{Named, core_named, is_named, port_of}
 use Rattle.world.specs.Gathering.{Gathers}
@@ -78,8 +78,8 @@ module _ (name : List ℕ) (before : Core) (a : Moment State Command Output) (ba
       ∙ ap (λ (b : Bool). b && not node.core.replica.state.stopped) (ap is_active can.serves.leads.role)
       ∙ ap not can.serves.leads.runs
 
-  pub can_open_there : is_open before.state.stage ≡ false → IsTaken (core_named name old.clients) ⊎ (is_serving (node_of old.nodes.nodes (suc place)) ≡ false) → ⊥
-  can_open_there closed (inl taken) = both_ways (is_open before.state.stage) closed (subst IsTaken there taken)
+  pub can_open_there : is_open before.state.stage ≡ false → CannotOpen (core_named name old.clients) ⊎ (is_serving (node_of old.nodes.nodes (suc place)) ≡ false) → ⊥
+  can_open_there closed (inl taken) = both_ways (is_open before.state.stage) closed (subst CannotOpen there taken)
   can_open_there closed (inr shut) = both_ways (is_serving (node_of old.nodes.nodes (suc place))) shut serving
 
   has_name : is_full (node_of old.nodes.nodes (suc place)) ≡ false

@@ -23,9 +23,9 @@ HoldsNone None = Unit {0}
 HoldsNone (Some core) = is_open core.state.stage ≡ false
 
 -- there is no such client, or it holds a connection
-abbrev pub IsTaken : Option Core → Type 0
-IsTaken None = Unit {0}
-IsTaken (Some core) = is_open core.state.stage ≡ true
+abbrev pub CannotOpen : Option Core → Type 0
+CannotOpen None = Unit {0}
+CannotOpen (Some core) = is_open core.state.stage ≡ true
 
 -- there is no such client, or it refuses the call
 abbrev pub Refuses : Call → Option Core → Type 0
@@ -76,7 +76,7 @@ CannotHappen (events.Expel name node) w =
     (position (is_named name) w.clients ≡ None) ⊎ (proposing w.nodes.nodes node ≡ None)
 CannotHappen (events.Crash node) w = running w.nodes.nodes node ≡ None
 CannotHappen (events.Open name node) w =
-    IsTaken (core_named name w.clients) ⊎ (is_serving (node_of w.nodes.nodes node) ≡ false)
+    CannotOpen (core_named name w.clients) ⊎ (is_serving (node_of w.nodes.nodes node) ≡ false)
 CannotHappen (events.CarryUp number count) w =
     IsClosed (slot_numbered number w.connections) w.nodes.nodes
     ⊎ IsNoPart count (up_of (way_of number w))

@@ -3,7 +3,7 @@ use Rattle.std.specs.Prelude.{slice_index_or}
 use Rattle.std.proofs.lemmas.List.Elements.{AllWithin-more_set}
 use Rattle.std.proofs.Math.Seq.{map-set_same}
 use Rattle.mailbox.specs.Ends.{unmet}
-use Rattle.mailbox.specs.Kept.{IsTaken}
+use Rattle.mailbox.specs.Kept.{IsDrained}
 use Rattle.mailbox.proofs.LanesSettle.{all_like, met_all}
 use Rattle.mailbox.proofs.receiver.Receiver.meets_all.Goals as goal
 
@@ -24,7 +24,7 @@ loop-lane-preserved g c =
       receiver = known;
       lanes = map-set_same unmet c.loop-lane.lanes c.loop-lane.lane-index c.meet.new.lane c.lane-item.result (ap unmet met.lane) ∙ c.loop-lane.invariant.lanes;
       so_far =
-          AllWithin-more_set c.loop-lane.lanes c.loop-lane.lane-index c.meet.new.lane (omega arith) (IsTaken c.meet.new.self.taken)
-          (λ k d low below. subst (λ l. IsTaken l (slice_index_or c.loop-lane.lanes k d)) (sym same) (c.loop-lane.invariant.so_far k d low below))
+          AllWithin-more_set c.loop-lane.lanes c.loop-lane.lane-index c.meet.new.lane (omega arith) (IsDrained c.meet.new.self.taken)
+          (λ k d low below. subst (λ l. IsDrained l (slice_index_or c.loop-lane.lanes k d)) (sym same) (c.loop-lane.invariant.so_far k d low below))
           (met_all c.loop-lane.self.taken _ (slice_index_or c.loop-lane.lanes c.loop-lane.lane-index c.lane-item.result) _ _ _ met.lane met.first c.count.ensures c.if-meet-count.false same);
     }
