@@ -11,7 +11,7 @@ use Rattle.broker_tables.proofs.of_broker_base.ConnectionsOfSessions.{same_turne
 use Rattle.broker_tables.specs.broker_rows.Owners.{owners_in, owned_by}
 use Rattle.broker_tables.proofs.of_broker_rows.OwnersRow.{on_is}
 use Rattle.session_base.specs.Counted.{last_of}
-use Rattle.broker_form.specs.Follows.{is_after, is_taken, row_follows}
+use Rattle.broker_form.specs.Follows.{is_after, is_owned, row_follows}
 
 abbrev Row : Type 0
 Row = Client × ClientSession
@@ -56,7 +56,7 @@ alone : (o : Option Client) → first_of o None ≡ o
 alone (Some c) = refl
 alone None = refl
 
-pub owners_of_last : (front : Sessions) (c : Client) (kept : ClientSession) (y : ConnectionName) → is_taken front kept.connection ≡ false →
+pub owners_of_last : (front : Sessions) (c : Client) (kept : ClientSession) (y : ConnectionName) → is_owned front kept.connection ≡ false →
     owners_in (front ++ (c, kept) ∷ []) y ≡ owned_by kept.connection c (owners_in front) y
 owners_of_last front c kept y free = found y front (c, kept) ∙ by kept.connection free
   where
@@ -71,7 +71,7 @@ owners_of_last front c kept y free = found y front (c, kept) ∙ by kept.connect
         owned None = None
     mine x free false e = alone (owners_in front y)
 
-    by : (o : Option ConnectionName) → is_taken front o ≡ false →
+    by : (o : Option ConnectionName) → is_owned front o ≡ false →
         first_of (owners_in front y) (if any_connection (same_connection y) o then Some c else None) ≡ owned_by o c (owners_in front) y
     by None free = alone (owners_in front y)
     by (Some x) free =
@@ -80,8 +80,8 @@ owners_of_last front c kept y free = found y front (c, kept) ∙ by kept.connect
 
 -- what may come after the others is after the last, and its connection is none of theirs
 pub may_stand : (front : Sessions) (one : Row) → row_follows front one ≡ true →
-    (is_after (last_of front) one.0 ≡ true) × (is_taken front one.1.connection ≡ false)
-may_stand front one e = by (is_after (last_of front) one.0) (is_taken front one.1.connection) e
+    (is_after (last_of front) one.0 ≡ true) × (is_owned front one.1.connection ≡ false)
+may_stand front one e = by (is_after (last_of front) one.0) (is_owned front one.1.connection) e
   where
     by : (a b : Bool) → (a && not b) ≡ true → (a ≡ true) × (b ≡ false)
     by true false e = (refl, refl)

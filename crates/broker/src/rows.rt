@@ -7,7 +7,7 @@ ghost use Rattle.session_base.specs.Counted.{counted_at, items_after, last_of, A
 ghost use Rattle.broker_tables.specs.broker_spec.Connection.{ConnectionName as SpecName};
 ghost use Rattle.broker_tables.specs.broker_rows.Owners.{owned_by};
 ghost use Rattle.broker_form.specs.Form.{row_at};
-ghost use Rattle.broker_form.specs.Follows.{is_after, is_taken, row_follows};
+ghost use Rattle.broker_form.specs.Follows.{is_after, is_owned, row_follows};
 ghost use Rattle.broker_tables.specs.Tables.{owners_at};
 ghost use Rattle.broker.specs.Inside.{AreOwned};
 
@@ -72,7 +72,7 @@ impl Rows {
         requires { AreOwned self.now }
         ensures { result ≡ row_follows self.now.sessions.entries (client.now, row.now) }
     {
-        self.is_after(client) && !self.is_taken(row.connection)
+        self.is_after(client) && !self.is_owned(row.connection)
     }
 
     // Says whether the client is after the last.
@@ -86,9 +86,9 @@ impl Rows {
     }
 
     // Says whether one of them has the connection.
-    fn is_taken(&self, connection: Option<ConnectionName>) -> bool
+    fn is_owned(&self, connection: Option<ConnectionName>) -> bool
         requires { AreOwned self.now }
-        ensures { result ≡ is_taken self.now.sessions.entries connection }
+        ensures { result ≡ is_owned self.now.sessions.entries connection }
     {
         match connection {
             Some(connection) => self.owners.contains_key(&connection),

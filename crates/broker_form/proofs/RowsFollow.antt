@@ -19,7 +19,7 @@ use Rattle.broker_base.specs.ClientSession.{ClientSession}
 use Rattle.broker_base.specs.State.{Sessions, owner_in}
 use Rattle.broker_base.specs.StateLaws.{IsNobodys, AreApart, AreByClient}
 use Rattle.broker_base.proofs.ConnectionsOfSessions.{same_turned}
-use Rattle.broker_form.specs.Follows.{is_after, is_taken, row_follows}
+use Rattle.broker_form.specs.Follows.{is_after, is_owned, row_follows}
 use Rattle.lists.proofs.Tables.{Table, Rises}
 
 both : (a b : Bool) → (a && b) ≡ true → (a ≡ true) × (b ≡ true)
@@ -83,7 +83,7 @@ rows_rise rows h = rises_from [] rows h
 
 -- none of these owns the connection
 abbrev NotOwned : Sessions → Option ConnectionName → Type 0
-NotOwned rows connection = is_taken rows connection ≡ false
+NotOwned rows connection = is_owned rows connection ≡ false
 
 owned_after : (x : ConnectionName) (front : Sessions) (one : Client × ClientSession) → is_some (owner_in x front) ≡ false →
     any_connection (same_connection x) one.1.connection ≡ false → is_some (owner_in x (front ++ one ∷ [])) ≡ false
@@ -114,7 +114,7 @@ none_owned front one (row ∷ rows) apart h =
 rows_follow_from : (front rows : Sessions) → After front rows → AreApart rows → NoneOwned front rows → AllFollow row_follows front rows
 rows_follow_from front [] after apart none = tt
 rows_follow_from front (row ∷ rows) after apart none = (
-  and_true (is_after (last_of front) row.0) (not (is_taken front row.1.connection)) after.0 (ap not none.0),
+  and_true (is_after (last_of front) row.0) (not (is_owned front row.1.connection)) after.0 (ap not none.0),
   rows_follow_from (front ++ row ∷ []) rows after.1 apart.1 (none_owned front row rows apart.0 none.1),
 )
   where
@@ -156,7 +156,7 @@ split_owned x (row ∷ front) one e =
 none_taken : (front rows : Sessions) → AllFollow row_follows front rows → NoneOwned front rows
 none_taken front [] h = tt
 none_taken front (row ∷ rows) h = (
-  off (is_taken front row.1.connection) (both (is_after (last_of front) row.0) (not (is_taken front row.1.connection)) h.0).1,
+  off (is_owned front row.1.connection) (both (is_after (last_of front) row.0) (not (is_owned front row.1.connection)) h.0).1,
   shorter rows (none_taken (front ++ row ∷ []) rows h.1),
 )
   where

@@ -15,13 +15,13 @@ is_after (Some last) key = is_lt (by_bytes last.0 key)
 is_after None key = true
 
 -- the connection, if there is one, is that of one of these sessions
-abbrev pub is_taken : Sessions → Option ConnectionName → Bool
-is_taken rows (Some x) = is_some (owner_in x rows)
-is_taken rows None = false
+abbrev pub is_owned : Sessions → Option ConnectionName → Bool
+is_owned rows (Some x) = is_some (owner_in x rows)
+is_owned rows None = false
 
 -- clients rise, and no connection is used twice
 abbrev pub row_follows : Sessions → Client × ClientSession → Bool
-row_follows front row = is_after (last_of front) row.0 && not (is_taken front row.1.connection)
+row_follows front row = is_after (last_of front) row.0 && not (is_owned front row.1.connection)
 
 -- topics rise
 abbrev pub topic_follows : List (List ℕ × RetainedPublication) → List ℕ × RetainedPublication → Bool
