@@ -78,7 +78,7 @@ pub(crate) fn take_copy(
         sent.push(unanswered(copy))?;
         return Ok(());
     }
-    session.admit(copy)?;
+    session.enqueue_within_room(copy)?;
     session.fill(window.size(), sent)?;
     Ok(())
 }
@@ -119,7 +119,7 @@ pub(crate) fn deliver(
         }
         None if copy.qos == QoS::AtMostOnce => Ok(()),
         None => {
-            row.state.admit(copy)?;
+            row.state.enqueue_within_room(copy)?;
             Ok(())
         }
     }

@@ -118,13 +118,13 @@ impl Session {
         if self.room() == 0 {
             return Err(EnqueueError::QueueFull);
         }
-        self.admit(publication)?;
+        self.enqueue_within_room(publication)?;
         Ok(())
     }
 
     /// Queues a publication after the others, if `room` said that there is room for it. The only
     /// error is that memory ran out.
-    pub fn admit(&mut self, publication: Publication) -> Result<(), AllocError>
+    pub fn enqueue_within_room(&mut self, publication: Publication) -> Result<(), AllocError>
         requires room { 1 ≤ room MAX_ENTRIES self.old.queue }
         ensures ok { OnOk result
             (self.new ≡ with_queue (enqueue publication self.old.queue) self.old) }
