@@ -24,4 +24,4 @@ pub use sending::{
     MASTER, send, send_after, send_appends, send_commits, send_installs, send_joins, send_state,
 };
 pub use status::{Progress, Role, Status};
-pub use taking::{counted, take_in};
+pub use taking::{append_next, counted};

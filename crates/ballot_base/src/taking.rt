@@ -10,7 +10,7 @@ use crate::Log;
 
 /// Appends a command if its place is the next one of the log. Returns whether there was memory, if
 /// it was needed; if there was none, the log is unchanged.
-pub fn take_in<C: Drop>(log: &mut Log<C>, place: u64, command: C) -> bool
+pub fn append_next<C: Drop>(log: &mut Log<C>, place: u64, command: C) -> bool
     ensures taken { OnTrue result (log.new ≡ extended place command log.old) }
     ensures lost { OnFalse result ((log.new ≡ log.old) × (place ≡ places log.old)) }
 {

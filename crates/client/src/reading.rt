@@ -25,7 +25,7 @@ impl ClientCore {
         if self.stage == Stage::Closed {
             return Err(ClientError::NotActive);
         }
-        let read = self.take_in(piece);
+        let read = self.feed_and_read(piece);
         if is_fatal(read) {
             self.lost();
         }
@@ -33,7 +33,7 @@ impl ClientCore {
     }
 
     // Takes a piece, and handles each whole packet, up to the first that ends the call.
-    fn take_in(&mut self, piece: &[u8]) -> Result<(), ClientError>
+    fn feed_and_read(&mut self, piece: &[u8]) -> Result<(), ClientError>
         ensures { TakesIn piece.now self.old result self.new }
     {
         match self.feed(piece) {

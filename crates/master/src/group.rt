@@ -21,7 +21,7 @@ ghost use Rattle.master.specs.Inside.Losing.{TookStep, input_of};
 ghost use Rattle.master.specs.Steps.{Run, StepsBy, TakesNoMemory, LosesNothing, done_exactly};
 
 use crate::event::{Event, Idle};
-use crate::inputs::{Taken, counted, part, take_in};
+use crate::inputs::{Taken, counted, part, step_replica};
 use crate::master::Master;
 use crate::opening::can_open;
 use crate::told::Told;
@@ -268,7 +268,7 @@ impl<M: Machine> Group<M> {
         let from = self.left.len();
         let told = self.sent.len();
         let replica = &mut self.nodes[at];
-        let taken = take_in(replica, taken, &mut self.left);
+        let taken = step_replica(replica, taken, &mut self.left);
         let kept = part(&mut self.left, &mut self.sent, from);
         self.told.hear_from(&self.sent, told);
         self.next.hear_from(&self.sent, told);

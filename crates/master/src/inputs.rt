@@ -22,7 +22,7 @@ pub enum Taken<C> {
 }
 
 /// Lets a replica that runs take an input. Returns whether memory sufficed.
-pub fn take_in<M: Machine>(
+pub fn step_replica<M: Machine>(
     replica: &mut Replica<M>,
     taken: Taken<M::Command>,
     out: &mut Vec<Effect<M::Command, M::Output>>,

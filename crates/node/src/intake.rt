@@ -91,7 +91,7 @@ impl Intake {
     }
 
     /// Counts bytes that were in transit as taken.
-    pub fn take(&mut self, bytes: u64)
+    pub fn count_taken(&mut self, bytes: u64)
         ensures { self.new ≡ took bytes self.old }
     {
         let taken = bytes.min(self.entering);

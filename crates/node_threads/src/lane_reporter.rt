@@ -41,7 +41,7 @@ impl<'e, 'a, J: NodeNaming, S: Stated<J>, G: Gate> Hearer for LaneReporter<'e, '
         let index = self.link.index;
         let entering = shared.await_room(rt, self.link.port, size_of(&item));
         shared.send(rt, &mut self.lane, item);
-        shared.context.node.take_in(rt, entering);
+        shared.context.node.count_taken(rt, entering);
         node.help(rt, all);
         shared.write_busy(rt, index, true);
     }

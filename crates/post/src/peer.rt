@@ -261,8 +261,8 @@ impl Peer {
     }
 
     /// Counts bytes that were in transit as taken.
-    pub fn take_in<R: Wait>(&self, rt: &R, bytes: u64) {
-        self.intake.lock(rt).take(bytes);
+    pub fn count_taken<R: Wait>(&self, rt: &R, bytes: u64) {
+        self.intake.lock(rt).count_taken(bytes);
     }
 
     /// Returns the node's status after its last change. There is none before it is served.

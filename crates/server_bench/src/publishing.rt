@@ -101,7 +101,7 @@ impl<'a> Publisher<'a> {
 }
 
 /// Takes in all publications, and answers them.
-pub fn take_in(alloc: Global, group: &Group, subscriber: &Subscriber) -> Result<()> {
+pub fn receive(alloc: Global, group: &Group, subscriber: &Subscriber) -> Result<()> {
     let mut ends = Handshakes::new(alloc, &subscriber.stream)?;
     take_all(&mut ends, group, subscriber)
 }

@@ -4,7 +4,7 @@ use crate::group::Group;
 use crate::host::Host;
 use crate::load::Load;
 use crate::nodes::beside;
-use crate::publishing::{publish, take_in};
+use crate::publishing::{publish, receive};
 use anyhow::{Result, bail};
 use std::alloc::Global;
 use std::net::SocketAddr;
@@ -86,7 +86,7 @@ fn attend<R: Clock>(
         return publish(rt, alloc, group, load, start);
     }
     match group.subscribers.get(at.saturating_sub(1)) {
-        Some(subscriber) => take_in(alloc, group, subscriber),
+        Some(subscriber) => receive(alloc, group, subscriber),
         None => bail!("there is no client {index}"),
     }
 }

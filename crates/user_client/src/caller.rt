@@ -119,9 +119,9 @@ impl Caller {
         let _ = self.core.disconnect();
     }
 
-    /// Takes what the server sent. It is a fault if a server had a session before the first
+    /// Receives what the server sent. It is a fault if a server had a session before the first
     /// accepted connection, or lost it later.
-    pub(crate) fn take_in(&mut self, piece: &[u8]) -> Result<News, UserClientError>
+    pub(crate) fn receive(&mut self, piece: &[u8]) -> Result<News, UserClientError>
         ensures trace { OnOk result (Trace self.old [] self.new) }
         ensures lost { IfErr result (IsLostBy self.old self.new) }
     {

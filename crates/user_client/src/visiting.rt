@@ -37,7 +37,7 @@ pub(crate) fn exchange<D: Read + Write>(
         return Ok(News::Lost);
     }
     match next_piece(stream, room) {
-        Some(piece) => caller.take_in(piece),
+        Some(piece) => caller.receive(piece),
         None => Ok(News::Lost),
     }
 }

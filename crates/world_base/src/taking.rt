@@ -40,7 +40,7 @@ impl SteppingNode {
         if self.ignores(&item) {
             return self.lose_failed(effects);
         }
-        self.take_in(item, effects);
+        self.do_item(item, effects);
         self.lose_failed(effects);
     }
 
@@ -62,7 +62,7 @@ impl SteppingNode {
     }
 
     // Does what the item says, without the losses that follow from it.
-    fn take_in(&mut self, item: Item, effects: &mut Vec<Effect<Command, Output>>)
+    fn do_item(&mut self, item: Item, effects: &mut Vec<Effect<Command, Output>>)
         ensures turns { DoesTurn self.old self.new effects.old.items effects.new.items
             (takes_in item self.old.core) }
         ensures run { Ran

@@ -16,7 +16,7 @@ ghost use Rattle.byte_world.specs.world_base.Core.{CountedCore};
 ghost use Rattle.world_nodes.specs.Inside.{IsPassedOver, RunsAt, WasSent};
 
 use crate::nodes::Nodes;
-use crate::turning::{cut_back, pass_over, take_in};
+use crate::turning::{cut_back, pass_over, step_node};
 use byte_world::world_base::{
     Body, BrokerMachine, Command, Config, Item, Members, Memory, Message,
 };
@@ -41,7 +41,7 @@ impl Nodes {
         };
         let core = &mut self.nodes[at];
         let from = self.sent.len();
-        let whole = take_in(self.alloc, core, item, &mut self.sent);
+        let whole = step_node(self.alloc, core, item, &mut self.sent);
         self.counters.hear_from(&self.sent, from);
         self.losses = counted(self.losses, whole, true);
         Ok(())
@@ -93,7 +93,7 @@ impl Nodes {
         };
         let core = &mut self.nodes[at];
         let from = self.sent.len();
-        let whole = take_in(self.alloc, core, Item::Cut, &mut self.sent);
+        let whole = step_node(self.alloc, core, Item::Cut, &mut self.sent);
         let was_cut = core.snapshot().0 > base;
         cut_back(&mut self.archive, before, was_cut);
         self.counters.hear_from(&self.sent, from);

@@ -10,7 +10,7 @@ use std::alloc::Global;
 
 /// Lets a node take an item; its messages are put after those that were sent. Returns whether
 /// memory sufficed.
-pub fn take_in(
+pub fn step_node(
     alloc: Global,
     node: &mut NodeCore,
     item: Item,
@@ -25,7 +25,7 @@ pub fn take_in(
     keep_all(effects, sent) && whole
 }
 
-/// Lets a node ignore the message of a number, as in `take_in`: no copy of it is made.
+/// Lets a node ignore the message of a number, as in `step_node`: no copy of it is made.
 pub fn pass_over(
     alloc: Global,
     node: &mut NodeCore,

@@ -38,7 +38,7 @@ fn hear_on(core: &mut ClientCore, ways: &mut Vec<Way>, count: usize) -> Result<(
     ensures { Hears count (piped core.old ways.old.items) result (piped core.new ways.new.items) }
 {
     let newest = ways.len() - 1;
-    let read = take_in(core, &mut ways[newest], count);
+    let read = carry_to_client(core, &mut ways[newest], count);
     if let Err(error) = move_up(core, ways) {
         core.lost();
         return Err(error);
@@ -47,7 +47,7 @@ fn hear_on(core: &mut ClientCore, ways: &mut Vec<Way>, count: usize) -> Result<(
 }
 
 // Carries the first `count` bytes in transit on a connection to a client.
-fn take_in(core: &mut ClientCore, way: &mut Way, count: usize) -> Result<(), ClientError>
+fn carry_to_client(core: &mut ClientCore, way: &mut Way, count: usize) -> Result<(), ClientError>
     requires { count ≤ length way.old.down }
     ensures { TakesIn count core.old way.old result core.new way.new }
 {

@@ -12,7 +12,7 @@ ghost use Rattle.ballot_base.specs.Serving.{follows, leads, on_append, on_commit
 use super::Replica;
 use ballot_base::machine::{Halted, Machine};
 use ballot_base::{
-    Body, Effect, Message, apply_dropping, counted, least_raised, raise, send, take_in,
+    Body, Effect, Message, append_next, apply_dropping, counted, least_raised, raise, send,
 };
 
 impl<M: Machine> Replica<M> {
@@ -107,7 +107,7 @@ impl<M: Machine> Replica<M> {
         if place > self.log.places() {
             return;
         }
-        if !take_in(&mut self.log, place, command) {
+        if !append_next(&mut self.log, place, command) {
             self.losses = counted(self.losses, false);
             return;
         }

@@ -5,6 +5,6 @@ use Rattle.user_client.proofs.visiting.exchange.Goals as goal
 
 pub returns-in-Some : goal.returns-in-Some
 returns-in-Some g c = record {
-  trace = traces_follow_ok c.take_in.new.self [] c.take_in.result c.send.ensures.trace c.take_in.ensures.trace;
-  lost = lost_later c.take_in.new.self c.take_in.result c.send.ensures.trace c.take_in.ensures.lost;
+  trace = traces_follow_ok c.receive.new.self [] c.receive.result c.send.ensures.trace c.receive.ensures.trace;
+  lost = lost_later c.receive.new.self c.receive.result c.send.ensures.trace c.receive.ensures.lost;
 }

@@ -16,23 +16,23 @@ returns-then-place-places-clause-went g c =
     went_same _ _ _ (on_append-gap _ _ c.args.from c.args.ballot c.args.place c.args.command
     (sym c.follows.ensures ∙ c.if-not-follows.false) gap)
 
-pub returns-then-not-take_in-clause-went : goal.returns-then-not-take_in-clause-went
-returns-then-not-take_in-clause-went g c =
+pub returns-then-not-append_next-clause-went : goal.returns-then-not-append_next-clause-went
+returns-then-not-append_next-clause-went g c =
     append_lost _ c.args.self.now _ c.args.from c.args.ballot c.args.place c.args.command _
     (sym c.follows.ensures ∙ c.if-not-follows.false)
-    (rw (← c.self.view_is) c.if-not-take_in.ensures.lost.1)
-    (rw (← c.self.view_is, c.if-not-take_in.ensures.lost.0) refl)
+    (rw (← c.self.view_is) c.if-not-append_next.ensures.lost.1)
+    (rw (← c.self.view_is, c.if-not-append_next.ensures.lost.0) refl)
     (rw (← c.self.view_is) c.counted-self-inside.ensures)
 
 pub returns-clause-went : goal.returns-clause-went
 returns-clause-went g c =
     let within : c.args.place ≤ places c.args.self.now.state.log =
     rw (← c.self.view_is) (omega (arith, c.places.ensures, c.if-place-places.false)) in
-    append_taken _ c.args.self.now _ c.args.from c.args.ballot c.args.place c.args.command c.take_in.new.log
+    append_taken _ c.args.self.now _ c.args.from c.args.ballot c.args.place c.args.command c.append_next.new.log
     c.places-2.result _ _ c.send-sent.result
     (sym c.follows.ensures ∙ c.if-not-follows.false)
     within
-    (rw (← c.self.view_is) c.if-not-take_in.ensures.taken)
+    (rw (← c.self.view_is) c.if-not-append_next.ensures.taken)
     c.places-2.ensures
     (rw (← c.self.view_is) c.send-sent.ensures)
     (rw (← c.self.view_is) refl)

@@ -7,8 +7,8 @@ use Rattle.master.proofs.StepsOfNodes.{took_turn, below_of, going_of}
 use Rattle.master.proofs.Viewed.{taken_is_read}
 use Rattle.master.proofs.group.Group.take_input.Goals as goal
 
-pub take_in-taken-requires : goal.take_in-taken-requires
-take_in-taken-requires g c =
+pub step_replica-taken-requires : goal.step_replica-taken-requires
+step_replica-taken-requires g c =
     let there = rw (← c.self.view_is) at c.requires.runs in
     going_of c.self.inside.nodes.items c.args.at c.index_mut-replica.result.now there.0 c.index_mut-replica.ensures.value there.1 there.2
 
@@ -32,21 +32,21 @@ invariant_of-self g c =
     let from : c.len-from.result ≡ length c.self.inside.left.items = c.len-from.ensures ∙ c.self.inside.left.ok.0 in
     let high : c.self.inside.losses ≤ 18446744073709551615 = omega arith in
     let low = counts_at c.self.inside.losses c.self.inside.nodes.items c.args.at c.index_mut-replica.result.now c.self.invariant.2 below c.index_mut-replica.ensures.value in
-    let covers = count_covers c.take_in-taken.result c.part-kept.result c.self.inside.losses c.counted-self-inside.result c.take_in-taken.ensures
+    let covers = count_covers c.step_replica-taken.result c.part-kept.result c.self.inside.losses c.counted-self-inside.result c.step_replica-taken.ensures
     c.counted-self-inside.ensures low high in
     let took = took_turn c.self.inside.archive.items c.self.inside.master c.self.inside.nodes.items c.self.inside.sent.items c.part-kept.new.sent.items
-    c.self.inside.left.items c.take_in-taken.new.out.items c.part-kept.new.effects.items c.self.inside.losses c.counted-self-inside.result c.args.at c.len-from.result
-    c.index_mut-replica.result.now c.take_in-taken.new.replica (input_of c.args.taken) there.0 c.take_in-taken.result c.part-kept.result
-    below c.index_mut-replica.ensures.value there.1 from c.take_in-taken.ensures c.part-kept.ensures c.counted-self-inside.ensures
+    c.self.inside.left.items c.step_replica-taken.new.out.items c.part-kept.new.effects.items c.self.inside.losses c.counted-self-inside.result c.args.at c.len-from.result
+    c.index_mut-replica.result.now c.step_replica-taken.new.replica (input_of c.args.taken) there.0 c.step_replica-taken.result c.part-kept.result
+    below c.index_mut-replica.ensures.value there.1 from c.step_replica-taken.ensures c.part-kept.ensures c.counted-self-inside.ensures
     (taken_is_read rules group.config _ group.past group.came c.args.at (input_of c.args.taken) there.0 may) low high in (
       c.part-kept.ensures.messages_are
-          ∙ ap messages (front_of c.len-from.result c.self.inside.left.items c.take_in-taken.ensures.given c.take_in-taken.new.out.items c.take_in-taken.ensures.appended from)
+          ∙ ap messages (front_of c.len-from.result c.self.inside.left.items c.step_replica-taken.ensures.given c.step_replica-taken.new.out.items c.step_replica-taken.ensures.appended from)
           ∙ c.self.invariant.0,
       group_turns rules _ _ c.self.inside.told c.self.inside.next c.hear_from.new.self c.hear_from-2.new.self _ _ (input_of c.args.taken) c.args.at c.len-told.result there.0
           c.part-kept.ensures.kept c.part-kept.new.sent.items group refl refl there.1 there.2 may took refl (c.len-told.ensures ∙ c.self.inside.sent.ok.0)
           c.part-kept.ensures.sent_is c.hear_from.ensures.ballot (rw c.deref.ensures.value at c.hear_from.ensures.counted) c.hear_from-2.ensures.ballot
           (rw c.deref-2.ensures.value at c.hear_from-2.ensures.counted),
-      counts_set c.counted-self-inside.result c.self.inside.nodes.items c.args.at c.take_in-taken.new.replica
+      counts_set c.counted-self-inside.result c.self.inside.nodes.items c.args.at c.step_replica-taken.new.replica
           (counts_more c.self.inside.losses c.counted-self-inside.result c.self.inside.nodes.items covers.1 c.self.invariant.2) covers.0,
     )
 
@@ -61,7 +61,7 @@ returns g c =
     let high : c.self.inside.losses ≤ 18446744073709551615 = omega arith in
     let low = counts_at c.self.inside.losses c.self.inside.nodes.items c.args.at c.index_mut-replica.result.now c.self.invariant.2 below c.index_mut-replica.ensures.value in
     rw (← c.self.view_is) (λ r stands. took_turn c.self.inside.archive.items c.self.inside.master c.self.inside.nodes.items c.self.inside.sent.items c.part-kept.new.sent.items
-    c.self.inside.left.items c.take_in-taken.new.out.items c.part-kept.new.effects.items c.self.inside.losses c.counted-self-inside.result c.args.at c.len-from.result
-    c.index_mut-replica.result.now c.take_in-taken.new.replica (input_of c.args.taken) r c.take_in-taken.result c.part-kept.result
-    below c.index_mut-replica.ensures.value stands from c.take_in-taken.ensures c.part-kept.ensures c.counted-self-inside.ensures
+    c.self.inside.left.items c.step_replica-taken.new.out.items c.part-kept.new.effects.items c.self.inside.losses c.counted-self-inside.result c.args.at c.len-from.result
+    c.index_mut-replica.result.now c.step_replica-taken.new.replica (input_of c.args.taken) r c.step_replica-taken.result c.part-kept.result
+    below c.index_mut-replica.ensures.value stands from c.step_replica-taken.ensures c.part-kept.ensures c.counted-self-inside.ensures
     (taken_is_read rules group.config _ group.past group.came c.args.at (input_of c.args.taken) r may) low high)

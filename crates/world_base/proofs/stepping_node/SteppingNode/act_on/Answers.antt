@@ -16,9 +16,9 @@ returns-then-ignores-clause-quiet c = λ _ failed. quiet_ignored _ _ c.lose_fail
 
 pub returns-clause-run : goal.returns-clause-run
 returns-clause-run c =
-    ran_then (TakesIn c.args.item) LosesAllFailed _ _ _ _ _ _ c.take_in.ensures.run c.lose_failed-2.ensures.run
+    ran_then (TakesIn c.args.item) LosesAllFailed _ _ _ _ _ _ c.do_item.ensures.run c.lose_failed-2.ensures.run
 
 pub returns-clause-quiet : goal.returns-clause-quiet
 returns-clause-quiet c =
-    quiet_otherwise c.args.item _ _ _ c.ignores.result c.if-ignores.false c.ignores.ensures c.take_in.ensures.heard c.take_in.ensures.crash c.take_in.ensures.ended
+    quiet_otherwise c.args.item _ _ _ c.ignores.result c.if-ignores.false c.ignores.ensures c.do_item.ensures.heard c.do_item.ensures.crash c.do_item.ensures.ended
     c.lose_failed-2.ensures.none

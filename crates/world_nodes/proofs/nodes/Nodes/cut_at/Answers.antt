@@ -93,7 +93,7 @@ index_mut-core-requires c =
 
 pub hear_from-requires : goal.hear_from-requires
 hear_from-requires c =
-    more_than c.len-from.result c.self.inside.sent.items _ c.take_in-whole.new.sent.items c.deref.result.now c.deref.ensures.value c.take_in-whole.ensures.is
+    more_than c.len-from.result c.self.inside.sent.items _ c.step_node-whole.new.sent.items c.deref.result.now c.deref.ensures.value c.step_node-whole.ensures.is
     (c.len-from.ensures ∙ c.self.inside.sent.ok.0)
 
 pub invariant_of-self-2 : goal.invariant_of-self-2
@@ -107,21 +107,21 @@ invariant_of-self-2 c =
       losses = c.self.inside.losses;
     } in
     let whole : c.len-before.result ≡ length c.self.inside.archive.items = omega (arith, c.len-before.ensures, c.self.inside.archive.ok.0) in
-    let took = took_by c.self.inside.nodes.items c.args.at there.0 c.index_mut-core.result.now Cut c.take_in-whole.new.node c.self.inside.sent.items
-    c.take_in-whole.new.sent.items c.take_in-whole.result there.1 c.index_mut-core.ensures.value c.take_in-whole.ensures in
+    let took = took_by c.self.inside.nodes.items c.args.at there.0 c.index_mut-core.result.now Cut c.step_node-whole.new.node c.self.inside.sent.items
+    c.step_node-whole.new.sent.items c.step_node-whole.result there.1 c.index_mut-core.ensures.value c.step_node-whole.ensures in
     let archive = archive_of old c.args.at there.0 there.1 there.2 c.self.inside.counters.told c.self.inside.counters.next c.self.invariant c.cut_back.new.archive.items
-    c.record.new.archive.items c.rest.result.now c.index-core.result.now c.take_in-whole.new.node c.status-committed.result c.len-before.result c.snapshot-base.result.0
+    c.record.new.archive.items c.rest.result.now c.index-core.result.now c.step_node-whole.new.node c.status-committed.result c.len-before.result c.snapshot-base.result.0
     c.snapshot.result.0 c.index-core.ensures c.snapshot-base.ensures.base c.status-committed.ensures c.rest.ensures.rest whole c.in-Ok.ensures.ok
     c.snapshot.ensures.base c.cut_back.ensures in
     let from = c.len-from.ensures ∙ c.self.inside.sent.ok.0 in
     acts_counting old _ c.args.at (takes Cut) c.self.inside.counters.told c.self.inside.counters.next c.hear_from.new.self.told c.hear_from.new.self.next c.self.invariant
-    (cut_loses old c.args.at there.0 c.take_in-whole.new.node c.take_in-whole.new.sent.items c.cut_back.new.archive.items c.take_in-whole.result
+    (cut_loses old c.args.at there.0 c.step_node-whole.new.node c.step_node-whole.new.sent.items c.cut_back.new.archive.items c.step_node-whole.result
     c.counted-self-inside-2.result there.1 took archive)
     refl c.hear_from.ensures.active c.hear_from.ensures.waits
-    (heard_after c.self.inside.sent.items c.take_in-whole.new.sent.items c.deref.result.now _ c.len-from.result c.self.inside.counters.told c.hear_from.new.self.told
-    c.deref.ensures.value c.take_in-whole.ensures.is from c.hear_from.ensures.told)
-    (heard_after c.self.inside.sent.items c.take_in-whole.new.sent.items c.deref.result.now _ c.len-from.result c.self.inside.counters.next c.hear_from.new.self.next
-    c.deref.ensures.value c.take_in-whole.ensures.is from c.hear_from.ensures.next)
+    (heard_after c.self.inside.sent.items c.step_node-whole.new.sent.items c.deref.result.now _ c.len-from.result c.self.inside.counters.told c.hear_from.new.self.told
+    c.deref.ensures.value c.step_node-whole.ensures.is from c.hear_from.ensures.told)
+    (heard_after c.self.inside.sent.items c.step_node-whole.new.sent.items c.deref.result.now _ c.len-from.result c.self.inside.counters.next c.hear_from.new.self.next
+    c.deref.ensures.value c.step_node-whole.ensures.is from c.hear_from.ensures.next)
 
 pub returns-clause-step : goal.returns-clause-step
 returns-clause-step c =
@@ -134,13 +134,13 @@ returns-clause-step c =
       losses = c.self.inside.losses;
     } in
     let whole : c.len-before.result ≡ length c.self.inside.archive.items = omega (arith, c.len-before.ensures, c.self.inside.archive.ok.0) in
-    let took = took_by c.self.inside.nodes.items c.args.at there.0 c.index_mut-core.result.now Cut c.take_in-whole.new.node c.self.inside.sent.items
-    c.take_in-whole.new.sent.items c.take_in-whole.result there.1 c.index_mut-core.ensures.value c.take_in-whole.ensures in
+    let took = took_by c.self.inside.nodes.items c.args.at there.0 c.index_mut-core.result.now Cut c.step_node-whole.new.node c.self.inside.sent.items
+    c.step_node-whole.new.sent.items c.step_node-whole.result there.1 c.index_mut-core.ensures.value c.step_node-whole.ensures in
     let archive = archive_of old c.args.at there.0 there.1 there.2 c.self.inside.counters.told c.self.inside.counters.next c.self.invariant c.cut_back.new.archive.items
-    c.record.new.archive.items c.rest.result.now c.index-core.result.now c.take_in-whole.new.node c.status-committed.result c.len-before.result c.snapshot-base.result.0
+    c.record.new.archive.items c.rest.result.now c.index-core.result.now c.step_node-whole.new.node c.status-committed.result c.len-before.result c.snapshot-base.result.0
     c.snapshot.result.0 c.index-core.ensures c.snapshot-base.ensures.base c.status-committed.ensures c.rest.ensures.rest whole c.in-Ok.ensures.ok
     c.snapshot.ensures.base c.cut_back.ensures in
-    rw (← c.self.view_is) (cut_takes old c.args.at there.0 there.1 there.2 c.take_in-whole.new.node c.take_in-whole.new.sent.items c.cut_back.new.archive.items c.take_in-whole.result
+    rw (← c.self.view_is) (cut_takes old c.args.at there.0 there.1 there.2 c.step_node-whole.new.node c.step_node-whole.new.sent.items c.cut_back.new.archive.items c.step_node-whole.result
     c.counted-self-inside-2.result took archive c.counted-self-inside-2.ensures)
 
 pub returns-clause-exact : goal.returns-clause-exact
@@ -154,14 +154,14 @@ returns-clause-exact c =
       losses = c.self.inside.losses;
     } in
     let whole : c.len-before.result ≡ length c.self.inside.archive.items = omega (arith, c.len-before.ensures, c.self.inside.archive.ok.0) in
-    let took = took_by c.self.inside.nodes.items c.args.at there.0 c.index_mut-core.result.now Cut c.take_in-whole.new.node c.self.inside.sent.items
-    c.take_in-whole.new.sent.items c.take_in-whole.result there.1 c.index_mut-core.ensures.value c.take_in-whole.ensures in
+    let took = took_by c.self.inside.nodes.items c.args.at there.0 c.index_mut-core.result.now Cut c.step_node-whole.new.node c.self.inside.sent.items
+    c.step_node-whole.new.sent.items c.step_node-whole.result there.1 c.index_mut-core.ensures.value c.step_node-whole.ensures in
     let archive = archive_of old c.args.at there.0 there.1 there.2 c.self.inside.counters.told c.self.inside.counters.next c.self.invariant c.cut_back.new.archive.items
-    c.record.new.archive.items c.rest.result.now c.index-core.result.now c.take_in-whole.new.node c.status-committed.result c.len-before.result c.snapshot-base.result.0
+    c.record.new.archive.items c.rest.result.now c.index-core.result.now c.step_node-whole.new.node c.status-committed.result c.len-before.result c.snapshot-base.result.0
     c.snapshot.result.0 c.index-core.ensures c.snapshot-base.ensures.base c.status-committed.ensures c.rest.ensures.rest whole c.in-Ok.ensures.ok
     c.snapshot.ensures.base c.cut_back.ensures in
     rw (← c.self.view_is) (cuts_exactly (c.args.at + 1) old _
-    (cut_takes old c.args.at there.0 there.1 there.2 c.take_in-whole.new.node c.take_in-whole.new.sent.items c.cut_back.new.archive.items c.take_in-whole.result
+    (cut_takes old c.args.at there.0 there.1 there.2 c.step_node-whole.new.node c.step_node-whole.new.sent.items c.cut_back.new.archive.items c.step_node-whole.result
     c.counted-self-inside-2.result took archive c.counted-self-inside-2.ensures))
 
 pub returns-clause-acts : goal.returns-clause-acts
@@ -175,12 +175,12 @@ returns-clause-acts c =
       losses = c.self.inside.losses;
     } in
     let whole : c.len-before.result ≡ length c.self.inside.archive.items = omega (arith, c.len-before.ensures, c.self.inside.archive.ok.0) in
-    let took = took_by c.self.inside.nodes.items c.args.at there.0 c.index_mut-core.result.now Cut c.take_in-whole.new.node c.self.inside.sent.items
-    c.take_in-whole.new.sent.items c.take_in-whole.result there.1 c.index_mut-core.ensures.value c.take_in-whole.ensures in
+    let took = took_by c.self.inside.nodes.items c.args.at there.0 c.index_mut-core.result.now Cut c.step_node-whole.new.node c.self.inside.sent.items
+    c.step_node-whole.new.sent.items c.step_node-whole.result there.1 c.index_mut-core.ensures.value c.step_node-whole.ensures in
     let archive = archive_of old c.args.at there.0 there.1 there.2 c.self.inside.counters.told c.self.inside.counters.next c.self.invariant c.cut_back.new.archive.items
-    c.record.new.archive.items c.rest.result.now c.index-core.result.now c.take_in-whole.new.node c.status-committed.result c.len-before.result c.snapshot-base.result.0
+    c.record.new.archive.items c.rest.result.now c.index-core.result.now c.step_node-whole.new.node c.status-committed.result c.len-before.result c.snapshot-base.result.0
     c.snapshot.result.0 c.index-core.ensures c.snapshot-base.ensures.base c.status-committed.ensures c.rest.ensures.rest whole c.in-Ok.ensures.ok
     c.snapshot.ensures.base c.cut_back.ensures in
     rw (← c.self.view_is) (inl
-    (cut_loses old c.args.at there.0 c.take_in-whole.new.node c.take_in-whole.new.sent.items c.cut_back.new.archive.items c.take_in-whole.result
+    (cut_loses old c.args.at there.0 c.step_node-whole.new.node c.step_node-whole.new.sent.items c.cut_back.new.archive.items c.step_node-whole.result
     c.counted-self-inside-2.result there.1 took archive))

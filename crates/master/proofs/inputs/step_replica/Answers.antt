@@ -3,8 +3,8 @@ use Rattle.std.specs.Prelude.{nat_lt, ◌==◌}
 use Rattle.std.proofs.lemmas.Bool.{eqb-true, lt-ltb, ltb-true}
 use Rattle.master.specs.Inside.Losing.{input_of}
 use Rattle.master.proofs.Calling.{Called, called_as, proposes_called, ticks_called, took_in}
-use Rattle.master.proofs.inputs.take_in.Goals as goal
-use Rattle.master.proofs.inputs.take_in.Goals.{in-Received, in-Proposed, in-Ticked}
+use Rattle.master.proofs.inputs.step_replica.Goals as goal
+use Rattle.master.proofs.inputs.step_replica.Goals.{in-Received, in-Proposed, in-Ticked}
 
 pub returns-then-losses-before : goal.returns-then-losses-before
 returns-then-losses-before g c =

@@ -6,8 +6,8 @@ use Rattle.user_client.specs.declared.user_client_error.UserClientError.TheVaria
 use Rattle.user_client.proofs.CallsAreSteps.{heard, parts}
 use Rattle.user_client.proofs.LossFollows.{lost_here}
 use Rattle.user_client.proofs.RefusedCalls.{told}
-use Rattle.user_client.proofs.caller.Caller.take_in.Goals as goal
-use Rattle.user_client.proofs.caller.Caller.take_in.Goals.{then-self, else-self}
+use Rattle.user_client.proofs.caller.Caller.receive.Goals as goal
+use Rattle.user_client.proofs.caller.Caller.receive.Goals.{then-self, else-self}
 
 pub returns-clause-trace : goal.returns-clause-trace
 returns-clause-trace c =

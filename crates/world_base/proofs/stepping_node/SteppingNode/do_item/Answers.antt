@@ -7,7 +7,7 @@ use Rattle.world_base.proofs.Accounts.{ran_then}
 use Rattle.world_base.proofs.Hearing.{peer_calmly}
 use Rattle.world_base.proofs.Idle.{ended_calmly}
 use Rattle.world_base.proofs.ItemsRun.{ran_crashed, ran_cut, ran_item, ran_opened}
-use Rattle.world_base.proofs.stepping_node.SteppingNode.take_in.Goals as goal
+use Rattle.world_base.proofs.stepping_node.SteppingNode.do_item.Goals as goal
 
 pub returns-in-Peer-clause-run : goal.returns-in-Peer-clause-run
 returns-in-Peer-clause-run c = ran_item c.args.item (Peer c.in-Peer.message) _ _ _ _ c.in-Peer.is c.receive.ensures.run
