@@ -31,7 +31,7 @@ use Rattle.node_group.specs.world_base.Core.{CoreState, Turn, serves}
 use Rattle.node_group.specs.world_base.Handing.{hands_over, left_by, listed_at}
 use Rattle.node_group.specs.world_base.KeepAlive.{ends_if, ends_silent, lowest_silent}
 use Rattle.node_group.specs.world_base.Reading.{begins, changes, ends, loses, loses_open, open_at, reads, reads_next, reads_of, refused, says, unread_of}
-use Rattle.node_group.specs.world_base.Step.{acts_on, next_name, opens, takes_in, cuts, with_cut}
+use Rattle.node_group.specs.world_base.Step.{acts_on, next_name, opens, does_item, cuts, with_cut}
 use Rattle.node_group.specs.world_base.Turns.{changes_named, drives, has_room, heard, proposes, quiet, repeated, served}
 use Rattle.node_group.specs.node_moves.Moves.{NodeCall, done}
 use Rattle.node_group.specs.node_moves.Moves.NodeCall.{takes, gives}
@@ -211,7 +211,7 @@ module _ (P : Connection → Type 0) (follows : IsFollowed P) where
       by true = all
       by false = all
 
-  each_taken : (item : Item) (core : CoreState) → IsNewOf (takes item) core → AllOf core → AllOf (takes_in item core).core
+  each_taken : (item : Item) (core : CoreState) → IsNewOf (takes item) core → AllOf core → AllOf (does_item item core).core
   each_taken (Peer message) core new all = each_driven (Receives message) core all
   each_taken (Tick now) core new all =
       each_time (ends_silent now) (each_silent now) (length (drives Ticks core).core.connections) (drives Ticks core).core (each_driven Ticks core all)
@@ -237,7 +237,7 @@ module _ (P : Connection → Type 0) (follows : IsFollowed P) where
   pub each_done : (node_call : NodeCall) (core : CoreState) → IsNewOf node_call core → AllOf core → AllOf (done node_call core).core
   each_done (takes item) core new all =
       each_settled P kept.shut (acts_on item core).core
-      (each_repeated P kept (length (takes_in item core).core.connections) (takes_in item core).core (each_taken item core new all))
+      (each_repeated P kept (length (does_item item core).core.connections) (does_item item core).core (each_taken item core new all))
   each_done (gives port) core new all = each_handed port core all
 
 -- ---- where the connections of a node come from

@@ -26,7 +26,7 @@ use Rattle.node_group.specs.world_base.Lossy.{Account, Delivers, Drives, Repeate
 use Rattle.node_group.specs.world_base.LossyProposals.{Declines, Proposes}
 use Rattle.node_group.specs.world_base.LossyProposals.Declines.{no_room, forgets, stops}
 use Rattle.node_group.specs.world_base.Lossy.Delivers.{nothing, does, tells, loses}
-use Rattle.node_group.specs.world_base.LossyStep.{ActsOn, Holds, LosesAllFailed, Opens, ReadsAll, RunsOn, TakesIn}
+use Rattle.node_group.specs.world_base.LossyStep.{ActsOn, Holds, LosesAllFailed, Opens, ReadsAll, RunsOn, DoesItem}
 use Rattle.node_group.specs.world_base.LossyReading.{Asks, Begins, Closes, Ends, EndsSilent, LosesFailed, ReadsNext, Shuts}
 use Rattle.node_group.specs.world_base.LossyReading.Ends.{none_open, untold, told}
 use Rattle.node_group.specs.world_base.LossyReading.EndsSilent.{none_silent, ends_one}
@@ -162,7 +162,7 @@ module _ (P : Connection → Type 0) (follows : IsFollowed P) where
   all_read : (now : ℕ) (port : Port) (core : CoreState) (did : Account) → ReadsAll now port core did → All core → All did.core
   all_read now port core did runs all = repeated_kept (unread_of (open_at port core)) (ReadsNext now port) (reads_kept now port) core did runs all
 
-  taken_kept : (item : Item) (core : CoreState) (did : Account) → OpensSo item core → TakesIn item core did → All core → All did.core
+  taken_kept : (item : Item) (core : CoreState) (did : Account) → OpensSo item core → DoesItem item core did → All core → All did.core
   taken_kept (Peer message) core did new runs all = drives_kept (Receives message) core did runs all
   taken_kept (Tick now) core did new t all =
       subst (λ (d : Account). All d.core) (sym t.is) (all_silent now t.one.core t.two t.next (drives_kept Ticks core t.one t.first all))

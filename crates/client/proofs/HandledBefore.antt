@@ -8,7 +8,7 @@ use Rattle.client_base.specs.declared.stage.Stage.TheVariants as stages
 use Rattle.client_base.specs.State.{is_open, lost}
 use Rattle.client.specs.Core.{Core, nothing_read, gone}
 use Rattle.client.specs.Reading.{Handles, EndsWith, OnBytes, fed}
-use Rattle.client.specs.Inside.Handling.{ReadsOne, StopsAt, TakesIn, Feeds, is_fatal}
+use Rattle.client.specs.Inside.Handling.{ReadsOne, StopsAt, FeedsAndReads, Feeds, is_fatal}
 
 -- one packet more
 pub handled_more : (start s u : Core) → Handles start s → ReadsOne s (Ok true) u → Handles start u
@@ -33,13 +33,13 @@ ends last mid (Err errors.Protocol) stops = (stops.0, gone_alike last mid stops.
 ends last mid (Err (errors.Malformed kind)) stops = (stops.0, gone_alike last mid stops.1 stops.2)
 
 pub read_so : (piece : List ℕ) (stage : Stage) (old mid : Core) (result : Result (Unit {0}) ClientError) → is_open stage ≡ true
-    → TakesIn piece old result mid → OnBytes piece stage old result (if is_fatal result then gone mid else mid)
+    → FeedsAndReads piece old result mid → OnBytes piece stage old result (if is_fatal result then gone mid else mid)
 read_so piece stages.Closed old mid result up takes = absurd (both_ways false refl up)
 read_so piece stages.Opened old mid result up takes = (takes.0, takes.1, ends takes.0 mid result takes.2)
 read_so piece stages.Online old mid result up takes = (takes.0, takes.1, ends takes.0 mid result takes.2)
 
 -- a piece that found no memory
-pub unfed : (piece : List ℕ) (old mid : Core) (cause : ClientError) → Feeds piece old (Err cause) mid → TakesIn piece old (Err cause) mid
+pub unfed : (piece : List ℕ) (old mid : Core) (cause : ClientError) → Feeds piece old (Err cause) mid → FeedsAndReads piece old (Err cause) mid
 unfed piece old mid cause feeds =
-    subst (λ (error : ClientError). TakesIn piece old (Err error) mid) (sym feeds.0)
+    subst (λ (error : ClientError). FeedsAndReads piece old (Err error) mid) (sym feeds.0)
     (fed piece old, Handles.none, (ap (λ core. core.state) feeds.1, ap (λ core. core.out) feeds.1))

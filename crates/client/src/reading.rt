@@ -3,7 +3,7 @@
 ghost use Rattle.std.specs.Prelude.{◌≡◌, ◌<◌, length, true, Ok};
 ghost use Rattle.client_base.specs.Calls.{on_first, on_later};
 ghost use Rattle.client.specs.Reading.{outcome_of, cause_of, OnBytes};
-ghost use Rattle.client.specs.Inside.Handling.{Tries, ReadsOne, TakesIn, TakesNext, Feeds, ReadsAll};
+ghost use Rattle.client.specs.Inside.Handling.{Tries, ReadsOne, FeedsAndReads, TakesNext, Feeds, ReadsAll};
 ghost use Rattle.client.specs.Inside.Handling.{cut_cause, is_fatal};
 
 use crate::client_core::ClientCore;
@@ -34,7 +34,7 @@ impl ClientCore {
 
     // Takes a piece, and handles each whole packet, up to the first that ends the call.
     fn feed_and_read(&mut self, piece: &[u8]) -> Result<(), ClientError>
-        ensures { TakesIn piece.now self.old result self.new }
+        ensures { FeedsAndReads piece.now self.old result self.new }
     {
         match self.feed(piece) {
             Ok(()) => self.read_all(),

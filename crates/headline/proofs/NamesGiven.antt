@@ -19,7 +19,7 @@ use Rattle.byte_world.specs.world_base.declared.Port.{Port}
 use Rattle.byte_world.specs.world_base.Connections.{fresh, is_at}
 use Rattle.byte_world.specs.world_base.Core.{CoreState, Turn, serves}
 use Rattle.byte_world.specs.world_base.LossyStep.{RunsOn}
-use Rattle.byte_world.specs.world_base.Step.{acts_on, next_name, opens, takes_in}
+use Rattle.byte_world.specs.world_base.Step.{acts_on, next_name, opens, does_item}
 use Rattle.byte_world.specs.node_moves.Moves.{NodeCall, done}
 use Rattle.byte_world.specs.node_moves.Moves.NodeCall.{takes, gives}
 use Rattle.byte_world.proofs.of_node_moves.EachKept.{IsKept, each_repeated, each_settled}
@@ -62,7 +62,7 @@ opens_named port core all = by (serves core && not (list_any (is_at port) core.c
 done_named : (node_call : NodeCall) (core : CoreState) → AreNamed core → AreNamed (done node_call core).core
 done_named (takes (Opened port now)) core all =
     each_settled IsNamed kept_named.shut (acts_on (Opened port now) core).core
-    (each_repeated IsNamed kept_named (length (takes_in (Opened port now) core).core.connections) (takes_in (Opened port now) core).core (opens_named port core all))
+    (each_repeated IsNamed kept_named (length (does_item (Opened port now) core).core.connections) (does_item (Opened port now) core).core (opens_named port core all))
 done_named (takes (Peer message)) core all = each_done IsNamed later_named (takes (Peer message)) core tt all
 done_named (takes (Tick now)) core all = each_done IsNamed later_named (takes (Tick now)) core tt all
 done_named (takes (Bytes port piece now)) core all = each_done IsNamed later_named (takes (Bytes port piece now)) core tt all

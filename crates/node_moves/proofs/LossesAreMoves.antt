@@ -11,7 +11,7 @@ use Rattle.world_base.specs.declared.item.Item.TheVariants.{Peer, Tick, Opened, 
 use Rattle.world_base.specs.Connections.{closed, holding}
 use Rattle.world_base.specs.Core.{CoreState, Turn}
 use Rattle.world_base.specs.Lossy.{Account, joined, quietly}
-use Rattle.world_base.specs.LossyStep.{Cuts, Holds, LosesAllFailed, Opens, TakesIn}
+use Rattle.world_base.specs.LossyStep.{Cuts, Holds, LosesAllFailed, Opens, DoesItem}
 use Rattle.world_base.specs.LossyReading.{EndsSilent, ReadsNext}
 use Rattle.world_base.specs.LossyStep.Cuts.{nothing_to_cut, cuts_log as cuts_log_at, forgets_cut}
 use Rattle.world_base.specs.LossyReading.Ends.{none_open, untold, told}
@@ -72,7 +72,7 @@ cut core did (forgets_cut can is) =
     before_is core (quietly (forgetful core)) did [] true _ is
     (before_calm core (quietly (forgetful core)) true (λ x. []) (λ x. refl) (calm_move forgets (refl, refl, refl, λ x. refl)))
 
-taken_in : (item : Item) (core : CoreState) (did : Account) → TakesIn item core did → Before core did (heard_with item) (is_cut item) (λ x. came_with x item core)
+taken_in : (item : Item) (core : CoreState) (did : Account) → DoesItem item core did → Before core did (heard_with item) (is_cut item) (λ x. came_with x item core)
 taken_in (Peer message) core did drives = λ next tail. first_move (hears_losing (Receives message) did refl drives) false (λ x. []) refl (λ x. refl) (λ e. refl) tt tail
 taken_in (Tick now) core did t =
     before_is core (joined t.one t.two) did (Ticks ∷ []) false _ t.is

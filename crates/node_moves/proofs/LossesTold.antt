@@ -10,7 +10,7 @@ use Rattle.world_base.specs.declared.ConnectionStage.TheVariants.{Awaits, Propos
 use Rattle.world_base.specs.Connections.{is_proposed, is_failed, has_failed, closed}
 use Rattle.world_base.specs.Core.{CoreState}
 use Rattle.world_base.specs.Failing.{closes_failed, loses_failed, loses_if}
-use Rattle.world_base.specs.Step.{acts_on, takes_in}
+use Rattle.world_base.specs.Step.{acts_on, does_item}
 use Rattle.world_base.specs.Turns.{quiet, proposes}
 use Rattle.node_moves.specs.Settled.{EachLossIsTold}
 use Rattle.node_moves.proofs.EachKept.{each_settled}
@@ -91,4 +91,4 @@ each_loss_is_told item core =
     (total_few untold_weight taken.connections (λ c. one_untold c.stage)))
   where
     taken : CoreState
-    taken = (takes_in item core).core
+    taken = (does_item item core).core

@@ -28,7 +28,7 @@ use Rattle.world_base.specs.Lossy.{Account, Delivers, Drives, ReplicaSteps, Repe
 use Rattle.world_base.specs.LossyProposals.{Declines, Proposes}
 use Rattle.world_base.specs.LossyProposals.Declines.{no_room, forgets, stops}
 use Rattle.world_base.specs.Lossy.Delivers.{nothing, does, tells, loses}
-use Rattle.world_base.specs.LossyStep.{ActsOn, Holds, RunsOn, TakesIn}
+use Rattle.world_base.specs.LossyStep.{ActsOn, Holds, RunsOn, DoesItem}
 use Rattle.world_base.specs.LossyReading.{Asks, Begins, Closes, Ends, EndsSilent, LosesFailed, ReadsNext, Shuts}
 use Rattle.world_base.specs.LossyReading.Ends.{none_open, untold, told}
 use Rattle.world_base.specs.LossyReading.EndsSilent.{none_silent, ends_one}
@@ -283,7 +283,7 @@ keep_opened port core o =
 
 -- ---- an item
 
-keep_item : (item : Item) (core : CoreState) (did : Account) → TakesIn item core did → Keep core did.core
+keep_item : (item : Item) (core : CoreState) (did : Account) → DoesItem item core did → Keep core did.core
 keep_item (Peer message) core did runs = keep_driven (Receives message) core did runs
 keep_item (Tick now) core did runs =
     keep_then (Drives Ticks) (λ k d. Repeated (length k.connections) (EndsSilent now) k d) (keep_driven Ticks)
@@ -308,7 +308,7 @@ keep_item Crash core did is = by_account core (crashed core) did is (keep_replic
 
 keep_acts : (item : Item) (core : CoreState) (did : Account) → ActsOn item core did → Keep core did.core
 keep_acts item core did acts =
-    keep_then (TakesIn item) (λ k d. Repeated (length k.connections) LosesFailed k d) (keep_item item)
+    keep_then (DoesItem item) (λ k d. Repeated (length k.connections) LosesFailed k d) (keep_item item)
     (λ k d lost. keep_repeated (length k.connections) LosesFailed keep_lost k d lost) core did
     (record { one = acts.one; two = acts.two; first = acts.first; next = acts.next; is = acts.is })
 

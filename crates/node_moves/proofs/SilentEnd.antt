@@ -12,7 +12,7 @@ use Rattle.world_base.specs.Connections.{is_over, is_proposed, is_silent, is_at,
 use Rattle.world_base.specs.Core.{CoreState, Turn}
 use Rattle.world_base.specs.KeepAlive.{lower, lower_silent, lowest_silent, ends_if, ends_silent}
 use Rattle.world_base.specs.Reading.{changes, ends, loses, loses_open, open_at}
-use Rattle.world_base.specs.Step.{acts_on, takes_in}
+use Rattle.world_base.specs.Step.{acts_on, does_item}
 use Rattle.world_base.specs.Turns.{quiet, drives, proposes}
 use Rattle.node_moves.specs.Settled.{NoneIsSilent}
 use Rattle.node_moves.proofs.EachKept.{IsKept, each_repeated, each_settled}
@@ -168,4 +168,4 @@ none_is_silent now core =
     heard = (drives Ticks core).core
 
     ended : CoreState
-    ended = (takes_in (Tick now) core).core
+    ended = (does_item (Tick now) core).core

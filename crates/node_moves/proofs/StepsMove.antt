@@ -22,7 +22,7 @@ use Rattle.world_base.specs.Connections.{is_over, is_first, is_proposed, has_fai
 use Rattle.world_base.specs.Core.{CoreState, Turn}
 use Rattle.world_base.specs.Reading.{changes, open_at, loses, loses_open, ends, asks, says, begins, reads, reads_of, reads_next, refused, unread_of}
 use Rattle.world_base.specs.ballot.Cutting.{can_cut}
-use Rattle.world_base.specs.Step.{node_step, acts_on, cuts, settled, takes_in, with_cut}
+use Rattle.world_base.specs.Step.{node_step, acts_on, cuts, settled, does_item, with_cut}
 use Rattle.world_base.specs.Failing.{loses_failed, loses_if}
 use Rattle.world_base.specs.KeepAlive.{ends_if, ends_silent, lowest_silent}
 use Rattle.world_base.specs.Turns.{quiet, proposes, drives, has_room, repeated}
@@ -244,7 +244,7 @@ cut_run core = by (can_cut core.replica.state) refl
 
 -- ---- a step
 
-taken_in : (item : Item) (core : CoreState) → First (part_of (takes item) core) core (takes_in item core)
+taken_in : (item : Item) (core : CoreState) → First (part_of (takes item) core) core (does_item item core)
 taken_in (Peer message) core = first_move (hears (Receives message) refl)
 taken_in (Tick now) core =
     first_join (first_move (hears Ticks refl))
@@ -262,7 +262,7 @@ taken_in Crash core = first_move crashes
 acted_on : (item : Item) (core : CoreState) → First (part_of (takes item) core) core (acts_on item core)
 acted_on item core =
     first_join (taken_in item core)
-    (repeated_runs loses_failed failed_run (length (takes_in item core).core.connections) (takes_in item core).core)
+    (repeated_runs loses_failed failed_run (length (does_item item core).core.connections) (does_item item core).core)
 
 step_runs : (item : Item) (core : CoreState) → First (part_of (takes item) core) core (node_step item core)
 step_runs item core =

@@ -17,7 +17,7 @@ use Rattle.world_base.specs.Failing.{loses_all_failed, loses_failed}
 use Rattle.world_base.specs.Handing.{bytes_of, hands_over, left_by, listed_at}
 use Rattle.world_base.specs.Losses.{IsHeardQuietly, IsIgnored, ReadsNone, TakesNoMemory, WaitsNothing, was_proposed}
 use Rattle.world_base.specs.Reading.{changes, ends, loses_open, open_at}
-use Rattle.world_base.specs.Step.{acts_on, crashed, node_step, settled, takes_in}
+use Rattle.world_base.specs.Step.{acts_on, crashed, node_step, settled, does_item}
 use Rattle.world_base.specs.Turns.{delivered, drives, heard, quiet, then_also}
 use Rattle.world_base.proofs.Failures.{failed_next}
 use Rattle.world_base.proofs.Idle.{closing_fails_none, quiet_repeated, takes_nothing}
@@ -87,11 +87,11 @@ hands_over_waits port core each = by (listed_at port core)
 -- what it does to a node, quietly
 record GoesCalmly (item : Item) (core : CoreState) : Type 0 where
   next : CoreState
-  is : takes_in item core ≡ quiet next
+  is : does_item item core ≡ quiet next
   fails_none : find has_failed core.connections ≡ None → find has_failed next.connections ≡ None
   waits : WaitsNothing core → WaitsNothing next
 
-nothing_goes : (item : Item) (core : CoreState) → takes_in item core ≡ quiet core → GoesCalmly item core
+nothing_goes : (item : Item) (core : CoreState) → does_item item core ≡ quiet core → GoesCalmly item core
 nothing_goes item core is = record { next = core; is = is; fails_none = λ none. none; waits = λ each. each }
 
 ends_calmly : (port : Port) (core : CoreState) → was_proposed (open_at port core) ≡ false → GoesCalmly (Ended port) core

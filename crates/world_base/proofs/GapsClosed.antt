@@ -24,7 +24,7 @@ use Rattle.world_base.specs.Going.{AGapIsClosed, AreNamedApart, EachGoesOn, GoOn
 use Rattle.world_base.specs.Lossy.{Account, Drives, ReplicaSteps, Repeated, Takes, Then, quietly}
 use Rattle.world_base.specs.LossyProposals.{Declines, Proposes}
 use Rattle.world_base.specs.LossyProposals.Declines.{no_room, forgets, stops}
-use Rattle.world_base.specs.LossyStep.{ActsOn, Cuts, Holds, Opens, TakesIn}
+use Rattle.world_base.specs.LossyStep.{ActsOn, Cuts, Holds, Opens, DoesItem}
 use Rattle.world_base.specs.LossyReading.{Asks, Begins, Closes, Ends, EndsSilent, LosesFailed, ReadsNext, Shuts}
 use Rattle.world_base.specs.LossyStep.Cuts.{nothing_to_cut, cuts_log, forgets_cut}
 use Rattle.world_base.specs.LossyReading.Ends.{none_open, untold, told}
@@ -245,10 +245,10 @@ opened_on port now core did acts = by acts.first (opens_one port core)
 
 -- after each item the failed ones are reported to the broker
 acts_by : (item : Item) (core : CoreState) (did : Account) → IsNew item core [] →
-    ((k : CoreState) (d : Account) → TakesIn item k d → Goes k d) → ActsOn item core did → GoOn item core did
+    ((k : CoreState) (d : Account) → DoesItem item k d → Goes k d) → ActsOn item core did → GoOn item core did
 acts_by item core did is on acts =
     with_none_new item core did is
-    (then_on (TakesIn item) (λ k d. Repeated (length k.connections) LosesFailed k d) on all_failed_on core did
+    (then_on (DoesItem item) (λ k d. Repeated (length k.connections) LosesFailed k d) on all_failed_on core did
     (record { one = acts.one; two = acts.two; first = acts.first; next = acts.next; is = acts.is }))
 
 pub a_gap_is_closed : AGapIsClosed

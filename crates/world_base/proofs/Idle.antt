@@ -22,7 +22,7 @@ use Rattle.world_base.specs.KeepAlive.{ends_all_silent, ends_silent}
 use Rattle.world_base.specs.Losses.{DoesNothing, IsHeardQuietly, IsIgnored, ReadsNone, TakesNoMemory, was_proposed}
 use Rattle.world_base.specs.Lossy.{Account, Drives, Repeated, quietly}
 use Rattle.world_base.specs.Lossy.Delivers.{nothing}
-use Rattle.world_base.specs.LossyStep.{ActsOn, LosesAllFailed, ReadsAll, TakesIn}
+use Rattle.world_base.specs.LossyStep.{ActsOn, LosesAllFailed, ReadsAll, DoesItem}
 use Rattle.world_base.specs.LossyReading.{EndsSilent, ReadsNext}
 use Rattle.ballot.specs.Cutting.{can_cut}
 use Rattle.world_base.specs.LossyProposals.Declines.{no_room}
@@ -30,7 +30,7 @@ use Rattle.world_base.specs.LossyStep.Cuts.{nothing_to_cut}
 use Rattle.world_base.specs.LossyReading.Ends.{none_open}
 use Rattle.world_base.specs.LossyReading.EndsSilent.{none_silent}
 use Rattle.world_base.specs.Reading.{changes, ends, open_at, reads_all, reads_next, unread_of}
-use Rattle.world_base.specs.Step.{accepts, acts_on, cuts, opens, takes_in}
+use Rattle.world_base.specs.Step.{accepts, acts_on, cuts, opens, does_item}
 use Rattle.world_base.specs.Turns.{drives, moved, quiet, repeated, then_also}
 use Rattle.world_base.proofs.Accounts.{ran_quietly, ran_then}
 use Rattle.world_base.proofs.Closes.{proposes_nothing}
@@ -116,7 +116,7 @@ cuts_nothing core none = rw none refl
 
 -- ---- an item
 
-pub takes_nothing : (item : Item) (core : CoreState) → DoesNothing item core → takes_in item core ≡ quiet core
+pub takes_nothing : (item : Item) (core : CoreState) → DoesNothing item core → does_item item core ≡ quiet core
 takes_nothing (Peer message) core ignored = drives_nothing (Receives message) core ignored.0
 takes_nothing (Tick now) core ignored =
     ap (λ (t : Turn). then_also t (ends_all_silent now)) (drives_nothing Ticks core ignored.0)
@@ -130,7 +130,7 @@ takes_nothing (Expel client) core none = proposes_nothing (commands.Expel client
 takes_nothing Cut core none = ap quiet (cuts_nothing core none)
 takes_nothing Crash core none = elim none [ ]
 
-takes_idle : (item : Item) (core : CoreState) → DoesNothing item core → TakesIn item core (quietly core)
+takes_idle : (item : Item) (core : CoreState) → DoesNothing item core → DoesItem item core (quietly core)
 takes_idle (Peer message) core ignored = drives_idle (Receives message) core ignored.0
 takes_idle (Tick now) core ignored =
     record {
@@ -172,7 +172,7 @@ turns_ignored item a b x y idle turns =
 pub ran_ignored : (item : Item) (a b : CoreState) (x y : List (Effect Command Output)) → DoesNothing item a →
     Ran LosesAllFailed a b x y → Ran (ActsOn item) a b x y
 ran_ignored item a b x y idle ran =
-    ran_then (TakesIn item) LosesAllFailed a a b x x y (ran_quietly (TakesIn item) a a x (takes_idle item a idle)) ran
+    ran_then (DoesItem item) LosesAllFailed a a b x x y (ran_quietly (DoesItem item) a a x (takes_idle item a idle)) ran
 
 -- if nothing failed there are none
 pub quiet_ignored : (a b : Running) → (find has_failed a.core.connections ≡ None → b ≡ a) → find has_failed a.core.connections ≡ None →

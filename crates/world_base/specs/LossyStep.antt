@@ -57,19 +57,19 @@ abbrev pub ReadsAll : ℕ → Port → CoreState → Account → Type 0
 ReadsAll now port core did = Repeated (unread_of (open_at port core)) (ReadsNext now port) core did
 
 -- an item alone
-abbrev pub TakesIn : Item → CoreState → Account → Type 0
-TakesIn (Peer message) core did = Drives (Receives message) core did
-TakesIn (Tick now) core did = Then (Drives Ticks) (EndsAllSilent now) core did
-TakesIn (Opened port now) core did = Opens port core did
-TakesIn (Bytes port piece now) core did = Then (Holds port piece) (ReadsAll now port) core did
-TakesIn (Ended port) core did = Ends port core did
-TakesIn (Expel client) core did = Proposes (commands.Expel client) core did
-TakesIn Cut core did = Cuts core did
-TakesIn Crash core did = did ≡ quietly (crashed core)
+abbrev pub DoesItem : Item → CoreState → Account → Type 0
+DoesItem (Peer message) core did = Drives (Receives message) core did
+DoesItem (Tick now) core did = Then (Drives Ticks) (EndsAllSilent now) core did
+DoesItem (Opened port now) core did = Opens port core did
+DoesItem (Bytes port piece now) core did = Then (Holds port piece) (ReadsAll now port) core did
+DoesItem (Ended port) core did = Ends port core did
+DoesItem (Expel client) core did = Proposes (commands.Expel client) core did
+DoesItem Cut core did = Cuts core did
+DoesItem Crash core did = did ≡ quietly (crashed core)
 
 -- an item, and the losses that follow from it
 abbrev pub ActsOn : Item → CoreState → Account → Type 0
-ActsOn item core did = Then (TakesIn item) LosesAllFailed core did
+ActsOn item core did = Then (DoesItem item) LosesAllFailed core did
 
 -- a step on an item: what was done, and how connections were settled after it
 pub record RunsOn (item : Item) (old new : CoreState)

@@ -66,20 +66,20 @@ crashed core =
     record core { replica = record core.replica { state = halted rules core.replica.state } }
 
 -- an item alone
-abbrev pub takes_in : Item → CoreState → Turn
-takes_in (Peer message) core = drives (Receives message) core
-takes_in (Tick now) core = then_also (drives Ticks core) (ends_all_silent now)
-takes_in (Opened port now) core = quiet (opens port core)
-takes_in (Bytes port piece now) core =
+abbrev pub does_item : Item → CoreState → Turn
+does_item (Peer message) core = drives (Receives message) core
+does_item (Tick now) core = then_also (drives Ticks core) (ends_all_silent now)
+does_item (Opened port now) core = quiet (opens port core)
+does_item (Bytes port piece now) core =
     then_also (quiet (changes port (holding piece) core)) (reads_all now port)
-takes_in (Ended port) core = ends port core
-takes_in (Expel client) core = proposes (commands.Expel client) core
-takes_in Cut core = quiet (cuts core)
-takes_in Crash core = quiet (crashed core)
+does_item (Ended port) core = ends port core
+does_item (Expel client) core = proposes (commands.Expel client) core
+does_item Cut core = quiet (cuts core)
+does_item Crash core = quiet (crashed core)
 
 -- an item, and the losses that follow from it
 abbrev pub acts_on : Item → CoreState → Turn
-acts_on item core = then_also (takes_in item core) loses_all_failed
+acts_on item core = then_also (does_item item core) loses_all_failed
 
 -- the step of a node on an item, after which connections are settled
 abbrev pub node_step : Item → CoreState → Turn

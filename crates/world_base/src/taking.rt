@@ -10,12 +10,12 @@ ghost use Rattle.world_base.specs.declared.item.Item.TheVariants as items;
 ghost use Rattle.world_base.specs.Losses.{DoesNothing, IsHeardQuietly, ReadsNone, TakesNoMemory, was_proposed};
 ghost use Rattle.world_base.specs.Lossy.{quietly};
 ghost use Rattle.world_base.specs.LossyProposals.{Proposes};
-ghost use Rattle.world_base.specs.LossyStep.{ActsOn, EndsAllSilent, Holds, LosesAllFailed, ReadsAll, TakesIn};
+ghost use Rattle.world_base.specs.LossyStep.{ActsOn, EndsAllSilent, Holds, LosesAllFailed, ReadsAll, DoesItem};
 ghost use Rattle.world_base.specs.LossyReading.{Connects, Ends, LosesFailed, ReadsNext, Says};
 ghost use Rattle.world_base.specs.Failing.{loses_all_failed, loses_failed};
 ghost use Rattle.world_base.specs.KeepAlive.{ends_all_silent};
 ghost use Rattle.world_base.specs.Reading.{asks, begins, changes, ends, open_at, reads_all, reads_next, says};
-ghost use Rattle.world_base.specs.Step.{acts_on, takes_in};
+ghost use Rattle.world_base.specs.Step.{acts_on, does_item};
 ghost use Rattle.world_base.specs.Turns.{proposes, quiet};
 
 use crate::item::Item;
@@ -64,9 +64,9 @@ impl SteppingNode {
     // Does what the item says, without the losses that follow from it.
     fn do_item(&mut self, item: Item, effects: &mut Vec<Effect<Command, Output>>)
         ensures turns { DoesTurn self.old self.new effects.old.items effects.new.items
-            (takes_in item self.old.core) }
+            (does_item item self.old.core) }
         ensures run { Ran
-            (TakesIn item) self.old.core self.new.core effects.old.items effects.new.items }
+            (DoesItem item) self.old.core self.new.core effects.old.items effects.new.items }
         ensures heard { (message : Message Command) → item ≡ items.Peer message →
             IsHeardQuietly message self.old.core → ReadsNone message self.old.core →
             WithoutFailure self.old self.new }

@@ -15,7 +15,7 @@ use Rattle.world_pipes.specs.declared.way.Way.{Way}
 use Rattle.world_pipes.specs.declared.sending.Sending.{Sending}
 use Rattle.world_pipes.specs.declared.sending.Sending.TheVariants as sendings
 use Rattle.world_pipes.specs.Held.{IsHeld}
-use Rattle.world_pipes.specs.Inside.{MovesUp, SendsUp, TakesIn, stays_open}
+use Rattle.world_pipes.specs.Inside.{MovesUp, SendsUp, CarriesToClient, stays_open}
 use Rattle.world_pipes.specs.Piped.{Calls, TakesLeave, GoesUp, GoesUpWhere, Hears, Piped, broken, come_down, piped, sent_up}
 use Rattle.world_pipes.proofs.Newest.{last_set, last_splits}
 use Rattle.world_pipes.proofs.StaysOpen.{heard_stays}
@@ -104,7 +104,7 @@ left_so old core left after sending holds holding held leaves s =
 
 -- the result of a piece, and went up
 pub heard_so : (count : ℕ) (core mid left : Core) (ways between after : List Way) (n : ℕ) (newest taken : Way) (read : Result (Unit {0}) ClientError)
-    → 0 < length ways → n ≡ length ways → newest ≡ slice_index_or ways (n - 1) newest → TakesIn count core newest read mid taken
+    → 0 < length ways → n ≡ length ways → newest ≡ slice_index_or ways (n - 1) newest → CarriesToClient count core newest read mid taken
     → between ≡ slice_set ways (n - 1) taken → MovesUp mid between left after → Hears count (piped core ways) read (piped left after)
 heard_so count core mid left ways between after n newest taken read some counted is takes set m =
     let older = take (length ways - 1) ways in
@@ -127,7 +127,7 @@ as_error cause = Err cause
 
 -- or found no memory
 pub heard_in_vain : (count : ℕ) (core mid : Core) (ways between : List Way) (n : ℕ) (newest taken : Way) (read : Result (Unit {0}) ClientError) (cause : ClientError)
-    → 0 < length ways → n ≡ length ways → newest ≡ slice_index_or ways (n - 1) newest → TakesIn count core newest read mid taken
+    → 0 < length ways → n ≡ length ways → newest ≡ slice_index_or ways (n - 1) newest → CarriesToClient count core newest read mid taken
     → between ≡ slice_set ways (n - 1) taken → as_error cause ≡ as_error errors.Memory → Hears count (piped core ways) (Err cause) (broken mid between)
 heard_in_vain count core mid ways between n newest taken read cause some counted is takes set memory =
     let older = take (length ways - 1) ways in

@@ -25,8 +25,8 @@ SendsUp true core ways sendings.Lost holds left after =
     (holds ≡ false) × (left ≡ gone core) × (after ≡ ways)
 
 -- bytes reach a client
-abbrev pub TakesIn : ℕ → Core → Way → Result (Unit {0}) ClientError → Core → Way → Type 0
-TakesIn count core way result left after =
+abbrev pub CarriesToClient : ℕ → Core → Way → Result (Unit {0}) ClientError → Core → Way → Type 0
+CarriesToClient count core way result left after =
     OnBytes (take count way.down) core.state.stage core result left × (after ≡ come_down count way)
 
 -- after a lost session the connection continues

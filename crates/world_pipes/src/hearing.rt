@@ -3,7 +3,7 @@
 ghost use Rattle.std.specs.Prelude.{◌≡◌, ◌≤◌, ◌<◌, ◌-◌, true, length, slice_get, IfSome};
 ghost use Rattle.world_pipes.specs.Piped.{Hears, is_holding, piped};
 ghost use Rattle.world_pipes.specs.Following.{FollowsAll};
-ghost use Rattle.world_pipes.specs.Inside.{TakesIn, stays_open};
+ghost use Rattle.world_pipes.specs.Inside.{CarriesToClient, stays_open};
 
 use crate::piped_client::PipedClient;
 use crate::sending::move_up;
@@ -49,7 +49,7 @@ fn hear_on(core: &mut ClientCore, ways: &mut Vec<Way>, count: usize) -> Result<(
 // Carries the first `count` bytes in transit on a connection to a client.
 fn carry_to_client(core: &mut ClientCore, way: &mut Way, count: usize) -> Result<(), ClientError>
     requires { count ≤ length way.old.down }
-    ensures { TakesIn count core.old way.old result core.new way.new }
+    ensures { CarriesToClient count core.old way.old result core.new way.new }
 {
     let read = core.on_bytes(&way.down.as_slice()[..count]);
     way.down.take(count);

@@ -80,8 +80,8 @@ Feeds piece old (Ok done) new = new ≡ fed piece old
 Feeds piece old (Err cause) new = (cause ≡ errors.Memory) × (new ≡ old)
 
 -- a piece is appended and handled
-abbrev pub TakesIn : List ℕ → Core → Result (Unit {0}) ClientError → Core → Type 0
-TakesIn piece old result new = ReadsAll (fed piece old) result new
+abbrev pub FeedsAndReads : List ℕ → Core → Result (Unit {0}) ClientError → Core → Type 0
+FeedsAndReads piece old result new = ReadsAll (fed piece old) result new
 
 -- whether the connection is lost after this answer to a piece
 abbrev pub is_fatal : Result (Unit {0}) ClientError → Bool

@@ -1,4 +1,4 @@
-use Rattle.world_base.specs.LossyStep.{LosesAllFailed, TakesIn}
+use Rattle.world_base.specs.LossyStep.{LosesAllFailed, DoesItem}
 use Rattle.world_base.proofs.Accounts.{ran_then}
 use Rattle.world_base.proofs.Idle.{quiet_ignored, quiet_otherwise, ran_ignored, turns_ignored}
 use Rattle.world_base.proofs.stepping_node.SteppingNode.act_on.Goals as goal
@@ -16,7 +16,7 @@ returns-then-ignores-clause-quiet c = λ _ failed. quiet_ignored _ _ c.lose_fail
 
 pub returns-clause-run : goal.returns-clause-run
 returns-clause-run c =
-    ran_then (TakesIn c.args.item) LosesAllFailed _ _ _ _ _ _ c.do_item.ensures.run c.lose_failed-2.ensures.run
+    ran_then (DoesItem c.args.item) LosesAllFailed _ _ _ _ _ _ c.do_item.ensures.run c.lose_failed-2.ensures.run
 
 pub returns-clause-quiet : goal.returns-clause-quiet
 returns-clause-quiet c =
