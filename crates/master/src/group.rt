@@ -270,8 +270,8 @@ impl<M: Machine> Group<M> {
         let replica = &mut self.nodes[at];
         let taken = step_replica(replica, taken, &mut self.left);
         let kept = part(&mut self.left, &mut self.sent, from);
-        self.told.hear_from(&self.sent, told);
-        self.next.hear_from(&self.sent, told);
+        self.told.count_from(&self.sent, told);
+        self.next.count_from(&self.sent, told);
         self.losses = counted(self.losses, taken, kept);
     }
 

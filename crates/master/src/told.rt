@@ -58,7 +58,7 @@ impl Told {
     }
 
     /// Counts what a message acknowledges.
-    pub fn hear<C>(&mut self, message: &Message<C>)
+    pub fn count_message<C>(&mut self, message: &Message<C>)
         ensures ballot { self.new.ballot ≡ self.old.ballot }
         ensures counted { (m : ℕ) → m < 16 →
             get_or self.new.held m 0 ≡
@@ -75,13 +75,13 @@ impl Told {
     }
 
     /// Counts what the messages from an index on acknowledge.
-    pub fn hear_from<C>(&mut self, sent: &[(u8, Message<C>)], from: usize)
+    pub fn count_from<C>(&mut self, sent: &[(u8, Message<C>)], from: usize)
         requires { from ≤ length sent.now }
         ensures ballot { self.new.ballot ≡ self.old.ballot }
         ensures counted { HasCounted (take from sent.now) self.old → HasCounted sent.now self.new }
     {
         for at in from..sent.len() {
-            self.hear(&sent[at].1);
+            self.count_message(&sent[at].1);
         }
     }
 

@@ -86,14 +86,14 @@ impl<'a, J: NodeNaming, S: Stated<J>, G: Gate> ServedNode<'a, J, S, G> {
         ensures { SendsWhole (arc_value link).port lane.sent result.sent }
     {
         let port = link.port;
-        let lane = self.hear(rt, all, lane, &link);
+        let lane = self.report_link(rt, all, lane, &link);
         link.shut();
         self.shared.forget(rt, port);
         lane
     }
 
     // Reports a connection to the node by a lane, until it ends.
-    fn hear<R: Wait + Clock>(
+    fn report_link<R: Wait + Clock>(
         &self,
         rt: &R,
         all: &[ServedNode<'a, J, S, G>],

@@ -38,7 +38,7 @@ impl<'a> Handshakes<'a> {
     }
 
     /// Waits for bytes. What answers their packets is to be written.
-    pub fn hear(&mut self) -> Result<()> {
+    pub fn read(&mut self) -> Result<()> {
         let mut source = self.stream;
         let count = source.read(self.room.as_mut_slice())?;
         ensure!(count > 0, "a node has closed a connection");

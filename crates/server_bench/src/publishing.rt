@@ -79,7 +79,7 @@ impl<'a> Publisher<'a> {
         }
         self.ends.write()?;
         if self.under_way() > 0 {
-            self.ends.hear()?;
+            self.ends.read()?;
         }
         Ok(())
     }
@@ -111,7 +111,7 @@ fn take_all(ends: &mut Handshakes<'_>, group: &Group, subscriber: &Subscriber) -
         if ends.done >= group.last() {
             break;
         }
-        ends.hear()?;
+        ends.read()?;
         ends.write()?;
         subscriber.take(ends.done);
     }

@@ -23,7 +23,7 @@ impl Heard {
 
     /// Takes the next packet, a PUBLISH or a PUBREL, and returns the answer to it. There is none if
     /// something else comes.
-    pub fn hear(&mut self, stream: &mut TcpStream) -> Option<[u8; 4]> {
+    pub fn next_answer(&mut self, stream: &mut TcpStream) -> Option<[u8; 4]> {
         let mut head = [0; 2];
         stream.read_exact(&mut head).ok()?;
         if head == [0x34, 8] || head == [0x3C, 8] {
@@ -59,7 +59,7 @@ impl Heard {
 
     /// Says whether the next packet comes, and its answer is sent.
     pub fn answers(&mut self, stream: &mut TcpStream) -> bool {
-        match self.hear(stream) {
+        match self.next_answer(stream) {
             Some(answer) => stream.write_all(&answer).is_ok(),
             None => false,
         }

@@ -83,7 +83,7 @@ impl World {
         let Some(slot) = self.slot(number) else {
             return Err(Idle);
         };
-        match hear_on(&mut self.clients[slot.client].piped, slot.at, count) {
+        match carry_down_on(&mut self.clients[slot.client].piped, slot.at, count) {
             Ok(had) => {
                 self.remember(had);
                 Ok(())
@@ -149,7 +149,7 @@ fn runs(nodes: &Nodes, node: u8) -> bool
 
 // Carries this many bytes that wait on a connection to its client, if the client holds it. Returns
 // whether there was memory.
-fn hear_on(piped: &mut PipedClient, at: usize, count: u64) -> Result<bool, Idle>
+fn carry_down_on(piped: &mut PipedClient, at: usize, count: u64) -> Result<bool, Idle>
     requires { at < length piped.old.ways }
     ensures goes { FollowsAll piped.old piped.new }
     ensures leads { leads piped.new.ways ≡ leads piped.old.ways }
@@ -163,7 +163,7 @@ fn hear_on(piped: &mut PipedClient, at: usize, count: u64) -> Result<bool, Idle>
     if !is_part(count, piped.down(at).len()) {
         return Err(Idle);
     }
-    Ok(piped.hear(count as usize) != Err(ClientError::Memory))
+    Ok(piped.carry_down(count as usize) != Err(ClientError::Memory))
 }
 
 // Says whether some bytes are carried, and no more than wait.

@@ -58,12 +58,12 @@ impl SteppingNode {
             WithoutFailure self.old self.new }
     {
         let mut given = Vec::new(self.alloc);
-        self.hear(message, &mut given);
+        self.give_message(message, &mut given);
         self.deliver(given, effects);
     }
 
     // Gives a message to the replica only.
-    fn hear(&mut self, message: Message<Command>, given: &mut Vec<Effect<Command, Output>>)
+    fn give_message(&mut self, message: Message<Command>, given: &mut Vec<Effect<Command, Output>>)
         requires { given.old.items ≡ [] }
         ensures hears { Hears self.old self.new
             (heard (Receives message) self.old.core.replica.state) given.new.items }

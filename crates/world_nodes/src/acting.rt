@@ -42,7 +42,7 @@ impl Nodes {
         let core = &mut self.nodes[at];
         let from = self.sent.len();
         let whole = step_node(self.alloc, core, item, &mut self.sent);
-        self.counters.hear_from(&self.sent, from);
+        self.counters.count_from(&self.sent, from);
         self.losses = counted(self.losses, whole, true);
         Ok(())
     }
@@ -62,7 +62,7 @@ impl Nodes {
         let core = &mut self.nodes[at];
         let from = self.sent.len();
         let whole = pass_over(self.alloc, core, number, &mut self.sent);
-        self.counters.hear_from(&self.sent, from);
+        self.counters.count_from(&self.sent, from);
         self.losses = counted(self.losses, whole, true);
     }
 
@@ -96,7 +96,7 @@ impl Nodes {
         let whole = step_node(self.alloc, core, Item::Cut, &mut self.sent);
         let was_cut = core.snapshot().0 > base;
         cut_back(&mut self.archive, before, was_cut);
-        self.counters.hear_from(&self.sent, from);
+        self.counters.count_from(&self.sent, from);
         self.losses = counted(self.losses, whole, true);
     }
 

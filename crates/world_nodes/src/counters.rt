@@ -51,7 +51,7 @@ impl Counters {
     }
 
     /// Counts what the messages from an index on acknowledge.
-    pub fn hear_from(&mut self, sent: &[(u8, Message<Command>)], from: usize)
+    pub fn count_from(&mut self, sent: &[(u8, Message<Command>)], from: usize)
         requires { from ≤ length sent.now }
         ensures told { HasCounted (take from sent.now) self.old.told →
             HasCounted sent.now self.new.told }
@@ -60,8 +60,8 @@ impl Counters {
         ensures active { self.new.told.ballot ≡ self.old.told.ballot }
         ensures waits { self.new.next.ballot ≡ self.old.next.ballot }
     {
-        self.told.hear_from(sent, from);
-        self.next.hear_from(sent, from);
+        self.told.count_from(sent, from);
+        self.next.count_from(sent, from);
     }
 
     /// Returns how many places all of several members acknowledged in the active ballot, except its

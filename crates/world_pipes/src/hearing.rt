@@ -16,14 +16,14 @@ impl PipedClient {
     /// `ClientCore::on_bytes` returns, and `Memory` also if memory runs out for the client's own
     /// answers. After `Ok` and `SessionLost` the client still holds the connection; otherwise it is
     /// lost.
-    pub fn hear(&mut self, count: usize) -> Result<(), ClientError>
+    pub fn carry_down(&mut self, count: usize) -> Result<(), ClientError>
         requires open { is_holding self.old ≡ true }
         requires count { IfSome (slice_get self.old.ways (length self.old.ways - 1))
             (λ way. count ≤ length way.down) }
         ensures hears { Hears count self.old result self.new }
         ensures goes { FollowsAll self.old self.new }
     {
-        let answer = hear_on(&mut self.core, &mut self.ways, count);
+        let answer = carry_down_on(&mut self.core, &mut self.ways, count);
         self.holds = stays_open(answer);
         answer
     }
@@ -31,7 +31,11 @@ impl PipedClient {
 
 // Carries the first `count` bytes in transit on the newest connection to a client, and sends up
 // what it answers.
-fn hear_on(core: &mut ClientCore, ways: &mut Vec<Way>, count: usize) -> Result<(), ClientError>
+fn carry_down_on(
+    core: &mut ClientCore,
+    ways: &mut Vec<Way>,
+    count: usize,
+) -> Result<(), ClientError>
     requires some { 0 < length ways.old.items }
     requires count { IfSome (slice_get ways.old.items (length ways.old.items - 1))
         (λ way. count ≤ length way.down) }

@@ -48,11 +48,11 @@ impl<M: Machine> Replica<M> {
         if self.stopped {
             return Err(Halted);
         }
-        self.hear(message.from, message.body, out)
+        self.on_body(message.from, message.body, out)
     }
 
     // Does what a message asks, by its kind.
-    fn hear(
+    fn on_body(
         &mut self,
         from: u8,
         body: Body<M::Command>,

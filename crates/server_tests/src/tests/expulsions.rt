@@ -90,7 +90,7 @@ where
     let mut heard = Heard::new(rt);
     pair.subscribes()
         && is_delivered(&mut pair.speaker, publish(0x34, 1, b'x'))
-        && heard.hear(&mut pair.hearer).is_some()
+        && heard.next_answer(&mut pair.hearer).is_some()
         && is_ordered(rt, cluster)
         && is_closed(&mut pair.hearer)
         && is_delivered(&mut pair.speaker, publish(0x34, 2, b'y'))

@@ -102,9 +102,9 @@ fn is_begun(pair: &mut Pair, heard: &mut Heard) -> bool {
     pair.subscribes()
         && is_delivered(&mut pair.speaker, publish(0x34, 1, b'x'))
         && heard.answers(&mut pair.hearer)
-        && heard.hear(&mut pair.hearer).is_some()
+        && heard.next_answer(&mut pair.hearer).is_some()
         && is_answered(&mut pair.speaker, &publish(0x34, 2, b'y'), &[0x50, 2, 0, 2])
-        && heard.hear(&mut pair.hearer).is_some()
+        && heard.next_answer(&mut pair.hearer).is_some()
         && pair.speaker.write_all(&publish(0x34, 3, b'z')).is_ok()
 }
 

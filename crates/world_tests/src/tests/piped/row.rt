@@ -124,7 +124,7 @@ fn hears(client: &mut PipedClient, count: usize) -> bool {
     if client.len() == 0 || !client.is_open() || count > client.down(client.len() - 1).len() {
         return false;
     }
-    client.hear(count).is_ok()
+    client.carry_down(count).is_ok()
 }
 
 // Says whether this many bytes wait to come, and are against the protocol.
@@ -132,7 +132,7 @@ fn violates(client: &mut PipedClient, count: usize) -> bool {
     if client.len() == 0 || !client.is_open() || count != client.down(client.len() - 1).len() {
         return false;
     }
-    client.hear(count) == Err(ClientError::Protocol)
+    client.carry_down(count) == Err(ClientError::Protocol)
 }
 
 fn is_abandoned(client: &mut PipedClient) -> bool {

@@ -12,13 +12,13 @@ step_replica-taken-requires g c =
     let there = rw (← c.self.view_is) at c.requires.runs in
     going_of c.self.inside.nodes.items c.args.at c.index_mut-replica.result.now there.0 c.index_mut-replica.ensures.value there.1 there.2
 
-pub hear_from-requires : goal.hear_from-requires
-hear_from-requires g c =
+pub count_from-requires : goal.count_from-requires
+count_from-requires g c =
     more_than c.len-told.result c.self.inside.sent.items _ c.part-kept.new.sent.items c.deref.result.now c.deref.ensures.value c.part-kept.ensures.sent_is
     (c.len-told.ensures ∙ c.self.inside.sent.ok.0)
 
-pub hear_from-requires-2 : goal.hear_from-requires-2
-hear_from-requires-2 g c =
+pub count_from-requires-2 : goal.count_from-requires-2
+count_from-requires-2 g c =
     more_than c.len-told.result c.self.inside.sent.items _ c.part-kept.new.sent.items c.deref-2.result.now c.deref-2.ensures.value c.part-kept.ensures.sent_is
     (c.len-told.ensures ∙ c.self.inside.sent.ok.0)
 
@@ -42,10 +42,10 @@ invariant_of-self g c =
       c.part-kept.ensures.messages_are
           ∙ ap messages (front_of c.len-from.result c.self.inside.left.items c.step_replica-taken.ensures.given c.step_replica-taken.new.out.items c.step_replica-taken.ensures.appended from)
           ∙ c.self.invariant.0,
-      group_turns rules _ _ c.self.inside.told c.self.inside.next c.hear_from.new.self c.hear_from-2.new.self _ _ (input_of c.args.taken) c.args.at c.len-told.result there.0
+      group_turns rules _ _ c.self.inside.told c.self.inside.next c.count_from.new.self c.count_from-2.new.self _ _ (input_of c.args.taken) c.args.at c.len-told.result there.0
           c.part-kept.ensures.kept c.part-kept.new.sent.items group refl refl there.1 there.2 may took refl (c.len-told.ensures ∙ c.self.inside.sent.ok.0)
-          c.part-kept.ensures.sent_is c.hear_from.ensures.ballot (rw c.deref.ensures.value at c.hear_from.ensures.counted) c.hear_from-2.ensures.ballot
-          (rw c.deref-2.ensures.value at c.hear_from-2.ensures.counted),
+          c.part-kept.ensures.sent_is c.count_from.ensures.ballot (rw c.deref.ensures.value at c.count_from.ensures.counted) c.count_from-2.ensures.ballot
+          (rw c.deref-2.ensures.value at c.count_from-2.ensures.counted),
       counts_set c.counted-self-inside.result c.self.inside.nodes.items c.args.at c.step_replica-taken.new.replica
           (counts_more c.self.inside.losses c.counted-self-inside.result c.self.inside.nodes.items covers.1 c.self.invariant.2) covers.0,
     )

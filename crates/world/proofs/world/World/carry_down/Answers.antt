@@ -18,8 +18,8 @@ index_mut-requires c =
     let few = client_within c.self.inside.clients.items c.self.inside.connections.items c.args.number c.in-Some.slot c.self.invariant.0 stands.1 stands.0 in
     omega (arith, few)
 
-pub hear_on-requires : goal.hear_on-requires
-hear_on-requires c =
+pub carry_down_on-requires : goal.carry_down_on-requires
+carry_down_on-requires c =
     let stands = rw (← c.self.view_is) at c.in-Some.ensures.stands in
     let few = client_within c.self.inside.clients.items c.self.inside.connections.items c.args.number c.in-Some.slot c.self.invariant.0 stands.1 stands.0 in
     let found = get_there c.self.inside.clients.items c.in-Some.slot.client c.index_mut.result.now few c.index_mut.ensures.value in
@@ -35,7 +35,7 @@ returns-in-Err-clause-goes c =
       clients = c.self.inside.clients.items;
       connections = c.self.inside.connections.items;
       losses = c.self.inside.losses;
-    } in old) c.in-Some.slot.client c.index_mut.result.now c.hear_on.new.piped found c.hear_on.ensures.goes)
+    } in old) c.in-Some.slot.client c.index_mut.result.now c.carry_down_on.new.piped found c.carry_down_on.ensures.goes)
 
 pub returns-in-Err-clause-meets : goal.returns-in-Err-clause-meets
 returns-in-Err-clause-meets c =
@@ -54,7 +54,7 @@ returns-in-Err-clause-meets c =
         clients = c.self.inside.clients.items;
         connections = c.self.inside.connections.items;
         losses = c.self.inside.losses;
-      } in old) c.in-Some.slot.client c.index_mut.result.now c.hear_on.new.piped found c.in-Err.ensures.same,
+      } in old) c.in-Some.slot.client c.index_mut.result.now c.carry_down_on.new.piped found c.in-Err.ensures.same,
     )
 
 pub invariant_of-self : goal.invariant_of-self
@@ -62,8 +62,8 @@ invariant_of-self c =
     let stands = rw (← c.self.view_is) at c.in-Some.ensures.stands in
     let few = client_within c.self.inside.clients.items c.self.inside.connections.items c.args.number c.in-Some.slot c.self.invariant.0 stands.1 stands.0 in
     let found = get_there c.self.inside.clients.items c.in-Some.slot.client c.index_mut.result.now few c.index_mut.ensures.value in (
-      housed_still c.self.inside.clients.items c.self.inside.connections.items c.in-Some.slot.client c.index_mut.result.now c.hear_on.new.piped found
-          c.hear_on.ensures.leads c.self.invariant.0,
+      housed_still c.self.inside.clients.items c.self.inside.connections.items c.in-Some.slot.client c.index_mut.result.now c.carry_down_on.new.piped found
+          c.carry_down_on.ensures.leads c.self.invariant.0,
       c.self.invariant.1,
     )
 
@@ -80,7 +80,7 @@ returns-in-Ok-clause-goes c =
     } in old) in
     let rises : old.losses ≤ (forgetful old).losses = omega arith in
     rw (← c.self.view_is)
-    (hearing_counted old c.in-Some.slot.client c.index_mut.result.now c.hear_on.new.piped c.in-Ok.had c.remember.new.self found c.hear_on.ensures.goes rises
+    (hearing_counted old c.in-Some.slot.client c.index_mut.result.now c.carry_down_on.new.piped c.in-Ok.had c.remember.new.self found c.carry_down_on.ensures.goes rises
     c.remember.ensures)
 
 pub returns-in-Ok-clause-meets : goal.returns-in-Ok-clause-meets
@@ -94,5 +94,5 @@ returns-in-Ok-clause-meets c =
       clients = c.self.inside.clients.items;
       connections = c.self.inside.connections.items;
       losses = c.self.inside.losses;
-    } in old) c.index_mut.result.now c.hear_on.new.piped c.remember.new.self c.self.invariant.0 stands.1 stands.0 found c.in-Ok.ensures.hears
+    } in old) c.index_mut.result.now c.carry_down_on.new.piped c.remember.new.self c.self.invariant.0 stands.1 stands.0 found c.in-Ok.ensures.hears
     c.remember.ensures)

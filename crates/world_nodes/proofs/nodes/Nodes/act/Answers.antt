@@ -53,8 +53,8 @@ returns-clause-acts c =
       losses = c.self.inside.losses;
     } in old) c.args.node c.in-Some.at x c.step_node-whole.new.node c.args.item c.step_node-whole.new.sent.items c.step_node-whole.result c.counted-self-inside.result took sent)
 
-pub hear_from-requires : goal.hear_from-requires
-hear_from-requires c =
+pub count_from-requires : goal.count_from-requires
+count_from-requires c =
     more_than c.len-from.result c.self.inside.sent.items _ c.step_node-whole.new.sent.items c.deref.result.now c.deref.ensures.value c.step_node-whole.ensures.is
     (c.len-from.ensures ∙ c.self.inside.sent.ok.0)
 
@@ -65,7 +65,7 @@ invariant_of-self c =
     let took = took_by c.self.inside.nodes.items c.in-Some.at x.core c.index_mut-core.result.now c.args.item c.step_node-whole.new.node c.self.inside.sent.items
     c.step_node-whole.new.sent.items c.step_node-whole.result x.stands c.index_mut-core.ensures.value c.step_node-whole.ensures in
     let from = c.len-from.ensures ∙ c.self.inside.sent.ok.0 in
-    acts_counting _ _ (c.args.node - 1) (takes c.args.item) c.self.inside.counters.told c.self.inside.counters.next c.hear_from.new.self.told c.hear_from.new.self.next c.self.invariant
+    acts_counting _ _ (c.args.node - 1) (takes c.args.item) c.self.inside.counters.told c.self.inside.counters.next c.count_from.new.self.told c.count_from.new.self.next c.self.invariant
     (turn_loses (let old : NodesState = record {
       master = c.self.inside.master;
       nodes = c.self.inside.nodes.items;
@@ -73,11 +73,11 @@ invariant_of-self c =
       archive = c.self.inside.archive.items;
       losses = c.self.inside.losses;
     } in old) c.args.node c.in-Some.at x c.step_node-whole.new.node c.args.item c.step_node-whole.new.sent.items c.step_node-whole.result c.counted-self-inside.result took sent)
-    refl c.hear_from.ensures.active c.hear_from.ensures.waits
-    (heard_after c.self.inside.sent.items c.step_node-whole.new.sent.items c.deref.result.now _ c.len-from.result c.self.inside.counters.told c.hear_from.new.self.told
-    c.deref.ensures.value c.step_node-whole.ensures.is from c.hear_from.ensures.told)
-    (heard_after c.self.inside.sent.items c.step_node-whole.new.sent.items c.deref.result.now _ c.len-from.result c.self.inside.counters.next c.hear_from.new.self.next
-    c.deref.ensures.value c.step_node-whole.ensures.is from c.hear_from.ensures.next)
+    refl c.count_from.ensures.active c.count_from.ensures.waits
+    (heard_after c.self.inside.sent.items c.step_node-whole.new.sent.items c.deref.result.now _ c.len-from.result c.self.inside.counters.told c.count_from.new.self.told
+    c.deref.ensures.value c.step_node-whole.ensures.is from c.count_from.ensures.told)
+    (heard_after c.self.inside.sent.items c.step_node-whole.new.sent.items c.deref.result.now _ c.len-from.result c.self.inside.counters.next c.count_from.new.self.next
+    c.deref.ensures.value c.step_node-whole.ensures.is from c.count_from.ensures.next)
 
 pub returns-clause-quiet : goal.returns-clause-quiet
 returns-clause-quiet c =

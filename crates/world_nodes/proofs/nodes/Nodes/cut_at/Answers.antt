@@ -91,8 +91,8 @@ index_mut-core-requires c =
     let below = below_of c.self.inside.nodes.items c.args.at there.0 there.1 in
     let all = c.self.inside.nodes.ok.0 in omega (arith, below, all)
 
-pub hear_from-requires : goal.hear_from-requires
-hear_from-requires c =
+pub count_from-requires : goal.count_from-requires
+count_from-requires c =
     more_than c.len-from.result c.self.inside.sent.items _ c.step_node-whole.new.sent.items c.deref.result.now c.deref.ensures.value c.step_node-whole.ensures.is
     (c.len-from.ensures ∙ c.self.inside.sent.ok.0)
 
@@ -114,14 +114,14 @@ invariant_of-self-2 c =
     c.snapshot.result.0 c.index-core.ensures c.snapshot-base.ensures.base c.status-committed.ensures c.rest.ensures.rest whole c.in-Ok.ensures.ok
     c.snapshot.ensures.base c.cut_back.ensures in
     let from = c.len-from.ensures ∙ c.self.inside.sent.ok.0 in
-    acts_counting old _ c.args.at (takes Cut) c.self.inside.counters.told c.self.inside.counters.next c.hear_from.new.self.told c.hear_from.new.self.next c.self.invariant
+    acts_counting old _ c.args.at (takes Cut) c.self.inside.counters.told c.self.inside.counters.next c.count_from.new.self.told c.count_from.new.self.next c.self.invariant
     (cut_loses old c.args.at there.0 c.step_node-whole.new.node c.step_node-whole.new.sent.items c.cut_back.new.archive.items c.step_node-whole.result
     c.counted-self-inside-2.result there.1 took archive)
-    refl c.hear_from.ensures.active c.hear_from.ensures.waits
-    (heard_after c.self.inside.sent.items c.step_node-whole.new.sent.items c.deref.result.now _ c.len-from.result c.self.inside.counters.told c.hear_from.new.self.told
-    c.deref.ensures.value c.step_node-whole.ensures.is from c.hear_from.ensures.told)
-    (heard_after c.self.inside.sent.items c.step_node-whole.new.sent.items c.deref.result.now _ c.len-from.result c.self.inside.counters.next c.hear_from.new.self.next
-    c.deref.ensures.value c.step_node-whole.ensures.is from c.hear_from.ensures.next)
+    refl c.count_from.ensures.active c.count_from.ensures.waits
+    (heard_after c.self.inside.sent.items c.step_node-whole.new.sent.items c.deref.result.now _ c.len-from.result c.self.inside.counters.told c.count_from.new.self.told
+    c.deref.ensures.value c.step_node-whole.ensures.is from c.count_from.ensures.told)
+    (heard_after c.self.inside.sent.items c.step_node-whole.new.sent.items c.deref.result.now _ c.len-from.result c.self.inside.counters.next c.count_from.new.self.next
+    c.deref.ensures.value c.step_node-whole.ensures.is from c.count_from.ensures.next)
 
 pub returns-clause-step : goal.returns-clause-step
 returns-clause-step c =

@@ -172,8 +172,8 @@ returns-clause-acts c =
       losses = c.self.inside.losses;
     } in old) c.args.at c.args.number p)))
 
-pub hear_from-requires : goal.hear_from-requires
-hear_from-requires c =
+pub count_from-requires : goal.count_from-requires
+count_from-requires c =
     let p = rw (← c.self.view_is) at c.requires in
     let took = passed_by (let old : NodesState = record {
       master = c.self.inside.master;
@@ -198,7 +198,7 @@ invariant_of-self c =
     } in old) c.args.at c.args.number p c.index_mut-core.result.now c.pass_over-whole.new.node c.pass_over-whole.new.sent.items c.pass_over-whole.result c.index_mut-core.ensures.value
     c.pass_over-whole.ensures in
     let from = c.len-from.ensures ∙ c.self.inside.sent.ok.0 in
-    acts_counting _ _ (p.node - 1) (takes (Peer p.message)) c.self.inside.counters.told c.self.inside.counters.next c.hear_from.new.self.told c.hear_from.new.self.next c.self.invariant
+    acts_counting _ _ (p.node - 1) (takes (Peer p.message)) c.self.inside.counters.told c.self.inside.counters.next c.count_from.new.self.told c.count_from.new.self.next c.self.invariant
     (turn_loses (let old : NodesState = record {
       master = c.self.inside.master;
       nodes = c.self.inside.nodes.items;
@@ -212,8 +212,8 @@ invariant_of-self c =
       archive = c.self.inside.archive.items;
       losses = c.self.inside.losses;
     } in old) c.args.at c.args.number p))
-    refl c.hear_from.ensures.active c.hear_from.ensures.waits
-    (heard_after c.self.inside.sent.items c.pass_over-whole.new.sent.items c.deref.result.now _ c.len-from.result c.self.inside.counters.told c.hear_from.new.self.told
-    c.deref.ensures.value took.is from c.hear_from.ensures.told)
-    (heard_after c.self.inside.sent.items c.pass_over-whole.new.sent.items c.deref.result.now _ c.len-from.result c.self.inside.counters.next c.hear_from.new.self.next
-    c.deref.ensures.value took.is from c.hear_from.ensures.next)
+    refl c.count_from.ensures.active c.count_from.ensures.waits
+    (heard_after c.self.inside.sent.items c.pass_over-whole.new.sent.items c.deref.result.now _ c.len-from.result c.self.inside.counters.told c.count_from.new.self.told
+    c.deref.ensures.value took.is from c.count_from.ensures.told)
+    (heard_after c.self.inside.sent.items c.pass_over-whole.new.sent.items c.deref.result.now _ c.len-from.result c.self.inside.counters.next c.count_from.new.self.next
+    c.deref.ensures.value took.is from c.count_from.ensures.next)

@@ -1,6 +1,6 @@
 use Rattle.std.proofs.Common.{◌≡◌, take}
 use Rattle.master.specs.Inside.{HasCounted}
-use Rattle.master.proofs.told.Told.hear_from.Given as goal
+use Rattle.master.proofs.told.Told.count_from.Given as goal
 
 abbrev pub invariant-loop-at : goal.invariant-loop-at
 invariant-loop-at g l =

@@ -2,7 +2,7 @@ use Rattle.std.proofs.Common.{refl}
 use Rattle.ballot.specs.Protocol.Input.{Receives}
 use Rattle.world_base.proofs.Answering.{acts_kept, err_of_stopped}
 use Rattle.world_base.proofs.Hearing.{heard_quietly}
-use Rattle.world_base.proofs.stepping_node.SteppingNode.hear.Goals as goal
+use Rattle.world_base.proofs.stepping_node.SteppingNode.give_message.Goals as goal
 
 pub returns-clause-acts : goal.returns-clause-acts
 returns-clause-acts c =

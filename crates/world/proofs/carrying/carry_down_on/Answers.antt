@@ -1,6 +1,6 @@
 use Rattle.std.proofs.Common.{refl}
 use Rattle.world.proofs.CallsCounted.{stays_all}
-use Rattle.world.proofs.carrying.hear_on.Goals as goal
+use Rattle.world.proofs.carrying.carry_down_on.Goals as goal
 
 pub returns-then-not-is_open-clause-goes : goal.returns-then-not-is_open-clause-goes
 returns-then-not-is_open-clause-goes c = stays_all c.args.piped.now c.args.piped.now refl

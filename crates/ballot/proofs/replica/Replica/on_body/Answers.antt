@@ -1,7 +1,7 @@
 use Rattle.std.proofs.Common.{ap}
 use Rattle.ballot_base.specs.Protocol.{received}
 use Rattle.ballot.proofs.MessagesTaken.{went_same}
-use Rattle.ballot.proofs.replica.Replica.hear.Goals as goal
+use Rattle.ballot.proofs.replica.Replica.on_body.Goals as goal
 
 pub returns-in-Activate-clause-went : goal.returns-in-Activate-clause-went
 returns-in-Activate-clause-went g c =
