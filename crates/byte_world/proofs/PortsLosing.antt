@@ -22,10 +22,10 @@ use Rattle.node_group.specs.world_base.declared.Port.{Port}
 use Rattle.node_group.specs.world_base.Connections.{asked, closed, failing, has_failed, holding, is_at, left_with, put_out}
 use Rattle.node_group.specs.world_base.Core.{CoreState}
 use Rattle.node_group.specs.world_base.Failing.{closes_failed}
-use Rattle.node_group.specs.world_base.Lossy.{Account, Delivers, Drives, Repeated, Serves, Takes, Then, quietly}
+use Rattle.node_group.specs.world_base.Lossy.{Account, HandlesAll, Drives, Repeated, Serves, Takes, Then, quietly}
 use Rattle.node_group.specs.world_base.LossyProposals.{Declines, Proposes}
 use Rattle.node_group.specs.world_base.LossyProposals.Declines.{no_room, forgets, stops}
-use Rattle.node_group.specs.world_base.Lossy.Delivers.{nothing, does, tells, loses}
+use Rattle.node_group.specs.world_base.Lossy.HandlesAll.{nothing, does, tells, loses}
 use Rattle.node_group.specs.world_base.LossyStep.{ActsOn, Holds, LosesAllFailed, Opens, ReadsAll, RunsOn, DoesItem}
 use Rattle.node_group.specs.world_base.LossyReading.{Asks, Begins, Closes, Ends, EndsSilent, LosesFailed, ReadsNext, Shuts}
 use Rattle.node_group.specs.world_base.LossyReading.Ends.{none_open, untold, told}
@@ -69,7 +69,7 @@ module _ (P : Connection → Type 0) (follows : IsFollowed P) where
   serves_kept (outputs.Send name packet) core new (inr is) all = subst All (sym is) (each_named P follows name failing core fails_later all)
   serves_kept (outputs.Close name) core new is all = subst All (sym is) (each_named P follows name closed core is_shut all)
 
-  delivers_kept : (given : List (Effect Command Output)) (core new : CoreState) (messages : List (Effect Command Output)) → Delivers given core new messages → All core → All new
+  delivers_kept : (given : List (Effect Command Output)) (core new : CoreState) (messages : List (Effect Command Output)) → HandlesAll given core new messages → All core → All new
   delivers_kept _ core _ _ nothing all = all
   delivers_kept _ core new _ (does {place} {output} {core = k} {next = next} {given = given} served more) all =
       delivers_kept given next new _ more (serves_kept output core next served all)
@@ -77,10 +77,10 @@ module _ (P : Connection → Type 0) (follows : IsFollowed P) where
   delivers_kept _ core new _ (loses {receiver} {message} {given = given} more) all = delivers_kept given core new _ more all
 
   drives_kept : (input : Input Command) → Keeps (Drives input)
-  drives_kept input core did m all = delivers_kept did.given (record core { replica = m.replica }) did.core did.messages m.delivers all
+  drives_kept input core did m all = delivers_kept did.given (record core { replica = m.replica }) did.core did.messages m.handles all
 
   takes_kept : (command : Command) → Keeps (Takes command)
-  takes_kept command core did t all = delivers_kept did.given (record core { replica = t.replica }) did.core did.messages t.delivers all
+  takes_kept command core did t all = delivers_kept did.given (record core { replica = t.replica }) did.core did.messages t.handles all
 
   declines_kept : Keeps Declines
   declines_kept core did (no_room full is) all = subst (λ (d : Account). All d.core) (sym is) all

@@ -23,7 +23,7 @@ taken_role : (command : Command) (core between : CoreState) (did : Account) → 
     → (replica_of did.core).role ≡ (replica_of core).role
 taken_role command core between did same taken =
     ap (λ (r : ReplicaState State Command). r.role)
-    (state_of did.core (record between { replica = taken.replica }) (delivers_replica did.given (record between { replica = taken.replica }) did.core did.messages taken.delivers)
+    (state_of did.core (record between { replica = taken.replica }) (delivers_replica did.given (record between { replica = taken.replica }) did.core did.messages taken.handles)
     ∙ taken.done.state)
     ∙ (added_same rules (replica_of between) command).role ∙ ap (λ (r : ReplicaState State Command). r.role) same
 

@@ -56,13 +56,13 @@ drives_happen : (g : Group) (n : ℕ) (core : CoreState) (input : Input Command)
 drives_happen g n core input did kept at other sent m t config earlier came = by (replica_of core).stopped refl
   where
     k : KeptOf kept did.given
-    k = kept_of_told did.given (record core { replica = m.replica }) did.core did.messages kept m.delivers t
+    k = kept_of_told did.given (record core { replica = m.replica }) did.core did.messages kept m.handles t
 
     new : ReplicaState State Command
     new = m.replica.state
 
     replica : replica_of did.core ≡ new
-    replica = state_of did.core (record core { replica = m.replica }) (delivers_replica did.given (record core { replica = m.replica }) did.core did.messages m.delivers)
+    replica = state_of did.core (record core { replica = m.replica }) (delivers_replica did.given (record core { replica = m.replica }) did.core did.messages m.handles)
 
     lost : Loses rules (replica_of core) (heard input (replica_of core)) new k.thin
     lost =
@@ -95,13 +95,13 @@ takes_happen g n core between command did kept at same taken t config earlier ca
     k.sent k.left (subst (λ (s : ReplicaState State Command). AreTaken (replica_of core) s (Proposes command)) (sym is) (proposal_taken core command serving (λ x is_one. fits)))
   where
     k : KeptOf kept did.given
-    k = kept_of_told did.given (record between { replica = taken.replica }) did.core did.messages kept taken.delivers t
+    k = kept_of_told did.given (record between { replica = taken.replica }) did.core did.messages kept taken.handles t
 
     new : ReplicaState State Command
     new = taken.replica.state
 
     replica : replica_of did.core ≡ new
-    replica = state_of did.core (record between { replica = taken.replica }) (delivers_replica did.given (record between { replica = taken.replica }) did.core did.messages taken.delivers)
+    replica = state_of did.core (record between { replica = taken.replica }) (delivers_replica did.given (record between { replica = taken.replica }) did.core did.messages taken.handles)
 
     room : has_room core ≡ true
     room =

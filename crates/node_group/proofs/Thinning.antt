@@ -12,8 +12,8 @@ use Rattle.packet_world.specs.broker_spec.declared.command.Command.{Command}
 use Rattle.packet_world.specs.broker_spec.declared.command.Output.{Output}
 use Rattle.packet_world.specs.snapshots.World.{messages, outputs}
 use Rattle.node_moves.specs.world_base.Core.{CoreState, rules}
-use Rattle.node_moves.specs.world_base.Lossy.{Delivers}
-use Rattle.node_moves.specs.world_base.Lossy.Delivers.{nothing, does, tells, loses as loses_one}
+use Rattle.node_moves.specs.world_base.Lossy.{HandlesAll}
+use Rattle.node_moves.specs.world_base.Lossy.HandlesAll.{nothing, does, tells, loses as loses_one}
 use Rattle.node_moves.specs.world_base.Turns.{is_message}
 
 abbrev pub Given : Type 0
@@ -79,7 +79,7 @@ kept_of_all (To receiver message ∷ effects) (d ∷ kept) (keeps t) = kept_mess
 kept_of_all (To receiver message ∷ effects) kept (loses t) = lost_message receiver message kept effects (kept_of_all effects kept t)
 
 -- of those that the node found memory for
-pub kept_of_told : (given : Given) (core new : CoreState) (told kept : Given) → Delivers given core new told → Thinned kept told → KeptOf kept given
+pub kept_of_told : (given : Given) (core new : CoreState) (told kept : Given) → HandlesAll given core new told → Thinned kept told → KeptOf kept given
 kept_of_told _ core _ _ [] nothing none = record { thin = []; thinned = none; sent = refl; left = refl }
 kept_of_told _ core _ _ (e ∷ kept) nothing t = elim t [ ]
 kept_of_told _ core new told kept (does {place} {output} {core = k} {next = next} {given = given} served more) t =

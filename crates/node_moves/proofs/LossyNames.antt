@@ -62,7 +62,7 @@ state_of a b e = ap (λ (r : CountedReplica State Command). r.state) e
 pub taken_same : (command : Command) (core : CoreState) (did : Account) → Takes command core did → Same core.replica.state did.core.replica.state
 taken_same command core did t =
     subst (λ (r : ReplicaState State Command). Same core.replica.state r)
-    (sym (ap (λ (r : CountedReplica State Command). r.state) (delivers_replica did.given (record core { replica = t.replica }) did.core did.messages t.delivers)
+    (sym (ap (λ (r : CountedReplica State Command). r.state) (delivers_replica did.given (record core { replica = t.replica }) did.core did.messages t.handles)
     ∙ t.done.state))
     (added_same rules core.replica.state command)
 
@@ -142,7 +142,7 @@ lossy_heard : (input : Input Command) (core : CoreState) (did : Account) (other 
 lossy_heard input core did other m o of =
     heard_keeps core did.core (λ x. bytes_for x did.given)
     (subst (λ (r : CountedReplica State Command). StaysOr core.replica.state r.state)
-    (sym (delivers_replica did.given (record core { replica = m.replica }) did.core did.messages m.delivers))
+    (sym (delivers_replica did.given (record core { replica = m.replica }) did.core did.messages m.handles))
     (lossy_stays core.replica m.replica (heard input core.replica.state) did.given (heard_stays input core.replica.state) m.steps))
     (λ x. driven x input core did m o) of
 

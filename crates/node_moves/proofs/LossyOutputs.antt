@@ -14,8 +14,8 @@ use Rattle.exactly_once.proofs.of_broker_spec.ConnectionNames.{same_itself, same
 use Rattle.world_base.specs.declared.Connection.{Connection}
 use Rattle.world_base.specs.Connections.{changed, closed, failing, is_open_named, put_out}
 use Rattle.world_base.specs.Core.{CoreState}
-use Rattle.world_base.specs.Lossy.{Delivers, Serves}
-use Rattle.world_base.specs.Lossy.Delivers.{nothing, does, tells, loses}
+use Rattle.world_base.specs.Lossy.{HandlesAll, Serves}
+use Rattle.world_base.specs.Lossy.HandlesAll.{nothing, does, tells, loses}
 use Rattle.world_base.specs.Turns.{changes_named}
 use Rattle.node_moves.specs.Closed.{listed_named}
 use Rattle.node_moves.specs.Ends.{AtMostOne, IsOrderly}
@@ -40,7 +40,7 @@ serves_replica (outputs.Send name packet) core new (inl is) = ap (λ (k : CoreSt
 serves_replica (outputs.Send name packet) core new (inr is) = ap (λ (k : CoreState). k.replica) is ∙ named_replica name failing core
 serves_replica (outputs.Close name) core new is = ap (λ (k : CoreState). k.replica) is ∙ named_replica name closed core
 
-pub delivers_replica : (given : Given) (core new : CoreState) (messages : Given) → Delivers given core new messages → new.replica ≡ core.replica
+pub delivers_replica : (given : Given) (core new : CoreState) (messages : Given) → HandlesAll given core new messages → new.replica ≡ core.replica
 delivers_replica _ core _ _ nothing = refl
 delivers_replica _ core new _ (does {place} {output} {core = k} {next = next} {given = given} served more) =
     delivers_replica given next new _ more ∙ serves_replica output core next served
@@ -58,7 +58,7 @@ stays_serves (outputs.Send name packet) core new (inl is) o =
 stays_serves (outputs.Send name packet) core new (inr is) o = subst (λ (k : CoreState). Stays core k) (sym is) (stays_named name failing core o failing_is_mild)
 stays_serves (outputs.Close name) core new is o = subst (λ (k : CoreState). Stays core k) (sym is) (stays_served core (Out 0 (outputs.Close name)) o)
 
-pub stays_delivers : (given : Given) (core new : CoreState) (messages : Given) → Delivers given core new messages → IsOrderly core → Stays core new
+pub stays_delivers : (given : Given) (core new : CoreState) (messages : Given) → HandlesAll given core new messages → IsOrderly core → Stays core new
 stays_delivers _ core _ _ nothing o = stays_same core o
 stays_delivers _ core new _ (does {place} {output} {core = k} {next = next} {given = given} served more) o =
     let s = stays_serves output core next served o in stays_joined core next new s (stays_delivers given next new _ more s.orderly)
@@ -124,7 +124,7 @@ serves_shuts x (outputs.Close name) core new is o =
     subst (λ (k : CoreState). Shuts (bytes_for x (Out 0 (outputs.Close name) ∷ [])) (listed_named x core) (listed_named x k)) (sym is)
     (served_shuts x core (Out 0 (outputs.Close name)) o)
 
-pub delivers_shuts : (x : ConnectionName) (given : Given) (core new : CoreState) (messages : Given) → Delivers given core new messages → IsOrderly core
+pub delivers_shuts : (x : ConnectionName) (given : Given) (core new : CoreState) (messages : Given) → HandlesAll given core new messages → IsOrderly core
     → Shuts (bytes_for x given) (listed_named x core) (listed_named x new)
 delivers_shuts x _ core _ _ nothing o = shuts_same (listed_named x core)
 delivers_shuts x _ core new _ (does {place} {output} {core = k} {next = next} {given = given} served more) o =

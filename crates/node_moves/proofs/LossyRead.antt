@@ -70,7 +70,7 @@ losses_propose_in_order id config turn run x written later some joined =
 taken_log : (command : Command) (core between : CoreState) (did : Account) → between.replica ≡ core.replica → Takes command between did
     → did.core.replica.state.log ≡ pushed core.replica.state.log command
 taken_log command core between did same t =
-    ap (λ (r : CountedReplica State Command). r.state.log) (delivers_replica did.given (record between { replica = t.replica }) did.core did.messages t.delivers)
+    ap (λ (r : CountedReplica State Command). r.state.log) (delivers_replica did.given (record between { replica = t.replica }) did.core did.messages t.handles)
     ∙ ap (λ (r : ReplicaState State Command). r.log) t.done.state ∙ added-log rules between.replica.state command
     ∙ ap (λ (r : CountedReplica State Command). pushed r.state.log command) same
 

@@ -52,7 +52,7 @@ pub stays_drives : (input : Input Command) (core : CoreState) (did : Account) �
 stays_drives input core did m o =
     let s = stays_replica core m.replica (steps_up core.replica m.replica (heard input core.replica.state) did.given (heard_up input core) m.steps) o in
     stays_joined core (record core { replica = m.replica }) did.core s
-    (stays_delivers did.given (record core { replica = m.replica }) did.core did.messages m.delivers s.orderly)
+    (stays_delivers did.given (record core { replica = m.replica }) did.core did.messages m.handles s.orderly)
 
 pub taken_joined : (command : Command) (core : CoreState) (did : Account) (t : Takes command core did) → t.replica.state.joined ≡ core.replica.state.joined
 taken_joined command core did t =
@@ -63,7 +63,7 @@ stays_takes command core did t o =
     let up = subst (λ (n : ℕ). core.replica.state.joined ≤ n) (sym (taken_joined command core did t)) (same_le core.replica.state.joined) in
     let s = stays_replica core t.replica up o in
     stays_joined core (record core { replica = t.replica }) did.core s
-    (stays_delivers did.given (record core { replica = t.replica }) did.core did.messages t.delivers s.orderly)
+    (stays_delivers did.given (record core { replica = t.replica }) did.core did.messages t.handles s.orderly)
 
 -- ---- moves that read nothing
 

@@ -41,13 +41,13 @@ sent_in x m = spelled (refusal_in x m ++ sends_to x (outputs_of (given_in m)))
 pub driven : (x : ConnectionName) (input : Input Command) (core : CoreState) (did : Account) → Drives input core did → IsOrderly core
     → Shuts (bytes_for x did.given) (listed_named x core) (listed_named x did.core)
 driven x input core did m o =
-    delivers_shuts x did.given (record core { replica = m.replica }) did.core did.messages m.delivers
+    delivers_shuts x did.given (record core { replica = m.replica }) did.core did.messages m.handles
     (replica_orderly core m.replica (steps_up core.replica m.replica (heard input core.replica.state) did.given (heard_up input core) m.steps) o)
 
 taken_shuts : (x : ConnectionName) (command : Command) (core : CoreState) (did : Account) → Takes command core did → IsOrderly core
     → Shuts (bytes_for x did.given) (listed_named x core) (listed_named x did.core)
 taken_shuts x command core did t o =
-    delivers_shuts x did.given (record core { replica = t.replica }) did.core did.messages t.delivers
+    delivers_shuts x did.given (record core { replica = t.replica }) did.core did.messages t.handles
     (replica_orderly core t.replica (subst (λ (n : ℕ). core.replica.state.joined ≤ n) (sym (taken_joined command core did t)) (same_le core.replica.state.joined)) o)
 
 -- ---- each move that loses

@@ -24,10 +24,10 @@ use Rattle.world_base.specs.Connections.{asked, closed, failing, fresh, has_fail
 use Rattle.world_base.specs.Core.{CoreState, rules, serves}
 use Rattle.world_base.specs.Failing.{closes_failed}
 use Rattle.world_base.specs.Handing.{hands_over}
-use Rattle.world_base.specs.Lossy.{Account, Delivers, Drives, ReplicaSteps, Repeated, Serves, Takes, Then, quietly}
+use Rattle.world_base.specs.Lossy.{Account, HandlesAll, Drives, ReplicaSteps, Repeated, Serves, Takes, Then, quietly}
 use Rattle.world_base.specs.LossyProposals.{Declines, Proposes}
 use Rattle.world_base.specs.LossyProposals.Declines.{no_room, forgets, stops}
-use Rattle.world_base.specs.Lossy.Delivers.{nothing, does, tells, loses}
+use Rattle.world_base.specs.Lossy.HandlesAll.{nothing, does, tells, loses}
 use Rattle.world_base.specs.LossyStep.{ActsOn, Holds, RunsOn, DoesItem}
 use Rattle.world_base.specs.LossyReading.{Asks, Begins, Closes, Ends, EndsSilent, LosesFailed, ReadsNext, Shuts}
 use Rattle.world_base.specs.LossyReading.Ends.{none_open, untold, told}
@@ -144,7 +144,7 @@ keep_served (outputs.Send name packet) core new (inr is) =
 keep_served (outputs.Close name) core new is = subst (λ (k : CoreState). Keep core k) (sym is) (keep_named name closed core (λ c. refl))
 
 keep_delivered : (given : List (Effect Command Output)) (core new : CoreState) (messages : List (Effect Command Output)) →
-    Delivers given core new messages → Keep core new
+    HandlesAll given core new messages → Keep core new
 keep_delivered _ core _ _ nothing = keep_same core
 keep_delivered _ core new _ (does {place} {output} {core = k} {next = next} {given = given} served more) =
     keep_both core next new (keep_served output core next served) (keep_delivered given next new _ more)
@@ -156,7 +156,7 @@ keep_moved : (outcome : Outcome State Command Output) (core : CoreState) (did : 
 keep_moved outcome core did up m =
     keep_both core (record core { replica = m.replica }) did.core
     (keep_replica core m.replica (steps_up core.replica m.replica outcome did.given up m.steps))
-    (keep_delivered did.given (record core { replica = m.replica }) did.core did.messages m.delivers)
+    (keep_delivered did.given (record core { replica = m.replica }) did.core did.messages m.handles)
 
 keep_driven : (input : Input Command) (core : CoreState) (did : Account) → Drives input core did → Keep core did.core
 keep_driven input core did m = keep_moved _ core did (heard_up input core) m
@@ -167,7 +167,7 @@ keep_taken command core did t =
     ap (λ (r : ReplicaState State Command). r.joined) t.done.state ∙ (added_same rules core.replica.state command).joined in
     keep_both core (record core { replica = t.replica }) did.core
     (keep_replica core t.replica (subst (λ (n : ℕ). core.replica.state.joined ≤ n) (sym same) (same_le core.replica.state.joined)))
-    (keep_delivered did.given (record core { replica = t.replica }) did.core did.messages t.delivers)
+    (keep_delivered did.given (record core { replica = t.replica }) did.core did.messages t.handles)
 
 -- ---- what was done, one thing after the other
 

@@ -16,8 +16,8 @@ use Rattle.ballot.specs.Replica.{CountedReplica, ReplicaState, is_active}
 use Rattle.ballot.specs.Sending.{Outcome, nothing_done}
 use Rattle.ballot.specs.Serving.{added, max_places, proposed}
 use Rattle.world_base.specs.Core.{CoreState, rules, serves}
-use Rattle.world_base.specs.Inside.{Acts, Answered, Delivered, ProposedBy, Ran}
-use Rattle.world_base.specs.Lossy.{Account, Delivers, Drives, quietly}
+use Rattle.world_base.specs.Inside.{Acts, Answered, HandledAll, ProposedBy, Ran}
+use Rattle.world_base.specs.Lossy.{Account, HandlesAll, Drives, quietly}
 use Rattle.world_base.specs.LossyProposals.{Proposes}
 use Rattle.world_base.specs.LossyProposals.Declines.{no_room, forgets, stops}
 use Rattle.world_base.specs.Turns.{has_room, heard}
@@ -57,14 +57,14 @@ acts_heard input old new before later none step stays =
         (subst (λ (l : List (Effect Command Output)). Steps rules old.replica (replica_step rules old.replica.state input) new l) given did.steps)
 
 pub drives_all : (input : Input Command) (a b c : CoreState) (given x y : List (Effect Command Output)) →
-    Acts (heard input a.replica.state) a b given → Delivered given b c x y → Ran (Drives input) a c x y
+    Acts (heard input a.replica.state) a b given → HandledAll given b c x y → Ran (Drives input) a c x y
 drives_all input a b c given x y acts delivered =
     record {
       did = record { core = c; given = given; messages = delivered.messages };
       runs = record {
         replica = acts.replica;
         steps = acts.steps;
-        delivers = subst (λ (k : CoreState). Delivers given k c delivered.messages) acts.core delivered.delivers;
+        handles = subst (λ (k : CoreState). HandlesAll given k c delivered.messages) acts.core delivered.handles;
       };
       core = refl;
       appended = delivered.appended;
@@ -184,7 +184,7 @@ answered_kept result old new command before later after none serving step done h
 
 -- with what it gave
 pub proposed_all : (taken : Bool) (command : Command) (a b c : CoreState) (given x y : List (Effect Command Output)) →
-    Answered taken command a b given → Delivered given b c x y → Ran (ProposedBy taken command) a c x y
+    Answered taken command a b given → HandledAll given b c x y → Ran (ProposedBy taken command) a c x y
 proposed_all true command a b c given x y took delivered =
     record {
       did = record { core = c; given = given; messages = delivered.messages };
@@ -192,13 +192,13 @@ proposed_all true command a b c given x y took delivered =
         room = took.room;
         replica = took.replica;
         done = took.done;
-        delivers = subst (λ (k : CoreState). Delivers given k c delivered.messages) took.core delivered.delivers;
+        handles = subst (λ (k : CoreState). HandlesAll given k c delivered.messages) took.core delivered.handles;
       };
       core = refl;
       appended = delivered.appended;
     }
 proposed_all false command a b c given x y declined delivered =
-    let same = delivers_nothing given b c delivered.messages delivered.delivers declined.1 in
+    let same = delivers_nothing given b c delivered.messages delivered.handles declined.1 in
     record {
       did = quietly b;
       runs = declined.0;

@@ -18,7 +18,7 @@ use Rattle.world_base.specs.Handing.{bytes_of, hands_over, left_by, listed_at}
 use Rattle.world_base.specs.Losses.{IsHeardQuietly, IsIgnored, ReadsNone, TakesNoMemory, WaitsNothing, was_proposed}
 use Rattle.world_base.specs.Reading.{changes, ends, loses_open, open_at}
 use Rattle.world_base.specs.Step.{acts_on, crashed, node_step, settled, does_item}
-use Rattle.world_base.specs.Turns.{delivered, drives, heard, quiet, then_also}
+use Rattle.world_base.specs.Turns.{handled_all, drives, heard, quiet, then_also}
 use Rattle.world_base.proofs.Failures.{failed_next}
 use Rattle.world_base.proofs.Idle.{closing_fails_none, quiet_repeated, takes_nothing}
 
@@ -114,7 +114,7 @@ unfolding drives
 hears_calmly message core heard_so =
     record {
       next = learnt;
-      is = ap (λ (es : List (Effect Command Output)). delivered es learnt) heard_so.0.nothing_sent;
+      is = ap (λ (es : List (Effect Command Output)). handled_all es learnt) heard_so.0.nothing_sent;
       fails_none = λ none. none;
       waits = λ each. each;
     }

@@ -20,8 +20,8 @@ use Rattle.node_connections.specs.declared.connection.ConnectionStage.TheVariant
 use Rattle.node_connections.specs.Connections.{changed, closed, failing, is_open_named, is_over, is_proposed, max_pending, put_out, putting}
 use Rattle.world_base.specs.Core.{CoreState}
 use Rattle.world_base.specs.Going.{AreNamedApart, EachGoesOn, GoesOn, bytes_by, bytes_for}
-use Rattle.world_base.specs.Lossy.{Delivers, Serves}
-use Rattle.world_base.specs.Lossy.Delivers.{nothing, does, tells, loses}
+use Rattle.world_base.specs.Lossy.{HandlesAll, Serves}
+use Rattle.world_base.specs.Lossy.HandlesAll.{nothing, does, tells, loses}
 use Rattle.world_base.specs.Reading.{refused}
 use Rattle.world_base.specs.Turns.{changes_named}
 
@@ -297,7 +297,7 @@ serves_on place (outputs.Close name) core new is apart =
     (named_on place (outputs.Close name) name closed (λ n e. refl) (λ c stays e. goes_closed [] c) core.connections apart)
 
 pub delivers_on : (given : List (Effect Command Output)) (core new : CoreState) (messages : List (Effect Command Output)) →
-    Delivers given core new messages → AreNamedApart core.connections → EachGoesOn given core.connections new.connections
+    HandlesAll given core new messages → AreNamedApart core.connections → EachGoesOn given core.connections new.connections
 delivers_on _ core _ _ nothing apart = each_itself core.connections
 delivers_on _ core new _ (does {place} {output} {core = k} {next = next} {given = given} served more) apart =
     let first = serves_on place output core next served apart in

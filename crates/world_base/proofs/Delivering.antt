@@ -7,12 +7,12 @@ use Rattle.ballot.specs.Effect.{Effect}
 use Rattle.ballot.specs.Effect.TheVariants.{To, Out}
 use Rattle.ballot.specs.Message.{Message}
 use Rattle.world_base.specs.Core.{CoreState}
-use Rattle.world_base.specs.Inside.{Delivered}
-use Rattle.world_base.specs.Lossy.{Delivers, Serves}
-use Rattle.world_base.specs.Lossy.Delivers.{nothing, does, tells, loses}
+use Rattle.world_base.specs.Inside.{HandledAll}
+use Rattle.world_base.specs.Lossy.{HandlesAll, Serves}
+use Rattle.world_base.specs.Lossy.HandlesAll.{nothing, does, tells, loses}
 
 delivers_both : (xs ys : List (Effect Command Output)) (a b c : CoreState) (m n : List (Effect Command Output)) →
-    Delivers xs a b m → Delivers ys b c n → Delivers (xs ++ ys) a c (m ++ n)
+    HandlesAll xs a b m → HandlesAll ys b c n → HandlesAll (xs ++ ys) a c (m ++ n)
 delivers_both _ ys _ _ c _ n nothing after = after
 delivers_both _ ys _ _ c _ n (does served more) after = does served (delivers_both _ ys _ _ c _ n more after)
 delivers_both _ ys _ _ c _ n (tells more) after = tells (delivers_both _ ys _ _ c _ n more after)
@@ -20,7 +20,7 @@ delivers_both _ ys _ _ c _ n (loses more) after = loses (delivers_both _ ys _ _ 
 
 -- if nothing was given nothing is done
 pub delivers_nothing : (given : List (Effect Command Output)) (a b : CoreState) (messages : List (Effect Command Output)) →
-    Delivers given a b messages → given ≡ [] → (b ≡ a) × (messages ≡ [])
+    HandlesAll given a b messages → given ≡ [] → (b ≡ a) × (messages ≡ [])
 delivers_nothing _ _ _ _ nothing none = (refl, refl)
 delivers_nothing _ _ _ _ (does served more) none = absurd cc
 delivers_nothing _ _ _ _ (tells more) none = absurd cc
@@ -28,27 +28,27 @@ delivers_nothing _ _ _ _ (loses more) none = absurd cc
 
 -- ---- what the code did
 
-pub delivered_none : (core : CoreState) (x : List (Effect Command Output)) → Delivered [] core core x x
-delivered_none core x = record { messages = []; delivers = nothing; appended = sym (append-nil x) }
+pub delivered_none : (core : CoreState) (x : List (Effect Command Output)) → HandledAll [] core core x x
+delivered_none core x = record { messages = []; handles = nothing; appended = sym (append-nil x) }
 
 pub delivered_push : (a b c : CoreState) (x y z given : List (Effect Command Output)) (e : Effect Command Output) →
-    Delivered given a b x y → Delivered (e ∷ []) b c y z → Delivered (given ++ e ∷ []) a c x z
+    HandledAll given a b x y → HandledAll (e ∷ []) b c y z → HandledAll (given ++ e ∷ []) a c x z
 delivered_push a b c x y z given e one two =
     record {
       messages = one.messages ++ two.messages;
-      delivers = delivers_both given (e ∷ []) a b c one.messages two.messages one.delivers two.delivers;
+      handles = delivers_both given (e ∷ []) a b c one.messages two.messages one.handles two.handles;
       appended = two.appended ∙ ap (λ (l : List (Effect Command Output)). l ++ two.messages) one.appended
           ∙ append_assoc x one.messages two.messages;
     }
 
 pub delivered_output : (place : ℕ) (output : Output) (a b : CoreState) (x : List (Effect Command Output)) → Serves output a b →
-    Delivered (Out place output ∷ []) a b x x
+    HandledAll (Out place output ∷ []) a b x x
 delivered_output place output a b x served =
-    record { messages = []; delivers = does served nothing; appended = sym (append-nil x) }
+    record { messages = []; handles = does served nothing; appended = sym (append-nil x) }
 
 pub delivered_message : (receiver : ℕ) (message : Message Command) (sent : Bool) (a : CoreState) (x y : List (Effect Command Output)) →
-    y ≡ (if sent then x ++ To receiver message ∷ [] else x) → Delivered (To receiver message ∷ []) a a x y
+    y ≡ (if sent then x ++ To receiver message ∷ [] else x) → HandledAll (To receiver message ∷ []) a a x y
 delivered_message receiver message true a x y pushed =
-    record { messages = To receiver message ∷ []; delivers = tells nothing; appended = pushed }
+    record { messages = To receiver message ∷ []; handles = tells nothing; appended = pushed }
 delivered_message receiver message false a x y same =
-    record { messages = []; delivers = loses nothing; appended = same ∙ sym (append-nil x) }
+    record { messages = []; handles = loses nothing; appended = same ∙ sym (append-nil x) }

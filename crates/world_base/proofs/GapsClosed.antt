@@ -86,10 +86,10 @@ asked_on keep_alive c stays = goes_still c (asked keep_alive c) refl refl refl (
 -- ---- what comes to the replica
 
 moves_on : (outcome : Outcome State Command Output) (core : CoreState) (did : Account) → ReplicaSteps outcome core did → Goes core did
-moves_on outcome core did m apart = delivers_on did.given (record core { replica = m.replica }) did.core did.messages m.delivers apart
+moves_on outcome core did m apart = delivers_on did.given (record core { replica = m.replica }) did.core did.messages m.handles apart
 
 takes_on : (command : Command) (core : CoreState) (did : Account) → Takes command core did → Goes core did
-takes_on command core did t apart = delivers_on did.given (record core { replica = t.replica }) did.core did.messages t.delivers apart
+takes_on command core did t apart = delivers_on did.given (record core { replica = t.replica }) did.core did.messages t.handles apart
 
 declines_on : (core : CoreState) (did : Account) → Declines core did → Goes core did
 declines_on core did (no_room full is) = quietly_on core _ did is (each_itself core.connections)

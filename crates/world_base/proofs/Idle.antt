@@ -21,7 +21,7 @@ use Rattle.world_base.specs.Inside.{Ran, Running, DoesTurn, WithoutFailure}
 use Rattle.world_base.specs.KeepAlive.{ends_all_silent, ends_silent}
 use Rattle.world_base.specs.Losses.{DoesNothing, IsHeardQuietly, IsIgnored, ReadsNone, TakesNoMemory, was_proposed}
 use Rattle.world_base.specs.Lossy.{Account, Drives, Repeated, quietly}
-use Rattle.world_base.specs.Lossy.Delivers.{nothing}
+use Rattle.world_base.specs.Lossy.HandlesAll.{nothing}
 use Rattle.world_base.specs.LossyStep.{ActsOn, LosesAllFailed, ReadsAll, DoesItem}
 use Rattle.world_base.specs.LossyReading.{EndsSilent, ReadsNext}
 use Rattle.ballot.specs.Cutting.{can_cut}
@@ -65,7 +65,7 @@ drives_idle input core ignored =
         sym (ap (λ (o : Outcome State Command Output). o.effects) ignored),
         refl,
       );
-      delivers = nothing;
+      handles = nothing;
     }
 
 -- ---- connections

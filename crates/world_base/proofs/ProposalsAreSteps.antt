@@ -16,7 +16,7 @@ use Rattle.world_base.specs.Core.{CoreState, rules, serves}
 use Rattle.world_base.specs.Lossy.{Account, ReplicaSteps}
 use Rattle.world_base.specs.LossyProposals.{ProposalsAreSteps}
 use Rattle.world_base.specs.LossyProposals.Declines.{no_room, forgets, stops}
-use Rattle.world_base.specs.Lossy.Delivers.{nothing}
+use Rattle.world_base.specs.Lossy.HandlesAll.{nothing}
 use Rattle.world_base.specs.Turns.{has_room}
 use Rattle.world_base.proofs.Asked.{left_true}
 
@@ -68,7 +68,7 @@ proposals_are_steps command core did (inl takes) = (
     steps = subst (λ (o : Outcome State Command Output). Steps rules core.replica o takes.replica did.given)
         (sym (proposed-adds rules core.replica.state command (active_of core serving) (room_of core takes.room)))
         (done_steps core.replica takes.replica (added rules core.replica.state command) did.given takes.done);
-    delivers = takes.delivers;
+    handles = takes.handles;
   },
   λ idle. absurd (not_idle core takes.room idle),
 )
@@ -79,7 +79,7 @@ proposals_are_steps command core did (inr (no_room full is)) = (
         steps = subst (λ (o : Outcome State Command Output). Steps rules core.replica o core.replica [])
             (sym (proposed-full rules core.replica.state command (active_of core serving) (full_of core serving full)))
             (inl (refl, refl, refl));
-        delivers = nothing;
+        handles = nothing;
       }),
   λ idle. is,
 )
@@ -88,7 +88,7 @@ proposals_are_steps command core did (inr (forgets room is)) = (
       (record {
         replica = record core.replica { losses = one_more core.replica.losses };
         steps = inr (inr (inl (refl, refl)), refl);
-        delivers = nothing;
+        handles = nothing;
       }),
   λ idle. absurd (not_idle core room idle),
 )
@@ -97,7 +97,7 @@ proposals_are_steps command core did (inr (stops room is)) = (
       (record {
         replica = record { state = halted rules core.replica.state; losses = one_more core.replica.losses };
         steps = inr (inr (inr (refl, refl)), refl);
-        delivers = nothing;
+        handles = nothing;
       }),
   λ idle. absurd (not_idle core room idle),
 )

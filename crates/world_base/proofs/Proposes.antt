@@ -10,12 +10,12 @@ use Rattle.ballot.specs.Sending.{Outcome}
 use Rattle.ballot.specs.Serving.{proposed}
 use Rattle.world_base.specs.Core.{Turn, rules, serves}
 use Rattle.world_base.specs.Inside.{Running, Hears, DoesTurn}
-use Rattle.world_base.specs.Turns.{delivered, drives, heard, moved, proposes}
+use Rattle.world_base.specs.Turns.{handled_all, drives, heard, moved, proposes}
 use Rattle.world_base.proofs.TurnsJoin.{turns_idle, out_of_memory_kept}
 
 -- a step of the replica, and what it gave
 turns_moved : (a b c : Running) (outcome : Outcome State Command Output) (given before after : List (Effect Command Output)) →
-    Hears a b outcome given → DoesTurn b c before after (delivered given b.core) →
+    Hears a b outcome given → DoesTurn b c before after (handled_all given b.core) →
     DoesTurn a c before after (moved outcome a.core)
 turns_moved a b c outcome given before after hears turns =
     record {
@@ -25,17 +25,17 @@ turns_moved a b c outcome given before after hears turns =
     }
   where
     joined : c.out_of_memory ≡ false →
-        (c ≡ record b { core = (delivered given b.core).core }) × (turns.given ≡ (delivered given b.core).messages) →
+        (c ≡ record b { core = (handled_all given b.core).core }) × (turns.given ≡ (handled_all given b.core).messages) →
         (c ≡ record a { core = (moved outcome a.core).core }) × (turns.given ≡ (moved outcome a.core).messages)
     joined whole did =
-        let did_hear = hears (out_of_memory_kept b c (delivered given b.core).core did.0 whole) in (
-          did.0 ∙ ap (λ (r : Running). record r { core = (delivered given r.core).core }) did_hear.0
+        let did_hear = hears (out_of_memory_kept b c (handled_all given b.core).core did.0 whole) in (
+          did.0 ∙ ap (λ (r : Running). record r { core = (handled_all given r.core).core }) did_hear.0
               ∙ ap (λ (l : List (Effect Command Output)). record a {
-                core = (delivered l (record a.core {
+                core = (handled_all l (record a.core {
                   replica = record a.core.replica { state = outcome.state };
                 })).core;
               }) did_hear.1,
-          did.1 ∙ ap (λ (l : List (Effect Command Output)). (delivered l b.core).messages) did_hear.1,
+          did.1 ∙ ap (λ (l : List (Effect Command Output)). (handled_all l b.core).messages) did_hear.1,
         )
 
 -- a command
@@ -47,7 +47,7 @@ turns_refused r command out idle =
 
 pub turns_proposed : (a b c : Running) (command : Command) (given before after : List (Effect Command Output)) →
     serves a.core ≡ true → Hears a b (proposed rules a.core.replica.state command) given →
-    DoesTurn b c before after (delivered given b.core) → DoesTurn a c before after (proposes command a.core)
+    DoesTurn b c before after (handled_all given b.core) → DoesTurn a c before after (proposes command a.core)
 unfolding proposes
 turns_proposed a b c command given before after serving hears turns =
     subst (λ (t : Turn). DoesTurn a c before after t) (rw serving refl)
@@ -55,7 +55,7 @@ turns_proposed a b c command given before after serving hears turns =
 
 -- a message or a tick
 pub turns_driven : (a b c : Running) (input : Input Command) (given before after : List (Effect Command Output)) →
-    Hears a b (heard input a.core.replica.state) given → DoesTurn b c before after (delivered given b.core) →
+    Hears a b (heard input a.core.replica.state) given → DoesTurn b c before after (handled_all given b.core) →
     DoesTurn a c before after (drives input a.core)
 unfolding drives
 turns_driven a b c input = turns_moved a b c (heard input a.core.replica.state)

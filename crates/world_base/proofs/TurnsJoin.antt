@@ -9,7 +9,7 @@ use Rattle.node_connections.specs.broker_spec.declared.command.Output.{Output}
 use Rattle.ballot.specs.Effect.{Effect}
 use Rattle.world_base.specs.Core.{CoreState, Turn}
 use Rattle.world_base.specs.Inside.{Running, Does, DoesTurn}
-use Rattle.world_base.specs.Turns.{quiet, then_also, delivered, served, is_message}
+use Rattle.world_base.specs.Turns.{quiet, then_also, handled_all, served, is_message}
 
 -- nothing was done
 pub turns_idle : (r : Running) (out : List (Effect Command Output)) → DoesTurn r r out out (quiet r.core)
@@ -50,13 +50,13 @@ turns_join a b c x y z first next one two =
 
 -- effects that were done one by one
 pub turns_push : (a b c : Running) (x y z given : List (Effect Command Output)) (e : Effect Command Output) →
-    DoesTurn a b x y (delivered given a.core) → DoesTurn b c y z (delivered (e ∷ []) b.core) →
-    DoesTurn a c x z (delivered (given ++ e ∷ []) a.core)
+    DoesTurn a b x y (handled_all given a.core) → DoesTurn b c y z (handled_all (e ∷ []) b.core) →
+    DoesTurn a c x z (handled_all (given ++ e ∷ []) a.core)
 turns_push a b c x y z given e one two =
     subst (λ (t : Turn). DoesTurn a c x z t) same
-    (turns_join a b c x y z (delivered given a.core) (delivered (e ∷ [])) one two)
+    (turns_join a b c x y z (handled_all given a.core) (handled_all (e ∷ [])) one two)
   where
-    same : then_also (delivered given a.core) (delivered (e ∷ [])) ≡ delivered (given ++ e ∷ []) a.core
+    same : then_also (handled_all given a.core) (handled_all (e ∷ [])) ≡ handled_all (given ++ e ∷ []) a.core
     same =
         ap (λ (k : CoreState). let t : Turn = record { core = k; messages = filter is_message given ++ filter is_message (e ∷ []) } in t)
         (sym (fold_push served a.core given e))

@@ -16,7 +16,7 @@ use Rattle.world_base.specs.Core.{CoreState, Turn, rules}
 use Rattle.node_connections.specs.declared.port.Port.{Port}
 use Rattle.node_connections.specs.Connections.{has_failed}
 use Rattle.world_base.specs.LossyReading.{Begins, Says}
-use Rattle.world_base.specs.Lossy.{Account, Delivers, Takes, quietly}
+use Rattle.world_base.specs.Lossy.{Account, HandlesAll, Takes, quietly}
 use Rattle.world_base.specs.LossyProposals.{Declines, Proposes}
 use Rattle.world_base.specs.Turns.{has_room}
 
@@ -64,10 +64,10 @@ pub record Ran (Did : CoreState → Account → Type 0) (old new : CoreState)
   pub appended : after ≡ before ++ did.messages
 
 -- what the replica output was done; the messages among it were appended to what was there
-pub record Delivered (given : List (Effect Command Output)) (old new : CoreState)
+pub record HandledAll (given : List (Effect Command Output)) (old new : CoreState)
     (before after : List (Effect Command Output)) : Type 0 where
   pub messages : List (Effect Command Output)
-  pub delivers : Delivers given old new messages
+  pub handles : HandlesAll given old new messages
   pub appended : after ≡ before ++ messages
 
 -- a step of the replica only, or one with losses

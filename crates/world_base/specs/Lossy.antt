@@ -63,24 +63,25 @@ Serves (outputs.Close name) core new = new ≡ served_by (outputs.Close name) co
 
 -- the effects of the replica are handled at once, in order: outputs are done, messages are sent or,
 -- if there is no memory for one, lost
-pub data Delivers : List (Effect Command Output) → CoreState → CoreState →
+pub data HandlesAll : List (Effect Command Output) → CoreState → CoreState →
     List (Effect Command Output) → Type 0 where
   -- no effect is left
-  nothing : {core : CoreState} → Delivers [] core core []
+  nothing : {core : CoreState} → HandlesAll [] core core []
   -- an output is done
   does : {place : ℕ} {output : Output} {core next new : CoreState}
       {given messages : List (Effect Command Output)} →
-      Serves output core next → Delivers given next new messages →
-      Delivers (Out place output ∷ given) core new messages
+      Serves output core next → HandlesAll given next new messages →
+      HandlesAll (Out place output ∷ given) core new messages
   -- a message is sent
   tells : {receiver : ℕ} {message : Message Command} {core new : CoreState}
       {given messages : List (Effect Command Output)} →
-      Delivers given core new messages →
-      Delivers (To receiver message ∷ given) core new (To receiver message ∷ messages)
+      HandlesAll given core new messages →
+      HandlesAll (To receiver message ∷ given) core new (To receiver message ∷ messages)
   -- a message is lost
   loses : {receiver : ℕ} {message : Message Command} {core new : CoreState}
       {given messages : List (Effect Command Output)} →
-      Delivers given core new messages → Delivers (To receiver message ∷ given) core new messages
+      HandlesAll given core new messages →
+      HandlesAll (To receiver message ∷ given) core new messages
 
 -- ---- what is given to the replica
 
@@ -89,7 +90,7 @@ pub record ReplicaSteps (outcome : Outcome State Command Output) (core : CoreSta
     (did : Account) : Type 0 where
   pub replica : CountedReplica State Command
   pub steps : Steps rules core.replica outcome replica did.given
-  pub delivers : Delivers did.given (record core { replica = replica }) did.core did.messages
+  pub handles : HandlesAll did.given (record core { replica = replica }) did.core did.messages
 
 -- a message of another node, or a tick
 abbrev pub Drives : Input Command → CoreState → Account → Type 0
@@ -101,4 +102,4 @@ pub record Takes (command : Command) (core : CoreState) (did : Account) : Type 0
   pub room : has_room core ≡ true
   pub replica : CountedReplica State Command
   pub done : Done core.replica (added rules core.replica.state command) replica [] did.given
-  pub delivers : Delivers did.given (record core { replica = replica }) did.core did.messages
+  pub handles : HandlesAll did.given (record core { replica = replica }) did.core did.messages

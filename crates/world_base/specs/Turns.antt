@@ -60,14 +60,14 @@ is_message (To receiver message) = true
 
 -- the effects of a replica's step are handled at once, in order: outputs are done, messages are
 -- sent
-abbrev pub delivered : List (Effect Command Output) → CoreState → Turn
-delivered effects core =
+abbrev pub handled_all : List (Effect Command Output) → CoreState → Turn
+handled_all effects core =
     record { core = fold served core effects; messages = filter is_message effects }
 
 -- a node after a step of its replica: it has the new state, and the effects are handled
 abbrev pub moved : Outcome State Command Output → CoreState → Turn
 moved outcome core =
-    delivered outcome.effects
+    handled_all outcome.effects
     (record core { replica = record core.replica { state = outcome.state } })
 
 -- ---- what is given to the replica

@@ -4,12 +4,12 @@ ghost use Rattle.std.specs.Prelude.{◌≡◌, ◌<◌, ◌-◌, ◌^◌, false,
 ghost use Rattle.ballot.specs.Protocol.Input.{Receives, Ticks};
 ghost use Rattle.ballot.specs.Serving.{proposed};
 ghost use Rattle.world_base.specs.Core.{rules, serves};
-ghost use Rattle.world_base.specs.Inside.{Acts, Answered, Delivered, Does, DoesTurn, Hears, ProposedBy, Ran, WithoutFailure};
+ghost use Rattle.world_base.specs.Inside.{Acts, Answered, HandledAll, Does, DoesTurn, Hears, ProposedBy, Ran, WithoutFailure};
 ghost use Rattle.world_base.specs.Losses.{IsHeardQuietly, ReadsNone};
 ghost use Rattle.world_base.specs.Lossy.{Drives, Serves, quietly};
 ghost use Rattle.world_base.specs.LossyStep.{Cuts};
 ghost use Rattle.world_base.specs.Step.{cuts};
-ghost use Rattle.world_base.specs.Turns.{delivered, drives, has_room, heard, proposes, served_by};
+ghost use Rattle.world_base.specs.Turns.{handled_all, drives, has_room, heard, proposes, served_by};
 
 use crate::stepping_node::SteppingNode;
 use ballot::{Effect, Message};
@@ -29,7 +29,7 @@ impl SteppingNode {
         }
         let mut given = Vec::new(self.alloc);
         let taken = self.ask(command, &mut given);
-        self.deliver(given, effects);
+        self.handle_all(given, effects);
         taken
     }
 
@@ -59,7 +59,7 @@ impl SteppingNode {
     {
         let mut given = Vec::new(self.alloc);
         self.give_message(message, &mut given);
-        self.deliver(given, effects);
+        self.handle_all(given, effects);
     }
 
     // Gives a message to the replica only.
@@ -87,7 +87,7 @@ impl SteppingNode {
     {
         let mut given = Vec::new(self.alloc);
         self.say_again(&mut given);
-        self.deliver(given, effects);
+        self.handle_all(given, effects);
     }
 
     // Gives a tick to the replica only.
@@ -130,14 +130,14 @@ impl SteppingNode {
     }
 
     // Does the effects of the replica, in order.
-    fn deliver(
+    fn handle_all(
         &mut self,
         given: Vec<Effect<Command, Output>>,
         effects: &mut Vec<Effect<Command, Output>>,
     )
         ensures turns { DoesTurn self.old self.new effects.old.items effects.new.items
-            (delivered given.items self.old.core) }
-        ensures run { Delivered given.items self.old.core self.new.core
+            (handled_all given.items self.old.core) }
+        ensures run { HandledAll given.items self.old.core self.new.core
             effects.old.items effects.new.items }
         ensures nothing { given.items ≡ [] → self.new ≡ self.old }
     {
@@ -153,8 +153,8 @@ impl SteppingNode {
         effects: &mut Vec<Effect<Command, Output>>,
     )
         ensures turns { DoesTurn self.old self.new effects.old.items effects.new.items
-            (delivered (effect ∷ []) self.old.core) }
-        ensures run { Delivered (effect ∷ []) self.old.core self.new.core
+            (handled_all (effect ∷ []) self.old.core) }
+        ensures run { HandledAll (effect ∷ []) self.old.core self.new.core
             effects.old.items effects.new.items }
     {
         match effect {
