@@ -22,7 +22,7 @@ use Rattle.node_group.specs.world_base.declared.Port.{Port}
 use Rattle.node_group.specs.world_base.Connections.{asked, closed, failing, has_failed, holding, is_at, left_with, put_out}
 use Rattle.node_group.specs.world_base.Core.{CoreState}
 use Rattle.node_group.specs.world_base.Failing.{closes_failed}
-use Rattle.node_group.specs.world_base.Lossy.{Account, HandlesAll, Drives, Repeated, Serves, Takes, Then, quietly}
+use Rattle.node_group.specs.world_base.Lossy.{Account, HandlesAll, Drives, Repeated, Performs, Takes, Then, quietly}
 use Rattle.node_group.specs.world_base.LossyProposals.{Declines, Proposes}
 use Rattle.node_group.specs.world_base.LossyProposals.Declines.{no_room, forgets, stops}
 use Rattle.node_group.specs.world_base.Lossy.HandlesAll.{nothing, does, tells, loses}
@@ -64,7 +64,7 @@ module _ (P : Connection → Type 0) (follows : IsFollowed P) where
 
   -- ---- the replica
 
-  serves_kept : (output : Output) (core new : CoreState) → Serves output core new → All core → All new
+  serves_kept : (output : Output) (core new : CoreState) → Performs output core new → All core → All new
   serves_kept (outputs.Send name packet) core new (inl is) all = subst All (sym is) (each_named P follows name (put_out (spelling packet)) core (is_put_out (spelling packet)) all)
   serves_kept (outputs.Send name packet) core new (inr is) all = subst All (sym is) (each_named P follows name failing core fails_later all)
   serves_kept (outputs.Close name) core new is all = subst All (sym is) (each_named P follows name closed core is_shut all)

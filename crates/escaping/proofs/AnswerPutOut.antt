@@ -24,7 +24,7 @@ use Rattle.node_moves.specs.world_base.Core.{CoreState, Turn, rules, serves}
 use Rattle.node_moves.specs.world_base.Failing.{closes_failed, loses_all_failed, loses_failed, loses_if}
 use Rattle.node_moves.specs.world_base.Handing.{listed_at}
 use Rattle.node_moves.specs.world_base.Step.{node_step, settled}
-use Rattle.node_moves.specs.world_base.Turns.{changes_named, drives, moved, proposes, quiet, repeated, served, served_by}
+use Rattle.node_moves.specs.world_base.Turns.{changes_named, drives, moved, proposes, quiet, repeated, served, performed_by}
 use Rattle.node_moves.proofs.Views.{found_passes}
 use Rattle.escaping.specs.Answering.{AnswerIsPutOut, PutsOutFirst}
 use Rattle.escaping.specs.Delivery.{heard_by}
@@ -194,7 +194,7 @@ found_both one two f (d ∷ cs) c p q r found here = by (one d) (two d) refl ref
 
 pub first_put : (port : Port) (x : ConnectionName) (packet : Packet) (core : CoreState) (c : Connection) (some : 0 < length (spelling packet)) → length (spelling packet) ≤ max_pending →
     listed_at port core ≡ Some c → find (is_open_named x) core.connections ≡ Some c → c.pending ≡ [] →
-    FrontOf port (spelling packet) some (served_by (outputs.Send x packet) core).connections
+    FrontOf port (spelling packet) some (performed_by (outputs.Send x packet) core).connections
 unfolding changes_named
 first_put port x packet core c some short listed opened none =
     record {

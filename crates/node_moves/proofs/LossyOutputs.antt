@@ -14,7 +14,7 @@ use Rattle.exactly_once.proofs.of_broker_spec.ConnectionNames.{same_itself, same
 use Rattle.world_base.specs.declared.Connection.{Connection}
 use Rattle.world_base.specs.Connections.{changed, closed, failing, is_open_named, put_out}
 use Rattle.world_base.specs.Core.{CoreState}
-use Rattle.world_base.specs.Lossy.{HandlesAll, Serves}
+use Rattle.world_base.specs.Lossy.{HandlesAll, Performs}
 use Rattle.world_base.specs.Lossy.HandlesAll.{nothing, does, tells, loses}
 use Rattle.world_base.specs.Turns.{changes_named}
 use Rattle.node_moves.specs.Closed.{listed_named}
@@ -35,7 +35,7 @@ named_replica : (name : ConnectionName) (f : Connection → Connection) (core : 
 unfolding changes_named
 named_replica name f core = refl
 
-serves_replica : (output : Output) (core new : CoreState) → Serves output core new → new.replica ≡ core.replica
+serves_replica : (output : Output) (core new : CoreState) → Performs output core new → new.replica ≡ core.replica
 serves_replica (outputs.Send name packet) core new (inl is) = ap (λ (k : CoreState). k.replica) is ∙ named_replica name (put_out (spelling packet)) core
 serves_replica (outputs.Send name packet) core new (inr is) = ap (λ (k : CoreState). k.replica) is ∙ named_replica name failing core
 serves_replica (outputs.Close name) core new is = ap (λ (k : CoreState). k.replica) is ∙ named_replica name closed core
@@ -52,7 +52,7 @@ delivers_replica _ core new _ (loses {receiver} {message} {given = given} more) 
 pub failing_is_mild : IsMild failing
 failing_is_mild = record { name = λ c. refl; stage = λ c. inr (failing_over c) }
 
-stays_serves : (output : Output) (core new : CoreState) → Serves output core new → IsOrderly core → Stays core new
+stays_serves : (output : Output) (core new : CoreState) → Performs output core new → IsOrderly core → Stays core new
 stays_serves (outputs.Send name packet) core new (inl is) o =
     subst (λ (k : CoreState). Stays core k) (sym is) (stays_served core (Out 0 (outputs.Send name packet)) o)
 stays_serves (outputs.Send name packet) core new (inr is) o = subst (λ (k : CoreState). Stays core k) (sym is) (stays_named name failing core o failing_is_mild)
@@ -112,7 +112,7 @@ fails_shuts x name packet core o =
     by true h = subst (λ (l : List ℕ). Shuts l (listed_named x core) after) (sym (append-nil (spelling packet))) h
     by false h = h
 
-serves_shuts : (x : ConnectionName) (output : Output) (core new : CoreState) → Serves output core new → IsOrderly core
+serves_shuts : (x : ConnectionName) (output : Output) (core new : CoreState) → Performs output core new → IsOrderly core
     → Shuts (bytes_for x (Out 0 output ∷ [])) (listed_named x core) (listed_named x new)
 serves_shuts x (outputs.Send name packet) core new (inl is) o =
     subst (λ (k : CoreState). Shuts (bytes_for x (Out 0 (outputs.Send name packet) ∷ [])) (listed_named x core) (listed_named x k)) (sym is)

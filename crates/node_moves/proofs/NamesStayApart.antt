@@ -24,7 +24,7 @@ use Rattle.world_base.specs.Connections.{asked, closed, failing, fresh, has_fail
 use Rattle.world_base.specs.Core.{CoreState, rules, serves}
 use Rattle.world_base.specs.Failing.{closes_failed}
 use Rattle.world_base.specs.Handing.{hands_over}
-use Rattle.world_base.specs.Lossy.{Account, HandlesAll, Drives, ReplicaSteps, Repeated, Serves, Takes, Then, quietly}
+use Rattle.world_base.specs.Lossy.{Account, HandlesAll, Drives, ReplicaSteps, Repeated, Performs, Takes, Then, quietly}
 use Rattle.world_base.specs.LossyProposals.{Declines, Proposes}
 use Rattle.world_base.specs.LossyProposals.Declines.{no_room, forgets, stops}
 use Rattle.world_base.specs.Lossy.HandlesAll.{nothing, does, tells, loses}
@@ -136,7 +136,7 @@ steps_up old new outcome given up (inr (inr (inl (state, rest)), counted)) = sam
 steps_up old new outcome given up (inr (inr (inr (state, rest)), counted)) =
     subst (λ (t : ReplicaState State Command). old.state.joined ≤ t.joined) (sym state) (same_le old.state.joined)
 
-keep_served : (output : Output) (core new : CoreState) → Serves output core new → Keep core new
+keep_served : (output : Output) (core new : CoreState) → Performs output core new → Keep core new
 keep_served (outputs.Send name packet) core new (inl is) =
     subst (λ (k : CoreState). Keep core k) (sym is) (keep_named name (put_out (spelling packet)) core (put_out_name (spelling packet)))
 keep_served (outputs.Send name packet) core new (inr is) =

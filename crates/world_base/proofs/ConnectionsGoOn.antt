@@ -20,7 +20,7 @@ use Rattle.node_connections.specs.declared.connection.ConnectionStage.TheVariant
 use Rattle.node_connections.specs.Connections.{changed, closed, failing, is_open_named, is_over, is_proposed, max_pending, put_out, putting}
 use Rattle.world_base.specs.Core.{CoreState}
 use Rattle.world_base.specs.Going.{AreNamedApart, EachGoesOn, GoesOn, bytes_by, bytes_for}
-use Rattle.world_base.specs.Lossy.{HandlesAll, Serves}
+use Rattle.world_base.specs.Lossy.{HandlesAll, Performs}
 use Rattle.world_base.specs.Lossy.HandlesAll.{nothing, does, tells, loses}
 use Rattle.world_base.specs.Reading.{refused}
 use Rattle.world_base.specs.Turns.{changes_named}
@@ -281,7 +281,7 @@ sent_on name packet c stays e =
     subst (λ (b : List ℕ). GoesOn b c (put_out (spelling packet) c))
     (ap (λ (b : Bool). if b then spelling packet else []) (sym e)) (goes_put (spelling packet) c stays)
 
-pub serves_on : (place : ℕ) (output : Output) (core new : CoreState) → Serves output core new → AreNamedApart core.connections →
+pub serves_on : (place : ℕ) (output : Output) (core new : CoreState) → Performs output core new → AreNamedApart core.connections →
     EachGoesOn (Out place output ∷ []) core.connections new.connections
 unfolding changes_named
 serves_on place (outputs.Send name packet) core new (inl is) apart =

@@ -8,7 +8,7 @@ use Rattle.ballot.specs.Effect.TheVariants.{To, Out}
 use Rattle.ballot.specs.Message.{Message}
 use Rattle.world_base.specs.Core.{CoreState}
 use Rattle.world_base.specs.Inside.{HandledAll}
-use Rattle.world_base.specs.Lossy.{HandlesAll, Serves}
+use Rattle.world_base.specs.Lossy.{HandlesAll, Performs}
 use Rattle.world_base.specs.Lossy.HandlesAll.{nothing, does, tells, loses}
 
 delivers_both : (xs ys : List (Effect Command Output)) (a b c : CoreState) (m n : List (Effect Command Output)) →
@@ -41,7 +41,7 @@ delivered_push a b c x y z given e one two =
           ∙ append_assoc x one.messages two.messages;
     }
 
-pub delivered_output : (place : ℕ) (output : Output) (a b : CoreState) (x : List (Effect Command Output)) → Serves output a b →
+pub delivered_output : (place : ℕ) (output : Output) (a b : CoreState) (x : List (Effect Command Output)) → Performs output a b →
     HandledAll (Out place output ∷ []) a b x x
 delivered_output place output a b x served =
     record { messages = []; handles = does served nothing; appended = sym (append-nil x) }

@@ -14,7 +14,7 @@ use Rattle.ballot.specs.Sending.{Outcome}
 use Rattle.ballot.specs.Serving.{added}
 use Rattle.node_connections.specs.Connections.{failing}
 use Rattle.world_base.specs.Core.{CoreState, rules}
-use Rattle.world_base.specs.Turns.{changes_named, has_room, heard, served_by}
+use Rattle.world_base.specs.Turns.{changes_named, has_room, heard, performed_by}
 
 -- ---- what was done
 
@@ -56,10 +56,10 @@ Repeated (suc more) Next core did = Then Next (Repeated more Next) core did
 
 -- an output is done on its connection; if there is no memory for its bytes that connection is
 -- closed as lost
-abbrev pub Serves : Output → CoreState → CoreState → Type 0
-Serves (outputs.Send name packet) core new =
-    (new ≡ served_by (outputs.Send name packet) core) ⊎ (new ≡ changes_named name failing core)
-Serves (outputs.Close name) core new = new ≡ served_by (outputs.Close name) core
+abbrev pub Performs : Output → CoreState → CoreState → Type 0
+Performs (outputs.Send name packet) core new =
+    (new ≡ performed_by (outputs.Send name packet) core) ⊎ (new ≡ changes_named name failing core)
+Performs (outputs.Close name) core new = new ≡ performed_by (outputs.Close name) core
 
 -- the effects of the replica are handled at once, in order: outputs are done, messages are sent or,
 -- if there is no memory for one, lost
@@ -70,7 +70,7 @@ pub data HandlesAll : List (Effect Command Output) → CoreState → CoreState �
   -- an output is done
   does : {place : ℕ} {output : Output} {core next new : CoreState}
       {given messages : List (Effect Command Output)} →
-      Serves output core next → HandlesAll given next new messages →
+      Performs output core next → HandlesAll given next new messages →
       HandlesAll (Out place output ∷ given) core new messages
   -- a message is sent
   tells : {receiver : ℕ} {message : Message Command} {core new : CoreState}

@@ -44,13 +44,13 @@ changes_named name change core =
 
 -- an output of the broker is done on its connection; one for a connection that is not open is
 -- dropped
-abbrev pub served_by : Output → CoreState → CoreState
-served_by (outputs.Send name packet) core = changes_named name (put_out (spelling packet)) core
-served_by (outputs.Close name) core = changes_named name closed core
+abbrev pub performed_by : Output → CoreState → CoreState
+performed_by (outputs.Send name packet) core = changes_named name (put_out (spelling packet)) core
+performed_by (outputs.Close name) core = changes_named name closed core
 
 -- an effect is done on its connection; a message does nothing to connections
 abbrev pub served : CoreState → Effect Command Output → CoreState
-served core (Out place output) = served_by output core
+served core (Out place output) = performed_by output core
 served core (To receiver message) = core
 
 -- whether an effect is a message to another node, and not an output

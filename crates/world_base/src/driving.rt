@@ -6,10 +6,10 @@ ghost use Rattle.ballot.specs.Serving.{proposed};
 ghost use Rattle.world_base.specs.Core.{rules, serves};
 ghost use Rattle.world_base.specs.Inside.{Acts, Answered, HandledAll, Does, DoesTurn, Hears, ProposedBy, Ran, WithoutFailure};
 ghost use Rattle.world_base.specs.Losses.{IsHeardQuietly, ReadsNone};
-ghost use Rattle.world_base.specs.Lossy.{Drives, Serves, quietly};
+ghost use Rattle.world_base.specs.Lossy.{Drives, Performs, quietly};
 ghost use Rattle.world_base.specs.LossyStep.{Cuts};
 ghost use Rattle.world_base.specs.Step.{cuts};
-ghost use Rattle.world_base.specs.Turns.{handled_all, drives, has_room, heard, proposes, served_by};
+ghost use Rattle.world_base.specs.Turns.{handled_all, drives, has_room, heard, proposes, performed_by};
 
 use crate::stepping_node::SteppingNode;
 use ballot::{Effect, Message};
@@ -169,8 +169,8 @@ impl SteppingNode {
 
     // Performs an output on its connection.
     fn perform(&mut self, output: &Output)
-        ensures does { Does self.old self.new (served_by output.now self.old.core) }
-        ensures run { Serves output.now self.old.core self.new.core }
+        ensures does { Does self.old self.new (performed_by output.now self.old.core) }
+        ensures run { Performs output.now self.old.core self.new.core }
     {
         match output {
             Output::Send(name, packet) => self.put(*name, packet),
