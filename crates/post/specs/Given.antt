@@ -10,15 +10,15 @@ use Rattle.node.specs.Losses.{Stepped}
 use Rattle.node.specs.Lists.{In}
 use Rattle.node.specs.State.{Replays}
 
--- a node as it opens, under some number in some configuration of ballot 1
-pub record Opens (core : CountedCore) : Type 0 where
+-- a node that has just opened, under some number in some configuration of ballot 1
+pub record IsNewNode (core : CountedCore) : Type 0 where
   pub number : ℕ
   pub config : Config
   pub is : core ≡ record { core = opening_core number config; losses = 0 }
 
 -- whatever its inbox's number, a node began as one that opens
 abbrev pub EachOpens : (ℕ → CountedCore) → Type 0
-EachOpens first_of = (inbox : ℕ) → ∥ Opens (first_of inbox) ∥₁
+EachOpens first_of = (inbox : ℕ) → ∥ IsNewNode (first_of inbox) ∥₁
 
 -- the node of each inbox's number began as the node of that number in this configuration of ballot
 -- 1
@@ -30,7 +30,7 @@ EachOpensAs config first_of =
 -- one step for each item that it took.
 pub record WasGiven (effect : Effect Command Output) : Type 0 where
   pub first : CountedCore
-  pub opens : ∥ Opens first ∥₁
+  pub opens : ∥ IsNewNode first ∥₁
   pub history : List (ℕ × Item)
   pub core : CountedCore
   pub replays : Replays first history core

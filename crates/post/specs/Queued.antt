@@ -8,7 +8,7 @@ use Rattle.node.specs.declared.Item.{Item}
 use Rattle.node.specs.declared.Item.TheVariants.{Peer, Expel, Crash}
 use Rattle.post.specs.Given.{WasGiven}
 use Rattle.post.specs.Mastering.{WasAnswered}
-pub use Rattle.post.specs.Given.{EachOpens, EachOpensAs, Opens, WasGiven}
+pub use Rattle.post.specs.Given.{EachOpens, EachOpensAs, IsNewNode, WasGiven}
 pub use Rattle.post.specs.Mastering.{WasAnswered}
 
 -- what any sender except the master may queue for a node of this number

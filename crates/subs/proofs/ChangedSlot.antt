@@ -6,7 +6,7 @@ use Rattle.slab.specs.Slab.{Slab, get, Updates, with_value}
 use Rattle.slab.proofs.SlabLemmas.{Updates-with_value}
 use Rattle.subs_base.specs.packet.declared.qos.QoS.{QoS}
 use Rattle.subs.specs.declared.node.Node.{Node}
-use Rattle.subs.specs.Changes.{same_side, SetsRow, SetsSide, SetsChild, Writes, Fills, Links, Opens, Closes, IsBare}
+use Rattle.subs.specs.Changes.{same_side, SetsRow, SetsSide, SetsChild, Writes, Fills, Links, AddsNode, FreesNode, IsBare}
 use Rattle.subs.specs.Inside.{held_in, child_in, shape_of, HoldsNothing}
 
 -- every number but one has what it had
@@ -38,7 +38,7 @@ same_shape old new e = λ i. record {
     gets k = ap (λ slots. get (record { slots = slots; vacant_key = 0; capacity = 0 }) k) e
 
 module _ (old new : Slab Node) (n : ℕ) where
-  pub opened : (node : Node) → get old n ≡ None → Updates old new n (Some node) → HoldsNothing node → Opens (shape_of old) (shape_of new) n
+  pub opened : (node : Node) → get old n ≡ None → Updates old new n (Some node) → HoldsNothing node → AddsNode (shape_of old) (shape_of new) n
   opened node vacant updates empty = record {
     child = λ i k l. children k l i;
     held = λ i k r c. rows k r c i;
@@ -70,7 +70,7 @@ module _ (old new : Slab Node) (n : ℕ) where
     held = λ r c. ap (held_of r c) is ∙ empty.held r c;
   }
 
-  pub closed : Updates old new n None → IsBare (shape_of old) n → Closes (shape_of old) (shape_of new) n
+  pub closed : Updates old new n None → IsBare (shape_of old) n → FreesNode (shape_of old) (shape_of new) n
   closed updates bare = record {
     child = λ i k l. children k l i;
     held = λ i k r c. rows k r c i;

@@ -6,7 +6,7 @@ use Rattle.std.proofs.lemmas.Bool.{true≢false, and_parts, eq-eqb, eqb-true}
 use Rattle.topics.specs.Text.{Levels}
 use Rattle.subs.specs.Shape.{Children, Held, Shape, rows}
 use Rattle.subs.specs.Ways.{reach, led, slot, IsTree}
-use Rattle.subs.specs.Changes.{Links, Opens, IsBare}
+use Rattle.subs.specs.Changes.{Links, AddsNode, IsBare}
 use Rattle.subs.proofs.Ways.{led_more, row_at, rows_are}
 
 -- an unused number is reached by no way
@@ -14,7 +14,7 @@ pub free_unreached : (child : Children) (used : ℕ → Bool) (root : Option ℕ
 free_unreached child used root n tree free p h = true≢false (sym (tree.used p n h) ∙ free)
 
 -- the nodes stay a tree if one more number is used
-pub tree_opened : (old new : Shape) (root : Option ℕ) (n : ℕ) → IsTree old.child old.used root → Opens old new n → IsTree new.child new.used root
+pub tree_opened : (old new : Shape) (root : Option ℕ) (n : ℕ) → IsTree old.child old.used root → AddsNode old new n → IsTree new.child new.used root
 tree_opened old new root n tree opens =
     subst (λ (ch : Children). IsTree ch new.used root) (sym opens.child)
     (record { one_way = tree.one_way; used = λ p at h. opens.used at ∙ or_true (at == n) (old.used at) (tree.used p at h) })

@@ -7,9 +7,9 @@ use Rattle.topics.specs.Matching.{is_all}
 use Rattle.subs_base.specs.packet.declared.qos.QoS.{QoS}
 use Rattle.subs.specs.Shape.{Shape, asked, rows}
 use Rattle.subs.specs.Ways.{reach, IsTree}
-use Rattle.subs.specs.Changes.{Opens, IsBare}
+use Rattle.subs.specs.Changes.{AddsNode, IsBare}
 
-module _ (old new : Shape) (n : ℕ) (opens : Opens old new n) (bare : IsBare new n) where
+module _ (old new : Shape) (n : ℕ) (opens : AddsNode old new n) (bare : IsBare new n) where
   stays : (p : Levels) (at : ℕ) → reach new.child n p ≡ Some at → (p ≡ []) × (at ≡ n)
   stays [] at h = let is : at ≡ n = cc in (refl, is)
   stays (l ∷ p) at h =

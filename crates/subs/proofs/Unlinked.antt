@@ -6,7 +6,7 @@ use Rattle.std.proofs.lemmas.Bool.{true≢false, and_parts, eq-eqb, eqb-true}
 use Rattle.topics.specs.Text.{Levels}
 use Rattle.subs.specs.Shape.{Children, Held, Shape, rows}
 use Rattle.subs.specs.Ways.{reach, led, slot, IsTree}
-use Rattle.subs.specs.Changes.{Links, Closes, IsBare}
+use Rattle.subs.specs.Changes.{Links, FreesNode, IsBare}
 use Rattle.subs.proofs.Ways.{led_more, row_at, rows_are}
 
 module _ (child cut : Children) (at n : ℕ) (level : List ℕ)
@@ -64,7 +64,7 @@ module _ (child cut : Children) (at n : ℕ) (level : List ℕ)
           subst (λ (o : Option ℕ). (option_and_then (λ b. reach cut b p) o ≡ Some m) ⊎ (m ≡ n)) (sym same) (on (child k l) refl h more)
 
 module _ (old mid new : Shape) (root : Option ℕ) (at n : ℕ) (level : List ℕ)
-    (tree : IsTree old.child old.used root) (links : Links old mid at level None) (closes : Closes mid new n)
+    (tree : IsTree old.child old.used root) (links : Links old mid at level None) (closes : FreesNode mid new n)
     (some : old.child at level ≡ Some n) (bare : IsBare old n)
     (reached : (q : Levels) × (led old.child root q ≡ Some at)) where
   led_before : (p : Levels) (m : ℕ) → led mid.child root p ≡ Some m → led old.child root p ≡ Some m

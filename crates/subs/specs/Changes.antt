@@ -59,7 +59,7 @@ pub record Links (old new : Shape) (at : ℕ) (level : List ℕ) (below : Option
   pub used : new.used ≡ old.used
 
 -- a number that was not used names an empty node
-pub record Opens (old new : Shape) (at : ℕ) : Type 0 where
+pub record AddsNode (old new : Shape) (at : ℕ) : Type 0 where
   pub child : new.child ≡ old.child
   pub held : new.held ≡ old.held
   pub free : old.used at ≡ false
@@ -71,7 +71,7 @@ pub record IsBare (shape : Shape) (at : ℕ) : Type 0 where
   pub held : (r : Bool) (c : List ℕ) → shape.held at r c ≡ None
 
 -- the number of an empty node is free
-pub record Closes (old new : Shape) (at : ℕ) : Type 0 where
+pub record FreesNode (old new : Shape) (at : ℕ) : Type 0 where
   pub child : new.child ≡ old.child
   pub held : new.held ≡ old.held
   pub used : (k : ℕ) → new.used k ≡ (not (k == at) && old.used k)

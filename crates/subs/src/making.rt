@@ -7,7 +7,7 @@ ghost use Rattle.subs.specs.Shown.{shape, rows_of, IsSound, LeadsTo, IsThere};
 
 use crate::node_id::NodeId;
 use crate::nodes::{Nodes, is_all};
-use crate::slots::{Slot, child, close, link, open};
+use crate::slots::{Slot, add_node, child, free_node, link};
 use std::alloc::AllocError;
 use topics::split_level;
 
@@ -72,11 +72,11 @@ impl Nodes {
         ensures sound { IsSound self.new }
         ensures root { self.new.root ≡ self.old.root }
     {
-        let child = open(&mut self.slab, self.alloc)?;
+        let child = add_node(&mut self.slab, self.alloc)?;
         match link(&mut self.slab, self.alloc, at, level, child) {
             Ok(()) => Ok(child),
             Err(error) => {
-                close(&mut self.slab, child);
+                free_node(&mut self.slab, child);
                 Err(error)
             }
         }

@@ -12,7 +12,7 @@ ghost use Rattle.subs.specs.Shown.{shape, root_of, rows_of, IsSound};
 use crate::node::Node;
 use crate::node_id::NodeId;
 use crate::rows::Rows;
-use crate::slots::{Slot, child, clear_at, open, put_at, set_at};
+use crate::slots::{Slot, add_node, child, clear_at, put_at, set_at};
 use slab::Slab;
 use std::alloc::{AllocError, Global};
 use subs_base::packet::{ClientId, QoS};
@@ -103,7 +103,7 @@ impl Nodes {
         if let Some(root) = self.root {
             return Ok(root);
         }
-        let root = open(&mut self.slab, self.alloc)?;
+        let root = add_node(&mut self.slab, self.alloc)?;
         self.root = Some(root);
         Ok(root)
     }

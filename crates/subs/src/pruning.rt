@@ -6,7 +6,7 @@ ghost use Rattle.subs.specs.Shown.{rows_of, IsSound, LeadsTo, IsThere};
 
 use crate::node_id::NodeId;
 use crate::nodes::Nodes;
-use crate::slots::{child, close, is_empty, unlink};
+use crate::slots::{child, free_node, is_empty, unlink};
 use topics::split_level;
 
 impl Nodes {
@@ -49,7 +49,7 @@ impl Nodes {
         };
         if is_empty(&self.slab, below) {
             unlink(&mut self.slab, at, level);
-            close(&mut self.slab, below);
+            free_node(&mut self.slab, below);
         }
     }
 }

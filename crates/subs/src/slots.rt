@@ -2,7 +2,7 @@
 
 ghost use Rattle.std.specs.Prelude.{◌≡◌, OnOk, OnErr, IfOk, IsTrue, is_some, true, Some};
 ghost use Rattle.std.specs.Prelude.{None, option_map};
-ghost use Rattle.subs.specs.Changes.{Writes, Fills, Links, Opens, Closes, IsBare};
+ghost use Rattle.subs.specs.Changes.{Writes, Fills, Links, AddsNode, FreesNode, IsBare};
 ghost use Rattle.subs.specs.Inside.{shape_of};
 ghost use Rattle.subs.specs.Rows.{row_at};
 
@@ -20,9 +20,10 @@ pub(crate) struct Slot {
     pub(crate) rest: bool,
 }
 
-/// Puts in a node that holds nothing.
-pub(crate) fn open(nodes: &mut Slab<Node>, alloc: Global) -> Result<NodeId, AllocError>
-    ensures opens { IfOk result (λ id. Opens (shape_of nodes.old) (shape_of nodes.new) id.number) }
+/// Adds a node that holds nothing, and returns its number.
+pub(crate) fn add_node(nodes: &mut Slab<Node>, alloc: Global) -> Result<NodeId, AllocError>
+    ensures adds { IfOk result (λ id.
+        AddsNode (shape_of nodes.old) (shape_of nodes.new) id.number) }
     ensures bare { IfOk result (λ id. IsBare (shape_of nodes.new) id.number) }
     ensures err { OnErr result (shape_of nodes.new ≡ shape_of nodes.old) }
 {
@@ -30,10 +31,10 @@ pub(crate) fn open(nodes: &mut Slab<Node>, alloc: Global) -> Result<NodeId, Allo
     Ok(NodeId { number })
 }
 
-/// Takes out a node that holds nothing: its number is used again.
-pub(crate) fn close(nodes: &mut Slab<Node>, at: NodeId)
+/// Frees the number of a node that holds nothing: it is used again.
+pub(crate) fn free_node(nodes: &mut Slab<Node>, at: NodeId)
     requires { IsBare (shape_of nodes.old) at.number }
-    ensures { Closes (shape_of nodes.old) (shape_of nodes.new) at.number }
+    ensures { FreesNode (shape_of nodes.old) (shape_of nodes.new) at.number }
 {
     nodes.try_remove(at.number);
 }
