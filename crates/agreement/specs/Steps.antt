@@ -22,7 +22,7 @@ MayTake w n (Receives message) = In (n + 1, message) w.sent
 MayTake w n (Proposes command) = Unit {0}
 MayTake w n Ticks = Unit {0}
 
--- a world after a message of the master
+-- the world once the master has sent a message: it comes after those that were sent before
 abbrev pub tells_from_master : {S C O : Type 0} → World S C O → MasterOutcome C → World S C O
 tells_from_master w o =
     record w { sent = w.sent ++ (o.receiver, record { from = master; body = o.body }) ∷ [] }

@@ -12,12 +12,13 @@ use Rattle.ballot_base.specs.Logs.{places}
 use Rattle.ballot_base.specs.Serving.{max_places, added}
 use Rattle.ballot_base.specs.Replica.{ReplicaState, is_installing, others, progress_at}
 
--- with the last that lacked the log the master may activate the ballot
+-- an Activate to the master if no member lacks the log any more, and otherwise nothing
 abbrev pub activates : {S C : Type 0} (O : Type 0) → ReplicaState S C → List ℕ → List (Effect C O)
 activates O r [] = message_to O r.id (Activate r.joined) master ∷ []
 activates O r (member ∷ members) = []
 
--- Installed(ballot, ..): the sender no longer lacks the log
+-- Installed(ballot, ..): a member that lacked the log of this ballot has it now; with the last one
+-- the master may activate the ballot
 unfoldable pub on_installed : {S C : Type 0} (O : Type 0) → ReplicaState S C → ℕ → ℕ → Outcome S C O
 on_installed O r from ballot =
     let fewer = record r { lacking = others from r.lacking } in
@@ -39,7 +40,7 @@ on_activated {O = O} rules r ballot =
     then added rules active (rules.start_of ballot)
     else nothing_done O r
 
--- Superseded(ballot)
+-- Superseded(ballot): the new primary of this ballot gives it up, and is a backup then
 unfoldable pub on_superseded : {S C : Type 0} (O : Type 0) → ReplicaState S C → ℕ → Outcome S C O
 on_superseded O r ballot =
     if r.joined == ballot && is_installing r.role

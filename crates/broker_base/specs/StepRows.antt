@@ -55,7 +55,7 @@ StepsWidenTheWindow =
 -- ---- a state in which a connected client's queue is not quiet: one publication waits, and nothing
 -- is in flight
 
--- the publication that waits
+-- the publication o at QoS 1, which waits in these rows
 abbrev pub waits_o : Publication
 waits_o =
     record { retain = false; qos = qualities.AtLeastOnce; topic = codes "t/1"; payload = codes "o" }
@@ -76,7 +76,7 @@ serves_b queue =
       retained = [];
     }
 
--- the state in which it waits
+-- b is served, and that publication waits in its queue
 abbrev pub o_waits : State
 o_waits = serves_b (record { in_flight = []; waiting = waits_o ∷ [] })
 

@@ -19,10 +19,10 @@ abbrev pub is_owned : Sessions → Option ConnectionName → Bool
 is_owned rows (Some x) = is_some (owner_in x rows)
 is_owned rows None = false
 
--- clients rise, and no connection is used twice
+-- whether a row may come after those before it: clients rise, and no connection is used twice
 abbrev pub row_follows : Sessions → Client × ClientSession → Bool
 row_follows front row = is_after (last_of front) row.0 && not (is_owned front row.1.connection)
 
--- topics rise
+-- whether a topic may come after those before it: topics rise
 abbrev pub topic_follows : List (List ℕ × RetainedPublication) → List ℕ × RetainedPublication → Bool
 topic_follows front row = is_after (last_of front) row.0

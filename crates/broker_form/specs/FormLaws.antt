@@ -17,7 +17,7 @@ IsUsualState state =
     IsBrokerState usual_limits state × IsWindowSize state.window
     × AllInWindow state.window state.sessions
 
--- what is frozen is thawed
+-- a usual state is thawed again from the bytes to which it is frozen
 abbrev pub FrozenIsThawed : Type 0
 FrozenIsThawed = (state : State) → IsUsualState state → thawed (frozen state) ≡ Some state
 

@@ -21,12 +21,12 @@ abbrev pub connection_bytes : Option ConnectionName → List ℕ
 connection_bytes None = 0 ∷ []
 connection_bytes (Some x) = 1 ∷ (wide_number x.ballot ++ wide_number x.count)
 
--- a client with its session
+-- the bytes of a client with its session: CleanSession, connection, state
 abbrev pub row_bytes : Client × ClientSession → List ℕ
 row_bytes row =
     text row.0 ++ (bit row.1.clean ∷ (connection_bytes row.1.connection ++ state_bytes row.1.state))
 
--- a topic with what is retained of it
+-- the bytes of a topic with what is retained of it
 abbrev pub retained_bytes : List ℕ × RetainedPublication → List ℕ
 retained_bytes row =
     qos_number row.1.qos ∷ (text row.0 ++ (long_number (length row.1.payload) ++ row.1.payload))

@@ -21,7 +21,7 @@ Delivers granted sent answers =
     Gives usual_limits (subscribed_at granted) (gets 2 (publish sent false (codes "x")) ∷ [])
     (answers ∷ [])
 
--- to b
+-- b is sent x on connection 1 with this delivery
 abbrev pub to_b : Delivery → Output
 to_b delivery = sends 1 (publish delivery false (codes "x"))
 

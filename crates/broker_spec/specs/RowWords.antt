@@ -46,7 +46,7 @@ gets n packet = commands.Packet (nth n) packet
 abbrev pub sends : ℕ → Packet → Output
 sends n packet = Send (nth n) packet
 
--- CONNACK 0
+-- a CONNACK with code 0, with session present or not
 abbrev pub connack : Bool → Packet
 connack present = packets.Connack (connacks.Accepted present)
 

@@ -40,7 +40,7 @@ IsFaithful (master_hears from ballot sent) = Unit {0}
 IsFaithful (assigns_unheard config) = Unit {0}
 IsFaithful (answers_unheard from ballot sent) = Unit {0}
 
--- the call of a step, at a node
+-- the call that a node does in a step, with its index; none in a step of the master
 abbrev pub node_call_of : {g h : Group} → GroupStep g h → Option (ℕ × NodeCall)
 node_call_of (node_acts n core node_call turn run at is first sent) = Some (n, node_call)
 node_call_of (node_loses n core item turn kept by at runs sent thinned) = Some (n, takes item)

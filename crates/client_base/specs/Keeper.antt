@@ -75,7 +75,7 @@ ids_of_own [] = []
 abbrev pub all_own : Keeper → List Own
 all_own keeper = keeper.earlier ++ keeper.own
 
--- the number of the next one
+-- the number of the next publication: how many the client has published
 abbrev pub next_number : Keeper → ℕ
 next_number keeper = length keeper.earlier + length keeper.own
 

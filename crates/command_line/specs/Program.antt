@@ -41,14 +41,14 @@ tries_rule = record (number_option (codes "tries") 1 1000) {
   defaults = codes "10" ∷ [];
 }
 
--- a flag
+-- `--retain`, which has no value
 abbrev pub retain_rule : Rule
 retain_rule = record (new_rule (codes "retain")) {
   long = Some (codes "retain");
   action = Some SetTrue;
 }
 
--- `ADDR...`
+-- `ADDR...`, one address or several
 abbrev pub address_rule : Rule
 address_rule = record (new_rule (codes "address")) {
   action = Some Append;
@@ -56,7 +56,7 @@ address_rule = record (new_rule (codes "address")) {
   value_names = 1;
 }
 
--- `[FILE]`
+-- `[FILE]`, which may be missing
 abbrev pub file_rule : Rule
 file_rule = record (new_rule (codes "file")) { value_names = 1 }
 

@@ -49,7 +49,7 @@ pub record IsShownBy (c : ClientPipes) (state : ClientState) : Type 0 where
   pub keeper : history.StandsFor c.keeper state
   pub accepted : accepted_once state.accepted ≡ accepted_on c.connections
 
--- by this list
+-- what a world is promised if this is the list on which its nodes agree
 pub record IsExactBy (agreed : List Command) (w : World) : Type 0 where
   -- each client that is in step publishes once, and accepts in order in each of its sessions
   pub clients : Each (IsExactInStep agreed) w.clients

@@ -31,7 +31,7 @@ after_assign g config None = told_by_master g (assigned Command g.master config)
 abbrev pub keeping : List (Effect Command Output) → Turn → Turn
 keeping kept turn = record turn { messages = kept }
 
--- one step of a group
+-- one step of a group: of one of its nodes, or of its master
 pub data GroupStep (g : Group) : Group → Type 0 where
   -- a node takes an item, or hands over bytes, by these moves; what its replica receives, or a cut,
   -- comes first

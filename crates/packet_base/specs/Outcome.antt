@@ -23,7 +23,7 @@ abbrev pub Reads : {X Y : Type 0} → (X → Y) → Result X Stop → List ℕ
 Reads view (Ok x) rest read = read ≡ Ok (view x, rest)
 Reads view (Err stop) rest read = StopsBy stop read
 
--- memory ran out
+-- the reading stopped since memory ran out
 abbrev pub IsOutOfMemory : {X : Type 0} → Result X Stop → Type 0
 IsOutOfMemory result = result ≡ Err (stops.Malformed kinds.Memory)
 

@@ -28,7 +28,7 @@ pub record PipeInOrder (agreed : List Command) (κ : Connection) (e : End) : Typ
   pub down : IsPrefixOf e.put (put_to usual_limits (past_of usual_limits agreed) κ.name)
   pub handled : κ.handled ≤ length e.put
 
--- each connection
+-- `PipeInOrder` of each connection of a client and the node's end of it
 abbrev pub PipesInOrder : List Command → List Connection → List End → Type 0
 PipesInOrder agreed (κ ∷ connections) (e ∷ ends) =
     PipeInOrder agreed κ e × PipesInOrder agreed connections ends

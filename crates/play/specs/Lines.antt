@@ -4,11 +4,11 @@ use Rattle.std.specs.Fmt.{decimal}
 use Rattle.user_client.specs.client_base.declared.accepted.Accepted.{Accepted}
 use Rattle.user_client.specs.Printing.{line_of, printed}
 
--- `7 idle`
+-- the line of an idle event, as `7 idle`
 abbrev pub idle_line : ℕ → List ℕ
 idle_line index = decimal index ++ (codes " idle" ++ 10 ∷ [])
 
--- `7 ok msgs=3 agreed=1`
+-- the line of an event that was done, as `7 ok msgs=3 agreed=1`
 abbrev pub done_line : ℕ → ℕ → ℕ → List ℕ
 done_line index messages agreed = decimal index
     ++ (codes " ok msgs=" ++ (decimal messages

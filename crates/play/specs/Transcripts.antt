@@ -28,7 +28,7 @@ accepted_by (Some core) = core.state.accepted
 abbrev pub accepted_in : List ℕ → WorldState → List Accepted
 accepted_in name w = accepted_by (core_named name w.clients)
 
--- a line for each
+-- a line for each publication that a client accepted
 abbrev pub accepted_lines : List ℕ → List Accepted → List ℕ
 accepted_lines name [] = []
 accepted_lines name (one ∷ more) = accepted_line name one ++ accepted_lines name more

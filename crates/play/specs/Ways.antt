@@ -18,7 +18,7 @@ abbrev pub more_members : List ℕ → List ℕ
 more_members [] = []
 more_members (member ∷ members) = 44 ∷ (decimal member ++ more_members members)
 
--- `1,2`
+-- the text of members, as `1,2`
 abbrev pub members_text : List ℕ → List ℕ
 members_text [] = []
 members_text (member ∷ members) = decimal member ++ more_members members

@@ -51,7 +51,7 @@ qos_of_number (Some number) =
 unfoldable pub qos_of : Text → Option QoS
 qos_of text = qos_of_number (number_of text)
 
--- 0 or 1
+-- the bit of a number, if it is 0 or 1
 abbrev pub bit_of : Option ℕ → Option Bool
 bit_of None = None
 bit_of (Some number) =

@@ -30,6 +30,6 @@ may_follow front flight =
     not (has_id flight.0 (ids_of front))
     && (not (is_released flight) || was_released (last_of front))
 
--- anything
+-- any publication may come after those before it
 abbrev pub anything : List Publication → Publication → Bool
 anything front p = true

@@ -57,7 +57,7 @@ flights_by_hand =
     ∷ 0 ∷ 1 ∷ 0 ∷ 0 ∷ 1 ∷ 0 ∷ 3 ∷ 0x74 ∷ 0x2F ∷ 0x31 ∷ 0 ∷ 0 ∷ 0 ∷ 1 ∷ 0x78
     ∷ 0 ∷ 2 ∷ 1 ∷ 0 ∷ 2 ∷ 0 ∷ 3 ∷ 0x74 ∷ 0x2F ∷ 0x31 ∷ 0 ∷ 0 ∷ 0 ∷ 1 ∷ 0x79 ∷ []
 
--- two wait
+-- the bytes of what waits, two publications, worked out by hand
 abbrev pub waiting_by_hand : List ℕ
 waiting_by_hand =
     0 ∷ 2

@@ -108,6 +108,6 @@ fill window in_flight (p ∷ waiting) =
     else record { in_flight = in_flight; waiting = p ∷ waiting }
 fill window in_flight [] = record { in_flight = in_flight; waiting = [] }
 
--- a queue filled
+-- a queue in which all has started that may start
 abbrev pub filled : ℕ → Queue → Queue
 filled window queue = fill window queue.in_flight queue.waiting

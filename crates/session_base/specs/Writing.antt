@@ -16,7 +16,7 @@ use Rattle.session_base.specs.Counted.{counted}
 abbrev pub long_number : ℕ → List ℕ
 long_number n = to_be_bytes w32 n
 
--- one byte
+-- a number below 256 as its byte
 abbrev pub one_byte : ℕ → List ℕ
 one_byte n = n ∷ []
 

@@ -11,7 +11,7 @@ use Rattle.agreement.specs.ballot_base.Sending.{master}
 use Rattle.snapshots.specs.Masters.{MasterOutcome, activated, assigned}
 use Rattle.snapshots.specs.World.{NodeGoes, World}
 
--- the world after a message of the master
+-- the world once the master has sent a message: it comes after those that were sent before
 abbrev pub tells_from_master : {S C O : Type 0} → World S C O → MasterOutcome C → World S C O
 tells_from_master w o =
     record w { sent = w.sent ++ (o.receiver, record { from = master; body = o.body }) ∷ [] }
@@ -22,7 +22,7 @@ abbrev pub world_after : {S C O : Type 0} →
 world_after m w config (Some why) = w
 world_after {C = C} m w config None = tells_from_master w (assigned C m config)
 
--- what may happen
+-- one event of such a group, from the master and the world before it to those after it
 pub data MayHappen {S C O : Type 0} (rules : Rules S C O) :
     MasterState → World S C O → MasterState → World S C O → Type 0 where
   -- a node takes a step, stops, or cuts its log

@@ -22,7 +22,7 @@ use Rattle.agreement.specs.ballot_base.Replica.{ReplicaState}
 use Rattle.agreement.specs.ballot_base.Protocol.{Input}
 use Rattle.agreement.specs.ballot_base.Protocol.Input.{Receives, Proposes, Ticks}
 
--- the whole log of a log
+-- all commands of a log: those below its base, out of the record, and the rest
 abbrev pub whole_log : {C : Type 0} → List C → Log C → List C
 whole_log archive log = take log.base archive ++ log.rest
 

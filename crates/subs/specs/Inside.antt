@@ -39,7 +39,7 @@ shape_of nodes =
 abbrev pub Asked : Type 0
 Asked = Levels → List ℕ → Option QoS
 
--- no subscription
+-- no client asks for any filter
 abbrev pub nothing : Asked
 nothing filter client = None
 

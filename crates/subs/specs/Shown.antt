@@ -8,7 +8,7 @@ use Rattle.subs.specs.Shape.{Shape, rows}
 use Rattle.subs.specs.Ways.{led, IsTree}
 use Rattle.subs.specs.Inside.{shape_of}
 
--- the shape of nodes
+-- which children nodes have, which rows they hold, and which numbers are used
 abbrev pub shape : Nodes → Shape
 shape nodes = shape_of nodes.slab
 

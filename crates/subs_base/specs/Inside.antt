@@ -12,7 +12,7 @@ use Rattle.packet.specs.QoS.{qos_number}
 use Rattle.subs_base.specs.Granted.{Row, row_of}
 use Rattle.subs_base.specs.ListIndex.{Filters, Clients}
 
--- the maps as lists
+-- each client with its filters, the maps as lists
 abbrev pub listed : List (List ℕ × BTreeMap (List ℕ) QoS) → Clients
 listed entries = map (λ entry. (entry.0, entry.1.entries)) entries
 

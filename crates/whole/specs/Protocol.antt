@@ -35,7 +35,7 @@ received {O = O} rules r from (Append ballot place command) =
 received {O = O} rules r from (Held ballot held) = on_held rules r from ballot held
 received rules r from (Commit ballot held) = on_commit rules r ballot held
 
--- a tick, by the role
+-- a tick: a backup does nothing, and every other role repeats what others may have missed
 abbrev pub ticked : {S C : Type 0} (O : Type 0) → ReplicaState S C → Role → Outcome S C O
 ticked O r Backup = nothing_done O r
 ticked O r Fetching = on_tick_fetching O r

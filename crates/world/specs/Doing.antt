@@ -28,7 +28,7 @@ abbrev pub Delivers : Bool → Option (ℕ × Message Command) → NodesState �
 Delivers true message old new = Comes message old new
 Delivers false message old new = ComesIn message old new
 
--- a log is cut
+-- a node cuts its log, exactly or perhaps with losses
 abbrev pub CutsLog : Bool → ℕ → NodesState → NodesState → Type 0
 CutsLog true node old new = CutsExactly node old new
 CutsLog false node old new = CutsIn node old new
@@ -38,7 +38,7 @@ abbrev pub Proposes : Bool → List ℕ → ℕ → NodesState → NodesState �
 Proposes true name node old new = TakesExactly node (items.Expel name) old new
 Proposes false name node old new = ExpelsIn name node old new
 
--- 0 is the master
+-- the receiver of a message that was sent; 0, the master, if there is none
 abbrev pub receiver_of : Option (ℕ × Message Command) → ℕ
 receiver_of None = 0
 receiver_of (Some (receiver, message)) = receiver

@@ -56,7 +56,7 @@ LosesAllFailed core did = Repeated (length core.connections) LosesFailed core di
 abbrev pub ReadsAll : ℕ → Port → CoreState → Account → Type 0
 ReadsAll now port core did = Repeated (unread_of (open_at port core)) (ReadsNext now port) core did
 
--- an item alone
+-- what an item asks for, without the losses that follow from it
 abbrev pub DoesItem : Item → CoreState → Account → Type 0
 DoesItem (Peer message) core did = Drives (Receives message) core did
 DoesItem (Tick now) core did = Then (Drives Ticks) (EndsAllSilent now) core did

@@ -65,7 +65,7 @@ abbrev pub crashed : CoreState → CoreState
 crashed core =
     record core { replica = record core.replica { state = halted rules core.replica.state } }
 
--- an item alone
+-- what an item asks for, without the losses that follow from it
 abbrev pub does_item : Item → CoreState → Turn
 does_item (Peer message) core = drives (Receives message) core
 does_item (Tick now) core = then_also (drives Ticks core) (ends_all_silent now)

@@ -24,7 +24,7 @@ log_in archive (Some node) = whole_log archive node.core.replica.state.log
 abbrev pub log_of : NodesState → ℕ → List Command
 log_of n node = log_in n.archive (node_of n.nodes node)
 
--- the name of a first connection
+-- the name of the first connection of ballot 1
 abbrev pub first_connection : ConnectionName
 first_connection = record { ballot = 1; count = 1 }
 

@@ -29,7 +29,7 @@ is_holding client = is_open client.core.state.stage
 abbrev pub new_way : ℕ → Port → Way
 new_way node port = record { node = node; port = port; up = []; down = [] }
 
--- never connected
+-- a client that was never connected
 abbrev pub new_piped : List ℕ → Piped
 new_piped client = piped (new_core client 0) []
 

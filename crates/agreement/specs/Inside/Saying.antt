@@ -25,7 +25,7 @@ IsOffered {C} h b g xs =
     ((p : Line C) × (h.line g.previous ≡ Some p) × IsPrefixOf xs p.list)
     ⊎ ((l : Line C) × (h.line b ≡ Some l) × IsPrefixOf l.base xs × IsPrefixOf xs l.list)
 
--- another member
+-- a member of a ballot other than its primary
 abbrev pub IsOther : Given → ℕ → Type 0
 IsOther g m = In m g.members × (m ≡ g.primary → ⊥)
 

@@ -18,11 +18,11 @@ only reads [] = None
 only reads (field ∷ []) = reads field
 only reads (field ∷ other ∷ more) = None
 
--- one field
+-- what a line of one field says, if there is just one and it can be read
 abbrev pub one : {X : Type 0} → (X → ScriptLine) → (Text → Option X) → List Text → Option ScriptLine
 one make reads fields = with (Some make) (only reads fields)
 
--- two fields
+-- what a line of two fields says, if there are just two and both can be read
 abbrev pub two : {X Y : Type 0} → (X → Y → ScriptLine) → (Text → Option X) → (Text → Option Y)
     → List Text → Option ScriptLine
 two make reads next [] = None

@@ -31,7 +31,7 @@ group_events w members index =
 abbrev pub sent_then : WorldState → ℕ → ℕ
 sent_then w others = length w.nodes.sent + length w.nodes.master.members + 5 * others + 4
 
--- the whole list
+-- the events of a way out: of the group, then of the client, then of the answer to it
 abbrev pub escaping_events : WorldState → List ℕ → ℕ → Bool → List ℕ → ℕ → List Event
 escaping_events w members index holds name bytes =
     group_events w members index
