@@ -36,7 +36,7 @@ impl Tables {
     {
         let row = self.sessions.get_mut(client).unwrap();
         let mut sent = Vec::new(self.alloc);
-        take_step(&mut row.state, self.window, packet, &mut sent)?;
+        do_handshake(&mut row.state, self.window, packet, &mut sent)?;
         send_all(connection, sent, out)?;
         Ok(())
     }
@@ -44,7 +44,7 @@ impl Tables {
 
 // Does a step of a handshake in the client's session. The client is connected: what waits may start
 // once an entry is finished (MQTT 4.6).
-fn take_step(
+fn do_handshake(
     session: &mut Session,
     window: Window,
     packet: &Packet,

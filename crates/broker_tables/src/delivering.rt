@@ -62,7 +62,7 @@ fn copy_at(publication: &Publication, qos: QoS) -> Result<Publication, AllocErro
 
 /// Puts a copy into the session of a connected client: one of QoS 0 is sent at once, and after any
 /// other what may start starts.
-pub(crate) fn take_copy(
+pub(crate) fn put_copy(
     session: &mut Session,
     window: Window,
     copy: Publication,
@@ -114,7 +114,7 @@ pub(crate) fn deliver(
     match row.connection {
         Some(connection) => {
             let mut sent = Vec::new(*out.allocator());
-            take_copy(&mut row.state, window, copy, &mut sent)?;
+            put_copy(&mut row.state, window, copy, &mut sent)?;
             send_all(connection, sent, out)
         }
         None if copy.qos == QoS::AtMostOnce => Ok(()),

@@ -7,7 +7,7 @@ ghost use Rattle.session.specs.session_base.Sending.{copies_sent};
 ghost use Rattle.session.specs.session_base.Session.{with_queue};
 ghost use Rattle.broker_rows.specs.broker_spec.Entries.{copies_for, queued, retained_copy};
 
-use crate::delivering::{lower, take_copy};
+use crate::delivering::{lower, put_copy};
 use broker_rows::broker_spec::Window;
 use broker_rows::retained::{RetainedPublication, RetainedStore};
 use machine::Halted;
@@ -61,7 +61,7 @@ pub(crate) fn queued(copies: &[Publication]) -> usize
 }
 
 /// Puts copies one by one into the session of a connected client.
-pub(crate) fn take_copies(
+pub(crate) fn put_copies(
     session: &mut Session,
     window: Window,
     copies: Vec<Publication>,
@@ -74,7 +74,7 @@ pub(crate) fn take_copies(
         (sent.new.items ≡ sent.old.items ++ copies_sent window copies.items session.old.queue) }
 {
     for copy in copies {
-        take_copy(session, window, copy, sent)?;
+        put_copy(session, window, copy, sent)?;
     }
     Ok(())
 }

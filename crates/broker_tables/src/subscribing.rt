@@ -14,7 +14,7 @@ ghost use Rattle.broker_rows.specs.Indexed.{all_set};
 ghost use Rattle.broker_rows.specs.Owners.{owners_in};
 ghost use Rattle.broker_tables.specs.Tables.{IsConsistent, IsTied, state_in, stepped};
 
-use crate::retained_copies::{copies_for, queued, take_copies};
+use crate::retained_copies::{copies_for, put_copies, queued};
 use crate::sending::send_all;
 use crate::tables::Tables;
 use broker_rows::broker_spec::{ConnectionName, Output, Window};
@@ -116,7 +116,7 @@ fn grant(
         return Ok(false);
     }
     session.subscribe(subscription.filter.clone()?, subscription.qos)?;
-    take_copies(session, window, copies, sent)?;
+    put_copies(session, window, copies, sent)?;
     Ok(true)
 }
 

@@ -95,7 +95,7 @@ impl Unwritten {
         }
     }
 
-    /// Takes what an outlet hands over by a tap, if nothing is left. If the outlet swaps its list
+    /// Takes all that an outlet has for a tap now, if nothing is left. If the outlet swaps its list
     /// with an empty one, as a node does, no byte is copied.
     pub(crate) fn take_from<R: Wait, T: Tap, O: Outlet<T>>(
         &mut self,

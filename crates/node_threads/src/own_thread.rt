@@ -48,7 +48,7 @@ impl<'a, J: NodeNaming, S: Stated<J>, G: Gate> ServedNode<'a, J, S, G> {
             if let Some(closed) = shared.context.listener.closed(rt) {
                 return closed;
             }
-            let latest = self.take_own(rt, last);
+            let latest = self.do_own_turn(rt, last);
             shared.context.cluster.wake_urgent(rt);
             shared.write_busy(rt, 0, false);
             if latest.time > last.time {
@@ -62,20 +62,20 @@ impl<'a, J: NodeNaming, S: Stated<J>, G: Gate> ServedNode<'a, J, S, G> {
 
     // Does the node's turn by its own lane, once no other thread holds that. Returns when the node
     // got the time last.
-    fn take_own<R: Wait + Clock>(&self, rt: &R, last: LastTick) -> LastTick {
+    fn do_own_turn<R: Wait + Clock>(&self, rt: &R, last: LastTick) -> LastTick {
         let mut own = self.own.lock(rt);
         // It is this node's, but no clause is about what is under a lock.
         if own.number() != self.shared.context.node.number {
             return last;
         }
-        self.shared.take_by(rt, &mut own, last)
+        self.shared.do_turn_by(rt, &mut own, last)
     }
 }
 
 impl<'a, J: NodeNaming, S: Stated<J>, G: Gate> Shared<'a, J, S, G> {
-    // Takes what was queued for the node, gives it the time and has its log cut, if that is due, by
-    // the node's own lane. Returns when the node got the time last.
-    fn take_by<R: Wait + Clock>(&self, rt: &R, own: &mut OwnLane<J>, last: LastTick) -> LastTick
+    // Does the node's turn by its own lane: takes what was queued for the node, gives it the time
+    // and has its log cut, if that is due. Returns when the node got the time last.
+    fn do_turn_by<R: Wait + Clock>(&self, rt: &R, own: &mut OwnLane<J>, last: LastTick) -> LastTick
         requires { own.old.number ≡ self.now.context.node.now.number }
     {
         self.take_queued(rt, &mut own.lane);
@@ -84,7 +84,7 @@ impl<'a, J: NodeNaming, S: Stated<J>, G: Gate> Shared<'a, J, S, G> {
         last
     }
 
-    /// Takes what was queued for the node, by the node's own lane.
+    /// Takes what was queued for the node up to now, by the node's own lane.
     pub(crate) fn take_queued_by<R: Wait + Clock>(&self, rt: &R, own: &mut OwnLane<J>)
         requires { own.old.number ≡ self.now.context.node.now.number }
     {
@@ -126,7 +126,8 @@ impl<'a, J: NodeNaming, S: Stated<J>, G: Gate> Shared<'a, J, S, G> {
         is_overdue(standing, link.opened, now)
     }
 
-    // Takes all that other nodes and the master have for the node, and then what the inbox holds.
+    // Takes all that other nodes and the master queued for the node up to now. If that is
+    // something, takes items until the inbox is empty.
     fn take_queued<R: Wait + Clock>(&self, rt: &R, lane: &mut Lane<Item, J>)
         ensures { SendsOwn self.now.context.node.now.number lane.old.sent lane.new.sent }
     {

@@ -72,16 +72,16 @@ impl<'a, J: NodeNaming, S: Stated<J>, G: Gate> Shared<'a, J, S, G> {
         ensures { lane.new ≡ all_met lane.old }
     {
         for _ in rt.forever() {
-            if !self.take_some(rt, lane) {
+            if !self.take_permitted(rt, lane) {
                 return;
             }
         }
         unreachable!()
     }
 
-    // Takes some items. Returns whether more may wait. A gate is asked before each item, while the
-    // node's state is not locked.
-    fn take_some<R: Wait + Clock>(&self, rt: &R, lane: &mut Lane<Item, J>) -> bool
+    // Takes at most as many items as one permit allows. Returns whether more may wait. The gate is
+    // asked for the permit before, while the node's state is not locked.
+    fn take_permitted<R: Wait + Clock>(&self, rt: &R, lane: &mut Lane<Item, J>) -> bool
         ensures more { result ≡ true → lane.new ≡ lane.old }
 
         // If none waits, all was taken that the lane sent.
@@ -93,9 +93,9 @@ impl<'a, J: NodeNaming, S: Stated<J>, G: Gate> Shared<'a, J, S, G> {
         more
     }
 
-    // Takes items under one lock, as many as the permit allows. Returns whether more may wait. What
-    // the node has for others is handed on while the lock is held, so that it keeps the order of
-    // the node's steps. The status is shown then, too.
+    // Takes items under one lock, at most as many as the permit allows. Returns whether more may
+    // wait. What the node has for others is handed on while the lock is held, so that it keeps the
+    // order of the node's steps. The status is shown then, too.
     fn take_locked<R: Wait>(&self, rt: &R, permit: &Permit<'_>, lane: &mut Lane<Item, J>) -> bool
         ensures more { result ≡ true → lane.new ≡ lane.old }
         ensures none { result ≡ false → lane.new ≡ all_met lane.old }
@@ -118,8 +118,8 @@ impl<'a, J: NodeNaming, S: Stated<J>, G: Gate> Shared<'a, J, S, G> {
     }
 }
 
-// Takes items until the inbox is empty, as many as the permit allows. Returns whether more may
-// wait, and what the node's steps gave.
+// Takes items until the inbox is empty, at most as many as the permit allows. Returns whether more
+// may wait, and what the node's steps gave.
 fn take_up_to<J: NodeNaming, R: Wait>(
     rt: &R,
     alloc: Global,

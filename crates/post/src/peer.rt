@@ -185,7 +185,7 @@ impl Peer {
         outbox.number() == self.number && outbox.queue(item)
     }
 
-    /// Takes all that waits, in the order in which it was queued.
+    /// Takes all that waits now, in the order in which it was queued.
     pub fn take_waiting<R: Wait>(&self, rt: &R, alloc: Global) -> Vec<Item>
         ensures { Each (IsQueued self.now.number) result.items }
     {

@@ -30,7 +30,7 @@ returns-clause-state c =
     ap (λ (rows : Sessions). record { window = t.window; sessions = rows; retained = t.retained })
     ((c.get_mut.follows.holds _).0
     ∙ ap (λ (s : ClientSession). set_value (is_at (by_bytes c.args.client.now)) t.sessions.entries s)
-    (ap (λ s. record { clean = c.row.inside.clean; connection = c.row.inside.connection; state = s }) c.in_ok-take_step.ensures.state
+    (ap (λ s. record { clean = c.row.inside.clean; connection = c.row.inside.connection; state = s }) c.in_ok-do_handshake.ensures.state
     ∙ ap (λ (k : ClientSession). holding (handled_state t.window c.args.packet.now k.state) k) c.row.view_is))
     ∙ sym (ap (λ p. p.0)
     (handshake_step t c.args.connection c.args.client.now kept c.args.packet.now
@@ -44,7 +44,7 @@ returns-clause-outputs c =
     = sym c.get_mut.ensures.value ∙ ap option_copied_mut c.unwrap-row.ensures in
     c.in_ok-send_all.ensures
     ∙ ap (λ sent. c.args.out.now.items ++ map (outputs.Send c.args.connection) sent)
-    (c.in_ok-take_step.ensures.sends ∙ ap (λ front. front ++ handshake_sends t.window c.args.packet.now c.row.inside.state) c.new-sent.ensures.items
+    (c.in_ok-do_handshake.ensures.sends ∙ ap (λ front. front ++ handshake_sends t.window c.args.packet.now c.row.inside.state) c.new-sent.ensures.items
     ∙ ap (λ (k : ClientSession). handshake_sends t.window c.args.packet.now k.state) c.row.view_is)
     ∙ ap (λ sent. c.args.out.now.items ++ sent)
     (sym (ap (λ p. p.1)
@@ -59,5 +59,5 @@ returns-clause-tied c =
     = sym c.get_mut.ensures.value ∙ ap option_copied_mut c.unwrap-row.ensures in
     ties_of_set t _ c.args.client.now kept _ c.requires.consistent refl refl (c.get_mut.follows.holds _).0 held
     (ap (λ (k : ClientSession). k.connection) c.row.view_is)
-    (ap (λ s. s.subscriptions) c.in_ok-take_step.ensures.state ∙ handshake_keeps_filters t.window c.args.packet.now c.row.inside.state c.requires.kind
+    (ap (λ s. s.subscriptions) c.in_ok-do_handshake.ensures.state ∙ handshake_keeps_filters t.window c.args.packet.now c.row.inside.state c.requires.kind
     ∙ ap (λ (k : ClientSession). k.state.subscriptions) c.row.view_is)

@@ -6,18 +6,18 @@ use Rattle.session.specs.session_base.Queue.{Queue, room}
 use Rattle.session.specs.session_base.Session.{SessionState}
 use Rattle.broker_rows.specs.broker_spec.Entries.{queued}
 use Rattle.broker_tables.proofs.RoomForCopies.{others_find_room, sent_first}
-use Rattle.broker_tables.proofs.retained_copies.take_copies.Goals as goal
+use Rattle.broker_tables.proofs.retained_copies.put_copies.Goals as goal
 
 pub loop-copy-preserved : goal.loop-copy-preserved
 loop-copy-preserved c =
     let cut : c.loop-copy.copy-iterator.rest.items ≡ c.in-Some.copy ∷ c.next.new.self.rest.items = search rules in (
       search rules,
       sent_first c.args.window c.in-Some.copy c.next.new.self.rest.items c.loop-copy.copy-iterator.rest.items c.loop-copy.session.queue
-          c.take_copy.new.session.queue c.loop-copy.sent.items c.take_copy.new.sent.items cut
-          (ap (λ (s : SessionState). s.queue) c.in_ok-take_copy.ensures.state) c.in_ok-take_copy.ensures.sends
+          c.put_copy.new.session.queue c.loop-copy.sent.items c.put_copy.new.sent.items cut
+          (ap (λ (s : SessionState). s.queue) c.in_ok-put_copy.ensures.state) c.in_ok-put_copy.ensures.sends
           ∙ c.loop-copy.invariant.1,
       subst (λ (queue : Queue). length (queued c.next.new.self.rest.items) ≤ room MAX_ENTRIES queue)
-          (sym (ap (λ (s : SessionState). s.queue) c.in_ok-take_copy.ensures.state))
+          (sym (ap (λ (s : SessionState). s.queue) c.in_ok-put_copy.ensures.state))
           (others_find_room c.args.window c.in-Some.copy c.next.new.self.rest.items c.loop-copy.session.queue
           (subst (λ (copies : List Publication). length (queued copies) ≤ room MAX_ENTRIES c.loop-copy.session.queue) cut c.loop-copy.invariant.2)),
     )

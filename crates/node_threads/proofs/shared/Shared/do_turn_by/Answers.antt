@@ -1,5 +1,5 @@
 use Rattle.node_threads.proofs.OwnSendsJoin.{own_join, own_more}
-use Rattle.node_threads.proofs.shared.Shared.take_by.Goals as goal
+use Rattle.node_threads.proofs.shared.Shared.do_turn_by.Goals as goal
 
 pub invariant_of-own : goal.invariant_of-own
 invariant_of-own g c =
