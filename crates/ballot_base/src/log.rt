@@ -69,7 +69,7 @@ impl<C: Drop> Log<C> {
 
     /// Returns an empty vector with capacity for as many bytes as the snapshot has, and an eighth
     /// more. If there is no memory for it, it has no capacity yet.
-    pub fn room(&self, alloc: Global) -> Vec<u8>
+    pub fn snapshot_buffer(&self, alloc: Global) -> Vec<u8>
         ensures { result.items ≡ [] }
     {
         let length = self.snapshot.len();

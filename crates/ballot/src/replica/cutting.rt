@@ -38,7 +38,7 @@ impl<M: Machine> Replica<M> {
         if self.stopped || self.committed <= self.log.base() {
             return false;
         }
-        let mut snapshot = self.log.room(self.alloc);
+        let mut snapshot = self.log.snapshot_buffer(self.alloc);
         match self.machine.freeze(&mut snapshot) {
             Ok(()) => {
                 self.log.cut(self.committed, snapshot);
