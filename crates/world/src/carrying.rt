@@ -132,7 +132,7 @@ fn take_up(
     let Ok(piece) = Piece::from_slice(alloc, &waiting[..count]) else {
         return Ok(false);
     };
-    nodes.take(slot.node, port, piece)?;
+    nodes.give_bytes(slot.node, port, piece)?;
     piped.take_up(slot.at, count);
     Ok(true)
 }

@@ -249,7 +249,7 @@ impl Nodes {
     }
 
     /// Gives bytes to a stream of a node, at time 0. Idle if the node is unknown or has stopped.
-    pub fn take(&mut self, node: u8, port: Port, piece: Piece) -> Result<(), Idle>
+    pub fn give_bytes(&mut self, node: u8, port: Port, piece: Piece) -> Result<(), Idle>
         ensures step { OnOk result (TakesIn node (Item.Bytes port piece 0) self.old self.new) }
         ensures goes { LosesNothing self.old self.new →
             OnOk result (TakesExactly node (Item.Bytes port piece 0) self.old self.new) }

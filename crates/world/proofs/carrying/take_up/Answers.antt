@@ -11,11 +11,11 @@ returns-then-not-is_part-clause-nodes c = nodes_rest _ _ refl
 pub returns-in_default-clause-nodes : goal.returns-in_default-clause-nodes
 returns-in_default-clause-nodes c = nodes_rest _ _ refl
 
-pub returns-in_err-take-clause-nodes : goal.returns-in_err-take-clause-nodes
-returns-in_err-take-clause-nodes c = call_goes c.take.result c.args.nodes.now c.take.new.self _ _ c.take.ensures.rises c.take.ensures.acts c.take.ensures.same
+pub returns-in_err-give_bytes-clause-nodes : goal.returns-in_err-give_bytes-clause-nodes
+returns-in_err-give_bytes-clause-nodes c = call_goes c.give_bytes.result c.args.nodes.now c.give_bytes.new.self _ _ c.give_bytes.ensures.rises c.give_bytes.ensures.acts c.give_bytes.ensures.same
 
 pub returns-clause-nodes : goal.returns-clause-nodes
-returns-clause-nodes c = call_goes c.take.result c.args.nodes.now c.take.new.self _ _ c.take.ensures.rises c.take.ensures.acts c.take.ensures.same
+returns-clause-nodes c = call_goes c.give_bytes.result c.args.nodes.now c.give_bytes.new.self _ _ c.give_bytes.ensures.rises c.give_bytes.ensures.acts c.give_bytes.ensures.same
 
 pub returns-clause-leads : goal.returns-clause-leads
 returns-clause-leads c =
