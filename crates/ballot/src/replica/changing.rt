@@ -109,7 +109,7 @@ impl<M: Machine> Replica<M> {
         self.held_in = ballot;
         self.role = Role::Installing;
         self.lacking = lacking;
-        let sent = self.hand_over(out);
+        let sent = self.send_log(out);
         self.losses = counted(self.losses, sent);
     }
 

@@ -49,7 +49,7 @@ impl<M: Machine> Replica<M> {
                 let receivers = self.previous_members.as_slice();
                 send_joins(self.id, self.joined, self.previous, receivers, out)
             }
-            Role::Installing => self.hand_over(out),
+            Role::Installing => self.send_log(out),
             Role::Active => self.send_missing(out),
         }
     }
@@ -76,7 +76,7 @@ impl<M: Machine> Replica<M> {
 
     /// Sends the log to the members that lack it; if there is none, the master may activate the
     /// ballot.
-    pub(super) fn hand_over(&self, out: &mut Vec<Effect<M::Command, M::Output>>) -> bool
+    pub(super) fn send_log(&self, out: &mut Vec<Effect<M::Command, M::Output>>) -> bool
         ensures { Sends out.old.items out.new.items
             (installs M.Output self.now.state self.now.state.lacking) result }
     {

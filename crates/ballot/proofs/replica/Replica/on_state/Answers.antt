@@ -39,13 +39,13 @@ returns-clause-went g c =
     let steps = g.M.Machine.rules in
     let waits : waits_for c.args.self.now.state c.args.ballot (places c.args.log) ≡ true =
     ap (waits_for c.args.self.now.state c.args.ballot) (sym c.places.ensures) ∙ sym c.waits_for.ensures ∙ c.if-not-waits_for.false in
-    state_taken {rules = steps} c.args.self.now c.take.new.self _ _ c.args.ballot c.args.log _ c.in-Ok.lacking.items _ _ c.hand_over-sent.result
+    state_taken {rules = steps} c.args.self.now c.take.new.self _ _ c.args.ballot c.args.log _ c.in-Ok.lacking.items _ _ c.send_log-sent.result
     waits c.if-not-take.ensures.took.0 c.if-not-take.ensures.took.1
     (rw (← c.self.view_is) (rw c.as_slice.ensures at c.in-Ok.ensures))
     (ap (λ (z : CountedReplica _ _). let y : CountedReplica _ _ = record z {
       state = record z.state { held_in = c.args.ballot; role = Installing; lacking = c.in-Ok.lacking.items };
     } in y) c.self-2.view_is)
-    c.hand_over-sent.ensures
+    c.send_log-sent.ensures
     refl
     c.counted-self-inside-2.ensures
 
