@@ -1,7 +1,7 @@
 -- Crossing.antt: a machine may be handed from thread to thread, since each of its parts may.
 use denote.Param.Send.{IsSend, sendable}
 use Rattle.broker.specs.contracts.broker_machine.BrokerMachine as BrokerMachine
-use Rattle.broker_tables.proofs.client_row.ClientRow.TheSendSync.{the_send as row_send}
+use Rattle.broker_tables.proofs.of_broker_session.client_row.ClientRow.TheSendSync.{the_send as row_send}
 use Rattle.packet.proofs.client_id.ClientId.TheSendSync.{the_send as client_send}
 use Rattle.broker_tables.proofs.of_retained.retained_store.RetainedStore.TheSendSync.{the_send as store_send}
 use Rattle.std.proofs.Crossing.{crosses}

@@ -2,30 +2,31 @@
 use Rattle.std.proofs.Common.{◌≡◌, ◌∙◌, ◌++◌, ap, sym, refl, true, false, Bool, [], ◌∷◌, Option, Some, None, true≢false}
 use Rattle.std.specs.Prelude.{map, not, ◌&&◌, option_map, is_some}
 use Rattle.std.specs.BTreeMap.{insert_entry}
-use Rattle.broker_rows.specs.subs_base.Content.{without_client}
-use Rattle.broker_rows.specs.subs_base.ListIndex.{content_of}
-use Rattle.broker_rows.specs.broker_spec.Connection.{ConnectionName}
-use Rattle.broker_rows.specs.broker_spec.Place.{Client, by_bytes}
-use Rattle.broker_rows.specs.broker_spec.Answers.{closed, welcome, turned_away}
-use Rattle.broker_rows.specs.broker_spec.Commands.{usual_limits}
-use Rattle.broker_rows.specs.broker_spec.declared.command.Command.TheVariants as commands
-use Rattle.broker_rows.specs.broker_spec.declared.command.Output.TheVariants as outputs
-use Rattle.broker_rows.specs.broker_base.ClientSession.{ClientSession}
-use Rattle.broker_rows.specs.broker_base.SessionStep.{kept_anew, kept_resumed}
-use Rattle.broker_rows.specs.broker_base.State.{session_in, owner_in}
-use Rattle.broker_rows.specs.broker_base.StepAnswers.{connection_of}
-use Rattle.broker_rows.specs.Served.{IsServed}
-use Rattle.broker_rows.specs.Published.{changed}
-use Rattle.broker_rows.specs.ConnectLaws.{is_admitted, begins_in}
-use Rattle.broker_rows.specs.Owners.{owners_in, with_owner, without_owner}
-use Rattle.broker_rows.proofs.ConnectSteps.{beginning_step, resuming_step, full_step}
-use Rattle.broker_rows.proofs.LeavingSteps.{further_connect_step}
-use Rattle.broker_rows.proofs.maps.OwnersConnect.{connecting_sets_the_owner, resuming_sets_the_owner}
-use Rattle.broker_rows.proofs.maps.ContentOfSteps.{beginning_drops, writing_keeps_content}
-use Rattle.broker_rows.specs.Touched.{written}
+use Rattle.broker_session.specs.subs_base.Content.{without_client}
+use Rattle.broker_session.specs.subs_base.ListIndex.{content_of}
+use Rattle.broker_session.specs.broker_spec.Connection.{ConnectionName}
+use Rattle.broker_session.specs.broker_spec.Place.{Client, by_bytes}
+use Rattle.broker_session.specs.broker_spec.Answers.{closed, welcome, turned_away}
+use Rattle.broker_session.specs.broker_spec.Commands.{usual_limits}
+use Rattle.broker_session.specs.broker_spec.declared.command.Command.TheVariants as commands
+use Rattle.broker_session.specs.broker_spec.declared.command.Output.TheVariants as outputs
+use Rattle.broker_session.specs.broker_base.ClientSession.{ClientSession}
+use Rattle.broker_session.specs.broker_base.SessionStep.{kept_anew, kept_resumed}
+use Rattle.broker_session.specs.broker_base.State.{session_in, owner_in}
+use Rattle.broker_session.specs.broker_base.StepAnswers.{connection_of}
+use Rattle.broker_session.specs.broker_rows.Served.{IsServed}
+use Rattle.broker_session.specs.broker_rows.Published.{changed}
+use Rattle.broker_session.specs.broker_rows.ConnectLaws.{is_admitted, begins_in}
+use Rattle.broker_session.specs.broker_rows.Owners.{owners_in, with_owner, without_owner}
+use Rattle.broker_session.proofs.of_broker_rows.ConnectSteps.{beginning_step, resuming_step, full_step}
+use Rattle.broker_session.proofs.of_broker_rows.LeavingSteps.{further_connect_step}
+use Rattle.broker_session.proofs.of_broker_rows.maps.OwnersConnect.{connecting_sets_the_owner, resuming_sets_the_owner}
+use Rattle.broker_session.proofs.of_broker_rows.maps.ContentOfSteps.{beginning_drops, writing_keeps_content}
+use Rattle.broker_session.specs.broker_rows.Touched.{written}
 use Rattle.broker_tables.specs.declared.tables.Tables.{Tables}
 use Rattle.broker_tables.specs.Tables.{owners_at, state_in, stepped, IsTied, IsConsistent}
-use Rattle.broker_tables.specs.Connecting.{goes_on, goes_on_in, sent_to_resumed, TakesOver}
+use Rattle.broker_session.specs.OneSession.{sent_to_resumed}
+use Rattle.broker_tables.specs.Connecting.{goes_on, goes_on_in, TakesOver}
 use Rattle.broker_tables.proofs.FoundByMaps.{is_nobodys}
 use Rattle.broker_tables.proofs.Losses.{loss_step}
 use Rattle.broker_tables.proofs.TiesOfRows.{tied_to}

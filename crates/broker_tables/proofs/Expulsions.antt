@@ -1,19 +1,19 @@
 -- Expulsions.antt: the step at an Expel, by the tables.
 use Rattle.std.proofs.Common.{◌≡◌, if◌then◌else◌, [], Option, Some, None, ap, ◌∙◌, sym}
-use Rattle.broker_rows.specs.broker_spec.Connection.{ConnectionName, same_connection}
-use Rattle.broker_rows.specs.broker_spec.Place.{Client}
-use Rattle.broker_rows.specs.broker_spec.Commands.{usual_limits}
-use Rattle.broker_rows.specs.broker_spec.Answers.{closed}
-use Rattle.broker_rows.specs.broker_spec.declared.command.Command.TheVariants as commands
-use Rattle.broker_rows.specs.broker_base.ClientSession.{ClientSession}
-use Rattle.broker_rows.specs.broker_base.State.{session_in}
-use Rattle.broker_rows.specs.subs_base.Content.{Content, without_client}
-use Rattle.broker_rows.specs.subs_base.ListIndex.{content_of}
-use Rattle.broker_rows.specs.Touched.{written}
-use Rattle.broker_rows.specs.Served.{with_session}
-use Rattle.broker_rows.specs.Owners.{Owners, owners_in, without_owner}
-use Rattle.broker_rows.proofs.ExpelSteps.{expel_step, nobodys_expel_step}
-use Rattle.broker_rows.proofs.maps.ExpelledMaps.{expel_removes_the_owner, expel_drops_the_client}
+use Rattle.broker_session.specs.broker_spec.Connection.{ConnectionName, same_connection}
+use Rattle.broker_session.specs.broker_spec.Place.{Client}
+use Rattle.broker_session.specs.broker_spec.Commands.{usual_limits}
+use Rattle.broker_session.specs.broker_spec.Answers.{closed}
+use Rattle.broker_session.specs.broker_spec.declared.command.Command.TheVariants as commands
+use Rattle.broker_session.specs.broker_base.ClientSession.{ClientSession}
+use Rattle.broker_session.specs.broker_base.State.{session_in}
+use Rattle.broker_session.specs.subs_base.Content.{Content, without_client}
+use Rattle.broker_session.specs.subs_base.ListIndex.{content_of}
+use Rattle.broker_session.specs.broker_rows.Touched.{written}
+use Rattle.broker_session.specs.broker_rows.Served.{with_session}
+use Rattle.broker_session.specs.broker_rows.Owners.{Owners, owners_in, without_owner}
+use Rattle.broker_session.proofs.of_broker_rows.ExpelSteps.{expel_step, nobodys_expel_step}
+use Rattle.broker_session.proofs.of_broker_rows.maps.ExpelledMaps.{expel_removes_the_owner, expel_drops_the_client}
 use Rattle.broker_tables.specs.declared.tables.Tables.{Tables}
 use Rattle.broker_tables.specs.Tables.{owners_at, state_in, stepped, IsTied, IsConsistent}
 use Rattle.broker_tables.proofs.TiesOfRows.{tied_to}

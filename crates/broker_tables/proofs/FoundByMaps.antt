@@ -1,13 +1,13 @@
 -- FoundByMaps.antt: the maps of connections and of sessions find the session that is served on a connection.
 use Rattle.std.proofs.Common.{◌≡◌, Option, Some, None, refl, ap, ◌∙◌, sym}
 use Rattle.std.specs.Prelude.{option_map, IsSome}
-use Rattle.broker_rows.specs.broker_spec.Connection.{ConnectionName}
-use Rattle.broker_rows.specs.broker_spec.Place.{Client}
-use Rattle.broker_rows.specs.broker_base.ClientSession.{ClientSession}
-use Rattle.broker_rows.specs.broker_base.State.{owner_in, session_in}
-use Rattle.broker_rows.specs.Served.{IsServed}
-use Rattle.broker_rows.specs.Owners.{owners_in, row_in}
-use Rattle.broker_rows.proofs.OwnerByMap.{owner_by_map}
+use Rattle.broker_session.specs.broker_spec.Connection.{ConnectionName}
+use Rattle.broker_session.specs.broker_spec.Place.{Client}
+use Rattle.broker_session.specs.broker_base.ClientSession.{ClientSession}
+use Rattle.broker_session.specs.broker_base.State.{owner_in, session_in}
+use Rattle.broker_session.specs.broker_rows.Served.{IsServed}
+use Rattle.broker_session.specs.broker_rows.Owners.{owners_in, row_in}
+use Rattle.broker_session.proofs.of_broker_rows.OwnerByMap.{owner_by_map}
 use Rattle.broker_tables.specs.declared.tables.Tables.{Tables}
 use Rattle.broker_tables.specs.Tables.{state_in, IsConsistent}
 

@@ -3,26 +3,26 @@ use Rattle.std.proofs.Common.{◌≡◌, ◌∙◌, ap, sym, Some, ◌∷◌, Li
 use Rattle.std.specs.Prelude.{map}
 use Rattle.std.specs.BTreeMap.{is_at}
 use Rattle.std.specs.Map.{lookup, set_value}
-use Rattle.session.specs.packet.declared.subscribe.Subscribe.{Subscribe}
-use Rattle.session.specs.packet.declared.packet.Packet.TheVariants as packets
-use Rattle.session.specs.session_base.Session.{SessionState}
-use Rattle.broker_rows.specs.subs_base.ListIndex.{content_of}
-use Rattle.broker_rows.specs.broker_spec.Connection.{ConnectionName}
-use Rattle.broker_rows.specs.broker_spec.Place.{Client, by_bytes}
-use Rattle.broker_rows.specs.broker_spec.Answers.{codes_of}
-use Rattle.broker_rows.specs.broker_spec.Commands.{usual_limits}
-use Rattle.broker_rows.specs.broker_spec.Subscriptions.{as_held, granted_of}
-use Rattle.broker_rows.specs.broker_spec.declared.command.Command.TheVariants as commands
-use Rattle.broker_rows.specs.broker_spec.declared.command.Output.TheVariants as outputs
-use Rattle.broker_rows.specs.broker_base.ClientSession.{ClientSession}
-use Rattle.broker_rows.specs.broker_base.State.{session_in}
-use Rattle.broker_rows.specs.Served.{IsServed, with_session, holding}
-use Rattle.broker_rows.specs.CopyLaws.{granted_in_turn, subscribed_in_turn, sent_in_turn}
-use Rattle.broker_rows.specs.Indexed.{all_set}
-use Rattle.broker_rows.proofs.PacketSteps.{subscribe_step}
-use Rattle.broker_rows.proofs.publications.SubscribesInTurn.{subscribes}
-use Rattle.broker_rows.proofs.maps.OwnersStay.{owners_written}
-use Rattle.broker_rows.proofs.maps.ContentOfSteps.{subscribing_sets}
+use Rattle.broker_session.specs.packet.declared.subscribe.Subscribe.{Subscribe}
+use Rattle.broker_session.specs.packet.declared.packet.Packet.TheVariants as packets
+use Rattle.broker_session.specs.session_base.Session.{SessionState}
+use Rattle.broker_session.specs.subs_base.ListIndex.{content_of}
+use Rattle.broker_session.specs.broker_spec.Connection.{ConnectionName}
+use Rattle.broker_session.specs.broker_spec.Place.{Client, by_bytes}
+use Rattle.broker_session.specs.broker_spec.Answers.{codes_of}
+use Rattle.broker_session.specs.broker_spec.Commands.{usual_limits}
+use Rattle.broker_session.specs.broker_spec.Subscriptions.{as_held, granted_of}
+use Rattle.broker_session.specs.broker_spec.declared.command.Command.TheVariants as commands
+use Rattle.broker_session.specs.broker_spec.declared.command.Output.TheVariants as outputs
+use Rattle.broker_session.specs.broker_base.ClientSession.{ClientSession}
+use Rattle.broker_session.specs.broker_base.State.{session_in}
+use Rattle.broker_session.specs.broker_rows.Served.{IsServed, with_session, holding}
+use Rattle.broker_session.specs.broker_rows.CopyLaws.{granted_in_turn, subscribed_in_turn, sent_in_turn}
+use Rattle.broker_session.specs.broker_rows.Indexed.{all_set}
+use Rattle.broker_session.proofs.of_broker_rows.PacketSteps.{subscribe_step}
+use Rattle.broker_session.proofs.of_broker_rows.publications.SubscribesInTurn.{subscribes}
+use Rattle.broker_session.proofs.of_broker_rows.maps.OwnersStay.{owners_written}
+use Rattle.broker_session.proofs.of_broker_rows.maps.ContentOfSteps.{subscribing_sets}
 use Rattle.broker_tables.specs.declared.tables.Tables.{Tables}
 use Rattle.broker_tables.specs.Tables.{by_connection, state_in, stepped, IsTied, IsConsistent}
 use Rattle.broker_tables.proofs.TiesOfRows.{tied_to}

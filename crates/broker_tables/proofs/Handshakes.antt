@@ -1,24 +1,24 @@
 -- Handshakes.antt: the step at a packet of a handshake, by the tables.
 use Rattle.std.proofs.Common.{◌≡◌, ℕ, true, Some, refl, ap, ◌∙◌}
 use Rattle.std.specs.Prelude.{map}
-use Rattle.session.specs.packet.declared.packet.Packet.{Packet}
-use Rattle.session.specs.packet.declared.packet.Packet.TheVariants as packets
-use Rattle.session.specs.session_base.Session.{SessionState}
-use Rattle.broker_rows.specs.broker_spec.Connection.{ConnectionName}
-use Rattle.broker_rows.specs.broker_spec.Place.{Client, Mark}
-use Rattle.broker_rows.specs.broker_spec.Commands.{usual_limits}
-use Rattle.broker_rows.specs.broker_spec.declared.command.Command.TheVariants as commands
-use Rattle.broker_rows.specs.broker_spec.declared.command.Output.TheVariants as outputs
-use Rattle.broker_rows.specs.broker_base.ClientSession.{ClientSession}
-use Rattle.broker_rows.specs.broker_base.Decisions.{owned_mark}
-use Rattle.broker_rows.specs.broker_base.StepAnswers.{handled_in, while_connected}
-use Rattle.broker_rows.specs.Served.{IsServed, with_session, holding}
-use Rattle.broker_rows.specs.PacketLaws.{handled_state}
-use Rattle.broker_rows.proofs.PacketSteps.{handled_step}
-use Rattle.broker_rows.proofs.ServedStep.{served_on}
+use Rattle.broker_session.specs.packet.declared.packet.Packet.{Packet}
+use Rattle.broker_session.specs.packet.declared.packet.Packet.TheVariants as packets
+use Rattle.broker_session.specs.session_base.Session.{SessionState}
+use Rattle.broker_session.specs.broker_spec.Connection.{ConnectionName}
+use Rattle.broker_session.specs.broker_spec.Place.{Client, Mark}
+use Rattle.broker_session.specs.broker_spec.Commands.{usual_limits}
+use Rattle.broker_session.specs.broker_spec.declared.command.Command.TheVariants as commands
+use Rattle.broker_session.specs.broker_spec.declared.command.Output.TheVariants as outputs
+use Rattle.broker_session.specs.broker_base.ClientSession.{ClientSession}
+use Rattle.broker_session.specs.broker_base.Decisions.{owned_mark}
+use Rattle.broker_session.specs.broker_base.StepAnswers.{handled_in, while_connected}
+use Rattle.broker_session.specs.broker_rows.Served.{IsServed, with_session, holding}
+use Rattle.broker_session.specs.broker_rows.PacketLaws.{handled_state}
+use Rattle.broker_session.proofs.of_broker_rows.PacketSteps.{handled_step}
+use Rattle.broker_session.proofs.of_broker_rows.ServedStep.{served_on}
 use Rattle.broker_tables.specs.declared.tables.Tables.{Tables}
 use Rattle.broker_tables.specs.Tables.{state_in, stepped}
-use Rattle.broker_tables.specs.Inside.{is_handshake, handshake_sends}
+use Rattle.broker_session.specs.OneSession.{is_handshake, handshake_sends}
 
 -- it is handled
 handled : (tables : Tables) (c : Client) (kept : ClientSession) (packet : Packet) → is_handshake packet ≡ true →

@@ -5,7 +5,6 @@ pub mod Connections
 pub mod Losses
 pub mod Expulsions
 pub mod Publications
-pub mod RoomForCopies
 pub mod Unsubscriptions
 pub mod Connects
 pub mod Starts
@@ -13,7 +12,8 @@ pub mod Grantings
 pub mod Packets
 pub mod InPairs
 pub mod Commands
-pub use Rattle.broker_rows.proofs.of_broker_base as of_broker_base
-pub use Rattle.broker_rows.proofs as of_broker_rows
-pub use Rattle.broker_rows.proofs.of_retained as of_retained
-pub use Rattle.broker_rows.proofs.of_subs as of_subs
+pub use Rattle.broker_session.proofs as of_broker_session
+pub use Rattle.broker_session.proofs.of_broker_base as of_broker_base
+pub use Rattle.broker_session.proofs.of_broker_rows as of_broker_rows
+pub use Rattle.broker_session.proofs.of_retained as of_retained
+pub use Rattle.broker_session.proofs.of_subs as of_subs

@@ -2,21 +2,21 @@
 use Rattle.std.proofs.Common.{◌≡◌, Bool, true, false, [], Option, Some, None, ap, ap₂, ◌∙◌, sym, cond}
 use Rattle.std.specs.BTreeMap.{is_at}
 use Rattle.std.specs.Map.{lookup}
-use Rattle.broker_rows.specs.broker_spec.Connection.{ConnectionName}
-use Rattle.broker_rows.specs.broker_spec.Place.{Client}
-use Rattle.broker_rows.specs.broker_spec.Commands.{usual_limits}
-use Rattle.broker_rows.specs.broker_spec.declared.command.Command.TheVariants as commands
-use Rattle.broker_rows.specs.broker_base.ClientSession.{ClientSession}
-use Rattle.broker_rows.specs.subs_base.Content.{Content, without_client}
-use Rattle.broker_rows.specs.subs_base.ListIndex.{content_of}
-use Rattle.broker_rows.specs.Touched.{written}
-use Rattle.broker_rows.specs.Served.{IsServed, with_session, left_off}
-use Rattle.broker_rows.specs.Owners.{owners_in}
-use Rattle.broker_rows.proofs.LeavingSteps.{lost_step}
-use Rattle.broker_rows.proofs.NobodysSteps.{nobodys_loss_step}
-use Rattle.broker_rows.proofs.ServedStep.{served_found}
-use Rattle.broker_rows.proofs.maps.OwnersLeave.{leaving_removes_the_owner}
-use Rattle.broker_rows.proofs.maps.ContentOfSteps.{leaving_drops_the_clean}
+use Rattle.broker_session.specs.broker_spec.Connection.{ConnectionName}
+use Rattle.broker_session.specs.broker_spec.Place.{Client}
+use Rattle.broker_session.specs.broker_spec.Commands.{usual_limits}
+use Rattle.broker_session.specs.broker_spec.declared.command.Command.TheVariants as commands
+use Rattle.broker_session.specs.broker_base.ClientSession.{ClientSession}
+use Rattle.broker_session.specs.subs_base.Content.{Content, without_client}
+use Rattle.broker_session.specs.subs_base.ListIndex.{content_of}
+use Rattle.broker_session.specs.broker_rows.Touched.{written}
+use Rattle.broker_session.specs.broker_rows.Served.{IsServed, with_session, left_off}
+use Rattle.broker_session.specs.broker_rows.Owners.{owners_in}
+use Rattle.broker_session.proofs.of_broker_rows.LeavingSteps.{lost_step}
+use Rattle.broker_session.proofs.of_broker_rows.NobodysSteps.{nobodys_loss_step}
+use Rattle.broker_session.proofs.of_broker_rows.ServedStep.{served_found}
+use Rattle.broker_session.proofs.of_broker_rows.maps.OwnersLeave.{leaving_removes_the_owner}
+use Rattle.broker_session.proofs.of_broker_rows.maps.ContentOfSteps.{leaving_drops_the_clean}
 use Rattle.broker_tables.specs.declared.tables.Tables.{Tables}
 use Rattle.broker_tables.specs.Tables.{by_connection, state_in, stepped, IsTied}
 use Rattle.broker_tables.proofs.Connections.{at_is_same}

@@ -2,28 +2,29 @@
 -- violation, by the tables.
 use Rattle.std.proofs.Common.{◌≡◌, ◌∙◌, ap, sym, refl, Some, None, [], ◌∷◌, true, false, Option}
 use Rattle.std.specs.Prelude.{option_map}
-use Rattle.session.specs.packet.declared.packet.Packet.{Packet}
-use Rattle.session.specs.packet.declared.publish.Publish.{Publish}
-use Rattle.session.specs.packet.declared.subscribe.Subscribe.{Subscribe}
-use Rattle.session.specs.packet.declared.unsubscribe.Unsubscribe.{Unsubscribe}
-use Rattle.session.specs.packet.declared.packet.Packet.TheVariants as packets
-use Rattle.broker_rows.specs.broker_spec.Connection.{ConnectionName}
-use Rattle.broker_rows.specs.broker_spec.Place.{Client}
-use Rattle.broker_rows.specs.broker_spec.Past.{is_leaving}
-use Rattle.broker_rows.specs.broker_spec.Commands.{usual_limits}
-use Rattle.broker_rows.specs.broker_spec.declared.command.Command.TheVariants as commands
-use Rattle.broker_rows.specs.broker_spec.declared.command.Output.TheVariants as outputs
-use Rattle.broker_rows.specs.broker_base.ClientSession.{ClientSession}
-use Rattle.broker_rows.specs.broker_base.Decisions.{owned_mark}
-use Rattle.broker_rows.specs.broker_base.State.{owner_in}
-use Rattle.broker_rows.specs.Served.{IsServed}
-use Rattle.broker_rows.specs.Owners.{owners_in}
-use Rattle.broker_rows.proofs.PacketSteps.{pingreq_step}
-use Rattle.broker_rows.proofs.LeavingSteps.{leaving_step}
-use Rattle.broker_rows.proofs.NobodysSteps.{nobodys_packet_step}
+use Rattle.broker_session.specs.packet.declared.packet.Packet.{Packet}
+use Rattle.broker_session.specs.packet.declared.publish.Publish.{Publish}
+use Rattle.broker_session.specs.packet.declared.subscribe.Subscribe.{Subscribe}
+use Rattle.broker_session.specs.packet.declared.unsubscribe.Unsubscribe.{Unsubscribe}
+use Rattle.broker_session.specs.packet.declared.packet.Packet.TheVariants as packets
+use Rattle.broker_session.specs.broker_spec.Connection.{ConnectionName}
+use Rattle.broker_session.specs.broker_spec.Place.{Client}
+use Rattle.broker_session.specs.broker_spec.Past.{is_leaving}
+use Rattle.broker_session.specs.broker_spec.Commands.{usual_limits}
+use Rattle.broker_session.specs.broker_spec.declared.command.Command.TheVariants as commands
+use Rattle.broker_session.specs.broker_spec.declared.command.Output.TheVariants as outputs
+use Rattle.broker_session.specs.broker_base.ClientSession.{ClientSession}
+use Rattle.broker_session.specs.broker_base.Decisions.{owned_mark}
+use Rattle.broker_session.specs.broker_base.State.{owner_in}
+use Rattle.broker_session.specs.broker_rows.Served.{IsServed}
+use Rattle.broker_session.specs.broker_rows.Owners.{owners_in}
+use Rattle.broker_session.proofs.of_broker_rows.PacketSteps.{pingreq_step}
+use Rattle.broker_session.proofs.of_broker_rows.LeavingSteps.{leaving_step}
+use Rattle.broker_session.proofs.of_broker_rows.NobodysSteps.{nobodys_packet_step}
 use Rattle.broker_tables.specs.declared.tables.Tables.{Tables}
 use Rattle.broker_tables.specs.Tables.{state_in, stepped, IsConsistent}
-use Rattle.broker_tables.specs.Inside.{is_handshake, ends_connection}
+use Rattle.broker_session.specs.OneSession.{is_handshake}
+use Rattle.broker_tables.specs.Inside.{ends_connection}
 use Rattle.broker_tables.proofs.FoundByMaps.{is_nobodys}
 use Rattle.broker_tables.proofs.Losses.{loss_step}
 

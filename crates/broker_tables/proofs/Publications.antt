@@ -4,28 +4,28 @@ use Rattle.std.specs.BTreeMap.{is_at}
 use Rattle.std.specs.List.{list_any}
 use Rattle.std.specs.Map.{lookup}
 use Rattle.std.proofs.lemmas.Bool.{or_parts}
-use Rattle.session.specs.packet.declared.publish.Publish.{Publish}
-use Rattle.session.specs.packet.declared.packet.Packet.TheVariants as packets
-use Rattle.session.specs.session_base.Publication.{publication_of}
-use Rattle.broker_rows.specs.subs_base.ListIndex.{content_of}
-use Rattle.broker_rows.specs.subs_base.Granted.{Row}
-use Rattle.broker_rows.specs.broker_spec.Connection.{ConnectionName}
-use Rattle.broker_rows.specs.broker_spec.Place.{Client}
-use Rattle.broker_rows.specs.broker_spec.Retained.{retains}
-use Rattle.broker_rows.specs.broker_spec.Answers.{acknowledged}
-use Rattle.broker_rows.specs.broker_spec.Commands.{usual_limits}
-use Rattle.broker_rows.specs.broker_spec.declared.command.Command.TheVariants as commands
-use Rattle.broker_rows.specs.broker_spec.declared.command.Output.TheVariants as outputs
-use Rattle.broker_rows.specs.broker_base.ClientSession.{ClientSession}
-use Rattle.broker_rows.specs.broker_base.State.{Sessions, session_in}
-use Rattle.broker_rows.specs.broker_base.Decisions.{is_again, is_one_topic_over}
-use Rattle.broker_rows.specs.Served.{IsServed}
-use Rattle.broker_rows.specs.Published.{granted_rows, changed, received_on, all_delivered, answered_in_turn, is_full_at}
-use Rattle.broker_rows.specs.PublishLaws.{is_refused_in, HaveRoomInTurn}
-use Rattle.broker_rows.proofs.PacketSteps.{repeat_step}
-use Rattle.broker_rows.proofs.publications.RoomInTurn.{room_lasts}
-use Rattle.broker_rows.proofs.PublishSteps.{refused_step, taken_step}
-use Rattle.broker_rows.proofs.maps.PublishKeepsMaps.{publishing_keeps_owners, publishing_keeps_content}
+use Rattle.broker_session.specs.packet.declared.publish.Publish.{Publish}
+use Rattle.broker_session.specs.packet.declared.packet.Packet.TheVariants as packets
+use Rattle.broker_session.specs.session_base.Publication.{publication_of}
+use Rattle.broker_session.specs.subs_base.ListIndex.{content_of}
+use Rattle.broker_session.specs.subs_base.Granted.{Row}
+use Rattle.broker_session.specs.broker_spec.Connection.{ConnectionName}
+use Rattle.broker_session.specs.broker_spec.Place.{Client}
+use Rattle.broker_session.specs.broker_spec.Retained.{retains}
+use Rattle.broker_session.specs.broker_spec.Answers.{acknowledged}
+use Rattle.broker_session.specs.broker_spec.Commands.{usual_limits}
+use Rattle.broker_session.specs.broker_spec.declared.command.Command.TheVariants as commands
+use Rattle.broker_session.specs.broker_spec.declared.command.Output.TheVariants as outputs
+use Rattle.broker_session.specs.broker_base.ClientSession.{ClientSession}
+use Rattle.broker_session.specs.broker_base.State.{Sessions, session_in}
+use Rattle.broker_session.specs.broker_base.Decisions.{is_again, is_one_topic_over}
+use Rattle.broker_session.specs.broker_rows.Served.{IsServed}
+use Rattle.broker_session.specs.broker_rows.Published.{granted_rows, changed, received_on, all_delivered, answered_in_turn, is_full_at}
+use Rattle.broker_session.specs.broker_rows.PublishLaws.{is_refused_in, HaveRoomInTurn}
+use Rattle.broker_session.proofs.of_broker_rows.PacketSteps.{repeat_step}
+use Rattle.broker_session.proofs.of_broker_rows.publications.RoomInTurn.{room_lasts}
+use Rattle.broker_session.proofs.of_broker_rows.PublishSteps.{refused_step, taken_step}
+use Rattle.broker_session.proofs.of_broker_rows.maps.PublishKeepsMaps.{publishing_keeps_owners, publishing_keeps_content}
 use Rattle.broker_tables.specs.declared.tables.Tables.{Tables}
 use Rattle.broker_tables.specs.Tables.{by_connection, state_in, stepped, IsTied}
 use Rattle.broker_tables.proofs.Losses.{loss_step}

@@ -3,18 +3,18 @@ use Rattle.std.proofs.Common.{◌≡◌, ◌∙◌, ap, ap₂, sym, subst, refl,
 use Rattle.std.specs.BTreeMap.{is_at}
 use Rattle.std.specs.Map.{lookup}
 use Rattle.std.specs.Map.Calls.{RetainsPairs}
-use Rattle.broker_rows.specs.subs_base.ListIndex.{content_of}
-use Rattle.broker_rows.specs.broker_spec.Place.{Client}
-use Rattle.broker_rows.specs.broker_spec.Commands.{usual_limits}
-use Rattle.broker_rows.specs.broker_spec.declared.command.Command.TheVariants as commands
-use Rattle.broker_rows.specs.broker_base.ClientSession.{ClientSession}
-use Rattle.broker_rows.specs.broker_base.State.{Sessions, keyed}
-use Rattle.broker_rows.specs.Served.{left_off}
-use Rattle.broker_rows.specs.ConnectLaws.{all_left_off}
-use Rattle.broker_rows.specs.Indexed.{all_dropped, clean_clients}
-use Rattle.broker_rows.proofs.StartSteps.{start_step}
-use Rattle.broker_rows.proofs.maps.OwnersLeave.{start_removes_the_owners}
-use Rattle.broker_rows.proofs.maps.ContentOfStart.{start_drops_the_clean}
+use Rattle.broker_session.specs.subs_base.ListIndex.{content_of}
+use Rattle.broker_session.specs.broker_spec.Place.{Client}
+use Rattle.broker_session.specs.broker_spec.Commands.{usual_limits}
+use Rattle.broker_session.specs.broker_spec.declared.command.Command.TheVariants as commands
+use Rattle.broker_session.specs.broker_base.ClientSession.{ClientSession}
+use Rattle.broker_session.specs.broker_base.State.{Sessions, keyed}
+use Rattle.broker_session.specs.broker_rows.Served.{left_off}
+use Rattle.broker_session.specs.broker_rows.ConnectLaws.{all_left_off}
+use Rattle.broker_session.specs.broker_rows.Indexed.{all_dropped, clean_clients}
+use Rattle.broker_session.proofs.of_broker_rows.StartSteps.{start_step}
+use Rattle.broker_session.proofs.of_broker_rows.maps.OwnersLeave.{start_removes_the_owners}
+use Rattle.broker_session.proofs.of_broker_rows.maps.ContentOfStart.{start_drops_the_clean}
 use Rattle.broker_tables.specs.declared.tables.Tables.{Tables}
 use Rattle.broker_tables.specs.Tables.{by_connection, state_in, stepped, IsTied, IsConsistent}
 use Rattle.broker_tables.proofs.TiesOfRows.{tied_to}

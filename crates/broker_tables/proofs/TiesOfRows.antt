@@ -2,15 +2,15 @@
 use Rattle.std.proofs.Common.{◌≡◌, Some, ap, ◌∙◌, sym}
 use Rattle.std.specs.BTreeMap.{is_at}
 use Rattle.std.specs.Map.{lookup, set_value}
-use Rattle.broker_rows.specs.subs_base.ListIndex.{content_of}
-use Rattle.broker_rows.specs.broker_spec.Connection.{ConnectionName}
-use Rattle.broker_rows.specs.broker_spec.Place.{Client, by_bytes}
-use Rattle.broker_rows.specs.broker_base.ClientSession.{ClientSession}
-use Rattle.broker_rows.specs.broker_base.State.{Sessions, session_in}
-use Rattle.broker_rows.specs.Owners.{owners_in}
-use Rattle.broker_rows.specs.Indexed.{content_in}
-use Rattle.broker_rows.proofs.maps.OwnersStay.{owners_written}
-use Rattle.broker_rows.proofs.maps.ContentOfSteps.{writing_keeps_content}
+use Rattle.broker_session.specs.subs_base.ListIndex.{content_of}
+use Rattle.broker_session.specs.broker_spec.Connection.{ConnectionName}
+use Rattle.broker_session.specs.broker_spec.Place.{Client, by_bytes}
+use Rattle.broker_session.specs.broker_base.ClientSession.{ClientSession}
+use Rattle.broker_session.specs.broker_base.State.{Sessions, session_in}
+use Rattle.broker_session.specs.broker_rows.Owners.{owners_in}
+use Rattle.broker_session.specs.broker_rows.Indexed.{content_in}
+use Rattle.broker_session.proofs.of_broker_rows.maps.OwnersStay.{owners_written}
+use Rattle.broker_session.proofs.of_broker_rows.maps.ContentOfSteps.{writing_keeps_content}
 use Rattle.broker_tables.specs.declared.tables.Tables.{Tables}
 use Rattle.broker_tables.specs.Tables.{by_connection, IsTied, IsConsistent}
 

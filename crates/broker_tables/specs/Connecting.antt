@@ -1,15 +1,13 @@
--- Which Connect continues with a session, and what its client is sent (MQTT 3.1.2.4, 4.4).
-use Rattle.std.specs.Prelude.{ℕ, Bool, false, not, ◌&&◌, List, [], ◌++◌, Option, Some, None, ◌≡◌}
-use Rattle.session.specs.packet.declared.packet.Packet.{Packet}
-use Rattle.session.specs.session_base.Sending.{fill_sends, resend}
-use Rattle.broker_rows.specs.broker_spec.Connection.{ConnectionName}
-use Rattle.broker_rows.specs.broker_spec.Place.{Client}
-use Rattle.broker_rows.specs.broker_base.StepAnswers.{connection_of}
-use Rattle.broker_rows.specs.Owners.{with_owner, without_owner}
+-- Which Connect continues with a session, and whose its connection becomes (MQTT 3.1.2.4).
+use Rattle.std.specs.Prelude.{Bool, false, not, ◌&&◌, Option, Some, None, ◌≡◌}
+use Rattle.broker_session.specs.broker_spec.Connection.{ConnectionName}
+use Rattle.broker_session.specs.broker_spec.Place.{Client}
+use Rattle.broker_session.specs.broker_base.StepAnswers.{connection_of}
+use Rattle.broker_session.specs.broker_rows.Owners.{with_owner, without_owner}
 use Rattle.broker_tables.specs.declared.tables.Tables.{Tables}
 use Rattle.broker_tables.specs.Tables.{owners_at}
-use Rattle.broker_rows.specs.broker_base.ClientSession.{ClientSession}
-use Rattle.broker_rows.specs.broker_base.State.{State, session_in}
+use Rattle.broker_session.specs.broker_base.ClientSession.{ClientSession}
+use Rattle.broker_session.specs.broker_base.State.{State, session_in}
 
 -- there is a session, and neither it nor the Connect is clean
 abbrev pub goes_on : Bool → Option ClientSession → Bool
@@ -19,13 +17,6 @@ goes_on clean None = false
 -- this client has a session in this state, and neither it nor the Connect is clean
 abbrev pub goes_on_in : State → Client → Bool → Bool
 goes_on_in state c clean = goes_on clean (session_in c state.sessions)
-
--- what a client whose session continues is sent of it (MQTT 4.4)
-abbrev pub sent_to_resumed : ℕ → Option ClientSession → List Packet
-sent_to_resumed window (Some kept) =
-    resend kept.state.queue.in_flight
-    ++ fill_sends window kept.state.queue.in_flight kept.state.queue.waiting
-sent_to_resumed window None = []
 
 -- the connection becomes the client's, and the client's old one has no client any more
 abbrev pub TakesOver : Tables → ConnectionName → Client → Tables → Type 0

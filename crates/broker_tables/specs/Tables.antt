@@ -4,18 +4,18 @@ use Rattle.std.specs.declared.cmp.Ordering.{Ordering}
 use Rattle.std.specs.Ordering.{nat_cmp, ordering_then}
 use Rattle.std.specs.BTreeMap.{is_at}
 use Rattle.std.specs.Map.{lookup}
-use Rattle.broker_rows.specs.subs_base.ListIndex.{content_of}
-use Rattle.broker_rows.specs.broker_spec.Connection.{ConnectionName}
-use Rattle.broker_rows.specs.broker_spec.Place.{Client}
-use Rattle.broker_rows.specs.broker_spec.Commands.{usual_limits}
-use Rattle.broker_rows.specs.broker_spec.Window.{wide_window}
-use Rattle.broker_rows.specs.broker_spec.declared.command.Command.{Command}
-use Rattle.broker_rows.specs.broker_spec.declared.command.Output.{Output}
-use Rattle.broker_rows.specs.broker_base.State.{State}
-use Rattle.broker_rows.specs.broker_base.StateLaws.{IsSound}
-use Rattle.broker_rows.specs.broker_base.Step.{step}
-use Rattle.broker_rows.specs.Owners.{Owners, owners_in}
-use Rattle.broker_rows.specs.Indexed.{content_in}
+use Rattle.broker_session.specs.subs_base.ListIndex.{content_of}
+use Rattle.broker_session.specs.broker_spec.Connection.{ConnectionName}
+use Rattle.broker_session.specs.broker_spec.Place.{Client}
+use Rattle.broker_session.specs.broker_spec.Commands.{usual_limits}
+use Rattle.broker_session.specs.broker_spec.Window.{wide_window}
+use Rattle.broker_session.specs.broker_spec.declared.command.Command.{Command}
+use Rattle.broker_session.specs.broker_spec.declared.command.Output.{Output}
+use Rattle.broker_session.specs.broker_base.State.{State}
+use Rattle.broker_session.specs.broker_base.StateLaws.{IsSound}
+use Rattle.broker_session.specs.broker_base.Step.{step}
+use Rattle.broker_session.specs.broker_rows.Owners.{Owners, owners_in}
+use Rattle.broker_session.specs.broker_rows.Indexed.{content_in}
 use Rattle.broker_tables.specs.declared.tables.Tables.{Tables}
 
 -- connections come by ballot, then by number

@@ -1,31 +1,31 @@
 // Connect: a client opens a connection (MQTT 3.1).
 
 ghost use Rattle.std.specs.Prelude.{◌≡◌, ◌++◌, [], ◌∷◌, true, false, Some, None, OnOk, IsSome, map};
-ghost use Rattle.broker_rows.specs.broker_spec.Answers.{turned_away, closed, welcome};
-ghost use Rattle.broker_rows.specs.broker_spec.Connection.{ConnectionName as SpecName};
-ghost use Rattle.broker_rows.specs.broker_spec.Commands.{usual_limits};
-ghost use Rattle.broker_rows.specs.broker_spec.declared.command.Command.TheVariants as commands;
-ghost use Rattle.broker_rows.specs.broker_spec.declared.command.Output.TheVariants as outputs;
-ghost use Rattle.broker_rows.specs.broker_base.SessionStep.{kept_resumed};
-ghost use Rattle.broker_rows.specs.broker_base.State.{session_in};
-ghost use Rattle.broker_rows.specs.broker_base.StepAnswers.{connection_of};
-ghost use Rattle.broker_rows.specs.Owners.{owners_in, with_owner, without_owner};
-ghost use Rattle.broker_rows.specs.ConnectLaws.{is_admitted, begins_in};
+ghost use Rattle.broker_session.specs.broker_spec.Answers.{turned_away, closed, welcome};
+ghost use Rattle.broker_session.specs.broker_spec.Connection.{ConnectionName as SpecName};
+ghost use Rattle.broker_session.specs.broker_spec.Commands.{usual_limits};
+ghost use Rattle.broker_session.specs.broker_spec.declared.command.Command.TheVariants as commands;
+ghost use Rattle.broker_session.specs.broker_spec.declared.command.Output.TheVariants as outputs;
+ghost use Rattle.broker_session.specs.broker_base.SessionStep.{kept_resumed};
+ghost use Rattle.broker_session.specs.broker_base.State.{session_in};
+ghost use Rattle.broker_session.specs.broker_base.StepAnswers.{connection_of};
+ghost use Rattle.broker_session.specs.broker_rows.Owners.{owners_in, with_owner, without_owner};
+ghost use Rattle.broker_session.specs.broker_rows.ConnectLaws.{is_admitted, begins_in};
 ghost use Rattle.broker_tables.specs.Tables.{IsConsistent, IsTied, owners_at, state_in, stepped};
 ghost use Rattle.broker_tables.specs.declared.connecting.Admission.TheVariants.{Begins, GoesOn};
 ghost use Rattle.broker_tables.specs.declared.connecting.Admission.TheVariants.{TurnedAway};
-ghost use Rattle.broker_rows.specs.Published.{changed};
+ghost use Rattle.broker_session.specs.broker_rows.Published.{changed};
 ghost use Rattle.broker_tables.specs.Inside.{HasOthersOf, HasOthersThanOwners};
-ghost use Rattle.broker_tables.specs.Connecting.{goes_on_in, sent_to_resumed, TakesOver};
+ghost use Rattle.broker_tables.specs.Connecting.{goes_on_in, TakesOver};
+ghost use Rattle.broker_session.specs.OneSession.{sent_to_resumed};
 
-use crate::client_row::ClientRow;
 use crate::limits::MAX_SESSIONS;
-use crate::sending::send_all;
 use crate::tables::Tables;
-use broker_rows::broker_spec::{ConnectionName, Output, Window};
-use broker_rows::subs::SubIndex;
-use machine::Halted;
-use session::packet::{ClientId, Connack, Packet, RefusalCode};
+use broker_session::broker_spec::{ConnectionName, Output};
+use broker_session::machine::Halted;
+use broker_session::packet::{ClientId, Connack, Packet, RefusalCode};
+use broker_session::subs::SubIndex;
+use broker_session::{ClientRow, send_all};
 use std::collections::BTreeMap;
 
 /// What a Connect does on a connection that is no client's current one.
@@ -204,26 +204,6 @@ impl Tables {
         let row = self.sessions.get_mut(client).unwrap();
         row.come_back(connection, self.window, &mut sent)?;
         send_all(connection, sent, out)?;
-        Ok(())
-    }
-}
-
-impl ClientRow {
-    // Continues a session that is not clean on this connection.
-    fn come_back(
-        &mut self,
-        connection: ConnectionName,
-        window: Window,
-        sent: &mut Vec<Packet>,
-    ) -> Result<(), Halted>
-        ensures state { OnOk result (self.new ≡ kept_resumed window (connection, false) self.old) }
-        ensures sends { OnOk result
-            (sent.new.items ≡ sent.old.items ++ sent_to_resumed window (Some self.old)) }
-    {
-        self.clean = false;
-        self.connection = Some(connection);
-        self.state.resend(sent)?;
-        self.state.fill(window.size(), sent)?;
         Ok(())
     }
 }

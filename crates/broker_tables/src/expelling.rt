@@ -1,16 +1,16 @@
 // An Expel: an administrator ends a client's session.
 
 ghost use Rattle.std.specs.Prelude.{◌≡◌, ◌++◌, OnOk, OnErr};
-ghost use Rattle.broker_rows.specs.broker_spec.Answers.{closed};
-ghost use Rattle.broker_rows.specs.broker_spec.declared.command.Command.TheVariants as commands;
+ghost use Rattle.broker_session.specs.broker_spec.Answers.{closed};
+ghost use Rattle.broker_session.specs.broker_spec.declared.command.Command.TheVariants as commands;
 ghost use Rattle.broker_tables.specs.Tables.{IsConsistent, IsTied, state_in, stepped};
 
 use crate::connecting::release;
 use crate::tables::Tables;
-use broker_rows::broker_spec::{ConnectionName, Output};
-use broker_rows::subs::SubIndex;
-use machine::Halted;
-use session::packet::ClientId;
+use broker_session::broker_spec::{ConnectionName, Output};
+use broker_session::machine::Halted;
+use broker_session::packet::ClientId;
+use broker_session::subs::SubIndex;
 
 impl Tables {
     /// Ends a client's session, with its subscriptions, its received identifiers and its entries,

@@ -2,14 +2,14 @@
 // 4.8).
 
 ghost use Rattle.std.specs.Prelude.{◌≡◌, ◌++◌, [], ◌∷◌, OnOk};
-ghost use Rattle.broker_rows.specs.broker_spec.declared.command.Command.TheVariants as commands;
-ghost use Rattle.broker_rows.specs.broker_spec.declared.command.Output.TheVariants as outputs;
+ghost use Rattle.broker_session.specs.broker_spec.declared.command.Command.TheVariants as commands;
+ghost use Rattle.broker_session.specs.broker_spec.declared.command.Output.TheVariants as outputs;
 ghost use Rattle.broker_tables.specs.Tables.{IsConsistent, IsTied, state_in, stepped};
 
 use crate::tables::Tables;
-use broker_rows::broker_spec::{ConnectionName, Output};
-use broker_rows::subs::SubIndex;
-use machine::Halted;
+use broker_session::broker_spec::{ConnectionName, Output};
+use broker_session::machine::Halted;
+use broker_session::subs::SubIndex;
 
 impl Tables {
     /// Ends a connection: its client is no longer served, and a clean session ends with it,

@@ -3,24 +3,17 @@
 
 mod answers;
 mod applying;
-mod client_row;
 mod connecting;
-mod delivering;
 mod expelling;
 mod leaving;
 mod limits;
 mod publishing;
-mod retained_copies;
-mod sending;
 mod serving;
 mod starting;
 mod subscribing;
 mod tables;
 mod unsubscribing;
 
-pub use broker_rows::{broker_spec, retained, subs};
-pub use client_row::ClientRow;
+pub use broker_session::{ClientRow, broker_spec, machine, retained, session, subs};
 pub use limits::MAX_SESSIONS;
-pub use machine;
-pub use session;
 pub use tables::Tables;

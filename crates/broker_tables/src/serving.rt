@@ -1,15 +1,17 @@
 // Packets, and the clients that are served on the connections on which they come.
 
 ghost use Rattle.std.specs.Prelude.{◌≡◌, ◌++◌, Some, IfOk, OnOk};
-ghost use Rattle.broker_rows.specs.broker_spec.declared.command.Command.TheVariants as commands;
-ghost use Rattle.broker_rows.specs.Owners.{owners_in};
-ghost use Rattle.broker_tables.specs.Inside.{is_handshake, ends_connection};
+ghost use Rattle.broker_session.specs.broker_spec.declared.command.Command.TheVariants as commands;
+ghost use Rattle.broker_session.specs.broker_rows.Owners.{owners_in};
+ghost use Rattle.broker_session.specs.OneSession.{is_handshake};
+ghost use Rattle.broker_tables.specs.Inside.{ends_connection};
 ghost use Rattle.broker_tables.specs.Tables.{IsConsistent, IsTied, state_in, stepped};
 
 use crate::tables::Tables;
-use broker_rows::broker_spec::{ConnectionName, Output};
-use machine::Halted;
-use session::packet::{ClientId, Packet};
+use broker_session::broker_spec::{ConnectionName, Output};
+use broker_session::is_handshake;
+use broker_session::machine::Halted;
+use broker_session::packet::{ClientId, Packet};
 use std::alloc::AllocError;
 
 impl Tables {
@@ -81,16 +83,6 @@ impl Tables {
             None => Ok(None),
         }
     }
-}
-
-// Says whether it is a step of a handshake.
-fn is_handshake(packet: &Packet) -> bool
-    ensures { result ≡ is_handshake packet.now }
-{
-    matches!(
-        packet,
-        Packet::Puback(_) | Packet::Pubrec(_) | Packet::Pubrel(_) | Packet::Pubcomp(_)
-    )
 }
 
 // Says whether it ends its connection: DISCONNECT, and what a client may not send (MQTT-3.1.0-2,

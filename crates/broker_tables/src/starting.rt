@@ -1,18 +1,18 @@
 // Start: a new ballot begins, and the connections of earlier ballots have ended.
 
 ghost use Rattle.std.specs.Prelude.{◌≡◌, Some, None, if◌then◌else◌};
-ghost use Rattle.broker_rows.specs.subs_base.ListIndex.{content_of};
-ghost use Rattle.broker_rows.specs.broker_spec.declared.command.Command.TheVariants as commands;
-ghost use Rattle.broker_rows.specs.Indexed.{all_dropped, clean_clients};
-ghost use Rattle.broker_rows.specs.ConnectLaws.{all_left_off};
-ghost use Rattle.broker_rows.specs.Served.{left_off};
+ghost use Rattle.broker_session.specs.subs_base.ListIndex.{content_of};
+ghost use Rattle.broker_session.specs.broker_spec.declared.command.Command.TheVariants as commands;
+ghost use Rattle.broker_session.specs.broker_rows.Indexed.{all_dropped, clean_clients};
+ghost use Rattle.broker_session.specs.broker_rows.ConnectLaws.{all_left_off};
+ghost use Rattle.broker_session.specs.broker_rows.Served.{left_off};
 ghost use Rattle.broker_tables.specs.Tables.{IsConsistent, IsTied, state_in, stepped};
 
-use crate::client_row::ClientRow;
 use crate::tables::Tables;
-use broker_rows::broker_spec::Window;
-use broker_rows::subs::{SubIndex, TreeIndex};
-use session::packet::ClientId;
+use broker_session::ClientRow;
+use broker_session::broker_spec::Window;
+use broker_session::packet::ClientId;
+use broker_session::subs::{SubIndex, TreeIndex};
 use std::collections::BTreeMap;
 
 impl Tables {

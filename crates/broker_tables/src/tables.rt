@@ -1,15 +1,15 @@
 // What a broker keeps of all its clients.
 
 ghost use Rattle.std.specs.Prelude.{◌≡◌};
-ghost use Rattle.broker_rows.specs.broker_base.State.{empty_state};
-ghost use Rattle.broker_rows.specs.broker_spec.Window.{wide_window};
+ghost use Rattle.broker_session.specs.broker_base.State.{empty_state};
+ghost use Rattle.broker_session.specs.broker_spec.Window.{wide_window};
 ghost use Rattle.broker_tables.specs.Tables.{IsTied, state_in};
 
-use crate::client_row::ClientRow;
-use broker_rows::broker_spec::{ConnectionName, Window};
-use broker_rows::retained::RetainedStore;
-use broker_rows::subs::{SubIndex, TreeIndex};
-use session::packet::ClientId;
+use broker_session::ClientRow;
+use broker_session::broker_spec::{ConnectionName, Window};
+use broker_session::packet::ClientId;
+use broker_session::retained::RetainedStore;
+use broker_session::subs::{SubIndex, TreeIndex};
 use std::alloc::Global;
 use std::collections::BTreeMap;
 

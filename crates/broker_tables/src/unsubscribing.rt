@@ -1,22 +1,22 @@
 // UNSUBSCRIBE: a client unsubscribes (MQTT 3.10).
 
 ghost use Rattle.std.specs.Prelude.{◌≡◌, ◌++◌, Some, OnOk};
-ghost use Rattle.session.specs.packet.declared.packet.Packet.TheVariants as packets;
-ghost use Rattle.session.specs.session_base.Subscriptions.{without_filters};
-ghost use Rattle.session.specs.session_base.Session.{with_filters};
-ghost use Rattle.broker_rows.specs.subs_base.ListIndex.{content_of};
-ghost use Rattle.broker_rows.specs.broker_spec.declared.command.Command.TheVariants as commands;
-ghost use Rattle.broker_rows.specs.Indexed.{all_cleared};
-ghost use Rattle.broker_rows.specs.Owners.{owners_in};
+ghost use Rattle.broker_session.specs.packet.declared.packet.Packet.TheVariants as packets;
+ghost use Rattle.broker_session.specs.session_base.Subscriptions.{without_filters};
+ghost use Rattle.broker_session.specs.session_base.Session.{with_filters};
+ghost use Rattle.broker_session.specs.subs_base.ListIndex.{content_of};
+ghost use Rattle.broker_session.specs.broker_spec.declared.command.Command.TheVariants as commands;
+ghost use Rattle.broker_session.specs.broker_rows.Indexed.{all_cleared};
+ghost use Rattle.broker_session.specs.broker_rows.Owners.{owners_in};
 ghost use Rattle.broker_tables.specs.Tables.{IsConsistent, IsTied, state_in, stepped};
 
 use crate::tables::Tables;
-use broker_rows::broker_spec::{ConnectionName, Output};
-use broker_rows::subs::{SubIndex, TreeIndex};
-use machine::Halted;
-use session::Session;
-use session::packet::{ClientId, Packet, Unsubscribe};
-use session::topics::Filter;
+use broker_session::broker_spec::{ConnectionName, Output};
+use broker_session::machine::Halted;
+use broker_session::packet::{ClientId, Packet, Unsubscribe};
+use broker_session::session::Session;
+use broker_session::subs::{SubIndex, TreeIndex};
+use broker_session::topics::Filter;
 
 impl Tables {
     /// Does an UNSUBSCRIBE of the client that is served on this connection.

@@ -1,7 +1,7 @@
 -- A client that has no session gets nothing.
 use Rattle.std.proofs.Common.{◌∙◌, ap, sym}
-use Rattle.broker_rows.specs.Published.{delivered_on}
-use Rattle.broker_rows.proofs.OneChanged.{change_is_of_one_row}
+use Rattle.broker_session.specs.broker_rows.Published.{delivered_on}
+use Rattle.broker_session.proofs.of_broker_rows.OneChanged.{change_is_of_one_row}
 use Rattle.broker_tables.proofs.publishing.deliver_to.Goals as goal
 
 pub returns-in_default-clause-state : goal.returns-in_default-clause-state

@@ -1,6 +1,6 @@
 use Rattle.std.proofs.Common.{◌≡◌}
-use Rattle.broker_rows.specs.subs_base.ListIndex.{content_of}
-use Rattle.broker_rows.specs.Indexed.{all_dropped, clean_clients}
+use Rattle.broker_session.specs.subs_base.ListIndex.{content_of}
+use Rattle.broker_session.specs.broker_rows.Indexed.{all_dropped, clean_clients}
 use Rattle.broker_tables.proofs.starting.drop_clean.Given as goal
 
 abbrev pub invariant-loop-client : goal.invariant-loop-client

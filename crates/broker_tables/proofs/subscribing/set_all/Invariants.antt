@@ -1,8 +1,8 @@
 use Rattle.std.proofs.Common.{◌≡◌}
 use Rattle.std.specs.Prelude.{map}
-use Rattle.broker_rows.specs.subs_base.ListIndex.{content_of}
-use Rattle.broker_rows.specs.broker_spec.Subscriptions.{as_held, granted_of}
-use Rattle.broker_rows.specs.Indexed.{all_set}
+use Rattle.broker_session.specs.subs_base.ListIndex.{content_of}
+use Rattle.broker_session.specs.broker_spec.Subscriptions.{as_held, granted_of}
+use Rattle.broker_session.specs.broker_rows.Indexed.{all_set}
 use Rattle.broker_tables.proofs.subscribing.set_all.Given as goal
 
 abbrev pub invariant-loop-subscription : goal.invariant-loop-subscription

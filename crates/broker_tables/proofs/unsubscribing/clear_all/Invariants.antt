@@ -1,7 +1,7 @@
 use Rattle.std.proofs.Common.{◌≡◌}
 use Rattle.std.specs.Prelude.{drop}
-use Rattle.broker_rows.specs.subs_base.ListIndex.{content_of}
-use Rattle.broker_rows.specs.Indexed.{all_cleared}
+use Rattle.broker_session.specs.subs_base.ListIndex.{content_of}
+use Rattle.broker_session.specs.broker_rows.Indexed.{all_cleared}
 use Rattle.broker_tables.proofs.unsubscribing.clear_all.Given as goal
 
 abbrev pub invariant-loop-filter : goal.invariant-loop-filter

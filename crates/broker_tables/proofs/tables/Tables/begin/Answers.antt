@@ -1,8 +1,8 @@
 -- One row is inserted, and the maps follow.
 use Rattle.std.proofs.Common.{◌∙◌, ◌++◌, ap, sym}
 use Rattle.std.specs.BTreeMap.{insert_entry}
-use Rattle.broker_rows.specs.subs_base.Content.{without_client}
-use Rattle.broker_rows.specs.broker_spec.Place.{by_bytes}
+use Rattle.broker_session.specs.subs_base.Content.{without_client}
+use Rattle.broker_session.specs.broker_spec.Place.{by_bytes}
 use Rattle.broker_tables.proofs.Connects.{beginning_of, ties_of_beginning}
 use Rattle.broker_tables.proofs.tables.Tables.begin.Goals as goal
 

@@ -1,7 +1,7 @@
 -- The index holds the subscriptions of the sessions, so it grants those that match.
 use Rattle.std.proofs.Common.{◌∙◌, ◌++◌, ap}
-use Rattle.broker_rows.specs.subs_base.ListIndex.{content_of}
-use Rattle.broker_rows.proofs.GrantedBySessions.{rows_are}
+use Rattle.broker_session.specs.subs_base.ListIndex.{content_of}
+use Rattle.broker_session.proofs.of_broker_rows.GrantedBySessions.{rows_are}
 use Rattle.broker_tables.proofs.tables.Tables.granted.Goals as goal
 
 pub returns : goal.returns

@@ -4,13 +4,13 @@ use Rattle.std.specs.Prelude.{map}
 use Rattle.std.specs.Option.{option_copied_mut}
 use Rattle.std.specs.BTreeMap.{is_at}
 use Rattle.std.specs.Map.{set_value}
-use Rattle.broker_rows.specs.broker_spec.Place.{by_bytes}
-use Rattle.broker_rows.specs.broker_spec.declared.command.Output.TheVariants as outputs
-use Rattle.broker_rows.specs.broker_base.ClientSession.{ClientSession}
-use Rattle.broker_rows.specs.broker_base.State.{Sessions, session_in}
-use Rattle.broker_rows.specs.PacketLaws.{handled_state}
-use Rattle.broker_rows.specs.Served.{holding}
-use Rattle.broker_tables.specs.Inside.{handshake_sends}
+use Rattle.broker_session.specs.broker_spec.Place.{by_bytes}
+use Rattle.broker_session.specs.broker_spec.declared.command.Output.TheVariants as outputs
+use Rattle.broker_session.specs.broker_base.ClientSession.{ClientSession}
+use Rattle.broker_session.specs.broker_base.State.{Sessions, session_in}
+use Rattle.broker_session.specs.broker_rows.PacketLaws.{handled_state}
+use Rattle.broker_session.specs.broker_rows.Served.{holding}
+use Rattle.broker_session.specs.OneSession.{handshake_sends}
 use Rattle.broker_tables.proofs.FoundByMaps.{has_session, is_served}
 use Rattle.broker_tables.proofs.TiesOfRows.{ties_of_set}
 use Rattle.broker_tables.proofs.Handshakes.{handshake_step, handshake_keeps_filters}

@@ -3,13 +3,13 @@ use Rattle.std.proofs.Common.{◌≡◌, ◌∙◌, ap, sym, false, true, cond, 
 use Rattle.std.specs.Option.{option_copied_mut}
 use Rattle.std.specs.BTreeMap.{is_at}
 use Rattle.std.specs.Map.{set_value}
-use Rattle.broker_rows.specs.subs_base.Content.{without_client}
-use Rattle.broker_rows.specs.subs_base.ListIndex.{content_of}
-use Rattle.broker_rows.specs.broker_spec.Place.{by_bytes}
-use Rattle.broker_rows.specs.broker_base.ClientSession.{ClientSession}
-use Rattle.broker_rows.specs.broker_base.State.{Sessions, session_in}
-use Rattle.broker_rows.specs.Touched.{written}
-use Rattle.broker_rows.specs.Served.{IsServed}
+use Rattle.broker_session.specs.subs_base.Content.{without_client}
+use Rattle.broker_session.specs.subs_base.ListIndex.{content_of}
+use Rattle.broker_session.specs.broker_spec.Place.{by_bytes}
+use Rattle.broker_session.specs.broker_base.ClientSession.{ClientSession}
+use Rattle.broker_session.specs.broker_base.State.{Sessions, session_in}
+use Rattle.broker_session.specs.broker_rows.Touched.{written}
+use Rattle.broker_session.specs.broker_rows.Served.{IsServed}
 use Rattle.broker_tables.specs.Tables.{state_in}
 use Rattle.broker_tables.proofs.FoundByMaps.{has_session, is_served, some_is}
 use Rattle.broker_tables.proofs.Losses.{loss_step, nobodys_loss, ties_after, left_clean, left_other}

@@ -1,8 +1,8 @@
 use Rattle.std.proofs.Common.{◌∙◌, ap, sym}
 use Rattle.std.specs.BTreeMap.{is_at}
 use Rattle.std.specs.Map.{lookup}
-use Rattle.broker_rows.specs.Owners.{owners_in}
-use Rattle.broker_rows.specs.Indexed.{content_in}
+use Rattle.broker_session.specs.broker_rows.Owners.{owners_in}
+use Rattle.broker_session.specs.broker_rows.Indexed.{content_in}
 use Rattle.broker_tables.specs.Tables.{by_connection}
 use Rattle.broker_tables.proofs.tables.Tables.new.Goals as goal
 

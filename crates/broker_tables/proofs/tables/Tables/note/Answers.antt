@@ -1,7 +1,7 @@
 -- A client that has no session takes note of nothing.
 use Rattle.std.proofs.Common.{◌∙◌, ap, sym}
-use Rattle.broker_rows.specs.Published.{received_on}
-use Rattle.broker_rows.proofs.OneChanged.{change_is_of_one_row}
+use Rattle.broker_session.specs.broker_rows.Published.{received_on}
+use Rattle.broker_session.proofs.of_broker_rows.OneChanged.{change_is_of_one_row}
 use Rattle.broker_tables.proofs.tables.Tables.note.Goals as goal
 
 pub returns-in_default-clause-sessions : goal.returns-in_default-clause-sessions

@@ -1,14 +1,14 @@
 -- By what happens to the publication: another try, a refused one, a taken one.
 use Rattle.std.proofs.Common.{◌≡◌, ◌∙◌, ◌++◌, ap, sym, subst, ℕ, List, true, false}
 use Rattle.std.proofs.lemmas.List.{append_assoc}
-use Rattle.session.specs.session_base.declared.publication.Publication.{Publication}
-use Rattle.session.specs.session_base.Publication.{publication_of}
-use Rattle.broker_rows.specs.subs_base.Granted.{Row}
-use Rattle.broker_rows.specs.broker_spec.Answers.{acknowledged}
-use Rattle.broker_rows.specs.broker_spec.Retained.{retains}
-use Rattle.broker_rows.specs.broker_spec.Commands.{usual_limits}
-use Rattle.broker_rows.specs.Published.{all_delivered, answered_in_turn, changed, received_on}
-use Rattle.broker_rows.specs.PublishLaws.{is_refused_in, HaveRoomInTurn}
+use Rattle.broker_session.specs.session_base.declared.publication.Publication.{Publication}
+use Rattle.broker_session.specs.session_base.Publication.{publication_of}
+use Rattle.broker_session.specs.subs_base.Granted.{Row}
+use Rattle.broker_session.specs.broker_spec.Answers.{acknowledged}
+use Rattle.broker_session.specs.broker_spec.Retained.{retains}
+use Rattle.broker_session.specs.broker_spec.Commands.{usual_limits}
+use Rattle.broker_session.specs.broker_rows.Published.{all_delivered, answered_in_turn, changed, received_on}
+use Rattle.broker_session.specs.broker_rows.PublishLaws.{is_refused_in, HaveRoomInTurn}
 use Rattle.broker_tables.specs.Tables.{state_in}
 use Rattle.broker_tables.proofs.FoundByMaps.{has_session, is_served}
 use Rattle.broker_tables.proofs.Publications.{repeat_of, refused_of, taken_of, room_of_taken, ties_of_taken}

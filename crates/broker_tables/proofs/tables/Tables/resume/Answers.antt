@@ -2,13 +2,13 @@
 use Rattle.std.proofs.Common.{◌∙◌, ◌++◌, ap, sym, true, false, [], ◌∷◌}
 use Rattle.std.proofs.lemmas.List.{append_assoc}
 use Rattle.std.specs.Prelude.{map}
-use Rattle.broker_rows.specs.broker_spec.Answers.{closed, welcome}
-use Rattle.broker_rows.specs.broker_spec.declared.command.Output.TheVariants as outputs
-use Rattle.broker_rows.specs.broker_base.State.{session_in}
-use Rattle.broker_rows.specs.broker_base.StepAnswers.{connection_of}
-use Rattle.broker_rows.specs.broker_base.SessionStep.{kept_resumed}
-use Rattle.broker_rows.specs.Published.{changed}
-use Rattle.broker_tables.specs.Connecting.{sent_to_resumed}
+use Rattle.broker_session.specs.broker_spec.Answers.{closed, welcome}
+use Rattle.broker_session.specs.broker_spec.declared.command.Output.TheVariants as outputs
+use Rattle.broker_session.specs.broker_base.State.{session_in}
+use Rattle.broker_session.specs.broker_base.StepAnswers.{connection_of}
+use Rattle.broker_session.specs.broker_base.SessionStep.{kept_resumed}
+use Rattle.broker_session.specs.broker_rows.Published.{changed}
+use Rattle.broker_session.specs.OneSession.{sent_to_resumed}
 use Rattle.broker_tables.specs.Tables.{owners_at}
 use Rattle.broker_tables.proofs.Connects.{resuming_of, ties_of_resuming}
 use Rattle.broker_tables.proofs.tables.Tables.resume.Goals as goal

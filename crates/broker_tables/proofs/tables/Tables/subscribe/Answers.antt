@@ -5,18 +5,18 @@ use Rattle.std.specs.Prelude.{map}
 use Rattle.std.specs.Option.{option_copied_mut}
 use Rattle.std.specs.BTreeMap.{is_at}
 use Rattle.std.specs.Map.{set_value}
-use Rattle.session.specs.packet.declared.packet.Packet.TheVariants as packets
-use Rattle.broker_rows.specs.subs_base.ListIndex.{content_of}
-use Rattle.broker_rows.specs.broker_spec.Place.{by_bytes}
-use Rattle.broker_rows.specs.broker_spec.Answers.{codes_of}
-use Rattle.broker_rows.specs.broker_spec.Commands.{usual_limits}
-use Rattle.broker_rows.specs.broker_spec.Subscriptions.{as_held, granted_of}
-use Rattle.broker_rows.specs.broker_spec.declared.command.Output.TheVariants as outputs
-use Rattle.broker_rows.specs.broker_base.ClientSession.{ClientSession}
-use Rattle.broker_rows.specs.broker_base.State.{Sessions, session_in}
-use Rattle.broker_rows.specs.CopyLaws.{granted_in_turn, subscribed_in_turn, sent_in_turn}
-use Rattle.broker_rows.specs.Indexed.{all_set}
-use Rattle.broker_rows.specs.Served.{holding}
+use Rattle.broker_session.specs.packet.declared.packet.Packet.TheVariants as packets
+use Rattle.broker_session.specs.subs_base.ListIndex.{content_of}
+use Rattle.broker_session.specs.broker_spec.Place.{by_bytes}
+use Rattle.broker_session.specs.broker_spec.Answers.{codes_of}
+use Rattle.broker_session.specs.broker_spec.Commands.{usual_limits}
+use Rattle.broker_session.specs.broker_spec.Subscriptions.{as_held, granted_of}
+use Rattle.broker_session.specs.broker_spec.declared.command.Output.TheVariants as outputs
+use Rattle.broker_session.specs.broker_base.ClientSession.{ClientSession}
+use Rattle.broker_session.specs.broker_base.State.{Sessions, session_in}
+use Rattle.broker_session.specs.broker_rows.CopyLaws.{granted_in_turn, subscribed_in_turn, sent_in_turn}
+use Rattle.broker_session.specs.broker_rows.Indexed.{all_set}
+use Rattle.broker_session.specs.broker_rows.Served.{holding}
 use Rattle.broker_tables.proofs.FoundByMaps.{has_session, is_served}
 use Rattle.broker_tables.proofs.Grantings.{subscribe_of, ties_of_subscribe}
 use Rattle.broker_tables.proofs.tables.Tables.subscribe.Goals as goal

@@ -3,16 +3,16 @@ use Rattle.std.proofs.Common.{rules, ◌≡◌, ◌∙◌, ◌++◌, ap, sym, re
 use Rattle.std.specs.Option.{option_copied_mut}
 use Rattle.std.specs.BTreeMap.{is_at}
 use Rattle.std.specs.Map.{set_value}
-use Rattle.session.specs.packet.declared.packet.Packet.TheVariants as packets
-use Rattle.session.specs.session_base.Subscriptions.{without_filters}
-use Rattle.session.specs.session_base.Session.{with_filters}
-use Rattle.broker_rows.specs.subs_base.ListIndex.{content_of}
-use Rattle.broker_rows.specs.broker_spec.Place.{by_bytes}
-use Rattle.broker_rows.specs.broker_base.ClientSession.{ClientSession}
-use Rattle.broker_rows.specs.broker_base.State.{Sessions, session_in}
-use Rattle.broker_rows.specs.Indexed.{all_cleared}
-use Rattle.broker_rows.specs.PacketLaws.{handled_state}
-use Rattle.broker_rows.specs.Served.{holding}
+use Rattle.broker_session.specs.packet.declared.packet.Packet.TheVariants as packets
+use Rattle.broker_session.specs.session_base.Subscriptions.{without_filters}
+use Rattle.broker_session.specs.session_base.Session.{with_filters}
+use Rattle.broker_session.specs.subs_base.ListIndex.{content_of}
+use Rattle.broker_session.specs.broker_spec.Place.{by_bytes}
+use Rattle.broker_session.specs.broker_base.ClientSession.{ClientSession}
+use Rattle.broker_session.specs.broker_base.State.{Sessions, session_in}
+use Rattle.broker_session.specs.broker_rows.Indexed.{all_cleared}
+use Rattle.broker_session.specs.broker_rows.PacketLaws.{handled_state}
+use Rattle.broker_session.specs.broker_rows.Served.{holding}
 use Rattle.broker_tables.proofs.FoundByMaps.{has_session, is_served}
 use Rattle.broker_tables.proofs.Unsubscriptions.{unsubscribe_of, ties_of_unsubscribe}
 use Rattle.broker_tables.proofs.tables.Tables.unsubscribe.Goals as goal

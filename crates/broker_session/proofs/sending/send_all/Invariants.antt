@@ -1,7 +1,7 @@
 use Rattle.std.proofs.Common.{◌≡◌, ◌++◌}
 use Rattle.std.specs.Prelude.{map}
 use Rattle.broker_rows.specs.broker_spec.declared.command.Output.TheVariants as outputs
-use Rattle.broker_tables.proofs.sending.send_all.Given as goal
+use Rattle.broker_session.proofs.sending.send_all.Given as goal
 
 abbrev pub invariant-loop-packet : goal.invariant-loop-packet
 invariant-loop-packet l =

@@ -8,7 +8,7 @@ use machine::Halted;
 use session::packet::Packet;
 
 /// Appends the sending of packets on a connection, in order.
-pub(crate) fn send_all(
+pub fn send_all(
     connection: ConnectionName,
     sent: Vec<Packet>,
     out: &mut Vec<Output>,

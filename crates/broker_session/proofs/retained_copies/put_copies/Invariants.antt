@@ -6,7 +6,7 @@ use Rattle.session.specs.session_base.Copies.{copies_left}
 use Rattle.broker_rows.specs.broker_spec.Entries.{queued}
 use Rattle.session.specs.session_base.Sending.{copies_sent}
 use Rattle.session.specs.session_base.Session.{with_queue}
-use Rattle.broker_tables.proofs.retained_copies.put_copies.Given as goal
+use Rattle.broker_session.proofs.retained_copies.put_copies.Given as goal
 
 abbrev pub invariant-loop-copy : goal.invariant-loop-copy
 invariant-loop-copy l =

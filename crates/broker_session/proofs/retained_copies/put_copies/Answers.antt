@@ -5,8 +5,8 @@ use Rattle.session.specs.declared.session.TheConstants.{MAX_ENTRIES}
 use Rattle.session.specs.session_base.Queue.{Queue, room}
 use Rattle.session.specs.session_base.Session.{SessionState}
 use Rattle.broker_rows.specs.broker_spec.Entries.{queued}
-use Rattle.broker_tables.proofs.RoomForCopies.{others_find_room, sent_first}
-use Rattle.broker_tables.proofs.retained_copies.put_copies.Goals as goal
+use Rattle.broker_session.proofs.RoomForCopies.{others_find_room, sent_first}
+use Rattle.broker_session.proofs.retained_copies.put_copies.Goals as goal
 
 pub loop-copy-preserved : goal.loop-copy-preserved
 loop-copy-preserved c =

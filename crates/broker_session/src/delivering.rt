@@ -13,7 +13,7 @@ ghost use Rattle.broker_rows.specs.broker_base.SessionStep.{copied_queue};
 ghost use Rattle.broker_rows.specs.broker_base.StepAnswers.{sent_on};
 ghost use Rattle.broker_rows.specs.broker_spec.Commands.{usual_limits};
 ghost use Rattle.broker_rows.specs.Published.{delivered_on, is_full_at};
-ghost use Rattle.broker_tables.specs.Inside.{lowered};
+ghost use Rattle.broker_session.specs.OneSession.{lowered};
 
 use crate::client_row::ClientRow;
 use crate::sending::send_all;
@@ -25,7 +25,7 @@ use session::{MAX_ENTRIES, Session};
 use std::alloc::AllocError;
 
 /// Returns what a PUBLISH carries.
-pub(crate) fn publication_of(publish: &Publish) -> Result<Publication, AllocError>
+pub fn publication_of(publish: &Publish) -> Result<Publication, AllocError>
     ensures { IfOk result (λ publication. publication ≡ publication_of publish.now) }
 {
     Ok(Publication {
@@ -37,7 +37,7 @@ pub(crate) fn publication_of(publish: &Publish) -> Result<Publication, AllocErro
 }
 
 /// Returns the lower QoS of two.
-pub(crate) fn lower(one: QoS, other: QoS) -> QoS
+pub fn lower(one: QoS, other: QoS) -> QoS
     ensures { result ≡ lower_qos one other }
 {
     if other.number() < one.number() {
@@ -97,7 +97,7 @@ fn unanswered(copy: Publication) -> Packet
 
 /// Puts a publication that the client is granted at this QoS into its session. A client without a
 /// connection gets it later, at QoS 1 and 2.
-pub(crate) fn deliver(
+pub fn deliver(
     row: &mut ClientRow,
     window: Window,
     publication: &Publication,

@@ -1,10 +1,13 @@
 // What is kept of one client.
 
-ghost use Rattle.std.specs.Prelude.{◌≡◌};
-ghost use Rattle.broker_rows.specs.broker_base.SessionStep.{kept_anew};
+ghost use Rattle.std.specs.Prelude.{◌≡◌, ◌++◌, false, Some, OnOk};
+ghost use Rattle.broker_rows.specs.broker_base.SessionStep.{kept_anew, kept_resumed};
+ghost use Rattle.broker_session.specs.OneSession.{sent_to_resumed};
 
-use broker_rows::broker_spec::ConnectionName;
+use broker_rows::broker_spec::{ConnectionName, Window};
+use machine::Halted;
 use session::Session;
+use session::packet::Packet;
 use std::alloc::Global;
 use std::marker::Model;
 
@@ -39,5 +42,23 @@ impl ClientRow {
             connection: Some(connection),
             state: Session::new(alloc),
         }
+    }
+    /// Continues a session that is not clean on this connection. What is in flight is sent again,
+    /// then what may start starts (MQTT 4.4).
+    pub fn come_back(
+        &mut self,
+        connection: ConnectionName,
+        window: Window,
+        sent: &mut Vec<Packet>,
+    ) -> Result<(), Halted>
+        ensures state { OnOk result (self.new ≡ kept_resumed window (connection, false) self.old) }
+        ensures sends { OnOk result
+            (sent.new.items ≡ sent.old.items ++ sent_to_resumed window (Some self.old)) }
+    {
+        self.clean = false;
+        self.connection = Some(connection);
+        self.state.resend(sent)?;
+        self.state.fill(window.size(), sent)?;
+        Ok(())
     }
 }

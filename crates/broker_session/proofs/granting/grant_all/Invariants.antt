@@ -3,7 +3,7 @@ use Rattle.std.proofs.Common.{◌≡◌, ◌++◌}
 use Rattle.std.specs.Prelude.{drop}
 use Rattle.broker_rows.specs.broker_spec.Commands.{usual_limits}
 use Rattle.broker_rows.specs.CopyLaws.{granted_in_turn, subscribed_in_turn, sent_in_turn}
-use Rattle.broker_tables.proofs.subscribing.grant_all.Given as goal
+use Rattle.broker_session.proofs.granting.grant_all.Given as goal
 
 abbrev pub invariant-loop-subscription : goal.invariant-loop-subscription
 invariant-loop-subscription l =

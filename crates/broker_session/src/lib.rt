@@ -1,0 +1,20 @@
+//! What a broker keeps of one client, and what packets and publications do to its session (MQTT
+//! 3.1.1).
+#![tactic(auto)]
+
+mod client_row;
+mod delivering;
+mod granting;
+mod handshakes;
+mod retained_copies;
+mod sending;
+
+pub use broker_rows::{broker_spec, retained, subs};
+pub use client_row::ClientRow;
+pub use delivering::{deliver, lower, publication_of};
+pub use granting::grant_all;
+pub use handshakes::{do_handshake, is_handshake};
+pub use machine;
+pub use sending::send_all;
+pub use session;
+pub use session::{packet, session_base, topics};
