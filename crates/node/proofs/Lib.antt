@@ -1,4 +1,5 @@
 pub mod Crossing
+mod CutsApart
 mod Growing
 mod ItsLanes
 mod OpenBytes

@@ -1,10 +1,28 @@
--- Which bytes that a node took are counted.
-use Rattle.std.specs.Prelude.{ℕ, ◌+◌, ◌≤◌, List}
+-- Which bytes that a node took are counted, and after which ticks its log is cut.
+use Rattle.std.specs.Prelude.{◌≡◌, ℕ, ◌+◌, ◌<◌, ◌≤◌, List, true}
 use Rattle.node.specs.Counting.{Counts, Taken, bytes_behind, committed_of}
 use Rattle.node.specs.Crowding.{Taking}
+use Rattle.node.specs.Cutting.{cuts_after}
 
 -- The count includes every byte that the node took and that may be in a place which is not agreed.
 abbrev pub OpenBytesAreCounted : Type 0
 OpenBytesAreCounted =
     (all : List Taken) (taking : Taking) → Counts all taking →
     bytes_behind (committed_of taking.status) all ≤ taking.earlier + taking.later
+
+-- No two nodes, whose numbers are at most 15 (`max_node` of `ballot_base`), have their logs cut
+-- after the same tick.
+abbrev pub CutsComeApart : Type 0
+CutsComeApart =
+    (node other ticks : ℕ) → node ≤ 15 → other ≤ 15 →
+    cuts_after node ticks ≡ true → cuts_after other ticks ≡ true → node ≡ other
+
+-- a cut of a node, fewer than 50 ticks after this many
+pub record CutFollows (node ticks : ℕ) : Type 0 where
+  pub more : ℕ
+  pub soon : more < 50
+  pub cuts : cuts_after node (ticks + more) ≡ true
+
+-- Of any 50 ticks in a row there is one after which a node has its log cut.
+abbrev pub CutsComeOften : Type 0
+CutsComeOften = (node ticks : ℕ) → CutFollows node ticks

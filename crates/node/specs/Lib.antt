@@ -1,7 +1,9 @@
 pub mod Counting
 pub mod Crowding
+pub mod Cutting
 pub mod Growth
 pub mod Laws
+pub mod Overdue
 pub mod Running
 pub mod Report
 pub mod State

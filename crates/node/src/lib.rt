@@ -1,21 +1,25 @@
 //! A node: a replica with its connections and the inbox from which its items come.
 #![tactic(auto)]
 
+mod cutting;
 mod growth;
 mod intake;
 mod laws;
 mod naming;
 mod node_state;
+mod overdue;
 mod permit;
 mod report;
 mod running;
 
+pub use cutting::cuts_after;
 pub use intake::Intake;
-pub use laws::open_bytes_are_counted;
+pub use laws::{cuts_come_apart, cuts_come_often, open_bytes_are_counted};
 pub use mailbox;
 pub use naming::NodeNaming;
 pub use node_base::{Gate, NoGate, PIECE_BYTES};
 pub use node_state::NodeState;
+pub use overdue::is_overdue;
 pub use permit::Permit;
 pub use report::Report;
 pub use running::{Node, Stated};

@@ -1,5 +1,4 @@
 mod AllMet
-mod CutsApart
 mod GivenBySteps
 mod OwnSendsJoin
 mod PortsApart

@@ -1,5 +1,3 @@
-pub mod Closing
-pub mod Cutting
 pub mod Laws
 pub mod Named
 pub mod Serving

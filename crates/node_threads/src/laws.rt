@@ -1,18 +1,8 @@
-// Laws of the definitions on servers. The calls do nothing; their contracts are the laws.
+// A law about ports. The call does nothing; its contract is the law.
 
-ghost use Rattle.node_threads.specs.Laws.{CutsComeApart, CutsComeOften, PortsDiffer};
+ghost use Rattle.node_threads.specs.Laws.{PortsDiffer};
 
 /// States that no two connections of a node have the same port.
 pub fn ports_differ()
     ensures { PortsDiffer }
-{}
-
-/// States that no two nodes have their logs cut after the same tick.
-pub fn cuts_come_apart()
-    ensures { CutsComeApart }
-{}
-
-/// States that of any 50 ticks in a row there is one after which a node has its log cut.
-pub fn cuts_come_often()
-    ensures { CutsComeOften }
 {}

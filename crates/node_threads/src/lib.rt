@@ -6,7 +6,6 @@
 #![tactic(auto)]
 
 mod blocked_writer;
-mod cutting;
 mod helping;
 mod lane_reporter;
 mod laws;
@@ -22,7 +21,7 @@ mod turns;
 mod working;
 mod writing;
 
-pub use laws::{cuts_come_apart, cuts_come_often, ports_differ};
+pub use laws::ports_differ;
 pub use node_context::NodeContexts;
 pub use opened::Opened;
 pub use post;

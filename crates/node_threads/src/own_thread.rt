@@ -4,14 +4,13 @@
 
 ghost use Rattle.std.specs.Prelude.{◌≡◌};
 ghost use Rattle.post.specs.Queued.{IsQueued};
-ghost use Rattle.node_threads.specs.Closing.{is_overdue};
 ghost use Rattle.node_threads.specs.Serving.{SendsOwn};
 
 use crate::own_lane::OwnLane;
 use crate::served_node::ServedNode;
 use crate::shared::Shared;
 use post::mailbox::Lane;
-use post::node::{Gate, Item, NodeNaming, Standing, Stated};
+use post::node::{Gate, Item, NodeNaming, Stated, cuts_after, is_overdue};
 use std::hint;
 use std::sync::Wait;
 use std::time::{Clock, Duration};
@@ -19,9 +18,6 @@ use streams::{Closed, Link, MAX_CONNECTIONS};
 
 /// How often the node gets the time, in milliseconds.
 const TICK_MILLIS: u64 = 200;
-
-/// How long the first packet of a connection may take, in milliseconds.
-const FIRST_PACKET_MILLIS: u64 = 10_000;
 
 /// How many times the thread looks for what comes before it sleeps. With the steps between two
 /// looks this takes about as long as it takes to wake a thread.
@@ -106,6 +102,25 @@ impl<'a, J: NodeNaming, S: Stated<J>, G: Gate> Shared<'a, J, S, G> {
         LastTick { time: now, ticks }
     }
 
+    // Has the log cut, if a cut is due after this many ticks.
+    fn cut_in_time<R: Wait + Clock>(&self, rt: &R, lane: &mut Lane<Item, J>, ticks: u64)
+        ensures { SendsOwn self.now.context.node.now.number lane.old.sent lane.new.sent }
+    {
+        if cuts_after(self.context.node.number, ticks) {
+            self.send(rt, lane, Item::Cut);
+        }
+    }
+
+    // Has the log cut, if what the node took since the last cut is large enough.
+    fn cut_by_size<R: Wait + Clock>(&self, rt: &R, lane: &mut Lane<Item, J>)
+        ensures { SendsOwn self.now.context.node.now.number lane.old.sent lane.new.sent }
+    {
+        let wants_cut = self.node.lock(rt).state().wants_cut();
+        if wants_cut {
+            self.send(rt, lane, Item::Cut);
+        }
+    }
+
     // Ends the connections whose first packet did not come in time.
     fn end_overdue<R: Wait>(&self, rt: &R, now: u64) {
         let mut index = 0;
@@ -171,13 +186,6 @@ impl<'a, J: NodeNaming, S: Stated<J>, G: Gate> Shared<'a, J, S, G> {
         }
         false
     }
-}
-
-// Says whether the first packet of a connection that was accepted at a time is awaited too long.
-fn is_overdue(standing: Standing, opened: u64, now: u64) -> bool
-    ensures { result ≡ is_overdue standing opened now }
-{
-    standing == Standing::Awaits && now.saturating_sub(opened) > FIRST_PACKET_MILLIS
 }
 
 // Waits for less than a microsecond.

@@ -1,0 +1,17 @@
+// When a node has its log cut, whatever its size.
+
+ghost use Rattle.std.specs.Prelude.{◌≡◌};
+ghost use Rattle.node.specs.Cutting.{cuts_after};
+
+/// How many ticks lie between two cuts of a node's log.
+const TICKS_A_CUT: u64 = 50;
+
+/// How many ticks lie between the first cuts of nodes with neighbouring numbers.
+const APART: u64 = 7;
+
+/// Says whether the node of a number has its log cut after this many ticks.
+pub fn cuts_after(number: u8, ticks: u64) -> bool
+    ensures { result ≡ cuts_after number ticks }
+{
+    ticks % TICKS_A_CUT == u64::from(number) * APART % TICKS_A_CUT
+}
