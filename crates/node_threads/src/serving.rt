@@ -12,12 +12,9 @@ use post::node::{Gate, Item, NodeNaming, Port, Stated};
 use std::alloc::Global;
 use std::net::TcpStream;
 use std::sync::{Arc, Wait};
-use std::time::{Clock, Duration};
+use std::time::Clock;
 use streams::connection::{Counted, report_connection};
 use streams::{Closed, Link, forget};
-
-/// How long a write may wait before the rest is left to the blocked writer, in milliseconds.
-const WRITE_MILLIS: u64 = 1;
 
 /// How many connections a lane serves, each at a port of its own.
 const MAX_CONNECTIONS_OF_LANE: u64 = 1 << 56;
@@ -116,8 +113,7 @@ impl<'a, J: NodeNaming, S: Stated<J>, G: Gate> ServedNode<'a, J, S, G> {
 }
 
 impl<'a, J: NodeNaming, S: Stated<J>, G: Gate> Shared<'a, J, S, G> {
-    // Returns the connection of a stream. Its bytes are sent at once, and a write does not wait for
-    // long.
+    // Returns the connection of a stream, which is accepted now.
     fn link<R: Clock>(
         &self,
         rt: &R,
@@ -127,13 +123,8 @@ impl<'a, J: NodeNaming, S: Stated<J>, G: Gate> Shared<'a, J, S, G> {
     ) -> Option<Arc<Link, Global>>
         ensures { IfSome result (λ link. (arc_value link).port ≡ port) }
     {
-        stream.set_nodelay(true).ok()?;
-        stream
-            .set_write_timeout(Some(Duration::from_millis(WRITE_MILLIS)))
-            .ok()?;
         let opened = self.context.now(rt);
-        let link = Link::new(self.alloc, port, index, opened, stream).ok()?;
-        Arc::new(self.alloc, link).ok()
+        Link::of_stream(self.alloc, port, index, opened, stream)
     }
 
     // Takes what the node still holds for a connection that has ended, so that it holds no more.

@@ -12,6 +12,10 @@ use node::Port;
 use std::alloc::{AllocError, Global};
 use std::net::{Shutdown, TcpStream};
 use std::sync::{Arc, Mutex, Wait};
+use std::time::Duration;
+
+/// How long a write waits for a full socket at most, in milliseconds.
+const WRITE_MILLIS: u64 = 1;
 
 /// The right to write on a connection's stream: the tap of the connection's port, its socket, and
 /// what a full socket has not yet taken. A connection has one, made with it, so one thread at a
@@ -67,6 +71,25 @@ impl Link {
         })
     }
 
+    /// Returns the connection of a stream whose bytes are sent at once, and on which a write waits
+    /// for a millisecond at most. There is none if the stream cannot be set so, or memory ran out.
+    pub fn of_stream(
+        alloc: Global,
+        port: Port,
+        index: usize,
+        opened: u64,
+        stream: TcpStream,
+    ) -> Option<Arc<Link, Global>>
+        ensures { IfSome result (λ link. (arc_value link).port ≡ port) }
+    {
+        stream.set_nodelay(true).ok()?;
+        stream
+            .set_write_timeout(Some(Duration::from_millis(WRITE_MILLIS)))
+            .ok()?;
+        let link = Link::new(alloc, port, index, opened, stream).ok()?;
+        Arc::new(alloc, link).ok()
+    }
+
     /// Returns its stream, to be read.
     pub fn source(&self) -> Patient<'_>
         ensures { result.stream.now ≡ arc_value self.now.stream }
@@ -92,8 +115,7 @@ impl Link {
     }
 
     /// Sets whether a write waits while the socket is full, for as long as the stream's write
-    /// timeout says (1 ms in `node_threads`). Only the thread that has the token does so. Returns
-    /// whether it could be set.
+    /// timeout says. Only the thread that has the token does so. Returns whether it could be set.
     pub fn set_waiting(&self, waits: bool) -> bool {
         self.stream.set_nonblocking(!waits).is_ok()
     }
