@@ -57,14 +57,19 @@ impl<'a, J: NodeNaming, S: Stated<J>, G: Gate> Shared<'a, J, S, G> {
     fn keep_blocked<R: Wait>(&self, rt: &R, link: &Arc<Link, Global>, token: WriteToken) -> bool
         requires { IsTokenOf (arc_value link.now).port token }
     {
-        let kept = match Arc::try_clone(link) {
-            Ok(link) => self.blocked.lock(rt).push(Blocked { link, token }).is_ok(),
-            Err(_) => false,
-        };
-        if !kept {
-            link.shut();
+        match Arc::try_clone(link) {
+            Ok(own) => {
+                let kept = self.blocked.lock(rt).push(Blocked::new(own, token)).is_ok();
+                if !kept {
+                    link.shut();
+                }
+                kept
+            }
+            Err(_) => {
+                link.end(token);
+                false
+            }
         }
-        kept
     }
 
     // Goes over the connections whose sockets were full. Returns how many there were, and how many
@@ -73,10 +78,14 @@ impl<'a, J: NodeNaming, S: Stated<J>, G: Gate> Shared<'a, J, S, G> {
         let blocked = mem::replace(&mut *self.blocked.lock(rt), Vec::new(self.alloc));
         let tried = blocked.len();
         let mut left = 0usize;
-        for Blocked { link, token } in blocked {
-            if let Some(token) = self.retry_blocked(rt, &link, token) {
-                left = left.saturating_add(1);
-                let _ = self.keep_blocked(rt, &link, token);
+        for one in blocked {
+            let (link, token) = one.into_parts();
+            match self.retry_blocked(rt, &link, token) {
+                Some(token) => {
+                    left = left.saturating_add(1);
+                    let _ = self.keep_blocked(rt, &link, token);
+                }
+                None => {}
             }
         }
         (tried, left)
@@ -97,7 +106,7 @@ impl<'a, J: NodeNaming, S: Stated<J>, G: Gate> Shared<'a, J, S, G> {
         let token = self.write(rt, link, token, false)?;
         let standing = self.node.lock(rt).state().standing(link.port);
         if standing == Standing::Closed {
-            link.shut();
+            link.end(token);
             return None;
         }
         Some(token)

@@ -39,7 +39,7 @@ impl<'e, 'a, J: NodeNaming, S: Stated<J>, G: Gate> Hearer for LaneReporter<'e, '
         let all = self.all;
         let shared = &node.shared;
         let index = self.link.index;
-        let entering = shared.await_room(rt, self.link.port, size_of(&item));
+        let entering = shared.admit(rt, self.link.port, size_of(&item));
         shared.send(rt, &mut self.lane, item);
         shared.context.node.count_taken(rt, entering);
         node.help(rt, all);

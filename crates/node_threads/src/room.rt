@@ -1,8 +1,9 @@
 // Bytes of clients, which wait until the node takes more of them.
 
-ghost use Rattle.std.specs.Prelude.{◌≤◌};
+ghost use Rattle.std.specs.Prelude.{◌≡◌, ◌≤◌, IfSome};
 
 use crate::shared::Shared;
+use post::Entering;
 use post::node::{Gate, NodeNaming, PIECE_BYTES, Port, Standing, Stated};
 use std::sync::Wait;
 use std::thread;
@@ -12,21 +13,21 @@ use std::time::{Clock, Duration};
 const ROOM_MILLIS: u64 = 1;
 
 impl<'a, J: NodeNaming, S: Stated<J>, G: Gate> Shared<'a, J, S, G> {
-    /// Waits until the node takes this many more bytes from its clients. Returns how many count as
-    /// in transit. None do if there is only one node, nor on a connection that the node has closed,
-    /// whose bytes have no effect.
-    pub(crate) fn await_room<R: Wait + Clock>(&self, rt: &R, port: Port, bytes: u64) -> u64
+    /// Waits until the node takes this many more bytes from its clients, and counts them as in
+    /// transit. None count if there is only one node, or the node has closed the connection.
+    pub(crate) fn admit<R: Wait + Clock>(&self, rt: &R, port: Port, bytes: u64) -> Option<Entering>
         requires { bytes ≤ PIECE_BYTES }
+        ensures { IfSome result (λ entering. entering ≡ bytes) }
     {
         if bytes == 0 || !self.context.cluster.are_several() {
-            return 0;
+            return None;
         }
         for _ in rt.forever() {
-            if self.context.node.admit(rt, bytes) {
-                return bytes;
+            if let Some(entering) = self.context.node.admit(rt, bytes) {
+                return Some(entering);
             }
             if self.is_over(rt, port) {
-                return 0;
+                return None;
             }
             thread::sleep(rt, Duration::from_millis(ROOM_MILLIS));
         }

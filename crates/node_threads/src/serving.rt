@@ -63,7 +63,7 @@ impl<'a, J: NodeNaming, S: Stated<J>, G: Gate> ServedNode<'a, J, S, G> {
         let Some(index) = listener.take_index(rt) else {
             return lane;
         };
-        let lane = match self.shared.link(rt, port, index, stream) {
+        let lane = match self.shared.link(rt, port, index.number(), stream) {
             Some(link) => self.serve_link(rt, all, lane, link),
             None => lane,
         };

@@ -109,7 +109,7 @@ impl<'a, J: NodeNaming, S: Stated<J>, G: Gate> Shared<'a, J, S, G> {
         }
         let (more, given) = take_up_to(rt, self.alloc, state, permit, lane);
         self.context.node.show(rt, state.status());
-        self.context.cluster.hand_on(rt, given);
+        self.context.cluster.hand_on(rt, state, given);
         // The node's own thread has the log cut.
         if state.wants_cut() {
             self.context.node.wake(rt);

@@ -37,14 +37,15 @@ impl<'a, J: NodeNaming, S: Stated<J>, G: Gate> Shared<'a, J, S, G> {
         let Some(token) = link.take_token(rt) else {
             return;
         };
-        if let Some(token) = self.write(rt, link, token, waits) {
-            self.hand_blocked(rt, link, token);
+        match self.write(rt, link, token, waits) {
+            Some(token) => self.hand_blocked(rt, link, token),
+            None => {}
         }
     }
 
     /// Writes what a full socket left over and what was queued, until nothing more is, and returns
     /// the token to its connection. Returns the token to the caller if the socket is full. A stream
-    /// that takes no more is ended, and its token is dropped with it.
+    /// that takes no more is ended, and its token with it.
     pub(crate) fn write<R: Wait>(
         &self,
         rt: &R,
@@ -58,10 +59,13 @@ impl<'a, J: NodeNaming, S: Stated<J>, G: Gate> Shared<'a, J, S, G> {
         let mut token = token;
         for _ in rt.forever() {
             match self.write_so(rt, link, &mut token, waits) {
-                Flow::Open => token = link.put_back(rt, token)?,
+                Flow::Open => match link.put_back(rt, token) {
+                    Some(kept) => token = kept,
+                    None => return None,
+                },
                 Flow::Blocked => return Some(token),
                 Flow::Closed | Flow::Stopped | Flow::Fault => {
-                    link.shut();
+                    link.end(token);
                     return None;
                 }
             }

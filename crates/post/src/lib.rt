@@ -24,4 +24,4 @@ pub use node;
 pub use node::{mailbox, packet};
 pub use order_error::OrderError;
 pub use outgoing::Outgoing;
-pub use peer::Peer;
+pub use peer::{Entering, Peer};

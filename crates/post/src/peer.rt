@@ -1,6 +1,6 @@
 // A node as the other nodes of its program see it.
 
-ghost use Rattle.std.specs.Prelude.{◌≡◌, ◌≤◌, IfOk, IsErrOf, false, true};
+ghost use Rattle.std.specs.Prelude.{◌≡◌, ◌≤◌, IfOk, IfSome, IsErrOf, false, true};
 ghost use Rattle.master.specs.ballot_base.LawfulConfig.{is_lawful};
 ghost use Rattle.node.specs.Lists.{Each};
 ghost use Rattle.post.specs.Mastering.{MayGet};
@@ -16,6 +16,7 @@ use master::AssignError;
 use node::packet::ClientId;
 use node::{Config, Intake, Item, Memory, PIECE_BYTES, Status};
 use std::alloc::Global;
+use std::marker::Model;
 use std::sync::{Mutex, Wait};
 use std::time::Duration;
 
@@ -24,6 +25,20 @@ use std::time::Duration;
 struct Urgency {
     is_urgent: bool,
     is_long: bool,
+}
+
+/// Bytes of a client that count as in transit to a node. It cannot be dropped: it ends when they
+/// are counted as taken. So no bytes count for ever.
+pub struct Entering {
+    bytes: u64,
+}
+
+impl Model for Entering {
+    ghost use Rattle.std.specs.Prelude.{ℕ};
+
+    ghost Value = { ℕ };
+
+    ghost view = { λ entering. entering.bytes };
 }
 
 /// A node, and what waits for it. Its own thread takes what waits, and sleeps until something
@@ -251,18 +266,26 @@ impl Peer {
         self.intake.lock(rt).show(status);
     }
 
-    /// Says whether the node takes this many more bytes from a client. They then count as in
-    /// transit to it. It takes none while too much of what it took is not agreed, so that what
-    /// waits for a member that lags is bounded.
-    pub fn admit<R: Wait>(&self, rt: &R, bytes: u64) -> bool
+    /// Counts this many bytes of a client as in transit to the node, if it takes more. It takes
+    /// none while too much of what it took is not agreed, so that what waits for a member that lags
+    /// is bounded.
+    pub fn admit<R: Wait>(&self, rt: &R, bytes: u64) -> Option<Entering>
         requires { bytes ≤ PIECE_BYTES }
+        ensures { IfSome result (λ entering. entering ≡ bytes) }
     {
-        self.intake.lock(rt).admit(bytes)
+        if self.intake.lock(rt).admit(bytes) {
+            Some(Entering { bytes })
+        } else {
+            None
+        }
     }
 
-    /// Counts bytes that were in transit as taken.
-    pub fn count_taken<R: Wait>(&self, rt: &R, bytes: u64) {
-        self.intake.lock(rt).count_taken(bytes);
+    /// Counts bytes that were in transit, if there are some, as taken.
+    pub fn count_taken<R: Wait>(&self, rt: &R, entering: Option<Entering>) {
+        match entering {
+            Some(Entering { bytes }) => self.intake.lock(rt).count_taken(bytes),
+            None => {}
+        }
     }
 
     /// Returns the node's status after its last change. There is none before it is served.

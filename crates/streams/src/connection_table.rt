@@ -7,7 +7,7 @@ ghost use Rattle.streams.specs.Listing.{AddsBusy};
 use crate::closing::{Closed, Waiting};
 use crate::idle_lanes::IdleLanes;
 use crate::link::Link;
-use crate::links::Links;
+use crate::links::{Links, TakenIndex};
 use crate::listener::MAX_CONNECTIONS;
 use std::alloc::{AllocError, Global};
 use std::sync::{Arc, Mutex, Wait};
@@ -68,7 +68,7 @@ impl ConnectionTable {
     }
 
     /// Takes an index for a connection. There is none if [`MAX_CONNECTIONS`] are taken.
-    pub(crate) fn take_index<R: Wait>(&self, rt: &R) -> Option<usize>
+    pub(crate) fn take_index<R: Wait>(&self, rt: &R) -> Option<TakenIndex>
         ensures { IfSome result (λ index. index < MAX_CONNECTIONS) }
     {
         self.links.lock(rt).take()
@@ -80,7 +80,7 @@ impl ConnectionTable {
     }
 
     /// Frees an index, whose connection is listed no more.
-    pub(crate) fn free<R: Wait>(&self, rt: &R, index: usize) {
+    pub(crate) fn free<R: Wait>(&self, rt: &R, index: TakenIndex) {
         self.links.lock(rt).free(index);
     }
 

@@ -13,14 +13,17 @@ mod patient;
 mod port_tap;
 mod socket;
 mod write_slot;
+mod write_token;
 
 pub use closing::Closed;
 pub use connection;
 pub use forgetting::forget;
 pub use idle_lanes::IdleLanes;
 pub use laws::taps_count_all;
-pub use link::{Blocked, Link, WriteToken};
+pub use link::{Blocked, Link};
+pub use links::TakenIndex;
 pub use listener::{Listener, MAX_CONNECTIONS};
 pub use patient::Patient;
 pub use port_tap::PortTap;
 pub use socket::Socket;
+pub use write_token::WriteToken;

@@ -7,6 +7,7 @@ use crate::patient::Patient;
 use crate::port_tap::PortTap;
 use crate::socket::Socket;
 use crate::write_slot::WriteSlot;
+use crate::write_token::{Stream, WriteToken};
 use connection::Outflow;
 use node::Port;
 use std::alloc::{AllocError, Global};
@@ -16,11 +17,6 @@ use std::time::Duration;
 
 /// How long a write waits for a full socket at most, in milliseconds.
 const WRITE_MILLIS: u64 = 1;
-
-/// The right to write on a connection's stream: the tap of the connection's port, its socket, and
-/// what a full socket has not yet taken. A connection has one, made with it, so one thread at a
-/// time writes, and its stream is whole wherever the token is kept.
-pub type WriteToken = Outflow<PortTap, Socket>;
 
 /// A connection of the node.
 #[derive(Drop)]
@@ -35,14 +31,34 @@ pub struct Link {
     slot: Mutex<WriteSlot>,
 }
 
-/// A connection whose socket was full, and its token.
+/// A connection whose socket was full, and its token, kept as its stream.
 #[derive(Drop)]
 pub struct Blocked {
-    /// The connection.
-    pub link: Arc<Link, Global>,
-    /// Its token.
-    pub token: WriteToken,
-    pub ghost its: { token.tap.port.0 ≡ (arc_value link).port.0 },
+    link: Arc<Link, Global>,
+    stream: Stream,
+    ghost its: { stream.tap.port.0 ≡ (arc_value link).port.0 },
+}
+
+impl Blocked {
+    ghost use Rattle.streams.specs.WriteTokens.{IsTokenOf};
+
+    /// Returns a connection and its token.
+    pub fn new(link: Arc<Link, Global>, token: WriteToken) -> Blocked
+        requires { IsTokenOf (arc_value link).port token }
+    {
+        Blocked {
+            link,
+            stream: token.into_stream(),
+        }
+    }
+
+    /// Returns the connection and its token.
+    pub fn into_parts(self) -> (Arc<Link, Global>, WriteToken)
+        ensures { IsTokenOf (arc_value result.0).port result.1 }
+    {
+        let Blocked { link, stream } = self;
+        (link, WriteToken::new(stream))
+    }
 }
 
 impl Link {
@@ -118,6 +134,12 @@ impl Link {
     /// timeout says. Only the thread that has the token does so. Returns whether it could be set.
     pub fn set_waiting(&self, waits: bool) -> bool {
         self.stream.set_nonblocking(!waits).is_ok()
+    }
+
+    /// Ends the stream, and its token with it.
+    pub fn end(&self, token: WriteToken) {
+        let _stream = token.into_stream();
+        self.shut();
     }
 
     /// Ends the stream, which wakes the thread that reads it. Nothing more is written on it.

@@ -11,6 +11,7 @@ use crate::link::Link;
 use crate::listener::MAX_CONNECTIONS;
 use slab::Slab;
 use std::alloc::{AllocError, Global};
+use std::marker::Model;
 use std::sync::Arc;
 
 /// The connections that a node serves, at most [`MAX_CONNECTIONS`], each at an index of its own. An
@@ -21,6 +22,29 @@ pub(crate) struct Links {
     slots: Slab<Option<Arc<Link, Global>>>,
     ghost few: { slab_len slots ≤ MAX_CONNECTIONS },
     ghost room: { slots.capacity ≡ MAX_CONNECTIONS },
+}
+
+/// The right to an index of the table, for one connection. It cannot be dropped: it ends when the
+/// index is freed.
+pub struct TakenIndex {
+    number: usize,
+}
+
+impl Model for TakenIndex {
+    ghost use Rattle.std.specs.Prelude.{ℕ};
+
+    ghost Value = { ℕ };
+
+    ghost view = { λ index. index.number };
+}
+
+impl TakenIndex {
+    /// Returns the index itself.
+    pub fn number(&self) -> usize
+        ensures { result ≡ self.now }
+    {
+        self.number
+    }
 }
 
 impl Links {
@@ -39,7 +63,7 @@ impl Links {
     }
 
     /// Takes an index. There is none if [`MAX_CONNECTIONS`] are taken.
-    pub(crate) fn take(&mut self) -> Option<usize>
+    pub(crate) fn take(&mut self) -> Option<TakenIndex>
         ensures below { IfSome result (λ index. index < MAX_CONNECTIONS) }
         ensures free { IfSome result (λ index. get self.old.slots index ≡ None) }
         ensures taken { IfSome result (λ index.
@@ -50,7 +74,9 @@ impl Links {
         if self.slots.len() >= usize::from(MAX_CONNECTIONS) {
             return None;
         }
-        Some(self.slots.insert_reserved(None))
+        Some(TakenIndex {
+            number: self.slots.insert_reserved(None),
+        })
     }
 
     /// Lists a connection at its index, if that is taken. Otherwise nothing changes.
@@ -68,10 +94,11 @@ impl Links {
     }
 
     /// Frees an index.
-    pub(crate) fn free(&mut self, index: usize)
+    pub(crate) fn free(&mut self, index: TakenIndex)
         ensures { Updates self.old.slots self.new.slots index None }
     {
-        let _ = self.slots.try_remove(index);
+        let TakenIndex { number } = index;
+        let _ = self.slots.try_remove(number);
     }
 
     /// Ends all connections that are listed. They stay listed.

@@ -8,6 +8,7 @@ use crate::closing::Closed;
 use crate::connection_table::ConnectionTable;
 use crate::idle_lanes::IdleLanes;
 use crate::link::Link;
+use crate::links::TakenIndex;
 use node::Memory;
 use std::alloc::Global;
 use std::net::{Net, SocketAddr, TcpListener, TcpStream};
@@ -106,7 +107,7 @@ impl Listener {
     }
 
     /// Takes an index for a connection. There is none if [`MAX_CONNECTIONS`] are taken.
-    pub fn take_index<R: Wait>(&self, rt: &R) -> Option<usize>
+    pub fn take_index<R: Wait>(&self, rt: &R) -> Option<TakenIndex>
         ensures { IfSome result (λ index. index < MAX_CONNECTIONS) }
     {
         self.connections.take_index(rt)
@@ -119,7 +120,7 @@ impl Listener {
     }
 
     /// Frees an index, whose connection is listed no more.
-    pub fn free<R: Wait>(&self, rt: &R, index: usize) {
+    pub fn free<R: Wait>(&self, rt: &R, index: TakenIndex) {
         self.connections.free(rt, index);
     }
 

@@ -2,15 +2,15 @@
 
 ghost use Rattle.std.specs.Prelude.{◌≡◌, IfSome, None, Some, false, is_none, true};
 
-use crate::link::WriteToken;
+use crate::write_token::{Stream, WriteToken};
 use node::Port;
 use std::mem;
 
-/// Where a connection's token is kept while no thread writes.
+/// Where a connection's token is kept while no thread writes: as its stream, which may be dropped.
 #[derive(Drop)]
 pub(crate) struct WriteSlot {
     /// None while a thread writes, and for good once the stream takes no more.
-    token: Option<WriteToken>,
+    token: Option<Stream>,
     /// More may have been queued since the thread that writes looked.
     again: bool,
 }
@@ -18,8 +18,8 @@ pub(crate) struct WriteSlot {
 impl WriteSlot {
     ghost use Rattle.streams.specs.WriteTokens.{IsTokenOf, token_of};
 
-    /// Returns the slot that keeps this token.
-    pub(crate) fn new(token: WriteToken) -> WriteSlot
+    /// Returns the slot that keeps the token of this stream.
+    pub(crate) fn new(token: Stream) -> WriteSlot
         ensures { result ≡ record { token = Some token; again = false } }
     {
         WriteSlot {
@@ -41,7 +41,7 @@ impl WriteSlot {
         if token.tap().port() != port {
             return None;
         }
-        Some(token)
+        Some(WriteToken::new(token))
     }
 
     /// Puts the token back. If more may have been queued meanwhile the caller keeps it, and looks
@@ -57,7 +57,7 @@ impl WriteSlot {
             self.again = false;
             return Some(token);
         }
-        self.token = Some(token);
+        self.token = Some(token.into_stream());
         None
     }
 }

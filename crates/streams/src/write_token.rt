@@ -1,0 +1,62 @@
+// The right to write on a connection's stream.
+
+ghost use Rattle.std.specs.Prelude.{◌≡◌, None};
+ghost use Rattle.connection.specs.Writing.{Flows};
+ghost use Rattle.streams.specs.Tapping.{HandsOut};
+
+use crate::port_tap::PortTap;
+use crate::socket::Socket;
+use connection::{Flow, Outflow, Outlet};
+use std::marker::Model;
+use std::sync::Wait;
+
+/// The stream of a connection: the tap of the connection's port, its socket, and what a full socket
+/// has not yet taken.
+pub(crate) type Stream = Outflow<PortTap, Socket>;
+
+/// The right to write on a connection's stream. A connection has one, made with it, so one thread
+/// at a time writes, and its stream is whole wherever the token is kept. It cannot be dropped:
+/// whoever has it puts it back, leaves it to the thread that continues with full sockets, or ends
+/// the stream.
+pub struct WriteToken {
+    stream: Stream,
+}
+
+impl Model for WriteToken {
+    ghost use Rattle.connection.specs.Whole.{Flowing};
+    ghost use Rattle.streams.specs.declared.port_tap.PortTap.{PortTap};
+    ghost use Rattle.streams.specs.declared.socket.Socket.{Socket};
+
+    ghost Value = { Flowing PortTap Socket };
+
+    ghost view = { λ token. token.stream };
+}
+
+impl WriteToken {
+    ghost use Rattle.streams.specs.WriteTokens.{HasWholeStream};
+
+    /// Returns the token of a stream.
+    pub(crate) fn new(stream: Stream) -> WriteToken
+        ensures { result ≡ stream }
+    {
+        WriteToken { stream }
+    }
+
+    /// Returns its stream, to be kept or ended.
+    pub(crate) fn into_stream(self) -> Stream
+        ensures { result ≡ self }
+    {
+        let WriteToken { stream } = self;
+        stream
+    }
+
+    /// Writes what was left before, followed by what an outlet hands over now, as
+    /// [`Outflow::write`] does.
+    pub fn write<R: Wait, O: Outlet<PortTap>>(&mut self, rt: &R, outlet: &mut O) -> Flow
+        ensures flows { Flows HandsOut result self.old.tap self.new.tap None None
+            self.old.left self.new.left }
+        ensures whole { HasWholeStream self.new }
+    {
+        self.stream.write(rt, outlet)
+    }
+}
