@@ -2,7 +2,7 @@
 
 ghost use Rattle.std.specs.Prelude.{◌≡◌};
 
-use super::two_nodes::{Start, fresh};
+use super::nodes::{Start, fresh_two};
 use node::mailbox::Lane;
 use node::{Gate, Item, Node, NodeNaming, NodeState, Report, Stated};
 use std::alloc::Global;
@@ -51,6 +51,11 @@ impl Meeting {
             .lock(rt)
             .iter()
             .all(|heard| heard.is_right && heard.done == done)
+    }
+
+    // Returns how many of a node's first two takings it is shut for.
+    fn missed(&self) -> u64 {
+        2u64.saturating_sub(self.shut_after)
     }
 }
 
@@ -180,26 +185,25 @@ fn closes<J: NodeNaming, R: Wait>(
     taken: u64,
     missed: u64,
 ) -> bool {
-    node.has_all(lanes) && tells(&node.close(rt, lanes), taken, missed)
-}
-
-// Returns the first of these steps that is not so, in words.
-fn first_missed(sent: bool, took: bool, closed: bool, heard: bool) -> Option<&'static str> {
-    if !sent {
-        Some("each lane sends three ticks")
-    } else if !took {
-        Some("each node takes two")
-    } else if !closed {
-        Some("each node reports so")
-    } else if !heard {
-        Some("the gate is informed of each taking")
+    if node.has_all(lanes) {
+        let report = node.close(rt, lanes);
+        let is_told = tells(&report, taken, missed);
+        drop(report);
+        is_told
     } else {
-        None
+        drop(node);
+        false
     }
 }
 
+// Returns the words for what is not so.
+fn unless(is_so: bool, words: &'static str) -> Option<&'static str> {
+    if is_so { None } else { Some(words) }
+}
+
 // Returns the first step that is not so: two nodes meet at a gate that shuts after this many
-// takings, continue, and report so. Each is sent three ticks and takes two.
+// takings, continue, and report so. Each is sent three ticks and takes two. What is long to drop is
+// lent or passed on by each function here, or goes by a call of `drop`, which is proved once.
 fn meet<J, R>(
     rt: &R,
     alloc: Global,
@@ -215,28 +219,111 @@ where
     requires other_inbox { second.inbox ≡ J.inbox_of 2 }
     requires other_core { second.core ≡ J.first_of 2 }
 {
-    let Ok((receiver, mut lanes)) = first.inbox.named::<J>(1, 1) else {
-        return Some("node 1 has a lane");
-    };
-    let Ok((other_receiver, mut other_lanes)) = second.inbox.named::<J>(2, 1) else {
-        return Some("node 2 has a lane");
-    };
-    let Ok(node) = Node::start(alloc, NodeState::new(receiver, first.core), Some(gate)) else {
-        return Some("node 1 starts");
-    };
-    let Ok(other) = Node::start(
-        alloc,
-        NodeState::new(other_receiver, second.core),
-        Some(gate),
-    ) else {
-        return Some("node 2 starts");
-    };
-    let missed = 2u64.saturating_sub(gate.shut_after);
-    let sent = sends_three(rt, lanes.as_mut_slice()) && sends_three(rt, other_lanes.as_mut_slice());
-    let took = take_both_states(rt, alloc, &node, &other, 2);
-    let closed = closes(rt, node, lanes.as_mut_slice(), 2, missed)
-        && closes(rt, other, other_lanes.as_mut_slice(), 2, missed);
-    first_missed(sent, took, closed, gate.heard_all(rt, 2))
+    match first.inbox.named::<J>(1, 1) {
+        Ok((receiver, mut lanes)) => meet_of(
+            rt,
+            alloc,
+            NodeState::new(receiver, first.core),
+            lanes.as_mut_slice(),
+            second,
+            gate,
+        ),
+        Err(_) => {
+            drop(first.core);
+            drop(second);
+            Some("node 1 has a lane")
+        }
+    }
+}
+
+// The same once node 1 has its lane.
+fn meet_of<J, R>(
+    rt: &R,
+    alloc: Global,
+    state: NodeState<J>,
+    lanes: &mut [Lane<Item, J>],
+    second: Start,
+    gate: &Meeting,
+) -> Option<&'static str>
+where
+    J: NodeNaming + Send + Sync,
+    R: Threads + Wait + Clock + Sync,
+    requires inbox { second.inbox ≡ J.inbox_of 2 }
+    requires core { second.core ≡ J.first_of 2 }
+{
+    match Node::start(alloc, state, Some(gate)) {
+        Ok(node) => {
+            let missed = meet_with(rt, alloc, &node, lanes, second, gate);
+            let closed = closes(rt, node, lanes, 2, gate.missed());
+            missed.or(unless(closed, "each node reports so")).or(unless(
+                gate.heard_all(rt, 2),
+                "the gate is informed of each taking",
+            ))
+        }
+        Err(_) => {
+            drop(second);
+            Some("node 1 starts")
+        }
+    }
+}
+
+// Returns the first step up to the report of node 2 that is not so, while node 1 runs.
+fn meet_with<J, R>(
+    rt: &R,
+    alloc: Global,
+    node: &Node<'_, J, NodeState<J>, Meeting>,
+    lanes: &mut [Lane<Item, J>],
+    second: Start,
+    gate: &Meeting,
+) -> Option<&'static str>
+where
+    J: NodeNaming + Send + Sync,
+    R: Threads + Wait + Clock + Sync,
+    requires inbox { second.inbox ≡ J.inbox_of 2 }
+    requires core { second.core ≡ J.first_of 2 }
+{
+    match second.inbox.named::<J>(2, 1) {
+        Ok((receiver, mut other_lanes)) => meet_both(
+            rt,
+            alloc,
+            node,
+            lanes,
+            NodeState::new(receiver, second.core),
+            other_lanes.as_mut_slice(),
+            gate,
+        ),
+        Err(_) => {
+            drop(second.core);
+            Some("node 2 has a lane")
+        }
+    }
+}
+
+// The same once node 2 has its lane.
+fn meet_both<J, R>(
+    rt: &R,
+    alloc: Global,
+    node: &Node<'_, J, NodeState<J>, Meeting>,
+    lanes: &mut [Lane<Item, J>],
+    state: NodeState<J>,
+    other_lanes: &mut [Lane<Item, J>],
+    gate: &Meeting,
+) -> Option<&'static str>
+where
+    J: NodeNaming + Send + Sync,
+    R: Threads + Wait + Clock + Sync,
+{
+    match Node::start(alloc, state, Some(gate)) {
+        Ok(other) => {
+            let sent = sends_three(rt, lanes) && sends_three(rt, other_lanes);
+            let took = take_both_states(rt, alloc, node, &other, 2);
+            let closed = closes(rt, other, other_lanes, 2, gate.missed());
+            unless(sent, "each lane sends three ticks")
+                .or(unless(took, "each node takes two"))
+                .or(unless(closed, "each node reports so"))
+        }
+        Err(_) => Some("node 2 starts"),
+    }
 }
 
 // Were one thread to run both nodes, or a lock round them held while the gate is asked, they would
@@ -244,8 +331,7 @@ where
 #[test]
 fn nodes_meet_at_their_gate(rt: HostRuntime) -> Result<(), Fail> {
     let gate = Meeting::new(u64::MAX);
-    let first = fresh(rt.alloc(), 1)?;
-    let second = fresh(rt.alloc(), 2)?;
+    let (first, second) = fresh_two(rt.alloc())?;
     let missed = meet::<Brand, HostRuntime>(&rt, rt.alloc(), first, second, &gate);
     assert_eq!(rt; missed, None);
     Ok(())
@@ -256,8 +342,7 @@ fn nodes_meet_at_their_gate(rt: HostRuntime) -> Result<(), Fail> {
 #[test]
 fn a_gate_that_stays_shut_is_passed(rt: HostRuntime) -> Result<(), Fail> {
     let gate = Meeting::new(1);
-    let first = fresh(rt.alloc(), 1)?;
-    let second = fresh(rt.alloc(), 2)?;
+    let (first, second) = fresh_two(rt.alloc())?;
     let missed = meet::<Brand, HostRuntime>(&rt, rt.alloc(), first, second, &gate);
     assert_eq!(rt; missed, None);
     Ok(())

@@ -214,9 +214,12 @@ impl<J: Naming> Two<J> {
 
     // Returns how many items were taken of a lane, which may be that of the other inbox.
     fn meet<R: Wait>(&self, rt: &R, at: usize, lane_at: usize) -> Option<u64> {
-        let mut receiver = self.receivers.get(at)?.lock(rt);
-        let mut lanes = self.lanes.get(lane_at)?.lock(rt);
-        meet(&mut receiver, lanes.as_mut_slice())
+        match (self.receivers.get(at), self.lanes.get(lane_at)) {
+            (Some(receiver), Some(lanes)) => {
+                meet(&mut receiver.lock(rt), lanes.lock(rt).as_mut_slice())
+            }
+            _ => None,
+        }
     }
 
     // Says whether a call has its result.
@@ -240,16 +243,21 @@ fn first_fault_of_two<J: Naming, R: Wait>(
     requires second { second ≡ J.inbox_of 2 }
 {
     let Ok((first, first_lanes)) = first.named::<J>(1, 1) else {
+        drop(second);
         return Some(0);
     };
     let Ok((second, second_lanes)) = second.named::<J>(2, 1) else {
+        drop(first);
+        drop(first_lanes);
         return Some(0);
     };
     let two = Two {
         receivers: [Mutex::new(first), Mutex::new(second)],
         lanes: [Mutex::new(first_lanes), Mutex::new(second_lanes)],
     };
-    rows.iter().position(|call| !two.is_right(rt, *call))
+    let fault = rows.iter().position(|call| !two.is_right(rt, *call));
+    drop(two);
+    fault
 }
 
 const MET: &[Call] = &[

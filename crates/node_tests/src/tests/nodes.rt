@@ -61,8 +61,41 @@ struct Run<'a> {
     left: &'a [(u8, u64)],
 }
 
-/// Returns this node, the sole member of ballot 1.
-pub(super) fn sole(alloc: Global, number: u8) -> Result<NodeCore, Fail>
+/// An inbox with what its node is at first.
+#[derive(Drop)]
+pub(super) struct Start {
+    pub(super) inbox: Inbox<Item>,
+    pub(super) core: NodeCore,
+}
+
+// Returns an unused inbox, and the node of this number, the sole member of ballot 1.
+fn fresh(alloc: Global, number: u8) -> Result<Start, Fail>
+    requires { (1 ≤ number) × (number ≤ 15) }
+{
+    let inbox = Inbox::new(alloc)?;
+    match sole(alloc, number) {
+        Ok(core) => Ok(Start { inbox, core }),
+        Err(fail) => {
+            drop(inbox);
+            Err(fail)
+        }
+    }
+}
+
+/// Returns an unused inbox and a node for each of the numbers 1 and 2.
+pub(super) fn fresh_two(alloc: Global) -> Result<(Start, Start), Fail> {
+    let first = fresh(alloc, 1)?;
+    match fresh(alloc, 2) {
+        Ok(second) => Ok((first, second)),
+        Err(fail) => {
+            drop(first);
+            Err(fail)
+        }
+    }
+}
+
+// Returns this node, the sole member of ballot 1.
+fn sole(alloc: Global, number: u8) -> Result<NodeCore, Fail>
     requires { (1 ≤ number) × (number ≤ 15) }
 {
     let config = Config {
@@ -82,9 +115,18 @@ pub(super) fn sends<J: NodeNaming, R: Wait>(
     match lanes.get_mut(index) {
         Some(lane) => {
             let receipt = lane.receipt();
-            lane.send(rt, item, receipt).is_ok()
+            match lane.send(rt, item, receipt) {
+                Ok(()) => true,
+                Err(back) => {
+                    drop(back);
+                    false
+                }
+            }
         }
-        None => false,
+        None => {
+            drop(item);
+            false
+        }
     }
 }
 
@@ -185,7 +227,15 @@ fn closes<J: NodeNaming, R: Wait>(
     lanes: &mut [Lane<Item, J>],
     run: &Run<'_>,
 ) -> bool {
-    node.has_all(lanes) && tells(&node.close(rt, lanes), run)
+    if node.has_all(lanes) {
+        let report = node.close(rt, lanes);
+        let is_told = tells(&report, run);
+        drop(report);
+        is_told
+    } else {
+        drop(node);
+        false
+    }
 }
 
 // Returns what went otherwise, by the first other act and by whether the report is right.
@@ -218,23 +268,25 @@ fn other_with<J: NodeNaming, R: Wait>(
 fn first_other<J: NodeNaming, R: Wait>(
     rt: &R,
     alloc: Global,
-    inbox: Inbox<Item>,
-    core: NodeCore,
+    start: Start,
     run: &Run<'_>,
 ) -> Option<Otherwise>
-    requires inbox { inbox ≡ J.inbox_of 1 }
-    requires first { core ≡ J.first_of 1 }
+    requires inbox { start.inbox ≡ J.inbox_of 1 }
+    requires first { start.core ≡ J.first_of 1 }
     requires lanes { (1 ≤ run.now.lanes) × (run.now.lanes ≤ 16) }
 {
-    match inbox.named::<J>(1, run.lanes) {
+    match start.inbox.named::<J>(1, run.lanes) {
         Ok((receiver, mut lanes)) => other_with(
             rt,
             alloc,
-            NodeState::new(receiver, core),
+            NodeState::new(receiver, start.core),
             lanes.as_mut_slice(),
             run,
         ),
-        Err(_) => Some(Otherwise::Start),
+        Err(_) => {
+            drop(start.core);
+            Some(Otherwise::Start)
+        }
     }
 }
 
@@ -256,9 +308,8 @@ const IN_ORDER: &Run<'static> = &Run {
 
 #[test]
 fn items_are_taken_in_their_order(rt: HostRuntime) -> Result<(), Fail> {
-    let inbox = Inbox::new(rt.alloc())?;
-    let core = sole(rt.alloc(), 1)?;
-    let other = first_other::<Brand, HostRuntime>(&rt, rt.alloc(), inbox, core, IN_ORDER);
+    let start = fresh(rt.alloc(), 1)?;
+    let other = first_other::<Brand, HostRuntime>(&rt, rt.alloc(), start, IN_ORDER);
     assert_eq!(rt; other, None);
     Ok(())
 }
@@ -282,9 +333,8 @@ const BESIDE: &Run<'static> = &Run {
 
 #[test]
 fn send_waits_for_no_lock(rt: HostRuntime) -> Result<(), Fail> {
-    let inbox = Inbox::new(rt.alloc())?;
-    let core = sole(rt.alloc(), 1)?;
-    let other = first_other::<Brand, HostRuntime>(&rt, rt.alloc(), inbox, core, BESIDE);
+    let start = fresh(rt.alloc(), 1)?;
+    let other = first_other::<Brand, HostRuntime>(&rt, rt.alloc(), start, BESIDE);
     assert_eq!(rt; other, None);
     Ok(())
 }
@@ -308,9 +358,8 @@ const LEFT: &Run<'static> = &Run {
 
 #[test]
 fn what_is_not_taken_is_left_over(rt: HostRuntime) -> Result<(), Fail> {
-    let inbox = Inbox::new(rt.alloc())?;
-    let core = sole(rt.alloc(), 1)?;
-    let other = first_other::<Brand, HostRuntime>(&rt, rt.alloc(), inbox, core, LEFT);
+    let start = fresh(rt.alloc(), 1)?;
+    let other = first_other::<Brand, HostRuntime>(&rt, rt.alloc(), start, LEFT);
     assert_eq!(rt; other, None);
     Ok(())
 }

@@ -1,10 +1,10 @@
 // Two nodes in one run: the numbers of inboxes say whose lane it is.
 
-ghost use Rattle.std.specs.Prelude.{◌≡◌, ◌≤◌};
+ghost use Rattle.std.specs.Prelude.{◌≡◌};
 
-use super::nodes::{met, sends, sole, takes};
-use node::mailbox::{Inbox, Lane};
-use node::{Item, NodeCore, NodeNaming, NodeState};
+use super::nodes::{Start, fresh_two, met, sends, takes};
+use node::mailbox::Lane;
+use node::{Item, NodeNaming, NodeState};
 use std::alloc::Global;
 use std::marker::Brand;
 use std::sync::{Mutex, Wait};
@@ -48,9 +48,12 @@ impl<J: NodeNaming> Two<J> {
 
     // Returns how many items were taken of a lane, which may be that of the other node.
     fn meet<R: Wait>(&self, rt: &R, at: usize, lane_at: usize) -> Option<u64> {
-        let mut state = self.nodes.get(at)?.lock(rt);
-        let mut lanes = self.lanes.get(lane_at)?.lock(rt);
-        met(&mut state, lanes.as_mut_slice(), 0)
+        match (self.nodes.get(at), self.lanes.get(lane_at)) {
+            (Some(node), Some(lanes)) => {
+                met(&mut node.lock(rt), lanes.lock(rt).as_mut_slice(), 0)
+            }
+            _ => None,
+        }
     }
 
     // Says whether a call has its result.
@@ -61,13 +64,6 @@ impl<J: NodeNaming> Two<J> {
             Call::Meet(at, lane_at, wanted) => self.meet(rt, at, lane_at) == wanted,
         }
     }
-}
-
-/// An inbox with what its node is at first.
-#[derive(Drop)]
-pub(super) struct Start {
-    pub(super) inbox: Inbox<Item>,
-    pub(super) core: NodeCore,
 }
 
 // Does the rows with two nodes. Returns the first row whose result is another.
@@ -83,22 +79,55 @@ fn first_fault_of_two<J: NodeNaming, R: Wait>(
     requires other_inbox { second.inbox ≡ J.inbox_of 2 }
     requires other_core { second.core ≡ J.first_of 2 }
 {
-    let Ok((receiver, lanes)) = first.inbox.named::<J>(1, 1) else {
-        return Some(0);
-    };
-    let Ok((other_receiver, other_lanes)) = second.inbox.named::<J>(2, 1) else {
-        return Some(0);
-    };
-    let two = Two {
-        nodes: [
-            Mutex::new(NodeState::new(receiver, first.core)),
-            Mutex::new(NodeState::new(other_receiver, second.core)),
-        ],
-        lanes: [Mutex::new(lanes), Mutex::new(other_lanes)],
-    };
-    calls
-        .iter()
-        .position(|call| !two.is_right(rt, alloc, *call))
+    match first.inbox.named::<J>(1, 1) {
+        Ok((receiver, lanes)) => first_fault_with(
+            rt,
+            alloc,
+            NodeState::new(receiver, first.core),
+            lanes,
+            second,
+            calls,
+        ),
+        Err(_) => {
+            drop(first.core);
+            drop(second);
+            Some(0)
+        }
+    }
+}
+
+// The same once node 1 has its lane. What is long to drop goes by a call, which is proved once.
+fn first_fault_with<J: NodeNaming, R: Wait>(
+    rt: &R,
+    alloc: Global,
+    state: NodeState<J>,
+    lanes: Vec<Lane<Item, J>>,
+    second: Start,
+    calls: &[Call],
+) -> Option<usize>
+    requires inbox { second.inbox ≡ J.inbox_of 2 }
+    requires core { second.core ≡ J.first_of 2 }
+{
+    match second.inbox.named::<J>(2, 1) {
+        Ok((receiver, other_lanes)) => {
+            let other = NodeState::new(receiver, second.core);
+            let two = Two {
+                nodes: [Mutex::new(state), Mutex::new(other)],
+                lanes: [Mutex::new(lanes), Mutex::new(other_lanes)],
+            };
+            let fault = calls
+                .iter()
+                .position(|call| !two.is_right(rt, alloc, *call));
+            drop(two);
+            fault
+        }
+        Err(_) => {
+            drop(second.core);
+            drop(state);
+            drop(lanes);
+            Some(0)
+        }
+    }
 }
 
 const MET: &[Call] = &[
@@ -123,20 +152,10 @@ const MET: &[Call] = &[
     Call::Meet(1, 1, Some(2)),
 ];
 
-/// Returns an unused inbox, and the node of this number, the sole member of ballot 1.
-pub(super) fn fresh(alloc: Global, number: u8) -> Result<Start, Fail>
-    requires { (1 ≤ number) × (number ≤ 15) }
-{
-    let inbox = Inbox::new(alloc)?;
-    let core = sole(alloc, number)?;
-    Ok(Start { inbox, core })
-}
-
 // One lane of each of two nodes sends items, of which some are taken.
 #[test]
 fn two_nodes_meet_their_lanes(rt: HostRuntime) -> Result<(), Fail> {
-    let first = fresh(rt.alloc(), 1)?;
-    let second = fresh(rt.alloc(), 2)?;
+    let (first, second) = fresh_two(rt.alloc())?;
     let fault = first_fault_of_two::<Brand, HostRuntime>(&rt, rt.alloc(), first, second, MET);
     assert_eq!(rt; fault, None);
     Ok(())
