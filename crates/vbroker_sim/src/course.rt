@@ -27,6 +27,8 @@ pub struct Course {
     primaries: Vec<u8>,
     /// The nodes that crashed.
     crashed: Vec<u8>,
+    /// How many events happened.
+    count: u64,
 }
 
 impl Course {
@@ -47,20 +49,26 @@ impl Course {
             closed: 0,
             primaries,
             crashed: Vec::new(alloc),
+            count: 0,
         })
+    }
+
+    /// Returns how many events happened.
+    pub fn count(&self) -> u64 {
+        self.count
     }
 
     /// Draws the next event: mostly one that continues what is in transit, now and then one that
     /// disturbs. None if it ran out of memory.
     pub fn draws(&mut self, world: &World, clients: &[ClientId]) -> Option<Event> {
         let index = (self.draw.below(clients.len() as u64) % 256) as u8;
-        let name = clients.get(index as usize)?.clone().ok()?;
+        let name = clients.get(index as usize)?;
         match self.draw.below(100) {
             0 => self.changes(world),
             1 => Some(Event::Cut(self.node())),
             2 => Some(Event::Tick(self.node())),
             3 => Some(Event::Notice(self.connection(index))),
-            4..=6 => Some(self.leaves(world, name)),
+            4..=6 => self.leaves(world, name),
             7 => self.opens(world, name),
             8..=19 => self.says(world, name, index),
             _ => self.goes_on(world, name, index),
@@ -69,6 +77,7 @@ impl Course {
 
     /// Takes note of an event that happened. None if it ran out of memory.
     pub fn happened(&mut self, event: &Event, clients: &[ClientId]) -> Option<()> {
+        self.count = self.count.saturating_add(1);
         match event {
             Event::Assign(config) => self.primaries.push(config.primary).ok(),
             Event::Crash(node) => self.crashed.push(*node).ok(),
@@ -120,7 +129,7 @@ impl Course {
 
     // Draws an event that continues what is in transit: a message between nodes, or bytes of a
     // connection. If nothing is in transit, something begins.
-    fn goes_on(&mut self, world: &World, name: ClientId, index: u8) -> Option<Event> {
+    fn goes_on(&mut self, world: &World, name: &ClientId, index: u8) -> Option<Event> {
         let connection = self.connection(index);
         let waits = self.next < world.messages();
         if waits && self.draw.one_in(2) {
@@ -144,8 +153,8 @@ impl Course {
 
     // Draws what a client that is served says, or how one that is not comes back. Now and then one
     // that is served comes back, too.
-    fn begins(&mut self, world: &World, name: ClientId, index: u8) -> Option<Event> {
-        if !is_served(world, &name) || self.draw.one_in(16) {
+    fn begins(&mut self, world: &World, name: &ClientId, index: u8) -> Option<Event> {
+        if !is_served(world, name) || self.draw.one_in(16) {
             self.comes_back(world, name)
         } else {
             self.says(world, name, index)
@@ -154,11 +163,11 @@ impl Course {
 
     // Draws how a client comes back: it opens a connection, or first gives up the one that it has.
     // Now and then the active primary gets the time instead, or a change of the nodes is drawn.
-    fn comes_back(&mut self, world: &World, name: ClientId) -> Option<Event> {
+    fn comes_back(&mut self, world: &World, name: &ClientId) -> Option<Event> {
         match self.draw.below(32) {
             0 => self.changes(world),
             1..=4 => Some(Event::Tick(self.active_primary(world))),
-            5..=14 => Some(Event::Abandon(name)),
+            5..=14 => Some(Event::Abandon(name.clone().ok()?)),
             _ => self.opens(world, name),
         }
     }
@@ -232,28 +241,30 @@ impl Course {
     }
 
     // Draws how a client leaves: it loses its connection, or ends it, or its session is ended.
-    fn leaves(&mut self, world: &World, name: ClientId) -> Event {
-        match self.draw.below(8) {
+    fn leaves(&mut self, world: &World, name: &ClientId) -> Option<Event> {
+        let node = self.active_primary(world);
+        let name = name.clone().ok()?;
+        Some(match self.draw.below(8) {
             0 => Event::Disconnect(name),
-            1 => Event::Expel(name, self.active_primary(world)),
+            1 => Event::Expel(name, node),
             _ => Event::Abandon(name),
-        }
+        })
     }
 
     // Draws that a client connects to the active primary; now and then to any node.
-    fn opens(&mut self, world: &World, name: ClientId) -> Option<Event> {
+    fn opens(&mut self, world: &World, name: &ClientId) -> Option<Event> {
         let node = if self.draw.one_in(16) {
             self.node()
         } else {
             self.active_primary(world)
         };
-        Some(Event::Open(name, node))
+        Some(Event::Open(name.clone().ok()?, node))
     }
 
     // Draws what a client says: mostly a publication, now and then that it unsubscribes. One
     // subscription is drawn for four publications.
-    fn says(&mut self, world: &World, name: ClientId, index: u8) -> Option<Event> {
-        if self.asked.saturating_mul(4) <= self.serial && is_served(world, &name) {
+    fn says(&mut self, world: &World, name: &ClientId, index: u8) -> Option<Event> {
+        if self.asked.saturating_mul(4) <= self.serial && is_served(world, name) {
             self.asked = self.asked.saturating_add(1);
             return subscribed(self.alloc, &mut self.draw, name);
         }

@@ -44,23 +44,37 @@ fn main(rt: HostRuntime) -> Result<()> {
 // Draws one run after the other, up to the first that fails.
 fn simulate(rt: &HostRuntime, options: &Options) -> Result<()> {
     for count in 0..options.seeds {
-        let seed = options.seed.wrapping_add(count);
-        let Some(run) = drawn(rt.alloc(), options, seed) else {
-            bail!("seed {seed}: out of memory");
-        };
-        if options.counts {
-            print_counts(rt, seed, run.counts)?;
-        }
-        if options.scripts {
-            print(rt, &run, &[])?;
-        }
-        if let Some(broken) = run.broken {
-            fail(rt, seed, &run, broken)?;
-        }
+        simulate_one(rt, options, options.seed.wrapping_add(count))?;
     }
     let (seeds, events) = (options.seeds, options.events);
     println!(rt; "{seeds} runs of {events} events: every check passed")?;
     Ok(())
+}
+
+// Draws the run of a seed, and lends it, so that no way out of what follows has to drop it.
+fn simulate_one(rt: &HostRuntime, options: &Options, seed: u64) -> Result<()> {
+    match drawn(rt.alloc(), options, seed) {
+        Some(run) => {
+            let shown = show(rt, options, seed, &run);
+            drop(run);
+            shown
+        }
+        None => bail!("seed {seed}: out of memory"),
+    }
+}
+
+// Prints what is asked for of a run, and ends the program if it failed.
+fn show(rt: &HostRuntime, options: &Options, seed: u64, run: &Run) -> Result<()> {
+    if options.counts {
+        print_counts(rt, seed, run.counts)?;
+    }
+    if options.scripts {
+        print(rt, run, &[])?;
+    }
+    match run.broken {
+        Some(broken) => fail(rt, seed, run, broken),
+        None => Ok(()),
+    }
 }
 
 // Prints how far a run went.

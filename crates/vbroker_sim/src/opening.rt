@@ -24,9 +24,7 @@ impl Opening {
     /// eight clients. None if it ran out of memory.
     pub fn new(alloc: Global, seed: u64, nodes: u8, count: u8) -> Option<Opening> {
         let mut clients = Vec::new(alloc);
-        for name in NAMES.iter().take(count as usize) {
-            clients.push(ClientId::new(alloc, name).ok()?).ok()?;
-        }
+        put_all(alloc, count, &mut clients)?;
         let nodes = nodes.clamp(1, 7);
         let members = (seed % u64::from(nodes)) as u8 + 1;
         Some(Opening {
@@ -65,4 +63,12 @@ impl Opening {
         }
         Ok(line)
     }
+}
+
+// Adds this many clients. The list is lent, so that no way out of the loop has to drop it.
+fn put_all(alloc: Global, count: u8, clients: &mut Vec<ClientId>) -> Option<()> {
+    for name in NAMES.iter().take(count as usize) {
+        clients.push(ClientId::new(alloc, name).ok()?).ok()?;
+    }
+    Some(())
 }

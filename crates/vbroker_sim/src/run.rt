@@ -4,6 +4,7 @@ use crate::course::Course;
 use crate::looking::{ends, looks, notes};
 use crate::opening::Opening;
 use crate::options::Options;
+use sim_looks::packet::ClientId;
 use sim_looks::{Broken, Watch};
 use std::alloc::Global;
 use world::{Event, World};
@@ -59,10 +60,8 @@ impl Counts {
 /// ran out of memory.
 pub fn drawn(alloc: Global, options: &Options, seed: u64) -> Option<Run> {
     let opening = Opening::new(alloc, seed, options.nodes, options.clients)?;
-    let mut world = opening.opens(alloc)?;
     let mut events = Vec::new(alloc);
-    let (broken, happened) = plays(alloc, options, seed, &opening, &mut world, &mut events)?;
-    let counts = Counts::of(&world, &opening, happened);
+    let (broken, counts) = plays(alloc, options, seed, &opening, &mut events)?;
     Some(Run {
         opening,
         events,
@@ -71,37 +70,87 @@ pub fn drawn(alloc: Global, options: &Options, seed: u64) -> Option<Run> {
     })
 }
 
-// Draws events and lets them happen: what does not hold in the end, and how many happened.
+// Draws events and lets them happen: what does not hold in the end, and how far it came. What is
+// long to drop, here and below, is lent to what has several ways out, and goes by a call of `drop`.
 fn plays(
+    alloc: Global,
+    options: &Options,
+    seed: u64,
+    opening: &Opening,
+    events: &mut Vec<Event>,
+) -> Option<(Option<Broken>, Counts)> {
+    match opening.opens(alloc) {
+        Some(mut world) => {
+            let played = plays_in(alloc, options, seed, opening, &mut world, events);
+            drop(world);
+            played
+        }
+        None => None,
+    }
+}
+
+// Draws events and lets them happen in a fresh world.
+fn plays_in(
     alloc: Global,
     options: &Options,
     seed: u64,
     opening: &Opening,
     world: &mut World,
     events: &mut Vec<Event>,
-) -> Option<(Option<Broken>, u64)> {
+) -> Option<(Option<Broken>, Counts)> {
     let clients = opening.clients.as_slice();
     let mut course = Course::new(alloc, seed, opening.nodes)?;
     let mut watch = Watch::new(alloc, clients.len())?;
-    let mut happened: u64 = 0;
-    for _ in 0..options.events {
+    let broken = plays_all(
+        options.events,
+        clients,
+        world,
+        events,
+        &mut course,
+        &mut watch,
+    );
+    let counts = Counts::of(world, opening, course.count());
+    drop(course);
+    drop(watch);
+    Some((broken?, counts))
+}
+
+// Draws this many events, up to the first after which something does not hold, and returns what
+// that is.
+fn plays_all(
+    count: u64,
+    clients: &[ClientId],
+    world: &mut World,
+    events: &mut Vec<Event>,
+    course: &mut Course,
+    watch: &mut Watch,
+) -> Option<Option<Broken>> {
+    for _ in 0..count {
         let event = course.draws(world, clients)?;
-        let goes = world.step(&event).is_ok();
-        if goes {
-            course.happened(&event, clients)?;
-            notes(&mut watch, &event, clients)?;
-            happened = happened.saturating_add(1);
-        } else {
-            course.was_idle(&event);
-        }
+        let looked = happens(&event, clients, world, course, watch);
         events.push(event).ok()?;
-        if goes {
-            if let Err(broken) = looks(&mut watch, world, clients)? {
-                return Some((Some(broken), happened));
-            }
+        if let Err(broken) = looked? {
+            return Some(Some(broken));
         }
     }
-    Some((ends(&watch, world)?.err(), happened))
+    Some(ends(watch, world)?.err())
+}
+
+// Lets an event happen, if it can, and returns what does not hold then.
+fn happens(
+    event: &Event,
+    clients: &[ClientId],
+    world: &mut World,
+    course: &mut Course,
+    watch: &mut Watch,
+) -> Option<Result<(), Broken>> {
+    if world.step(event).is_err() {
+        course.was_idle(event);
+        return Some(Ok(()));
+    }
+    course.happened(event, clients)?;
+    notes(watch, event, clients)?;
+    looks(watch, world, clients)
 }
 
 /// Plays the events without those that are left out, and returns what does not hold. None if it ran
@@ -112,16 +161,50 @@ pub fn replayed(
     events: &[Event],
     out: &[bool],
 ) -> Option<Option<Broken>> {
-    let clients = opening.clients.as_slice();
-    let mut world = opening.opens(alloc)?;
-    let mut watch = Watch::new(alloc, clients.len())?;
+    match opening.opens(alloc) {
+        Some(mut world) => {
+            let clients = opening.clients.as_slice();
+            let broken = replayed_in(alloc, clients, &mut world, events, out);
+            drop(world);
+            broken
+        }
+        None => None,
+    }
+}
+
+// Plays them in a fresh world.
+fn replayed_in(
+    alloc: Global,
+    clients: &[ClientId],
+    world: &mut World,
+    events: &[Event],
+    out: &[bool],
+) -> Option<Option<Broken>> {
+    match Watch::new(alloc, clients.len()) {
+        Some(mut watch) => {
+            let broken = replays(clients, world, &mut watch, events, out);
+            drop(watch);
+            broken
+        }
+        None => None,
+    }
+}
+
+// Plays them up to the first after which something does not hold.
+fn replays(
+    clients: &[ClientId],
+    world: &mut World,
+    watch: &mut Watch,
+    events: &[Event],
+    out: &[bool],
+) -> Option<Option<Broken>> {
     for (event, is_out) in events.iter().zip(out) {
         if !*is_out && world.step(event).is_ok() {
-            notes(&mut watch, event, clients)?;
-            if let Err(broken) = looks(&mut watch, &world, clients)? {
+            notes(watch, event, clients)?;
+            if let Err(broken) = looks(watch, world, clients)? {
                 return Some(Some(broken));
             }
         }
     }
-    Some(ends(&watch, &world)?.err())
+    Some(ends(watch, world)?.err())
 }

@@ -15,13 +15,16 @@ const TOPICS: [&str; 4] = ["t/1", "t/2", "u", "t/1/x"];
 const FILTERS: [&str; 8] = ["t/#", "#", "t/1", "t/#", "t/+", "#", "+", "+/1/#"];
 
 /// Draws a subscription. None if it ran out of memory.
-pub fn subscribed(alloc: Global, draw: &mut Draw, name: ClientId) -> Option<Event> {
-    Some(Event::Subscribe(name, filter(alloc, draw)?, qos(draw)))
+pub fn subscribed(alloc: Global, draw: &mut Draw, name: &ClientId) -> Option<Event> {
+    let filter = filter(alloc, draw)?;
+    let qos = qos(draw);
+    Some(Event::Subscribe(name.clone().ok()?, filter, qos))
 }
 
 /// Draws an unsubscription. None if it ran out of memory.
-pub fn unsubscribed(alloc: Global, draw: &mut Draw, name: ClientId) -> Option<Event> {
-    Some(Event::Unsubscribe(name, filter(alloc, draw)?))
+pub fn unsubscribed(alloc: Global, draw: &mut Draw, name: &ClientId) -> Option<Event> {
+    let filter = filter(alloc, draw)?;
+    Some(Event::Unsubscribe(name.clone().ok()?, filter))
 }
 
 // Draws a filter.
@@ -44,17 +47,21 @@ fn qos(draw: &mut Draw) -> QoS {
 pub fn published(
     alloc: Global,
     draw: &mut Draw,
-    name: ClientId,
+    name: &ClientId,
     index: u8,
     serial: u64,
 ) -> Option<Event> {
-    let payload = payload_of(index, serial);
+    let sent = publication(alloc, draw, &payload_of(index, serial))?;
+    Some(Event::Publish(name.clone().ok()?, sent))
+}
+
+// Draws the publication of a payload.
+fn publication(alloc: Global, draw: &mut Draw, payload: &[u8]) -> Option<Publication> {
     let topic = TOPICS.get(draw.below(4) as usize)?;
-    let sent = Publication {
+    Some(Publication {
         retain: draw.one_in(16),
         qos: qos(draw),
         topic: TopicName::new(alloc, topic).ok()?,
-        payload: Payload::new(alloc, &payload).ok()?,
-    };
-    Some(Event::Publish(name, sent))
+        payload: Payload::new(alloc, payload).ok()?,
+    })
 }
