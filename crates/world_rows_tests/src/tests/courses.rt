@@ -35,11 +35,7 @@ const CHANGED: &[Row] = &[
 
 /// A client that has a session in the log that is fetched, after this many rows and until this
 /// many.
-pub struct Kept {
-    client: &'static str,
-    from: usize,
-    until: usize,
-}
+pub type Kept = (&'static str, usize, usize);
 
 /// A course of events in a world of this many nodes, with these members of ballot 1. One of the
 /// active configuration always lives.
@@ -63,11 +59,7 @@ pub const COURSES: &[Course] = &[
         nodes: 2,
         members: &[1, 2],
         rows: WAITS,
-        kept: &[Kept {
-            client: "a",
-            from: 2,
-            until: NEVER,
-        }],
+        kept: &[("a", 2, NEVER)],
     },
     Course {
         name: "changed",
@@ -81,93 +73,51 @@ pub const COURSES: &[Course] = &[
         nodes: 2,
         members: &[1, 2],
         rows: CRASHED,
-        kept: &[
-            Kept {
-                client: "b",
-                from: 2,
-                until: NEVER,
-            },
-            Kept {
-                client: "a",
-                from: 11,
-                until: NEVER,
-            },
-        ],
+        kept: &[("b", 2, NEVER), ("a", 11, NEVER)],
     },
     Course {
         name: "stale",
         nodes: 2,
         members: &[1, 2],
         rows: STALE,
-        kept: &[
-            Kept {
-                client: "b",
-                from: 2,
-                until: NEVER,
-            },
-            Kept {
-                client: "a",
-                from: 11,
-                until: NEVER,
-            },
-        ],
+        kept: &[("b", 2, NEVER), ("a", 11, NEVER)],
     },
     Course {
         name: "travelled",
         nodes: 2,
         members: &[1],
         rows: TRAVELLED,
-        kept: &[Kept {
-            client: "a",
-            from: 2,
-            until: NEVER,
-        }],
+        kept: &[("a", 2, NEVER)],
     },
     Course {
         name: "expelled",
         nodes: 1,
         members: &[1],
         rows: EXPELLED,
-        kept: &[
-            Kept {
-                client: "b",
-                from: 2,
-                until: 12,
-            },
-            Kept {
-                client: "b",
-                from: 22,
-                until: NEVER,
-            },
-            Kept {
-                client: "a",
-                from: 7,
-                until: NEVER,
-            },
-        ],
+        kept: &[("b", 2, 12), ("b", 22, NEVER), ("a", 7, NEVER)],
     },
     Course {
         name: "superseded",
         nodes: 3,
         members: &[1],
         rows: SUPERSEDED,
-        kept: &[Kept {
-            client: "a",
-            from: 24,
-            until: NEVER,
-        }],
+        kept: &[("a", 24, NEVER)],
     },
 ];
 
-/// Returns the world after this many rows of a course.
-pub fn played(alloc: Global, course: &Course, count: usize) -> Option<World> {
-    let mut world = opened(alloc, course.nodes, course.members)?;
-    for row in course.rows.get(..count)? {
-        if !is_right(alloc, &mut world, row) {
-            return None;
+/// Returns the world in which a course begins.
+pub fn begun(alloc: Global, course: &Course) -> Option<World> {
+    opened(alloc, course.nodes, course.members)
+}
+
+/// Says whether these rows hold for a world, one after another.
+pub fn all_hold(alloc: Global, world: &mut World, rows: &[Row]) -> bool {
+    for row in rows {
+        if !is_right(alloc, world, row) {
+            return false;
         }
     }
-    Some(world)
+    true
 }
 
 // Says whether a node has crashed in these rows.
@@ -211,5 +161,7 @@ pub fn may_lead(course: &Course, rows: &[Row], members: &[u8]) -> bool {
 
 /// Says whether a client has a session after this many rows.
 pub fn is_kept(course: &Course, count: usize, client: &str) -> bool {
-    course.kept.iter().any(|kept| kept.client == client && kept.from <= count && count < kept.until)
+    course.kept.iter().any(|(name, from, until)| *name == client
+        && *from <= count
+        && count < *until)
 }

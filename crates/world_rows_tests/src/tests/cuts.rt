@@ -9,8 +9,11 @@ use world::{Event, World};
 
 // Cuts a node's log, if it has something to cut; then it has nothing more to cut.
 fn is_cut_once(world: &mut World, node: u8) -> bool {
-    let _ = world.step(&Event::Cut(node));
-    world.step(&Event::Cut(node)).is_err()
+    let cut = Event::Cut(node);
+    let _ = world.step(&cut);
+    let is_idle = world.step(&cut).is_err();
+    drop(cut);
+    is_idle
 }
 
 // Says whether each row holds if a node cuts its log after the row at this index, or after each row
@@ -30,7 +33,11 @@ fn all_hold(alloc: Global, world: &mut World, rows: &[Row], at: usize, node: u8)
 // Says whether the rows hold for a fresh world with a cut of this node at an index.
 fn hold_from_the_opening(alloc: Global, rows: &[Row], at: usize, node: u8) -> bool {
     match opened(alloc, 2, &[1, 2]) {
-        Some(mut world) => all_hold(alloc, &mut world, rows, at, node),
+        Some(mut world) => {
+            let hold = all_hold(alloc, &mut world, rows, at, node);
+            drop(world);
+            hold
+        }
         None => false,
     }
 }

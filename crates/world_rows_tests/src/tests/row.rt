@@ -73,12 +73,18 @@ pub type Table = (&'static str, u8, &'static [u8], &'static [Row]);
 /// Returns a world of `nodes` nodes and clients `a` and `b`. These are the members of ballot 1, and
 /// node 1 is its primary.
 pub fn opened(alloc: Global, nodes: u8, members: &[u8]) -> Option<World> {
-    let config = config_of(alloc, members, 1)?;
     let mut clients = Vec::new(alloc);
-    for name in ["a", "b"] {
+    put_clients(alloc, &mut clients)?;
+    let config = config_of(alloc, members, 1)?;
+    World::opening(alloc, nodes, config, clients.as_slice()).ok()
+}
+
+// Adds both. The list is lent, so that no way out of the loop has to drop it.
+fn put_clients(alloc: Global, clients: &mut Vec<ClientId>) -> Option<()> {
+    for name in &["a", "b"] {
         clients.push(named(alloc, name)?).ok()?;
     }
-    World::opening(alloc, nodes, config, clients.as_slice()).ok()
+    Some(())
 }
 
 // Returns a configuration.
@@ -107,7 +113,11 @@ pub fn fault_in(alloc: Global, tables: &[Table]) -> Option<(&'static str, Fault)
 // Returns the first row of a table that does not hold.
 fn fault_of(alloc: Global, nodes: u8, members: &[u8], rows: &[Row]) -> Option<Fault> {
     match opened(alloc, nodes, members) {
-        Some(mut world) => first_fault(alloc, &mut world, rows),
+        Some(mut world) => {
+            let fault = first_fault(alloc, &mut world, rows);
+            drop(world);
+            fault
+        }
         None => Some((0, 0, 0, 0)),
     }
 }
@@ -193,7 +203,11 @@ fn is_said(command: &Command, said: &Said) -> bool {
 /// Says whether the event can happen.
 pub fn does(alloc: Global, world: &mut World, action: &Action) -> bool {
     match event_of(alloc, world, action) {
-        Some(event) => world.step(&event).is_ok(),
+        Some(event) => {
+            let happens = world.step(&event).is_ok();
+            drop(event);
+            happens
+        }
         None => false,
     }
 }

@@ -109,7 +109,11 @@ fn first_pubrel(alloc: Global, world: &mut World) -> Option<(&'static str, Fault
 // Finds the first such row of a fresh world.
 fn first_pubrel_from_the_opening(alloc: Global) -> Option<(&'static str, Fault)> {
     match opened(alloc, 2, &[1, 2]) {
-        Some(mut world) => first_pubrel(alloc, &mut world),
+        Some(mut world) => {
+            let fault = first_pubrel(alloc, &mut world);
+            drop(world);
+            fault
+        }
         None => Some(("no world opens", (0, 0, 0, 0))),
     }
 }

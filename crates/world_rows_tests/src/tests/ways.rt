@@ -1,8 +1,10 @@
 // Ways out: after every event of the known courses, for members and a client, the end that is
 // promised, or Idle.
 
-use crate::tests::courses::{COURSES, Course, WAITS, is_kept, last_ballot, may_lead, played};
-use crate::tests::row::{Action, does, is_right, named, opened};
+use crate::tests::courses::{
+    COURSES, Course, WAITS, all_hold, begun, is_kept, last_ballot, may_lead,
+};
+use crate::tests::row::{Action, Row, does, named, opened};
 use std::alloc::Global;
 use world::packet::ClientId;
 use world::{Command, EscapeError, Event, World};
@@ -24,38 +26,74 @@ const LISTS: &[&[u8]] = &[
 const CLIENTS: &[&str] = &["a", "b", "z"];
 
 // Says whether a way out of the world after this many rows is returned, if there is one, and leads
-// to its end, and `Idle` is returned otherwise.
+// to its end, and `Idle` is returned otherwise. Here and below a world is lent by the one function
+// that makes it, and goes by a call of `drop`, which is proved once.
 fn is_told(alloc: Global, course: &Course, count: usize, members: &[u8], client: &str) -> bool {
-    let Some(world) = played(alloc, course, count) else {
+    match begun(alloc, course) {
+        Some(mut world) => {
+            let is_told = is_told_in(alloc, &mut world, course, count, members, client);
+            drop(world);
+            is_told
+        }
+        None => false,
+    }
+}
+
+// The same in a world in which nothing happened.
+fn is_told_in(
+    alloc: Global,
+    world: &mut World,
+    course: &Course,
+    count: usize,
+    members: &[u8],
+    client: &str,
+) -> bool {
+    let rows = course.rows.get(..count).unwrap_or(&[]);
+    if !all_hold(alloc, world, rows) {
         return false;
-    };
+    }
     let Some(name) = named(alloc, client) else {
         return false;
     };
-    let rows = course.rows.get(..count).unwrap_or(&[]);
     let may = may_lead(course, rows, members) && is_kept(course, count, client);
     match world.escape(members, &name) {
         Ok(way) => {
             let most = members.len().saturating_mul(6).saturating_add(5);
-            let ballot = last_ballot(rows).saturating_add(1);
-            may && way.len() <= most
-                && match played(alloc, course, count) {
-                    Some(then) => comes_out(alloc, &world, then, way.as_slice(), ballot, client),
-                    None => false,
-                }
+            may && way.len() <= most && leads(alloc, course, rows, world, way.as_slice(), &name)
         }
         Err(error) => error == EscapeError::Idle && !may,
     }
 }
 
+// Says whether a way out leads to its end in one more world, after these rows of its course. The
+// other world is there before the way out.
+fn leads(
+    alloc: Global,
+    course: &Course,
+    rows: &[Row],
+    before: &World,
+    way: &[Event],
+    client: &ClientId,
+) -> bool {
+    let ballot = last_ballot(rows).saturating_add(1);
+    match begun(alloc, course) {
+        Some(mut world) => {
+            let leads = all_hold(alloc, &mut world, rows)
+                && comes_out(before, &mut world, way, ballot, client);
+            drop(world);
+            leads
+        }
+        None => false,
+    }
+}
+
 // Says whether each of the events happens, and they end as they are to.
 fn comes_out(
-    alloc: Global,
     before: &World,
-    mut world: World,
+    world: &mut World,
     way: &[Event],
     ballot: u64,
-    client: &str,
+    client: &ClientId,
 ) -> bool {
     for event in way {
         if world.step(event).is_err() {
@@ -64,19 +102,11 @@ fn comes_out(
     }
     world.losses() == 0
         && world.active().0 == ballot
-        && begins(before, &world)
-        && is_back(alloc, &world, client)
+        && begins(before, world)
+        && is_served(world, client)
 }
 
 // Says whether a client is online with its session present.
-fn is_back(alloc: Global, world: &World, client: &str) -> bool {
-    match named(alloc, client) {
-        Some(name) => is_served(world, &name),
-        None => false,
-    }
-}
-
-// Says whether a client is online with its session present, by its name.
 fn is_served(world: &World, client: &ClientId) -> bool {
     match world.client(client) {
         Some(core) => core.connected() && core.present(),
@@ -130,91 +160,127 @@ fn fault_in(alloc: Global, course: &Course) -> Option<(usize, &'static [u8])> {
 // CONNACK 0 with session present (MQTT 3.2).
 const PRESENT: &[u8] = b"\x20\x02\x01\x00";
 
-// Says whether the client that was answered comes back at node 2 as sole member after these events:
-// before the last event its CONNACK waits, and at the end three commands are agreed in ballot 2.
-fn comes_back(alloc: Global, actions: &[Action]) -> Option<bool> {
-    let mut world = answered(alloc, actions)?;
-    let way = world.escape(&[2], &named(alloc, "a")?).ok()?;
-    let (last, front) = way.as_slice().split_last()?;
+// The primary crashes, and then the other node too.
+const CRASHED: &[Action] = &[Action::Crash(1)];
+
+const NOBODY: &[Action] = &[Action::Crash(1), Action::Crash(2)];
+
+// What is asked of a world in which client `a` was answered.
+#[derive(Clone, Copy)]
+enum Asked<'a> {
+    // Whether the client comes back at node 2 as sole member.
+    ComesBack,
+    // Whether there is no way out for these members and the client.
+    IsIdle(&'a [u8]),
+    // Whether an allocation that fails is reported.
+    IsReported,
+}
+
+// Answers it after these events, for this client. None if they cannot happen, or it ran out of
+// memory.
+fn answer(alloc: Global, actions: &[Action], client: &str, asked: Asked<'_>) -> Option<bool> {
+    match opened(alloc, 2, &[1, 2]) {
+        Some(mut world) => {
+            let answer = answer_in(alloc, &mut world, actions, client, asked);
+            drop(world);
+            answer
+        }
+        None => None,
+    }
+}
+
+// The same in a world in which nothing happened.
+fn answer_in(
+    alloc: Global,
+    world: &mut World,
+    actions: &[Action],
+    client: &str,
+    asked: Asked<'_>,
+) -> Option<bool> {
+    if !all_hold(alloc, world, WAITS) || !all_happen(alloc, world, actions) {
+        return None;
+    }
+    let name = named(alloc, client)?;
+    match asked {
+        Asked::ComesBack => comes_back(world, &name),
+        Asked::IsIdle(members) => Some(is_idle(world, members, &name)),
+        Asked::IsReported => Some(is_reported(world, &name)),
+    }
+}
+
+// Says whether these events can happen, one after another.
+fn all_happen(alloc: Global, world: &mut World, actions: &[Action]) -> bool {
+    for action in actions {
+        if !does(alloc, world, action) {
+            return false;
+        }
+    }
+    true
+}
+
+// Says whether a client comes back at node 2 as sole member. None if no way out is returned.
+fn comes_back(world: &mut World, client: &ClientId) -> Option<bool> {
+    match world.escape(&[2], client) {
+        Ok(way) => is_back_by(world, way.as_slice(), client),
+        Err(_) => None,
+    }
+}
+
+// Says whether it is back after these events: before the last one its CONNACK waits, and at the end
+// three commands are agreed in ballot 2.
+fn is_back_by(world: &mut World, way: &[Event], client: &ClientId) -> Option<bool> {
+    let (last, front) = way.split_last()?;
     world.run(front);
     let waits = world.down(2) == PRESENT;
-    let comes = world.step(last).is_ok() && is_back(alloc, &world, "a");
+    let comes = world.step(last).is_ok() && is_served(world, client);
     let ends = world.agreed_len() == 3 && world.active().0 == 2 && world.losses() == 0;
     Some(way.len() == 10 && waits && comes && ends)
 }
 
-// Returns the world in which the client was answered, after these events.
-fn answered(alloc: Global, actions: &[Action]) -> Option<World> {
-    let mut world = opened(alloc, 2, &[1, 2])?;
-    for row in WAITS {
-        if !is_right(alloc, &mut world, row) {
-            return None;
-        }
-    }
-    for action in actions {
-        if !does(alloc, &mut world, action) {
-            return None;
-        }
-    }
-    Some(world)
-}
-
-// Says whether there is no way out for these members and this client after these events.
-fn is_idle(alloc: Global, actions: &[Action], members: &[u8], client: &str) -> Option<bool> {
-    let world = answered(alloc, actions)?;
-    match world.escape(members, &named(alloc, client)?) {
-        Ok(_) => Some(false),
-        Err(error) => Some(error == EscapeError::Idle && error.number() == 24),
+// Says whether there is no way out for these members and this client.
+fn is_idle(world: &World, members: &[u8], client: &ClientId) -> bool {
+    match world.escape(members, client) {
+        Ok(_) => false,
+        Err(error) => error == EscapeError::Idle && error.number() == 24,
     }
 }
 
 // Says whether an allocation that fails is reported: no way is returned because memory ran out, or
 // a way that leads to its end, or a loss is counted on it.
-fn is_reported_or_counted(alloc: Global) -> bool {
-    let Some(mut world) = answered(alloc, &[]) else {
-        return true;
-    };
-    let Some(name) = named(alloc, "a") else {
-        return true;
-    };
-    match world.escape(&[2], &name) {
+fn is_reported(world: &mut World, client: &ClientId) -> bool {
+    match world.escape(&[2], client) {
         Ok(way) => {
             world.run(way.as_slice());
-            world.losses() > 0 || (world.active().0 == 2 && is_served(&world, &name))
+            world.losses() > 0 || (world.active().0 == 2 && is_served(world, client))
         }
         Err(error) => error == EscapeError::Memory,
     }
 }
 
-// Runs with each allocation failing in turn.
+// Runs with each allocation failing in turn. Without memory for the world nothing is asked of it.
 #[test]
 fn a_way_out_without_memory_is_refused_or_counted(rt: HostRuntime) {
-    assert!(rt;
-        is_reported_or_counted(rt.alloc()),
-        "it has no end, and no loss"
-    );
+    let is_reported = answer(rt.alloc(), &[], "a", Asked::IsReported).unwrap_or(true);
+    assert!(rt; is_reported, "it has no end, and no loss");
 }
 
 #[test]
 fn a_client_comes_back(rt: HostRuntime) {
-    assert_eq!(rt; comes_back(rt.alloc(), &[]), Some(true));
-    assert_eq!(rt; comes_back(rt.alloc(), &[Action::Crash(1)]), Some(true));
-    assert_eq!(rt;
-        is_idle(rt.alloc(), &[Action::Crash(1)], &[1], "a"),
-        Some(true)
-    );
-    assert_eq!(rt; is_idle(rt.alloc(), &[], &[2], "z"), Some(true));
+    let alloc = rt.alloc();
+    let back = answer(alloc, &[], "a", Asked::ComesBack);
+    assert_eq!(rt; back, Some(true));
+    let back = answer(alloc, CRASHED, "a", Asked::ComesBack);
+    assert_eq!(rt; back, Some(true));
+    let idle = answer(alloc, CRASHED, "a", Asked::IsIdle(&[1]));
+    assert_eq!(rt; idle, Some(true));
+    let idle = answer(alloc, &[], "z", Asked::IsIdle(&[2]));
+    assert_eq!(rt; idle, Some(true));
 }
 
 #[test]
 fn nothing_leads_out_where_nobody_lives(rt: HostRuntime) {
     for members in LISTS {
-        let idle = is_idle(
-            rt.alloc(),
-            &[Action::Crash(1), Action::Crash(2)],
-            members,
-            "a",
-        );
+        let idle = answer(rt.alloc(), NOBODY, "a", Asked::IsIdle(*members));
         assert_eq!(rt; idle, Some(true));
     }
 }
