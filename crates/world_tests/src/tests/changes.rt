@@ -24,7 +24,9 @@ fn changes(alloc: Global, world: &mut World, primary: u8, ballot: u64) -> bool {
     let Some(config) = config_of(alloc, &[1, 2, 3], primary) else {
         return false;
     };
-    let assigned = world.step(&Event::Assign(config)).is_ok();
+    let assign = Event::Assign(config);
+    let assigned = world.step(&assign).is_ok();
+    drop(assign);
     deliver_from(world, first);
     assigned && world.active().0 == ballot && world.agreed_len() == ballot.saturating_sub(1)
 }
@@ -48,7 +50,11 @@ fn first_fault(alloc: Global, world: &mut World) -> Option<u64> {
 // Finds the first change that goes otherwise in a world of three nodes; 0 if it does not open.
 fn first_fault_of_three(alloc: Global) -> Option<u64> {
     match opened(alloc, 3, &[1, 2, 3]) {
-        Some(mut world) => first_fault(alloc, &mut world),
+        Some(mut world) => {
+            let fault = first_fault(alloc, &mut world);
+            drop(world);
+            fault
+        }
         None => Some(0),
     }
 }
@@ -77,7 +83,11 @@ fn after_idle(alloc: Global, world: &mut World) -> Option<(u64, u64, u64)> {
 // Returns the same of a world of two nodes.
 fn after_idle_of_two(alloc: Global) -> Option<(u64, u64, u64)> {
     match opened(alloc, 2, &[1]) {
-        Some(mut world) => after_idle(alloc, &mut world),
+        Some(mut world) => {
+            let after = after_idle(alloc, &mut world);
+            drop(world);
+            after
+        }
         None => None,
     }
 }

@@ -97,10 +97,12 @@ impl Course {
     }
 }
 
-// Lets an event happen or be idle, and looks at what is agreed after it.
-fn happens(world: &mut World, course: &mut Course, event: &Event) -> bool {
+// Lets an event happen or be idle, and looks at what is agreed after it. It takes the event, so
+// that the drop of one is proved here alone.
+fn happens(world: &mut World, course: &mut Course, event: Event) -> bool {
     let before = world.agreed_len();
-    let happened = world.step(event).is_ok();
+    let happened = world.step(&event).is_ok();
+    drop(event);
     course.events = course.events.saturating_add(1);
     if course.events % UNTIL_A_CUT == 0 {
         cuts(world, course);
@@ -112,9 +114,11 @@ fn happens(world: &mut World, course: &mut Course, event: &Event) -> bool {
 // The next node cuts its log, if it has something to cut.
 fn cuts(world: &mut World, course: &mut Course) {
     let node = (course.events / UNTIL_A_CUT % 3) as u8 + 1;
-    if world.step(&Event::Cut(node)).is_ok() {
+    let cut = Event::Cut(node);
+    if world.step(&cut).is_ok() {
         course.cuts = course.cuts.saturating_add(1);
     }
+    drop(cut);
 }
 
 /// Lets the next event of the rule happen or be idle. False if it ran out of memory.
@@ -140,7 +144,7 @@ fn delivers(world: &mut World, course: &mut Course) {
     let number = course.draw();
     if number % 8 == 0 {
         let early = number / 8 % world.messages().saturating_add(1);
-        happens(world, course, &Event::Deliver(early));
+        happens(world, course, Event::Deliver(early));
         return;
     }
     if number % 32 == 1 && course.next < world.messages() {
@@ -150,29 +154,29 @@ fn delivers(world: &mut World, course: &mut Course) {
     if next < world.messages() {
         course.next = next.saturating_add(1);
     }
-    happens(world, course, &Event::Deliver(next));
+    happens(world, course, Event::Deliver(next));
 }
 
 fn carries_up(world: &mut World, course: &mut Course) {
     let connection = course.connection();
     let count = course.share(world.up(connection));
-    happens(world, course, &Event::CarryUp(connection, count));
+    happens(world, course, Event::CarryUp(connection, count));
 }
 
 fn carries_down(world: &mut World, course: &mut Course) {
     let connection = course.connection();
     let count = course.share(world.down(connection));
-    happens(world, course, &Event::CarryDown(connection, count));
+    happens(world, course, Event::CarryDown(connection, count));
 }
 
 fn notices(world: &mut World, course: &mut Course) {
     let connection = course.connection();
-    happens(world, course, &Event::Notice(connection));
+    happens(world, course, Event::Notice(connection));
 }
 
 fn ticks(world: &mut World, course: &mut Course) {
     let node = (course.draw() % 5) as u8;
-    happens(world, course, &Event::Tick(node));
+    happens(world, course, Event::Tick(node));
 }
 
 // The next ballot is given to some of the nodes that run, one time of four.
@@ -190,7 +194,7 @@ fn gives(alloc: Global, world: &mut World, course: &mut Course) -> bool {
     let Some(config) = config_of(alloc, members.as_slice(), primary) else {
         return false;
     };
-    if happens(world, course, &Event::Assign(config)) {
+    if happens(world, course, Event::Assign(config)) {
         course.given = ballot;
     }
     true
@@ -228,7 +232,7 @@ pub fn primary_crashes(world: &mut World, course: &mut Course) -> bool {
     if node == 0 || node > 3 || !is_one_left(world, course, node) {
         return false;
     }
-    let crashed = happens(world, course, &Event::Crash(node));
+    let crashed = happens(world, course, Event::Crash(node));
     course.runs[node as usize - 1] = false;
     crashed
 }
@@ -259,19 +263,19 @@ fn calls(alloc: Global, world: &mut World, course: &mut Course, number: u64) -> 
     match number {
         88..=99 => opens(world, course, client, name, active_primary(world)),
         100 => opens(world, course, client, name, 2),
-        101 | 102 => passes(world, course, &Event::Abandon(name)),
-        103 => passes(world, course, &Event::Disconnect(name)),
+        101 | 102 => passes(world, course, Event::Abandon(name)),
+        103 => passes(world, course, Event::Disconnect(name)),
         _ => return says(alloc, world, course, client, name),
     }
     true
 }
 
-fn passes(world: &mut World, course: &mut Course, event: &Event) {
+fn passes(world: &mut World, course: &mut Course, event: Event) {
     happens(world, course, event);
 }
 
 fn opens(world: &mut World, course: &mut Course, client: usize, name: ClientId, node: u8) {
-    if client < 4 && happens(world, course, &Event::Open(name, node)) {
+    if client < 4 && happens(world, course, Event::Open(name, node)) {
         course.opened = course.opened.saturating_add(1);
         course.last[client] = course.opened;
     }
@@ -290,7 +294,7 @@ fn says(
         return false;
     };
     course.published = course.published.saturating_add(1);
-    happens(world, course, &event);
+    happens(world, course, event);
     true
 }
 

@@ -94,7 +94,11 @@ fn missed_in(alloc: Global, world: &mut World) -> Option<&'static str> {
 // Returns what is not so of the world that the run begins in.
 fn missed_from_the_opening(alloc: Global) -> Option<&'static str> {
     match opened_for(alloc, 3, &[1, 2, 3], &CLIENTS) {
-        Some(mut world) => missed_in(alloc, &mut world),
+        Some(mut world) => {
+            let missed = missed_in(alloc, &mut world);
+            drop(world);
+            missed
+        }
         None => Some("there is memory for the world"),
     }
 }

@@ -13,13 +13,18 @@ const WANTED: &[(u64, u64)] = &[(0, 0), (1, 0), (2, 1), (3, 1), (3, 1), (3, 1)];
 // backup holds it.
 fn events(alloc: Global) -> Option<Vec<Event>> {
     let mut events = Vec::new(alloc);
+    put_events(alloc, &mut events)?;
+    Some(events)
+}
+
+// Adds them. The list is lent, so that no way out has to drop it.
+fn put_events(alloc: Global, events: &mut Vec<Event>) -> Option<()> {
     events.push(Event::Open(named(alloc, "a")?, 1)).ok()?;
     events.push(Event::CarryUp(1, 15)).ok()?;
     events.push(Event::Deliver(0)).ok()?;
     events.push(Event::Deliver(1)).ok()?;
     events.push(Event::CarryDown(1, 4)).ok()?;
-    events.push(Event::Cut(1)).ok()?;
-    Some(events)
+    events.push(Event::Cut(1)).ok()
 }
 
 // Lets an event happen: whether it does and leads here, and whether the agreed list did not become
@@ -85,7 +90,11 @@ fn shown_unless_well(alloc: Global, world: &mut World) -> Option<Shown> {
 // If memory runs out for a world, or for the events, nothing is asked of it.
 fn shown_from_the_opening(alloc: Global) -> Option<Shown> {
     match opened(alloc, 2, &[1, 2]) {
-        Some(mut world) => shown_unless_well(alloc, &mut world),
+        Some(mut world) => {
+            let shown = shown_unless_well(alloc, &mut world);
+            drop(world);
+            shown
+        }
         None => None,
     }
 }

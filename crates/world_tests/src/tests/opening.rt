@@ -12,12 +12,18 @@ pub fn opened(alloc: Global, nodes: u8, members: &[u8]) -> Option<World> {
 
 /// Returns the same with clients of these names.
 pub fn opened_for(alloc: Global, nodes: u8, members: &[u8], names: &[&str]) -> Option<World> {
-    let config = config_of(alloc, members, 1)?;
     let mut clients = Vec::new(alloc);
-    for name in names {
-        clients.push(ClientId::new(alloc, name).ok()?).ok()?;
-    }
+    put_clients(alloc, names, &mut clients)?;
+    let config = config_of(alloc, members, 1)?;
     World::opening(alloc, nodes, config, clients.as_slice()).ok()
+}
+
+// Adds clients of these names. The list is lent, so that no way out of the loop has to drop it.
+fn put_clients(alloc: Global, names: &[&str], clients: &mut Vec<ClientId>) -> Option<()> {
+    for name in names {
+        clients.push(named(alloc, name)?).ok()?;
+    }
+    Some(())
 }
 
 /// Returns a configuration.
