@@ -72,6 +72,13 @@ pub fn happens(world: &mut World, course: &mut Course, event: &Event) -> Result<
     Ok(())
 }
 
+/// Lets an event happen that is made for it, and is proved to be dropped here alone.
+pub fn does(world: &mut World, course: &mut Course, event: Event) -> Result<()> {
+    let happened = happens(world, course, &event);
+    drop(event);
+    happened
+}
+
 /// Delivers all messages, in the order of sending, and those to which they lead.
 pub fn all_come(world: &mut World, course: &mut Course) -> Result<()> {
     for _message in 0..MAX_MESSAGES {
@@ -86,14 +93,14 @@ pub fn all_come(world: &mut World, course: &mut Course) -> Result<()> {
 fn comes_next(world: &mut World, course: &mut Course) -> Result<()> {
     let next = course.next;
     course.next = next.saturating_add(1);
-    happens(world, course, &Event::Deliver(next))
+    does(world, course, Event::Deliver(next))
 }
 
 /// Carries up what waits on the connection of a client, and lets the nodes agree on it.
 pub fn goes_up(world: &mut World, course: &mut Course, client: usize) -> Result<()> {
     let connection = course.last[client % 4];
     let count = world.up(connection).len() as u64;
-    happens(world, course, &Event::CarryUp(connection, count))?;
+    does(world, course, Event::CarryUp(connection, count))?;
     all_come(world, course)
 }
 
@@ -101,7 +108,7 @@ pub fn goes_up(world: &mut World, course: &mut Course, client: usize) -> Result<
 pub fn comes_down(world: &mut World, course: &mut Course, client: usize) -> Result<()> {
     let connection = course.last[client % 4];
     let count = world.down(connection).len() as u64;
-    happens(world, course, &Event::CarryDown(connection, count))
+    does(world, course, Event::CarryDown(connection, count))
 }
 
 /// Connects a client to the primary, which accepts it.
@@ -118,8 +125,7 @@ pub fn connects(
     comes_down(world, course, client)
 }
 
-// The event is owned if nothing comes after it.
 fn opens(alloc: Global, world: &mut World, course: &mut Course, client: usize) -> Result<()> {
     let event = Event::Open(named(alloc, client)?, course.primary);
-    happens(world, course, &event)
+    does(world, course, event)
 }

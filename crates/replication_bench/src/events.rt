@@ -31,7 +31,9 @@ pub fn run(rt: &HostRuntime, ends: Option<Ends>) -> Result<()> {
 
 fn measure(rt: &HostRuntime, events: u64, ends: Option<Ends>) -> Result<()> {
     let publications = Publications::new(rt.alloc())?;
-    measure_with(rt, &publications, events, ends)
+    let measured = measure_with(rt, &publications, events, ends);
+    drop(publications);
+    measured
 }
 
 fn measure_with(
@@ -41,7 +43,9 @@ fn measure_with(
     ends: Option<Ends>,
 ) -> Result<()> {
     let mut world = opened(rt.alloc())?;
-    measure_in(rt, &mut world, publications, events, ends)
+    let measured = measure_in(rt, &mut world, publications, events, ends);
+    drop(world);
+    measured
 }
 
 fn measure_in(

@@ -33,7 +33,9 @@ fn measure(rt: &HostRuntime, events: u64, asks: bool) -> Result<()>
     requires { 0 < events }
 {
     let mut group = opened(rt.alloc(), &[1, 2, 3])?;
-    measure_in(rt, &mut group, events, asks)
+    let measured = measure_in(rt, &mut group, events, asks);
+    drop(group);
+    measured
 }
 
 fn measure_in(rt: &HostRuntime, group: &mut Group<Tally>, events: u64, asks: bool) -> Result<()>
@@ -66,5 +68,8 @@ fn let_happen(group: &mut Group<Tally>, events: u64, asks: bool) -> Result<u64> 
 // Lets the event of a number happen: whether it did. The event is dropped once, and not on each way
 // out of a loop.
 fn happens(group: &mut Group<Tally>, number: u64) -> bool {
-    group.step(&event_at(number)).is_ok()
+    let event = event_at(number);
+    let happened = group.step(&event).is_ok();
+    drop(event);
+    happened
 }

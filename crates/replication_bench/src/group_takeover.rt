@@ -22,7 +22,9 @@ pub fn run(rt: &HostRuntime) -> Result<()> {
 // Each function below is lent the group, so that no way out of it has to drop it.
 fn measure(rt: &HostRuntime, places: u64) -> Result<()> {
     let mut group = opened(rt.alloc(), &[1])?;
-    measure_in(rt, &mut group, places)
+    let measured = measure_in(rt, &mut group, places);
+    drop(group);
+    measured
 }
 
 fn measure_in(rt: &HostRuntime, group: &mut Group<Tally>, places: u64) -> Result<()> {
@@ -44,12 +46,17 @@ fn print(rt: &HostRuntime, whole: u128, longest: u128, agreed: u64) -> Result<()
 // Lets the sole member of a group hold this many places.
 fn serve(group: &mut Group<Tally>, places: u64) -> Result<()> {
     for number in 0..places {
-        ensure!(
-            group.step(&proposal(number)).is_ok(),
-            "a step ran out of memory"
-        );
+        ensure!(proposes(group, number), "a step ran out of memory");
     }
     Ok(())
+}
+
+// Proposes the command of a number: whether it was taken. The event is dropped once.
+fn proposes(group: &mut Group<Tally>, number: u64) -> bool {
+    let event = proposal(number);
+    let happened = group.step(&event).is_ok();
+    drop(event);
+    happened
 }
 
 // Members 2 and 3 take over. The time of the longest event is the result.

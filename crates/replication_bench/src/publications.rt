@@ -1,6 +1,6 @@
 // Publications at QoS 2: `a` publishes to `b`, and `c` to `d`.
 
-use crate::course::{Course, comes_down, connects, goes_up, happens, named};
+use crate::course::{Course, comes_down, connects, does, goes_up, happens, named};
 use anyhow::Result;
 use std::alloc::Global;
 use world::packet::{Payload, QoS};
@@ -24,10 +24,14 @@ pub struct Publications {
 impl Publications {
     /// Makes them, once for all publishers, which copy them.
     pub fn new(alloc: Global) -> Result<Publications> {
-        Ok(Publications {
-            first: publication(alloc, 0)?,
-            second: publication(alloc, 1)?,
-        })
+        let first = publication(alloc, 0)?;
+        match publication(alloc, 1) {
+            Ok(second) => Ok(Publications { first, second }),
+            Err(error) => {
+                drop(first);
+                Err(error)
+            }
+        }
     }
 }
 
@@ -57,7 +61,6 @@ fn subscribes(alloc: Global, world: &mut World, course: &mut Course, pair: usize
     comes_down(world, course, subscriber)
 }
 
-// The event is owned if nothing comes after it.
 fn asks(
     alloc: Global,
     world: &mut World,
@@ -67,7 +70,7 @@ fn asks(
 ) -> Result<()> {
     let filter = Filter::new(alloc, TOPICS[pair % 2])?;
     let event = Event::Subscribe(named(alloc, subscriber)?, filter, QoS::ExactlyOnce);
-    happens(world, course, &event)
+    does(world, course, event)
 }
 
 /// Publishes once for each publisher, with all handshakes.

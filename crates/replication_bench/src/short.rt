@@ -15,12 +15,16 @@ const TAKEOVERS: u32 = 3;
 /// Prints how many publications two subscribers accepted, with takeovers in between.
 pub fn run(rt: &HostRuntime) -> Result<()> {
     let publications = Publications::new(rt.alloc())?;
-    run_with(rt, &publications)
+    let ran = run_with(rt, &publications);
+    drop(publications);
+    ran
 }
 
 fn run_with(rt: &HostRuntime, publications: &Publications) -> Result<()> {
     let mut world = opened(rt.alloc())?;
-    run_in(rt, &mut world, publications)
+    let ran = run_in(rt, &mut world, publications);
+    drop(world);
+    ran
 }
 
 fn run_in(rt: &HostRuntime, world: &mut World, publications: &Publications) -> Result<()> {

@@ -1,6 +1,6 @@
 // Another node becomes the primary, and all clients go to it.
 
-use crate::course::{Course, all_come, config, connects, happens, named};
+use crate::course::{Course, all_come, config, connects, does, named};
 use anyhow::Result;
 use std::alloc::Global;
 use world::{Event, World};
@@ -28,7 +28,7 @@ pub fn take_over(alloc: Global, world: &mut World, course: &mut Course, ends: En
 
 fn assigns(alloc: Global, world: &mut World, course: &mut Course, primary: u8) -> Result<()> {
     let event = Event::Assign(config(alloc, primary)?);
-    happens(world, course, &event)
+    does(world, course, event)
 }
 
 // A client loses its connection and connects to the new primary.
@@ -42,14 +42,20 @@ fn goes_over(
     let before = course.last[client % 4];
     abandons(alloc, world, course, client)?;
     if ends == Ends::Seen {
-        // Idle if the node has closed it before.
-        let _ = world.step(&Event::Notice(before));
-        course.events = course.events.saturating_add(1);
+        notices(world, course, before);
     }
     connects(alloc, world, course, client)
 }
 
+// The node sees the end of a connection. It is idle if the node has closed it before.
+fn notices(world: &mut World, course: &mut Course, connection: u64) {
+    let event = Event::Notice(connection);
+    let _ = world.step(&event);
+    drop(event);
+    course.events = course.events.saturating_add(1);
+}
+
 fn abandons(alloc: Global, world: &mut World, course: &mut Course, client: usize) -> Result<()> {
     let event = Event::Abandon(named(alloc, client)?);
-    happens(world, course, &event)
+    does(world, course, event)
 }
