@@ -32,14 +32,20 @@ impl Clients {
             under_way: VecDeque::new(alloc),
             alloc,
         };
-        clients.put(Command::Start(1))?;
-        Ok(clients)
+        match clients.put(Command::Start(1)) {
+            Ok(()) => Ok(clients),
+            Err(error) => {
+                drop(clients);
+                Err(error)
+            }
+        }
     }
 
     /// Opens a connection of a client with this number, with CleanSession 0.
     pub fn connect(&mut self, count: u64, client: &str) -> Result<()> {
+        let name = name_of(count)?;
         let client = ClientId::new(self.alloc, client)?;
-        self.put(Command::Connect(name_of(count)?, client, false))
+        self.put(Command::Connect(name, client, false))
     }
 
     /// Loses a connection.
@@ -54,32 +60,31 @@ impl Clients {
 
     /// Makes these subscriptions of a client in one packet.
     pub fn subscribe(&mut self, count: u64, wanted: Vec<Subscription>) -> Result<()> {
+        let name = name_of(count)?;
         let subscribe = Subscribe {
             id: PacketId::new(1),
             filters: PacketList::new(wanted),
         };
-        self.send(count, Packet::Subscribe(subscribe))
+        self.send(name, Packet::Subscribe(subscribe))
     }
 
     /// Subscribes a client to one filter.
     pub fn subscribe_one(&mut self, count: u64, text: &str, qos: QoS) -> Result<()> {
         let mut wanted = Vec::new(self.alloc);
-        wanted.push(Subscription {
-            filter: Filter::new(self.alloc, text)?,
-            qos,
-        })?;
+        put_filter(self.alloc, text, qos, &mut wanted)?;
         self.subscribe(count, wanted)
     }
 
     /// Publishes under identifier 1, and lets all clients answer the result of it until nothing is
     /// in transit.
     pub fn publish(&mut self, count: u64, topic: &TopicName, qos: QoS, retain: bool) -> Result<()> {
+        let name = name_of(count)?;
         let publish = publication(self.alloc, topic, qos, retain)?;
-        self.send(count, Packet::Publish(publish))
+        self.send(name, Packet::Publish(publish))
     }
 
-    fn send(&mut self, count: u64, packet: Packet) -> Result<()> {
-        self.put(Command::Packet(name_of(count)?, SizedPacket::new(packet)?))
+    fn send(&mut self, name: ConnectionName, packet: Packet) -> Result<()> {
+        self.put(Command::Packet(name, SizedPacket::new(packet)?))
     }
 
     // Does a command, and all that the clients answer.
@@ -96,7 +101,11 @@ impl Clients {
     // Does the command that comes next: whether there was one.
     fn take_next(&mut self) -> Result<bool> {
         match self.under_way.pop_front() {
-            Some(command) => self.take(&command),
+            Some(command) => {
+                let taken = self.take(&command);
+                drop(command);
+                taken
+            }
             None => Ok(false),
         }
     }
@@ -104,7 +113,12 @@ impl Clients {
     // Does one command, and keeps what the clients answer.
     fn take(&mut self, command: &Command) -> Result<bool> {
         let mut given = Vec::new(self.alloc);
-        self.broker.apply(command, &mut given)?;
+        self.apply_and_answer(command, &mut given)
+    }
+
+    // What the broker sends is lent, so that no way out has to drop it.
+    fn apply_and_answer(&mut self, command: &Command, given: &mut Vec<Output>) -> Result<bool> {
+        self.broker.apply(command, given)?;
         self.answer_all(given.as_slice())?;
         Ok(true)
     }
@@ -125,6 +139,13 @@ impl Clients {
         }
         Ok(())
     }
+}
+
+// The list is lent, so that no way out has to drop it.
+fn put_filter(alloc: Global, text: &str, qos: QoS, wanted: &mut Vec<Subscription>) -> Result<()> {
+    let filter = Filter::new(alloc, text)?;
+    wanted.push(Subscription { filter, qos })?;
+    Ok(())
 }
 
 fn publication(alloc: Global, topic: &TopicName, qos: QoS, retain: bool) -> Result<Publish> {

@@ -41,14 +41,19 @@ pub fn gather(clients: &mut Clients, alloc: Global, sessions: u32, filters: Filt
 
 fn visit(clients: &mut Clients, alloc: Global, session: u32, filters: Filters) -> Result<()> {
     let count = FIRST.saturating_add(u64::from(session));
-    let name = format!(in alloc; "beside-{session}")?;
-    clients.connect(count, name.as_str())?;
+    enter(clients, alloc, session, count)?;
     let owner = match filters {
         Filters::Shared => None,
         Filters::Own => Some(session),
     };
     clients.subscribe(count, wanted(alloc, FILTERS, owner)?)?;
     clients.lose(count)
+}
+
+// The client of a session connects.
+fn enter(clients: &mut Clients, alloc: Global, session: u32, count: u64) -> Result<()> {
+    let name = format!(in alloc; "beside-{session}")?;
+    clients.connect(count, name.as_str())
 }
 
 /// Returns this many filters, which the sessions share, or of which all but the first are a

@@ -17,17 +17,28 @@ const WAITING: u32 = 4_096;
 /// Prints how long it takes to end the session.
 pub fn run(rt: &HostRuntime) -> Result<()> {
     let mut clients = Clients::new(rt.alloc())?;
-    measure(rt, &mut clients)
+    let measured = measure(rt, &mut clients);
+    drop(clients);
+    measured
 }
 
 fn measure(rt: &HostRuntime, clients: &mut Clients) -> Result<()> {
     crowd::gather(clients, rt.alloc(), BESIDE, Filters::Shared)?;
+    leave(rt, clients)?;
+    clients.connect(2, "publisher")?;
+    fill(rt, clients)?;
+    expel(rt, clients)
+}
+
+// The session that is expelled gets its filters, and its connection is lost.
+fn leave(rt: &HostRuntime, clients: &mut Clients) -> Result<()> {
     clients.connect(1, "expelled")?;
     clients.subscribe(1, crowd::wanted(rt.alloc(), crowd::FILTERS - 1, None)?)?;
     clients.subscribe_one(1, "plant/#", QoS::AtLeastOnce)?;
-    clients.lose(1)?;
-    clients.connect(2, "publisher")?;
-    fill(rt, clients)?;
+    clients.lose(1)
+}
+
+fn expel(rt: &HostRuntime, clients: &mut Clients) -> Result<()> {
     let start = rt.process_cpu_time()?;
     clients.expel("expelled")?;
     let took = nanos_each(rt, start, 1)? / 1_000;

@@ -49,7 +49,9 @@ pub fn run(rt: &HostRuntime) -> Result<()> {
 
 fn with_new_clients(rt: &HostRuntime, of: Crowd) -> Result<()> {
     let mut clients = Clients::new(rt.alloc())?;
-    gather(rt, &mut clients, of)
+    let measured = gather(rt, &mut clients, of);
+    drop(clients);
+    measured
 }
 
 fn gather(rt: &HostRuntime, clients: &mut Clients, of: Crowd) -> Result<()> {
@@ -94,7 +96,7 @@ fn measure(rt: &HostRuntime, clients: &Clients, of: Crowd, bytes: &mut Vec<u8>) 
 fn thaw(rt: &HostRuntime, bytes: &[u8]) -> Result<u128> {
     let start = rt.process_cpu_time()?;
     let read = BrokerMachine::thaw(rt.alloc(), bytes)?;
-    let taken = nanos_each(rt, start, 1)?;
+    let taken = nanos_each(rt, start, 1);
     drop(read);
-    Ok(taken)
+    taken
 }

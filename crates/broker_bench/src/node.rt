@@ -65,7 +65,9 @@ fn measure(
     looks: bool,
 ) -> Result<u128> {
     let mut node = fresh(rt.alloc())?;
-    figure(rt, &mut node, connections, traffic, places, looks)
+    let nanos = figure(rt, &mut node, connections, traffic, places, looks);
+    drop(node);
+    nanos
 }
 
 fn fresh(alloc: Global) -> Result<NodeCore> {
@@ -87,8 +89,20 @@ fn figure(
     looks: bool,
 ) -> Result<u128> {
     let mut out = Vec::new(rt.alloc());
-    gather(rt.alloc(), node, connections, &mut out)?;
-    let nanos = time(rt, node, traffic, looks, &mut out)?;
+    figure_in(rt, node, connections, traffic, places, looks, &mut out)
+}
+
+fn figure_in(
+    rt: &HostRuntime,
+    node: &mut NodeCore,
+    connections: u64,
+    traffic: &Traffic,
+    places: u64,
+    looks: bool,
+    out: &mut Vec<u8>,
+) -> Result<u128> {
+    gather(rt.alloc(), node, connections, out)?;
+    let nanos = time(rt, node, traffic, looks, out)?;
     ensure!(node.losses() == 0, "a step ran out of memory");
     ensure!(node.status().committed == places, "packets are missing");
     Ok(nanos)
@@ -115,14 +129,24 @@ fn time(
 fn gather(alloc: Global, node: &mut NodeCore, connections: u64, out: &mut Vec<u8>) -> Result<()> {
     for port in 0..connections {
         step(alloc, node, Item::Opened(Port(port), 0));
-        let connect = connect(alloc, port)?;
-        take(alloc, node, &connect, true, out)?;
+        join(alloc, node, port, out)?;
         if port % 2 == 1 {
-            let subscribe = subscribe(alloc, port)?;
-            take(alloc, node, &subscribe, true, out)?;
+            listen(alloc, node, port, out)?;
         }
     }
     Ok(())
+}
+
+// The client by a port connects.
+fn join(alloc: Global, node: &mut NodeCore, port: u64, out: &mut Vec<u8>) -> Result<()> {
+    let connect = connect(alloc, port)?;
+    take(alloc, node, &connect, true, out)
+}
+
+// It subscribes.
+fn listen(alloc: Global, node: &mut NodeCore, port: u64, out: &mut Vec<u8>) -> Result<()> {
+    let subscribe = subscribe(alloc, port)?;
+    take(alloc, node, &subscribe, true, out)
 }
 
 fn step(alloc: Global, node: &mut NodeCore, item: Item) {

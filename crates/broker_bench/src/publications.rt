@@ -31,7 +31,9 @@ pub fn run(rt: &HostRuntime) -> Result<()> {
 
 fn measure(rt: &HostRuntime, qos: QoS, subscribers: u64, beside: u32) -> Result<()> {
     let mut clients = Clients::new(rt.alloc())?;
-    measure_with(rt, &mut clients, qos, subscribers, beside)
+    let measured = measure_with(rt, &mut clients, qos, subscribers, beside);
+    drop(clients);
+    measured
 }
 
 // Each function below is lent the broker, so that no way out of it has to drop it.

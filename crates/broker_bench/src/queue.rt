@@ -21,7 +21,9 @@ pub fn run(rt: &HostRuntime) -> Result<()> {
 
 fn with_new_clients(rt: &HostRuntime, qos: QoS) -> Result<()> {
     let mut clients = Clients::new(rt.alloc())?;
-    measure(rt, &mut clients, qos)
+    let measured = measure(rt, &mut clients, qos);
+    drop(clients);
+    measured
 }
 
 fn measure(rt: &HostRuntime, clients: &mut Clients, qos: QoS) -> Result<()> {

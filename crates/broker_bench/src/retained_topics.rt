@@ -14,7 +14,9 @@ const ROUNDS: u32 = 10;
 /// Prints the time of a SUBSCRIBE to `#`, with the sending of all that is retained at QoS 0.
 pub fn run(rt: &HostRuntime) -> Result<()> {
     let mut clients = Clients::new(rt.alloc())?;
-    measure(rt, &mut clients)
+    let measured = measure(rt, &mut clients);
+    drop(clients);
+    measured
 }
 
 fn measure(rt: &HostRuntime, clients: &mut Clients) -> Result<()> {

@@ -124,6 +124,17 @@ fn say(
 ) -> Result<()> {
     let mut bytes = Vec::new(alloc);
     put_answers(kinds, packets, greatest, &mut bytes)?;
+    put_pieces(alloc, ports, packets, bytes.as_slice(), parts)
+}
+
+// The bytes are lent, so that no way out of the loop has to drop them.
+fn put_pieces(
+    alloc: Global,
+    ports: (u64, u64),
+    packets: u8,
+    bytes: &[u8],
+    parts: &mut Vec<Part>,
+) -> Result<()> {
     let piece = usize::from(packets).saturating_mul(4).max(1);
     for bytes in bytes.chunks(piece) {
         parts.push(part_of(alloc, ports, bytes)?)?;
