@@ -66,6 +66,7 @@ impl Tables {
             Packet::Publish(publish) => self.publish(connection, client, publish, out),
             Packet::Subscribe(subscribe) => self.subscribe(connection, client, subscribe, out),
             Packet::Unsubscribe(given_up) => self.unsubscribe(connection, client, given_up, out),
+            // A PINGREQ: the proof shows that no other is left, and would fail for a new one.
             _ => {
                 out.push(Output::Send(connection, Packet::Pingresp))?;
                 Ok(())
@@ -85,8 +86,8 @@ impl Tables {
     }
 }
 
-// Says whether it ends its connection: DISCONNECT, and what a client may not send (MQTT-3.1.0-2,
-// MQTT 3.14.4, 4.8).
+// Says whether a packet ends its connection: DISCONNECT, and what a client may not send
+// (MQTT-3.1.0-2, MQTT 3.14.4, 4.8).
 fn ends_connection(packet: &Packet) -> bool
     ensures { result ≡ ends_connection packet.now }
 {

@@ -1,4 +1,4 @@
--- When a connection is ended because its client sends nothing.
+-- When a connection is ended because its first packet does not come.
 use Rattle.std.specs.Prelude.{ℕ, ◌+◌, Bool, false, nat_lt}
 use Rattle.world_base.specs.declared.Standing.{Standing}
 use Rattle.world_base.specs.declared.Standing.TheVariants.{Awaits, Open, Closed}

@@ -1,4 +1,4 @@
-// When a connection is ended because its client sends nothing.
+// When a connection is ended because its first packet does not come.
 
 ghost use Rattle.std.specs.Prelude.{◌≡◌};
 ghost use Rattle.node.specs.Overdue.{is_overdue};

@@ -46,9 +46,9 @@ impl<'e, 'a, J: NodeNaming, S: Stated<J>, G: Gate> Hearer for LaneReporter<'e, '
         shared.write_busy(rt, index, true);
     }
 
-    // A port that is not yet reported to the node counts as one that the node closed, so a link is
-    // listed after that. A connection that the node did not take, because it is no primary, is not
-    // read.
+    // Lists the connection for writing, and says whether it may be read. A port that is not yet
+    // reported to the node counts as one that the node closed, so a link is listed after that. A
+    // connection that the node did not take, because it is no primary, is not read.
     fn let_in<R: Wait>(&self, rt: &R) -> bool {
         let Ok(link) = Arc::try_clone(self.link) else {
             return false;

@@ -6,7 +6,7 @@ use Rattle.packet_base.specs.Reading.{malformed}
 use Rattle.packet.specs.declared.qos.QoS.{QoS}
 use Rattle.packet.specs.declared.qos.QoS.TheVariants as qualities
 
--- the number of a level
+-- the number of a QoS
 abbrev pub qos_number : QoS → ℕ
 qos_number qualities.AtMostOnce = 0
 qos_number qualities.AtLeastOnce = 1

@@ -1,4 +1,4 @@
-// The three levels of delivery.
+// The three qualities of service.
 
 ghost use Rattle.std.specs.Prelude.{◌≡◌};
 ghost use Rattle.packet.specs.QoS.{qos_number, qos_of};
@@ -6,8 +6,8 @@ ghost use Rattle.packet.specs.QoS.{qos_number, qos_of};
 use packet_base::Stop;
 use packet_base::topics::MalformedKind;
 
-/// Quality of Service: how reliably a publication is delivered (MQTT 4.3). The levels are ordered
-/// by their numbers.
+/// Quality of Service: how reliably a publication is delivered (MQTT 4.3). The three are ordered by
+/// their numbers.
 #[derive(Clone, Copy, Debug, PartialEq, Eq, PartialOrd, Ord, Hash)]
 pub enum QoS {
     /// At most once: there is no answer.
@@ -19,7 +19,7 @@ pub enum QoS {
 }
 
 impl QoS {
-    /// Returns the level of this number; above 2 there is none (MQTT 3.3.1.2, 3.8.3).
+    /// Returns the QoS of this number; above 2 there is none (MQTT 3.3.1.2, 3.8.3).
     pub(crate) fn of(number: u8) -> Result<QoS, Stop>
         ensures { result ≡ qos_of number }
     {
@@ -31,7 +31,7 @@ impl QoS {
         }
     }
 
-    /// Returns the level's number, 0 to 2.
+    /// Returns its number, 0 to 2.
     pub fn number(self) -> u8
         ensures { result ≡ qos_number self }
     {

@@ -9,7 +9,7 @@ use Rattle.packet_base.specs.declared.header.Header.{Header}
 use Rattle.packet_base.specs.declared.header.Header.TheVariants as headers
 use Rattle.packet_base.specs.Spelling.{bit}
 
--- the flags DUP, 8, and QoS, 2 for each level (MQTT 3.3.1)
+-- the flags DUP, 8, and QoS, twice its number (MQTT 3.3.1)
 abbrev pub delivery_bits : DeliveryFlags → ℕ
 delivery_bits deliveries.AtMostOnce = 0
 delivery_bits (deliveries.AtLeastOnce dup) = 2 + 8 * bit dup

@@ -97,8 +97,8 @@ impl Cluster {
 
     /// Crashes a node, for good. Returns whether there is a node of this number that has not
     /// stopped, and was not ordered to crash before. The order is queued for the node, and then the
-    /// call waits until the node has stopped, some 40 ms at most. If memory runs out, the node is
-    /// not crashed.
+    /// call waits until the node has stopped, for some 40 ms at most (`STOP_LOOKS`). If memory runs
+    /// out, the node is not crashed.
     pub fn crash<R: Wait + Clock>(&self, rt: &R, number: u8) -> Result<bool, Memory>
         ensures none { is_node self.now number ≡ false → result ≡ Ok false }
     {
@@ -145,7 +145,7 @@ impl Cluster {
     }
 
     /// Returns the status of a node after its last change. There is none if no node has this
-    /// number, or if it is not served within a second.
+    /// number, or if it is not served within about a second (`LOOKS`).
     pub fn status<R: Wait + Clock>(&self, rt: &R, number: u8) -> Option<Status>
         ensures { OnSome result (is_node self.now number ≡ true) }
     {

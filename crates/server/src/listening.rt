@@ -1,4 +1,4 @@
-// The nodes that serve, while an order of the caller runs.
+// Serving nodes while a function of the caller runs.
 
 ghost use Rattle.std.specs.Prelude.{◌≡◌, ◌≤◌, [], IfOk, length, map, vec_capacity};
 ghost use Rattle.std.specs.Fn.{FnOnceReturnsAt};
@@ -26,9 +26,10 @@ use std::time::{Clock, Instant};
 /// and returns what that returned; then all connections are ended. The nodes open in ballot 1 of
 /// this configuration.
 ///
-/// The errors are those of the opening, `BadMembers` if two listeners have one number, and
-/// [`ServeError::Threads`] if fewer threads can be started than the nodes need: then nothing is
-/// served. A node for which none can be started later is not served.
+/// The errors are those of the opening, where `BadMembers` comes also if two listeners have one
+/// number, and [`ServeError::Clock`]. [`ServeError::Threads`] comes before anything is served if
+/// fewer threads can be started than the nodes need. It also comes at the end, in place of the
+/// answer, if a node's own thread could not be started later: then that node was not served.
 pub fn serve_while<R, T, F>(
     rt: &R,
     alloc: Global,

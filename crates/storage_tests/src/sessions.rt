@@ -15,8 +15,8 @@ use session::{Arrival, EnqueueError, MAX_ENTRIES, Session};
 use std::alloc::Global;
 use std::test::Fail;
 
-// 17 publications at QoS 1: 16 are sent, PUBACK 5 sends the 17th with identifier 5, which comes
-// last when the client comes back (MQTT 4.4, 4.6).
+// 17 publications at QoS 1, sent with a window of 16, as in all these rows: 16 are sent, PUBACK 5
+// sends the 17th with identifier 5, which comes last when the client comes back (MQTT 4.4, 4.6).
 const FREES_ITS_IDENTIFIER: &[Row<'static>] = &[
     Enqueue(17, QoS::AtLeastOnce),
     Room(4079),

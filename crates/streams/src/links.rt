@@ -154,7 +154,7 @@ impl Links {
             ++ busy_between arc_value idle self.now.slots first MAX_CONNECTIONS
             ++ busy_between arc_value idle self.now.slots 0 first }
 
-        // If some are left out, too.
+        // What was added is listed and busy, also if some are left out.
         ensures adds { AddsBusy idle MAX_CONNECTIONS
             (map arc_value busy.old.items) (map arc_value busy.new.items) }
     {
