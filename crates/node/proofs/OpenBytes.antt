@@ -9,7 +9,7 @@ use Rattle.node.specs.Laws.{OpenBytesAreCounted}
 -- what is known about the bytes that were taken and their count
 record Known (all : List Taken) (taking : Taking) : Type 0 where
   none : bytes_behind (held_of taking.status) all ≤ 0
-  marked : bytes_behind taking.mark all ≤ taking.later
+  after_earlier : bytes_behind taking.earlier_end all ≤ taking.later
   counted : bytes_behind (committed_of taking.status) all ≤ taking.earlier + taking.later
 
 falls_one : (low high bytes places : ℕ) → low ≤ high
@@ -32,53 +32,53 @@ known_taken : (bytes : ℕ) (all : List Taken) (taking : Taking) → Known all t
     → Known (record { bytes = min bytes taking.entering; places = held_of taking.status } ∷ all) (took bytes taking)
 known_taken bytes all taking known = record {
   none = let a = none_behind (held_of taking.status) (min bytes taking.entering) in let e = known.none in omega (arith, a, e);
-  marked = let a = at_most taking.mark (min bytes taking.entering) (held_of taking.status) in let e = known.marked in omega (arith, a, e);
+  after_earlier = let a = at_most taking.earlier_end (min bytes taking.entering) (held_of taking.status) in let e = known.after_earlier in omega (arith, a, e);
   counted = let a = at_most (committed_of taking.status) (min bytes taking.entering) (held_of taking.status) in
       let e = known.counted in omega (arith, a, e);
 }
 
-below_mark : (mark committed : ℕ) → nat_le mark committed ≡ true → mark ≤ committed
-below_mark mark committed below = grind (arith, below)
+below_earlier_end : (earlier_end committed : ℕ) → nat_le earlier_end committed ≡ true → earlier_end ≤ committed
+below_earlier_end earlier_end committed below = grind (arith, below)
 
-below_held : (mark held committed : ℕ) → nat_le (min mark held) committed ≡ true → nat_le mark committed ≡ false → held ≤ committed
-below_held mark held committed agreed above = grind (arith, agreed, above)
+below_held : (earlier_end held committed : ℕ) → nat_le (min earlier_end held) committed ≡ true → nat_le earlier_end committed ≡ false → held ≤ committed
+below_held earlier_end held committed agreed above = grind (arith, agreed, above)
 
--- what is agreed reaches to the mark, or to the end of the log
-reaches : (b : Bool) (mark held committed : ℕ) (all : List Taken) (later : ℕ) → nat_le mark committed ≡ b
-    → nat_le (min mark held) committed ≡ true
-    → bytes_behind mark all ≤ later → bytes_behind held all ≤ 0 → bytes_behind committed all ≤ later
-reaches true mark held committed all later below agreed marked none =
-    let a = falls mark committed all (below_mark mark committed below) in omega (arith, a, marked)
-reaches false mark held committed all later above agreed marked none =
-    let a = falls held committed all (below_held mark held committed agreed above) in omega (arith, a, none)
+-- what is agreed reaches to the end of the earlier places, or to that of the log
+reaches : (b : Bool) (earlier_end held committed : ℕ) (all : List Taken) (later : ℕ) → nat_le earlier_end committed ≡ b
+    → nat_le (min earlier_end held) committed ≡ true
+    → bytes_behind earlier_end all ≤ later → bytes_behind held all ≤ 0 → bytes_behind committed all ≤ later
+reaches true earlier_end held committed all later below agreed after_earlier none =
+    let a = falls earlier_end committed all (below_earlier_end earlier_end committed below) in omega (arith, a, after_earlier)
+reaches false earlier_end held committed all later above agreed after_earlier none =
+    let a = falls held committed all (below_held earlier_end held committed agreed above) in omega (arith, a, none)
 
-known_shown : (b : Bool) (status : Status) (all : List Taken) (taking : Taking) → is_agreed taking.mark status ≡ b
+known_shown : (b : Bool) (status : Status) (all : List Taken) (taking : Taking) → is_agreed taking.earlier_end status ≡ b
     → Known all taking → held_of taking.status ≤ status.held → committed_of taking.status ≤ status.committed
     → Known all
     (if b
-    then record taking { status = Some status; mark = status.held; earlier = taking.later; later = 0 }
+    then record taking { status = Some status; earlier_end = status.held; earlier = taking.later; later = 0 }
     else record taking { status = Some status })
 known_shown true status all taking agreed known held committed =
     let n = known.none in
     let f = falls (held_of taking.status) status.held all held in
     let none : bytes_behind status.held all ≤ 0 = omega (arith, n, f) in
-    let r = reaches (nat_le taking.mark status.committed) taking.mark status.held status.committed all taking.later refl agreed known.marked none in
-    record { none = none; marked = none; counted = omega (arith, r) }
+    let r = reaches (nat_le taking.earlier_end status.committed) taking.earlier_end status.held status.committed all taking.later refl agreed known.after_earlier none in
+    record { none = none; after_earlier = none; counted = omega (arith, r) }
 known_shown false status all taking unagreed known held committed =
     let n = known.none in
     let f = falls (held_of taking.status) status.held all held in
-    let m = known.marked in
+    let m = known.after_earlier in
     let c = known.counted in
     let g = falls (committed_of taking.status) status.committed all committed in
-    record { none = omega (arith, n, f); marked = m; counted = omega (arith, c, g) }
+    record { none = omega (arith, n, f); after_earlier = m; counted = omega (arith, c, g) }
 
 known : (all : List Taken) (taking : Taking) → Counts all taking → Known all taking
-known _ _ begins = record { none = omega arith; marked = omega arith; counted = omega arith }
+known _ _ begins = record { none = omega arith; after_earlier = omega arith; counted = omega arith }
 known all _ (admits {taking = taking} bytes counts) =
-    let k = known all taking counts in record { none = k.none; marked = k.marked; counted = k.counted }
+    let k = known all taking counts in record { none = k.none; after_earlier = k.after_earlier; counted = k.counted }
 known _ _ (takes {all = all} {taking = taking} bytes counts) = known_taken bytes all taking (known all taking counts)
 known all _ (shows {taking = taking} status counts held committed) =
-    known_shown (is_agreed taking.mark status) status all taking refl (known all taking counts) held committed
+    known_shown (is_agreed taking.earlier_end status) status all taking refl (known all taking counts) held committed
 
 pub open_bytes_counted : OpenBytesAreCounted
 open_bytes_counted all taking counts = (known all taking counts).counted

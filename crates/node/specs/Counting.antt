@@ -28,7 +28,8 @@ committed_of (Some status) = status.committed
 -- status its log has no fewer places, and no fewer of them are agreed.
 pub data Counts : List Taken → Taking → Type 0 where
   -- nothing was taken yet
-  begins : Counts [] (record { status = None; entering = 0; mark = 0; earlier = 0; later = 0 })
+  begins : Counts []
+      (record { status = None; entering = 0; earlier_end = 0; earlier = 0; later = 0 })
   -- bytes enter
   admits : {all : List Taken} {taking : Taking} (bytes : ℕ) → Counts all taking
       → Counts all (record taking { entering = taking.entering + bytes })

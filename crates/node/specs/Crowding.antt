@@ -4,12 +4,12 @@ use Rattle.world_base.specs.declared.Status.{Status}
 use Rattle.world_base.specs.Replica.{is_active}
 
 -- What a node takes from its clients. `entering` bytes are in transit to it. Of those that it took,
--- `earlier` are in the first `mark` places of its log, and `later` in places after these; what
--- every member holds is no longer counted.
+-- `earlier` are in the first `earlier_end` places of its log, and `later` in places after these.
+-- What every member holds is no longer counted.
 pub record Taking : Type 0 where
   pub status : Option Status
   pub entering : ℕ
-  pub mark : ℕ
+  pub earlier_end : ℕ
   pub earlier : ℕ
   pub later : ℕ
 
@@ -52,18 +52,18 @@ took bytes taking = record taking {
   later = taking.later + min bytes taking.entering;
 }
 
--- whether everything in the first `mark` places is agreed, or everything in the log
+-- whether everything in the first `earlier_end` places is agreed, or everything in the log
 abbrev pub is_agreed : ℕ → Status → Bool
-is_agreed mark status = nat_le (min mark status.held) status.committed
+is_agreed earlier_end status = nat_le (min earlier_end status.held) status.committed
 
--- The node shows its status. Once the first `mark` places are agreed the later bytes become the
--- earlier ones.
+-- The node shows its status. Once the first `earlier_end` places are agreed the later bytes become
+-- the earlier ones.
 abbrev pub shown : Status → Taking → Taking
 shown status taking =
-    if is_agreed taking.mark status
+    if is_agreed taking.earlier_end status
     then record taking {
       status = Some status;
-      mark = status.held;
+      earlier_end = status.held;
       earlier = taking.later;
       later = 0;
     }

@@ -24,7 +24,7 @@ pub struct Intake {
     /// None before the node is served.
     status: Option<Status>,
     entering: u64,
-    mark: u64,
+    earlier_end: u64,
     earlier: u64,
     later: u64,
 }
@@ -37,7 +37,7 @@ impl Model for Intake {
     ghost view = { λ it. record {
       status = it.status;
       entering = it.entering;
-      mark = it.mark;
+      earlier_end = it.earlier_end;
       earlier = it.earlier;
       later = it.later;
     } };
@@ -45,7 +45,7 @@ impl Model for Intake {
     ghost invariant = { λ it. IsBounded (record {
       status = it.status;
       entering = it.entering;
-      mark = it.mark;
+      earlier_end = it.earlier_end;
       earlier = it.earlier;
       later = it.later;
     }) };
@@ -55,12 +55,12 @@ impl Intake {
     /// Returns the intake of a node that is not yet served.
     pub fn new() -> Intake
         ensures { result
-            ≡ record { status = None; entering = 0; mark = 0; earlier = 0; later = 0 } }
+            ≡ record { status = None; entering = 0; earlier_end = 0; earlier = 0; later = 0 } }
     {
         Intake {
             status: None,
             entering: 0,
-            mark: 0,
+            earlier_end: 0,
             earlier: 0,
             later: 0,
         }
@@ -103,8 +103,8 @@ impl Intake {
     pub fn show(&mut self, status: Status)
         ensures { self.new ≡ shown status self.old }
     {
-        if is_agreed(self.mark, &status) {
-            self.mark = status.held;
+        if is_agreed(self.earlier_end, &status) {
+            self.earlier_end = status.held;
             self.earlier = self.later;
             self.later = 0;
         }
@@ -124,8 +124,8 @@ fn open_places(status: &Option<Status>) -> u64
 }
 
 // Says whether everything in the first places of the log is agreed, or everything in the log.
-fn is_agreed(mark: u64, status: &Status) -> bool
-    ensures { result ≡ is_agreed mark status.now }
+fn is_agreed(earlier_end: u64, status: &Status) -> bool
+    ensures { result ≡ is_agreed earlier_end status.now }
 {
-    mark.min(status.held) <= status.committed
+    earlier_end.min(status.held) <= status.committed
 }
