@@ -9,7 +9,7 @@ use std::thread;
 use std::time::{Clock, Duration};
 
 /// How long a client waits after a connection that was lost.
-const REST_MILLIS: u64 = 200;
+const PAUSE_MILLIS: u64 = 200;
 
 // Servers at these addresses, one after another.
 #[derive(Drop)]
@@ -22,7 +22,7 @@ struct TcpServers<'a, R> {
 impl<'a, R: Net<Stream = TcpStream> + Clock> Servers for TcpServers<'a, R> {
     ghost opens = { λ _ _. Unit {0} };
 
-    ghost rests = { λ _ _. Unit {0} };
+    ghost pauses = { λ _ _. Unit {0} };
 
     type Stream = TcpStream;
 
@@ -37,8 +37,8 @@ impl<'a, R: Net<Stream = TcpStream> + Clock> Servers for TcpServers<'a, R> {
         Some(stream)
     }
 
-    fn rest(&mut self) {
-        thread::sleep(self.rt, Duration::from_millis(REST_MILLIS));
+    fn pause(&mut self) {
+        thread::sleep(self.rt, Duration::from_millis(PAUSE_MILLIS));
     }
 }
 

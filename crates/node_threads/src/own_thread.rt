@@ -51,7 +51,7 @@ impl<'a, J: NodeNaming, S: Stated<J>, G: Gate> ServedNode<'a, J, S, G> {
                 shared.end_overdue(rt, latest.time);
             }
             last = latest;
-            shared.rest(rt);
+            shared.sleep_until_wanted(rt);
         }
         unreachable!()
     }
@@ -165,7 +165,7 @@ impl<'a, J: NodeNaming, S: Stated<J>, G: Gate> Shared<'a, J, S, G> {
     }
 
     // Sleeps until something comes or it is time for a tick, if nothing comes at once.
-    fn rest<R: Wait>(&self, rt: &R) {
+    fn sleep_until_wanted<R: Wait>(&self, rt: &R) {
         if self.comes_at_once(rt) {
             return;
         }

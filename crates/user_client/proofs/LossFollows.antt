@@ -55,12 +55,12 @@ passed_later end (Ok x) fault is trace loses = tt
 passed_later end (Err e) fault is trace loses = λ lost. loses_later trace (loses (sym is ∙ lost))
 
 -- the same of the end of all connections
-pub gives_up_later : {S T : Type 0} (opens rests : S → S → Type 0) (tries : ℕ) (first last : S) {start middle : Called}
+pub gives_up_later : {S T : Type 0} (opens pauses : S → S → Type 0) (tries : ℕ) (first last : S) {start middle : Called}
     {taken : List Accepted} (end : Called) (r : Result T UserClientError) (fault : UserClientError)
     → IsErrAnd r (λ (it : UserClientError). it ≡ fault) → Trace start taken middle → IsLostBy middle end fault
-    → IfErr r (IsGivenUp opens rests tries first last start end)
-gives_up_later opens rests tries first last end (Ok x) fault is trace loses = tt
-gives_up_later opens rests tries first last end (Err e) fault is trace loses = λ lost. inr (loses_later trace (loses (sym is ∙ lost)))
+    → IfErr r (IsGivenUp opens pauses tries first last start end)
+gives_up_later opens pauses tries first last end (Ok x) fault is trace loses = tt
+gives_up_later opens pauses tries first last end (Err e) fault is trace loses = λ lost. inr (loses_later trace (loses (sym is ∙ lost)))
 
 -- an error that is another one
 pub never_lost : {T : Type 0} (start end : Called) (r : Result T UserClientError)

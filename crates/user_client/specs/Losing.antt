@@ -7,16 +7,16 @@ use Rattle.user_client.specs.declared.user_client_error.UserClientError.{UserCli
 use Rattle.user_client.specs.declared.user_client_error.UserClientError.TheVariants as faults
 use Rattle.user_client.specs.Tracing.{Called, Trace}
 
--- one more connection is asked for, after a rest if this is not the first
+-- one more connection is asked for, after a pause if this is not the first
 abbrev pub AsksNext : {S : Type 0} → (S → S → Type 0) → (S → S → Type 0) → ℕ → S → S → Type 0
-AsksNext opens rests zero old new = opens old new
-AsksNext {S} opens rests (suc asked) old new = (rested : S) × rests old rested × opens rested new
+AsksNext opens pauses zero old new = opens old new
+AsksNext {S} opens pauses (suc asked) old new = (paused : S) × pauses old paused × opens paused new
 
 -- this many connections were asked for, one after another
-pub data Asks {S : Type 0} (opens rests : S → S → Type 0) (start : S) : ℕ → S → Type 0 where
-  none : Asks opens rests start 0 start
-  more : {asked : ℕ} {old : S} (new : S) → Asks opens rests start asked old
-      → AsksNext opens rests asked old new → Asks opens rests start (asked + 1) new
+pub data Asks {S : Type 0} (opens pauses : S → S → Type 0) (start : S) : ℕ → S → Type 0 where
+  none : Asks opens pauses start 0 start
+  more : {asked : ℕ} {old : S} (new : S) → Asks opens pauses start asked old
+      → AsksNext opens pauses asked old new → Asks opens pauses start (asked + 1) new
 
 -- after some steps the server answered a CONNECT with a CONNACK that shows that it lost the session
 pub record LosesSession (start end : Called) : Type 0 where
@@ -34,5 +34,5 @@ IsLostBy start end fault = fault ≡ faults.Lost → LosesSession start end
 abbrev pub IsGivenUp :
     {S : Type 0} → (S → S → Type 0) → (S → S → Type 0)
     → ℕ → S → S → Called → Called → UserClientError → Type 0
-IsGivenUp opens rests tries first last start end fault =
-    fault ≡ faults.Lost → Asks opens rests first tries last ⊎ LosesSession start end
+IsGivenUp opens pauses tries first last start end fault =
+    fault ≡ faults.Lost → Asks opens pauses first tries last ⊎ LosesSession start end

@@ -90,7 +90,7 @@ impl Publisher {
         ensures same { self.new.once ≡ self.old.once }
 
         // `Lost` comes once all `tries` connections were asked for, or the session was lost.
-        ensures lost { IfErr result (IsGivenUp S.opens S.rests tries
+        ensures lost { IfErr result (IsGivenUp S.opens S.pauses tries
             servers.old servers.new self.old.caller self.new.caller) }
     {
         for opened in 0..tries {

@@ -8,7 +8,7 @@ pub trait Servers: Drop {
     ghost opens: { Self → Self → Type 0 };
 
     // Waiting a while, it went from the first state to the second.
-    ghost rests: { Self → Self → Type 0 };
+    ghost pauses: { Self → Self → Type 0 };
 
     /// The stream that bytes are read from and written to.
     type Stream: Read + Write + Drop;
@@ -18,6 +18,6 @@ pub trait Servers: Drop {
         ensures { opens self.old self.new };
 
     /// Waits a while after a connection that was lost.
-    fn rest(&mut self)
-        ensures { rests self.old self.new };
+    fn pause(&mut self)
+        ensures { pauses self.old self.new };
 }

@@ -86,7 +86,7 @@ impl Subscriber {
         ensures all { OnOk result (self.new.left ≡ 0) }
 
         // `Lost` comes once all `tries` connections were asked for, or the session was lost.
-        ensures lost { IfErr result (IsGivenUp S.opens S.rests tries
+        ensures lost { IfErr result (IsGivenUp S.opens S.pauses tries
             servers.old servers.new self.old.caller self.new.caller) }
     {
         self.left = self.count;

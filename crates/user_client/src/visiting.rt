@@ -15,10 +15,10 @@ use std::io::{Read, Write};
 
 /// Opens the next connection, after a while if one was opened before.
 pub(crate) fn next_stream<S: Servers>(servers: &mut S, opened: u32) -> Option<S::Stream>
-    ensures { AsksNext S.opens S.rests opened servers.old servers.new }
+    ensures { AsksNext S.opens S.pauses opened servers.old servers.new }
 {
     if opened > 0 {
-        servers.rest();
+        servers.pause();
     }
     servers.open()
 }

@@ -20,9 +20,9 @@ fn fault_of_publishing(
     connections: &[Pieces],
     written: &[&[u8]],
     ended: Result<(), UserClientError>,
-    rests: u32,
+    pauses: u32,
 ) -> Option<Wrong> {
-    fault_within(alloc, qos, usize::MAX, connections, written, ended, rests)
+    fault_within(alloc, qos, usize::MAX, connections, written, ended, pauses)
 }
 
 // Finds what is not so of a publication if the first connection takes no more than `room` bytes.
@@ -33,7 +33,7 @@ fn fault_within(
     connections: &[Pieces],
     written: &[&[u8]],
     ended: Result<(), UserClientError>,
-    rests: u32,
+    pauses: u32,
 ) -> Option<Wrong> {
     let log = RefCell::new(Vec::new(alloc));
     let mut servers = Scripted::new(connections, room, &log);
@@ -41,8 +41,8 @@ fn fault_within(
     if end != ended {
         return Some(Wrong::End(end));
     }
-    if servers.rests != rests {
-        return Some(Wrong::Rests(servers.rests));
+    if servers.pauses != pauses {
+        return Some(Wrong::Pauses(servers.pauses));
     }
     first_unwritten(log.into_inner().as_slice(), written)
 }

@@ -16,7 +16,7 @@ pub struct Scripted<'a> {
     room: usize,
     opened: usize,
     /// How often the client waited.
-    pub rests: u32,
+    pub pauses: u32,
     log: &'a RefCell<Vec<u8>>,
 }
 
@@ -37,7 +37,7 @@ impl<'a> Scripted<'a> {
             connections,
             room,
             opened: 0,
-            rests: 0,
+            pauses: 0,
             log,
         }
     }
@@ -46,7 +46,7 @@ impl<'a> Scripted<'a> {
 impl<'a> Servers for Scripted<'a> {
     ghost opens = { λ _ _. Unit {0} };
 
-    ghost rests = { λ _ _. Unit {0} };
+    ghost pauses = { λ _ _. Unit {0} };
 
     type Stream = Pipe<'a>;
 
@@ -66,8 +66,8 @@ impl<'a> Servers for Scripted<'a> {
         })
     }
 
-    fn rest(&mut self) {
-        self.rests = self.rests.saturating_add(1);
+    fn pause(&mut self) {
+        self.pauses = self.pauses.saturating_add(1);
     }
 }
 
@@ -151,7 +151,7 @@ pub enum Wrong {
     /// How it ended.
     End(Result<(), UserClientError>),
     /// How often it waited.
-    Rests(u32),
+    Pauses(u32),
     /// The first packet that was not written, or, by their number, the bytes after all.
     Packet(usize),
     /// What was printed, which had this many bytes.

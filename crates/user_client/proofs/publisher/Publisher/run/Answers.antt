@@ -13,14 +13,14 @@ returns-then-branch-clause-trace g c = traces_follow c.loop-opened.invariant.0 c
 
 pub returns-in_err-visit-clause-lost : goal.returns-in_err-visit-clause-lost
 returns-in_err-visit-clause-lost g c =
-    gives_up_later g.S.Servers.opens g.S.Servers.rests c.args.tries c.args.servers.now c.next_stream.new.servers
+    gives_up_later g.S.Servers.opens g.S.Servers.pauses c.args.tries c.args.servers.now c.next_stream.new.servers
     c.visit.new.self.caller c.from_residual.result c.in_err-visit.field-0.0 c.from_residual.ensures.1
     c.loop-opened.invariant.0 c.in_err-visit.ensures.lost
 
 pub returns-clause-lost : goal.returns-clause-lost
 returns-clause-lost g c =
     let all : c.loop-opened.opened ≡ c.args.tries = omega (arith, c.loop-opened.auto.opened-end, c.loop-opened-test.false) in
-    λ _. inl (subst (λ (n : ℕ). Asks g.S.Servers.opens g.S.Servers.rests c.args.servers.now n c.loop-opened.servers) all
+    λ _. inl (subst (λ (n : ℕ). Asks g.S.Servers.opens g.S.Servers.pauses c.args.servers.now n c.loop-opened.servers) all
     c.loop-opened.invariant.2)
 
 pub loop-opened-preserved : goal.loop-opened-preserved

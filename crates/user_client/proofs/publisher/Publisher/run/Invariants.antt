@@ -7,4 +7,4 @@ abbrev pub invariant-loop-opened : goal.invariant-loop-opened
 invariant-loop-opened g l =
     Trace l.fn.self.caller [] l.self.caller
     × (l.self.once ≡ l.fn.self.once)
-    × Asks g.S.Servers.opens g.S.Servers.rests l.fn.servers l.opened l.servers
+    × Asks g.S.Servers.opens g.S.Servers.pauses l.fn.servers l.opened l.servers
