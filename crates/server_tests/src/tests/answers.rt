@@ -8,18 +8,20 @@ use std::io::Read;
 use std::net::{Net, TcpStream};
 use std::time::{Clock, Instant};
 
+const VISITS: &[Table] = &[Table {
+    name: "a client is answered",
+    members: &[1],
+    row: Row::Visits,
+}];
+
+const SILENCES: &[Table] = &[Table {
+    name: "a silent client is closed",
+    members: &[1],
+    row: Row::Silence,
+}];
+
 // A flood to several members: each packet is a place of the log of each.
-const TABLES: &[Table] = &[
-    Table {
-        name: "a client is answered",
-        members: &[1],
-        row: Row::Visits,
-    },
-    Table {
-        name: "a silent client is closed",
-        members: &[1],
-        row: Row::Silence,
-    },
+const FLOODS: &[Table] = &[
     Table {
         name: "a flood is answered by one member",
         members: &[1],
@@ -39,7 +41,17 @@ const TABLES: &[Table] = &[
 
 #[test]
 fn one_client_is_answered(rt: HostRuntime) {
-    assert_eq!(rt; fault_in(&rt, TABLES), None);
+    assert_eq!(rt; fault_in(&rt, VISITS), None);
+}
+
+#[test]
+fn a_silent_client_is_closed_in_time(rt: HostRuntime) {
+    assert_eq!(rt; fault_in(&rt, SILENCES), None);
+}
+
+#[test]
+fn a_flood_is_answered_whole(rt: HostRuntime) {
+    assert_eq!(rt; fault_in(&rt, FLOODS), None);
 }
 
 /// A client with keep alive 1 that falls silent is closed after one and a half seconds (MQTT
