@@ -1,6 +1,6 @@
 // Scripts, from the input and from a file.
 
-use crate::tests::hand::{End, ends};
+use crate::tests::hand::{End, does, ends, text_of};
 use std::fs;
 use std::net::{Net, TcpListener, TcpStream};
 use std::rt::Files;
@@ -75,37 +75,40 @@ fn free_name<R: Clock + AllocGlobal>(rt: &R) -> Option<String> {
     format!(in rt.alloc(); "/tmp/vbroker_{seconds}_{nanoseconds}.script").ok()
 }
 
-// Says whether the script is played from a file of this name, and the input is not read.
-fn is_played_from<R>(rt: &R, name: &str) -> bool
+// Plays the script from a file of this name, and returns the exit status. The input is not read.
+fn play_from<R>(rt: &R, name: &str, output: &mut Vec<u8>, faults: &mut Vec<u8>) -> Option<u8>
 where
     R: Files + Threads + Wait + Clock + Sync + AllocGlobal,
     R: Net<Listener = TcpListener, Stream = TcpStream>,
 {
-    if fs::write(rt, name, SCRIPT).is_err() {
-        return false;
-    }
-    let is_played = ends(
-        rt,
-        &["vbroker", "play", name],
-        b"nonsense".as_slice(),
-        (0, TRANSCRIPT, ""),
-    );
-    fs::remove_file(rt, name).is_ok() && is_played
+    fs::write(rt, name, SCRIPT).ok()?;
+    let mut input = b"nonsense".as_slice();
+    let status = does(rt, &["vbroker", "play", name], &mut input, output, faults);
+    fs::remove_file(rt, name).ok()?;
+    Some(status)
 }
 
-// Says whether the script is played from a file that no program has.
-fn is_played_from_a_file<R>(rt: &R) -> bool
+// Plays the script from a file that no program has, and returns the exit status.
+fn play_from_a_file<R>(rt: &R, output: &mut Vec<u8>, faults: &mut Vec<u8>) -> Option<u8>
 where
     R: Files + Threads + Wait + Clock + Sync + AllocGlobal,
     R: Net<Listener = TcpListener, Stream = TcpStream>,
 {
     match free_name(rt) {
-        Some(name) => is_played_from(rt, name.as_str()),
-        None => false,
+        Some(name) => play_from(rt, name.as_str(), output, faults),
+        None => None,
     }
 }
 
 #[test]
 fn a_script_of_a_file_is_played(rt: HostRuntime) {
-    assert!(rt; is_played_from_a_file(&rt));
+    let mut output = Vec::new(rt.alloc());
+    let mut faults = Vec::new(rt.alloc());
+    let status = play_from_a_file(&rt, &mut output, &mut faults);
+    let came = (
+        status,
+        text_of(output.as_slice()),
+        text_of(faults.as_slice()),
+    );
+    assert_eq!(rt; came, (Some(0), TRANSCRIPT, ""));
 }

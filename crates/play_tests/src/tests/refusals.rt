@@ -5,6 +5,7 @@ use crate::tests::reading::bad_line;
 use play::PlayError;
 use play::script::ScriptFault;
 use std::alloc::{AllocError, Global};
+use std::test::Fail;
 
 // First lines that open no world.
 const NO_WORLDS: &[&str] = &[
@@ -188,9 +189,10 @@ fn told(alloc: Global) -> Result<String, AllocError> {
 }
 
 #[test]
-fn a_refusal_has_its_text(rt: HostRuntime) {
-    let text = told(rt.alloc());
-    assert!(rt; text.is_ok_and(|text| text.as_str() == "script line 7; out of memory"));
+fn a_refusal_has_its_text(rt: HostRuntime) -> Result<(), Fail> {
+    let text = told(rt.alloc())?;
+    assert_eq!(rt; text.as_str(), "script line 7; out of memory");
+    Ok(())
 }
 
 // Texts, and the line for which each is not played.
