@@ -16,44 +16,44 @@ ghost use Rattle.broker_base.specs.StepRows.{StepsRefuseAndGoOn, StepsKeepTheOrd
 ghost use Rattle.broker_base.specs.StepRows.{StepsWidenTheWindow, OthersStartNothing};
 ghost use Rattle.broker_base.specs.StepRows.{AnswersStartWhatWaits};
 
-/// One more command, whatever its mark, changes each client's session as the step of one session
-/// says.
+/// States that one more command, whatever its mark, changes each client's session as the step of
+/// one session says.
 pub fn session_step()
     ensures { StepsEachSession }
 {}
 
-/// A command does not change a session that it does not touch, and begins none except that of the
-/// client of an accepted Connect.
+/// States that a command does not change a session that it does not touch, and begins none except
+/// that of the client of an accepted Connect.
 pub fn others_stay()
     ensures stays { OthersStay }
     ensures none_begins { NoneBegins }
 {}
 
-/// The state of a past has each session under its client, and decides the mark of a command as the
-/// past does.
+/// States that the state of a past has each session under its client, and decides the mark of a
+/// command as the past does.
 pub fn decisions_stand_for()
     ensures sessions { FindsEachSession }
     ensures marks { DecidesAsThePast }
 {}
 
-/// One step of the state of a past gives the state of the past with the command added, and the
-/// answers to the command.
+/// States that one step of the state of a past gives the state of the past with the command added,
+/// and the answers to the command.
 pub fn step_stands_for()
     ensures { StepStandsFor }
 {}
 
-/// A list of commands, taken step by step from the empty state, gives the state of the list, and
-/// its answers.
+/// States that a list of commands, taken step by step from the empty state, gives the state of the
+/// list, and its answers.
 pub fn list_stands_for()
     ensures every { ListStandsFor }
     ensures usual { UsualListStandsFor }
     ensures growing { GrowingListStandsFor }
 {}
 
-/// A step keeps the sessions ordered by the bytes of their clients, and each connection in at most
-/// one session. It keeps each session in its form: filters and identifiers distinct, released
-/// entries first, a clean one connected. In each connected client's queue nothing waits or the
-/// window is full. No more is in flight than the window allows, if that does not shrink.
+/// States that a step keeps the sessions ordered by the bytes of their clients, and each connection
+/// in at most one session. It keeps each session in its form: filters and identifiers distinct,
+/// released entries first, a clean one connected. In each connected client's queue nothing waits or
+/// the window is full. No more is in flight than the window allows, if that does not shrink.
 pub fn states_stay_sound()
     ensures step { StaysSound }
     ensures quiet { StaysQuiet }
@@ -61,16 +61,17 @@ pub fn states_stay_sound()
     ensures lists { ListsAreSound }
 {}
 
-/// Three worked examples, computed step by step: a full queue, the order on a later connection, and
-/// a window that grows.
+/// States that three worked examples come out, computed step by step: a full queue, the order on a
+/// later connection, and a window that grows.
 pub fn rows_step_by_step()
     ensures full_queue { StepsRefuseAndGoOn }
     ensures order { StepsKeepTheOrder }
     ensures window { StepsWidenTheWindow }
 {}
 
-/// Entries start at a Connect, after PUBACK and PUBCOMP, and after each copy that is queued. They
-/// do so also in a state that was read from bytes whose queue could have started before.
+/// States that entries start at a Connect, after PUBACK and PUBCOMP, and after each copy that is
+/// queued. They do so also in a state that was read from bytes whose queue could have started
+/// before.
 pub fn entries_start_where_they_are_sent()
     ensures others { OthersStartNothing }
     ensures answers { AnswersStartWhatWaits }

@@ -4,25 +4,26 @@
 ghost use Rattle.broker_rows.specs.ConnectLaws.{BeginningStep, ResumingStep, FullStep};
 ghost use Rattle.broker_rows.specs.ConnectLaws.{InsertionWrites, StartStep};
 
-/// A Connect that is accepted inserts its client's session, which begins with nothing in it or
-/// continues, and leaves every other (MQTT 3.1.2.4, 3.1.4, 4.4).
+/// States that a Connect that is accepted inserts its client's session, which begins with nothing
+/// in it or continues, and leaves every other (MQTT 3.1.2.4, 3.1.4, 4.4).
 pub fn connect_steps()
     ensures begins { BeginningStep }
     ensures resumes { ResumingStep }
 {}
 
-/// A Connect that would begin a session too many is answered with CONNACK 3 and a Close, and
-/// changes nothing (MQTT 3.2.2.3).
+/// States that a Connect that would begin a session too many is answered with CONNACK 3 and a
+/// Close, and changes nothing (MQTT 3.2.2.3).
 pub fn full_connect_steps()
     ensures { FullStep }
 {}
 
-/// To insert the session of a client that has one is to write it.
+/// States that to insert the session of a client that has one is to write it.
 pub fn insertion_writes()
     ensures { InsertionWrites }
 {}
 
-/// A Start leaves every session without its connection, and removes the clean ones (MQTT 3.1.2.4).
+/// States that a Start leaves every session without its connection, and removes the clean ones
+/// (MQTT 3.1.2.4).
 pub fn start_steps()
     ensures { StartStep }
 {}

@@ -3,8 +3,8 @@
 ghost use Rattle.broker_rows.specs.ExpelLaws.{ExpelDropsTheClient, ExpelRemovesTheOwner};
 ghost use Rattle.broker_rows.specs.ExpelLaws.{ExpelStep, NobodysExpelStep};
 
-/// An Expel removes the client's session with all that it kept, closes its connection if it has
-/// one, and touches no other. The map of owners and the index of subscriptions follow.
+/// States that an Expel removes the client's session with all that it kept, closes its connection
+/// if it has one, and touches no other. The map of owners and the index of subscriptions follow.
 pub fn expel_steps()
     ensures step { ExpelStep }
     ensures nobody { NobodysExpelStep }

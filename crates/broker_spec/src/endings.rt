@@ -4,22 +4,22 @@
 ghost use Rattle.broker_spec.specs.EndingLaws.{NothingAfterTheEnd};
 ghost use Rattle.broker_spec.specs.TakenLaws.{EntersAsPublished, EntersWhereTaken};
 
-/// A connection whose accepted Connect lies in a session is sent packets only at places of that
-/// session. Once it has ended nothing more is sent there, if no later connection has its name (MQTT
-/// 3.1.2.4, 4.1).
+/// States that a connection whose accepted Connect lies in a session is sent packets only at places
+/// of that session. Once it has ended nothing more is sent there, if no later connection has its
+/// name (MQTT 3.1.2.4, 4.1).
 pub fn nothing_after_the_end()
     ensures { NothingAfterTheEnd }
 {}
 
-/// No session has an entry from a place that takes no publication, such as a repeat or a refused
-/// one (MQTT 4.3.3).
+/// States that no session has an entry from a place that takes no publication, such as a repeat or
+/// a refused one (MQTT 4.3.3).
 pub fn enters_where_taken()
     ensures { EntersWhereTaken }
 {}
 
-/// At the place where it is taken, a publication enters a session as it was published: its topic
-/// and payload, RETAIN 0, at the effective QoS. It enters once if that is 1 or 2, and otherwise not
-/// (MQTT 3.3.1.3, 3.3.5).
+/// States that, at the place where it is taken, a publication enters a session as it was published:
+/// its topic and payload, RETAIN 0, at the effective QoS. It enters once if that is 1 or 2, and
+/// otherwise not (MQTT 3.3.1.3, 3.3.5).
 pub fn enters_as_published()
     ensures { EntersAsPublished }
 {}

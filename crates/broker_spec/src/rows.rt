@@ -22,81 +22,82 @@ ghost use Rattle.broker_spec.specs.SessionRows.{LastConnectionIsLive};
 ghost use Rattle.broker_spec.specs.ExpelRows.{ExpelledOnce, NothingIsLeft};
 ghost use Rattle.broker_spec.specs.ExpelRows.{IdentifiersAreGone, ExpelEnds};
 
-/// A first CONNECT gets CONNACK 0 without a session.
+/// Shows that a first CONNECT gets CONNACK 0 without a session.
 pub fn connect_is_answered()
     ensures { ConnectIsAnswered }
 {}
 
-/// A client's second connection closes the first and finds its session (MQTT 3.1.4).
+/// Shows that a client's second connection closes the first and finds its session (MQTT 3.1.4).
 pub fn a_second_connection_takes_over()
     ensures closed { SecondConnectionTakesOver }
     ensures older { OlderConnectionIsSilent }
 {}
 
-/// SUBACK grants the QoS that was asked for (MQTT 3.9.3).
+/// Shows that SUBACK grants the QoS that was asked for (MQTT 3.9.3).
 pub fn subscribe_is_granted()
     ensures { SubscribeIsGranted }
 {}
 
-/// A publication at QoS 2 is answered by PUBREC and goes to the subscriber (MQTT 4.3.3).
+/// Shows that a publication at QoS 2 is answered by PUBREC and goes to the subscriber (MQTT 4.3.3).
 pub fn publish_reaches_the_subscriber()
     ensures { PublishReachesTheSubscriber }
 {}
 
-/// A PUBLISH that comes again is a repeat until PUBREL, and not after it, whatever its DUP flag
-/// says (MQTT 3.3.1.1, 4.3.3).
+/// Shows that a PUBLISH that comes again is a repeat until PUBREL, and not after it, whatever its
+/// DUP flag says (MQTT 3.3.1.1, 4.3.3).
 pub fn a_repeat_before_pubrel()
     ensures repeat { RepeatBeforePubrel }
     ensures other { DupAfterPubrel }
 {}
 
-/// PUBREL is answered by PUBCOMP each time (MQTT 4.3.3).
+/// Shows that PUBREL is answered by PUBCOMP each time (MQTT 4.3.3).
 pub fn pubrel_twice()
     ensures { PubrelTwice }
 {}
 
-/// A retained publication is sent to a later subscriber with RETAIN 1 (MQTT 3.3.1.3).
+/// Shows that a retained publication is sent to a later subscriber with RETAIN 1 (MQTT 3.3.1.3).
 pub fn retained_at_subscribe()
     ensures { RetainedAtSubscribe }
 {}
 
-/// Two matching filters of a client bring a publication once, at the greater QoS (MQTT 3.3.5).
+/// Shows that two matching filters of a client bring a publication once, at the greater QoS (MQTT
+/// 3.3.5).
 pub fn two_filters_one_publication()
     ensures { TwoFiltersOnePublication }
 {}
 
-/// A publication for which one session has no room is refused and its connection closed, so that
-/// the publisher's later ones cannot pass it.
+/// Shows that a publication for which one session has no room is refused and its connection closed,
+/// so that the publisher's later ones cannot pass it.
 pub fn a_full_queue_keeps_the_order()
     ensures refuses { FullQueueRefuses }
     ensures goes_on { FullQueueGoesOn }
     ensures order { FullQueueKeepsTheOrder }
 {}
 
-/// PINGREQ and UNSUBSCRIBE are answered, and a violation closes the connection (MQTT 3.10.4,
-/// 3.12.4, 4.8).
+/// Shows that PINGREQ and UNSUBSCRIBE are answered, and a violation closes the connection (MQTT
+/// 3.10.4, 3.12.4, 4.8).
 pub fn ping_unsubscribe_and_violations()
     ensures answered { PingAndUnsubscribe }
     ensures closed { ViolationsClose }
 {}
 
-/// With a window of 16, PUBACK sends the 17th publication with the identifier that it freed, and
-/// that one stays after the others (MQTT 4.4, 4.6).
+/// Shows that, with a window of 16, PUBACK sends the 17th publication with the identifier that it
+/// freed, and that one stays after the others (MQTT 4.4, 4.6).
 pub fn puback_frees_its_identifier()
     ensures { PubackFreesItsIdentifier }
 {}
 
-/// With a window of 64, 64 entries of a session are in flight at once. With a window that grows
-/// from 16 at a new ballot, this is so from the first ballot on that begins.
+/// Shows that, with a window of 64, 64 entries of a session are in flight at once. With a window
+/// that grows from 16 at a new ballot, this is so from the first ballot on that begins.
 pub fn window_of_64()
     ensures wide { WideWindowSendsAll }
     ensures seventy { WindowOf64 }
     ensures grows { WindowGrowsAtStart }
 {}
 
-/// A broker holds 4,096 sessions, 64 subscriptions and 4,096 unfinished entries of each, and 16,384
-/// retained topics; one more of each is refused (MQTT 3.2.2.3, 3.9.3). A connection's name is a
-/// ballot of 1 to 2^32 and a number of 1 to 2^40.
+/// Shows that a broker holds 4,096 sessions, 64 subscriptions and 4,096 unfinished entries of each,
+/// and 16,384 retained topics; one more of each is refused (MQTT 3.2.2.3, 3.9.3). A connection's
+/// name is a ballot of 1 to 2^32 and a number of 1 to 2^40.
 pub fn limits_are_met()
     ensures numbers { LimitsAre }
     ensures names { NamesAre }
@@ -106,36 +107,36 @@ pub fn limits_are_met()
     ensures room { RoomIsLessWhatEarlierFiltersNeed }
 {}
 
-/// A publication is answered by its own QoS and identifier. It is delivered at the lower of its QoS
-/// and the granted one, to each client in turn (MQTT 3.3.5, 3.8.4).
+/// Shows that a publication is answered by its own QoS and identifier. It is delivered at the lower
+/// of its QoS and the granted one, to each client in turn (MQTT 3.3.5, 3.8.4).
 pub fn lower_qos_is_delivered()
     ensures lower { LowerQosIsDelivered }
     ensures order { CopiesComeByClient }
 {}
 
-/// The last publication with RETAIN 1 is retained at its own QoS. It is sent at the lower of that
-/// and the QoS that is asked for (MQTT 3.3.1.3).
+/// Shows that the last publication with RETAIN 1 is retained at its own QoS. It is sent at the
+/// lower of that and the QoS that is asked for (MQTT 3.3.1.3).
 pub fn last_publication_is_retained()
     ensures qos { RetainedAtTheLowerQos }
     ensures last { LastIsRetained }
 {}
 
-/// A client that comes back is sent what it has not answered: PUBLISH with DUP 1, or PUBREL
-/// (MQTT 4.4).
+/// Shows that a client that comes back is sent what it has not answered: PUBLISH with DUP 1, or
+/// PUBREL (MQTT 4.4).
 pub fn exactly_once_is_sent_again()
     ensures { ExactlyOnceIsSentAgain }
 {}
 
-/// A session begins at an accepted Connect that finds none, or is clean, or finds a clean one. A
-/// clean one ends with its connection (MQTT 3.1.2.4).
+/// Shows that a session begins at an accepted Connect that finds none, or is clean, or finds a
+/// clean one. A clean one ends with its connection (MQTT 3.1.2.4).
 pub fn sessions_begin_and_end()
     ensures begin { SessionsBegin }
     ensures end { SessionsEnd }
     ensures places { PlacesStandInSessions }
 {}
 
-/// An expelled client's connection is closed, and its session is removed with all that was kept in
-/// it: the client finds none when it comes back (MQTT 3.1.2.4, 4.1).
+/// Shows that an expelled client's connection is closed, and its session is removed with all that
+/// was kept in it: the client finds none when it comes back (MQTT 3.1.2.4, 4.1).
 pub fn an_expelled_session_is_gone()
     ensures once { ExpelledOnce }
     ensures nothing { NothingIsLeft }
@@ -143,15 +144,15 @@ pub fn an_expelled_session_is_gone()
     ensures ends { ExpelEnds }
 {}
 
-/// Only the last accepted connection of a client counts, also if the client sends a second CONNECT
-/// (MQTT-3.1.0-2, MQTT 3.1.4).
+/// Shows that only the last accepted connection of a client counts, also if the client sends a
+/// second CONNECT (MQTT-3.1.0-2, MQTT 3.1.4).
 pub fn last_connection_is_live()
     ensures live { LastConnectionIsLive }
     ensures violation { ConnectOnACurrentConnection }
 {}
 
-/// Each entry has the places at which it was made, started, was released and finished, and a QoS 2
-/// publication is new once (MQTT 4.3).
+/// Shows that each entry has the places at which it was made, started, was released and finished,
+/// and a QoS 2 publication is new once (MQTT 4.3).
 pub fn entries_have_their_places()
     ensures places { EntriesHaveTheirPlaces }
     ensures new { NewOnce }

@@ -3,13 +3,13 @@
 
 ghost use Rattle.byte_world.specs.AtNodes.{NodesAreOrderly, PortsHavePipes};
 
-/// Says that each connection which a node lists was opened by a client: a pipe leads to its port,
+/// States that each connection which a node lists was opened by a client: a pipe leads to its port,
 /// whatever happened. So a port to which no pipe leads is new to its node.
 pub fn ports_have_pipes()
     ensures { PortsHavePipes }
 {}
 
-/// Says that the names of a node's connections are distinct and were given, the last one in a
+/// States that the names of a node's connections are distinct and were given, the last one in a
 /// ballot that is not above the one that the node joined, whatever happened. So the first
 /// connection that it opens in a later ballot gets the first name there.
 pub fn nodes_are_orderly()

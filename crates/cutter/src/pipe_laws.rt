@@ -3,8 +3,9 @@
 ghost use Rattle.cutter.specs.Pipe.{PipeCarries, PipeGives, PipeGivesNext, PipeGrows};
 ghost use Rattle.cutter.specs.Pipe.{PipeHasNoFault, PipeOpens};
 
-/// Packets that are written into a pipe come out of the cutter at its other end in order, however
-/// the bytes in between are cut. None is lost, changed or twice; and the cutter finds no fault.
+/// States that packets that are written into a pipe come out of the cutter at its other end in
+/// order, however the bytes in between are cut. None is lost, changed or twice; and the cutter
+/// finds no fault.
 pub fn pipes_are_in_order()
     ensures opens { PipeOpens }
     ensures grows { PipeGrows }

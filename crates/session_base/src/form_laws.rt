@@ -3,25 +3,25 @@
 ghost use Rattle.session_base.specs.FormLaws.{FrozenIsRead, ReadHasForm, ReadIsFrozen};
 ghost use Rattle.session_base.specs.FormRows.{FullSessionIsFrozen};
 
-/// The bytes to which a session is frozen are read as that session, whatever bytes follow. No more
-/// of it may be in flight than the window allows.
+/// States that the bytes to which a session is frozen are read as that session, whatever bytes
+/// follow. No more of it may be in flight than the window allows.
 pub fn frozen_is_read()
     ensures { FrozenIsRead }
 {}
 
-/// A session that was read has a form: no filter and no identifier occurs twice, no more is in
-/// flight than the window allows, and each part is in its range.
+/// States that a session that was read has a form: no filter and no identifier occurs twice, no
+/// more is in flight than the window allows, and each part is in its range.
 pub fn read_has_form()
     ensures { ReadHasForm }
 {}
 
-/// Shows that a session that was read is frozen to the bytes from which it was read: a session has
+/// States that a session that was read is frozen to the bytes from which it was read: a session has
 /// one form.
 pub fn read_is_frozen()
     ensures { ReadIsFrozen }
 {}
 
-/// Shows the bytes of a session with something in every part.
+/// States that a worked example comes out: the bytes of a session with something in every part.
 pub fn full_session_is_frozen()
     ensures { FullSessionIsFrozen }
 {}

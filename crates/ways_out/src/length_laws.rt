@@ -2,8 +2,8 @@
 
 ghost use Rattle.ways_out.specs.Lengths.{WaysAreShort};
 
-/// Says how many messages lead a ballot with this many other members to its start, and how many
-/// answer one command there.
+/// States that five messages lead a ballot to its start, with four more for each member besides its
+/// primary, and that two for each of these answer one command there.
 pub fn ways_are_short()
     ensures { WaysAreShort }
 {}
