@@ -28,7 +28,7 @@ use std::marker::Model;
 /// bytes that it queues for each connection.
 #[derive(Drop)]
 pub struct NodeCore {
-    serving: SteppingNode,
+    stepping: SteppingNode,
     losses: u64,
 }
 
@@ -37,7 +37,7 @@ impl Model for NodeCore {
 
     ghost Value = { CountedCore };
 
-    ghost view = { λ node. record { core = node.serving.core; losses = node.losses } };
+    ghost view = { λ node. record { core = node.stepping.core; losses = node.losses } };
 }
 
 impl NodeCore {
@@ -51,7 +51,7 @@ impl NodeCore {
             ↔ (is_lawful config.now.members config.now.primary ≡ false) }
     {
         Ok(NodeCore {
-            serving: SteppingNode::new(alloc, id, config)?,
+            stepping: SteppingNode::new(alloc, id, config)?,
             losses: 0,
         })
     }
@@ -60,7 +60,7 @@ impl NodeCore {
     pub fn status(&self) -> Status
         ensures { result ≡ status_of self.now.core.replica.state }
     {
-        self.serving.status()
+        self.stepping.status()
     }
 
     /// Returns the commands of the replica's log from its base on: those that are agreed, followed
@@ -71,7 +71,7 @@ impl NodeCore {
         ensures within { self.now.core.replica.state.committed
             ≤ places self.now.core.replica.state.log }
     {
-        self.serving.rest()
+        self.stepping.rest()
     }
 
     /// Returns the base of the replica's log, and the frozen machine at it: no bytes if the base is
@@ -82,7 +82,7 @@ impl NodeCore {
         ensures none { result.0 ≡ 0 → result.1.now ≡ [] }
         ensures applied { result.0 ≤ self.now.core.replica.state.committed }
     {
-        self.serving.snapshot()
+        self.stepping.snapshot()
     }
 
     /// Says whether a proposal would be taken, such as that of an [`Item::Expel`]: the replica is
@@ -90,7 +90,7 @@ impl NodeCore {
     pub fn has_room(&self) -> bool
         ensures { result ≡ has_room self.now.core }
     {
-        self.serving.has_room()
+        self.stepping.has_room()
     }
 
     /// Says whether an [`Item::Cut`] has something to cut: the replica runs, and has applied
@@ -98,7 +98,7 @@ impl NodeCore {
     pub fn can_cut(&self) -> bool
         ensures { result ≡ can_cut self.now.core.replica.state }
     {
-        self.serving.can_cut()
+        self.stepping.can_cut()
     }
 
     /// Returns how many steps ran out of memory (saturates at 2^64 - 1).
@@ -113,14 +113,14 @@ impl NodeCore {
     pub fn has_port(&self, port: Port) -> bool
         ensures { result ≡ is_some (listed_at port self.now.core) }
     {
-        self.serving.has_port(port)
+        self.stepping.has_port(port)
     }
 
     /// Returns the state of a port's connection.
     pub fn standing(&self, port: Port) -> Standing
         ensures { result ≡ standing_of (listed_at port self.now.core) }
     {
-        self.serving.standing(port)
+        self.stepping.standing(port)
     }
 
     /// Says whether the numbers of the ballot are used up, so that no further connection is
@@ -128,7 +128,7 @@ impl NodeCore {
     pub fn is_full(&self) -> bool
         ensures { result ≡ not (is_connection_name (next_name self.now.core)) }
     {
-        self.serving.is_full()
+        self.stepping.is_full()
     }
 
     /// Says whether a message of another node has an effect on the node; one without effect is
@@ -136,7 +136,7 @@ impl NodeCore {
     pub fn heeds(&self, message: &Message<Command>) -> bool
         ensures { (result ≡ false) ↔ DoesNothing (Item.Peer message.now) self.now.core }
     {
-        self.serving.heeds(message)
+        self.stepping.heeds(message)
     }
 
     /// Ignores a message that has no effect on the node: like [`NodeCore::step`] with it, but
@@ -150,10 +150,10 @@ impl NodeCore {
         ensures { Stepped self.old (Item.Peer message.now) self.new
             effects.old.items effects.new.items }
     {
-        self.serving.begin_step();
-        self.serving.pass_over(message, effects);
-        self.losses = counted(self.losses, self.serving.is_out_of_memory());
-        self.serving.settle();
+        self.stepping.begin_step();
+        self.stepping.pass_over(message, effects);
+        self.losses = counted(self.losses, self.stepping.is_out_of_memory());
+        self.stepping.settle();
     }
 
     /// Takes an item and appends the messages to other nodes that follow from it. If memory runs
@@ -162,10 +162,10 @@ impl NodeCore {
     pub fn step(&mut self, item: Item, effects: &mut Vec<Effect<Command, Output>>)
         ensures { Stepped self.old item self.new effects.old.items effects.new.items }
     {
-        self.serving.begin_step();
-        self.serving.act_on(item, effects);
-        self.losses = counted(self.losses, self.serving.is_out_of_memory());
-        self.serving.settle();
+        self.stepping.begin_step();
+        self.stepping.act_on(item, effects);
+        self.losses = counted(self.losses, self.stepping.is_out_of_memory());
+        self.stepping.settle();
     }
 
     /// Appends what was queued for a port and not yet handed over, and says whether more may come:
@@ -185,7 +185,7 @@ impl NodeCore {
         ensures same { OnErr result (self.new ≡ self.old) }
         ensures err { OnErr result (out.new.items ≡ out.old.items) }
     {
-        self.serving.outgoing(port, out)
+        self.stepping.outgoing(port, out)
     }
 
     /// Appends the ports of the connections that are open and have nothing to hand over: for each
@@ -196,7 +196,7 @@ impl NodeCore {
             (ports.new.items ≡ ports.old.items ++ idle_ports self.now.core) }
         ensures err { OnErr result (IsPrefixOf ports.old.items ports.new.items) }
     {
-        self.serving.idle_ports(ports)
+        self.stepping.idle_ports(ports)
     }
 }
 

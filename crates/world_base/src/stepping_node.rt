@@ -62,8 +62,8 @@ impl SteppingNode {
     pub fn new(alloc: Global, id: u8, config: &Config) -> Result<SteppingNode, OpeningError>
         requires low { 1 ≤ id }
         requires high { id ≤ MAX_NODE }
-        ensures ok { IfOk result (λ serving.
-            serving ≡ record { core = opening_core id config.now; out_of_memory = false }) }
+        ensures ok { IfOk result (λ stepping.
+            stepping ≡ record { core = opening_core id config.now; out_of_memory = false }) }
         ensures bad { IsErrOf result OpeningError.BadMembers
             ↔ (is_lawful config.now.members config.now.primary ≡ false) }
     {
