@@ -152,7 +152,7 @@ impl NodeCore {
     {
         self.stepping.begin_step();
         self.stepping.pass_over(message, effects);
-        self.losses = counted(self.losses, self.stepping.is_out_of_memory());
+        self.losses = losses_after(self.losses, self.stepping.is_out_of_memory());
         self.stepping.settle();
     }
 
@@ -164,7 +164,7 @@ impl NodeCore {
     {
         self.stepping.begin_step();
         self.stepping.act_on(item, effects);
-        self.losses = counted(self.losses, self.stepping.is_out_of_memory());
+        self.losses = losses_after(self.losses, self.stepping.is_out_of_memory());
         self.stepping.settle();
     }
 
@@ -201,7 +201,7 @@ impl NodeCore {
 }
 
 // Returns the count of steps in which memory ran out, after one more step.
-fn counted(losses: u64, out_of_memory: bool) -> u64
+fn losses_after(losses: u64, out_of_memory: bool) -> u64
     ensures { result ≡ (if out_of_memory then one_more losses else losses) }
 {
     if out_of_memory {
