@@ -1,10 +1,10 @@
 //! The tables of a broker, and what each command does to them: the steps of MQTT 3.1.1.
 #![tactic(auto)]
 
-mod answers;
 mod applying;
 mod connecting;
 mod expelling;
+mod handshaking;
 mod leaving;
 mod limits;
 mod publishing;
