@@ -24,7 +24,7 @@ ghost use Rattle.packet.specs.Suback.{
 };
 
 use crate::qos::QoS;
-use packet_base::{Item, PacketId, PacketList, Reader, Stop, put_byte, put_number};
+use packet_base::{ListItem, PacketId, PacketList, Reader, Stop, put_byte, put_number};
 use std::alloc::Global;
 
 /// The answer to one filter of a SUBSCRIBE (MQTT 3.9.3).
@@ -58,7 +58,7 @@ impl SubackCode {
     }
 }
 
-impl Item for SubackCode {
+impl ListItem for SubackCode {
     ghost spelled = { granted };
 
     ghost item_at = { granted_at };

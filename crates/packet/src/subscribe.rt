@@ -23,7 +23,7 @@ ghost use Rattle.packet.specs.Subscribe.{
 
 use crate::qos::QoS;
 use packet_base::topics::Filter;
-use packet_base::{Item, PacketId, PacketList, Reader, Stop, put_byte, put_number, put_text};
+use packet_base::{ListItem, PacketId, PacketList, Reader, Stop, put_byte, put_number, put_text};
 use std::alloc::{AllocError, Global};
 
 /// A filter that a client subscribes to, and the greatest QoS at which it is to be sent
@@ -47,7 +47,7 @@ impl Clone for Subscription {
     }
 }
 
-impl Item for Subscription {
+impl ListItem for Subscription {
     ghost use Rattle.packet.specs.Subscribe.{FitsSubscription};
 
     ghost spelled = { subscription };

@@ -22,7 +22,7 @@ use topics::Filter;
 
 /// An item of a list that fills the rest of a body, such as a filter of an UNSUBSCRIBE (MQTT 3.8.3,
 /// 3.9.3, 3.10.3). Each is read and written on its own, and takes at least one byte.
-pub trait Item: Drop {
+pub trait ListItem: Drop {
     // The bytes of an item, how one is read from the front of bytes, and what holds for each item
     // in a program.
     ghost spelled: { Self → List ℕ };
@@ -51,7 +51,7 @@ pub trait Item: Drop {
         ensures { Fits self.now };
 }
 
-impl Item for Filter {
+impl ListItem for Filter {
     ghost use Rattle.std.specs.Prelude.{IsTrue};
     ghost use Rattle.topics.specs.Text.{is_filter};
     ghost use Rattle.packet_base.specs.Spelling.{text};

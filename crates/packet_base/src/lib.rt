@@ -13,7 +13,7 @@ mod stop;
 mod writing;
 
 pub use header::{DeliveryFlags, Header};
-pub use item::Item;
+pub use item::ListItem;
 pub use packet_id::PacketId;
 pub use packet_list::PacketList;
 pub use reader::Reader;

@@ -18,7 +18,7 @@ ghost use Rattle.packet_base.specs.Outcome.{Gives, IsOutOfMemory};
 ghost use Rattle.packet_base.specs.Reading.{byte_at};
 ghost use Rattle.packet_base.specs.Lists.{items_at, list_of};
 
-use crate::item::Item;
+use crate::item::ListItem;
 use crate::reader::Reader;
 use crate::stop::Stop;
 use std::alloc::{AllocError, Global};
@@ -56,7 +56,7 @@ impl<T> PacketList<T> {
     }
 }
 
-impl<T: Item> PacketList<T> {
+impl<T: ListItem> PacketList<T> {
     /// Reads items to the end of the body. An empty list is `Shape`, and takes no memory (MQTT
     /// 3.8.3, 3.9.3, 3.10.3).
     pub fn read(alloc: Global, body: &mut Reader) -> Result<PacketList<T>, Stop>
@@ -102,7 +102,7 @@ impl<T: Item> PacketList<T> {
 }
 
 // Reads items to the end of the body.
-fn read_items<T: Item>(alloc: Global, body: &mut Reader) -> Result<Vec<T>, Stop>
+fn read_items<T: ListItem>(alloc: Global, body: &mut Reader) -> Result<Vec<T>, Stop>
     ensures exact { Gives (λ x. x.items) result (items_at T.item_at body.old) }
     ensures memory { IsOutOfMemory result → IsOk (byte_at body.old) }
 {

@@ -6,5 +6,5 @@ use Rattle.packet_base.proofs.packet_list.read_items.Given as goal
 
 abbrev pub invariant-loop : goal.invariant-loop
 invariant-loop g l =
-    prefixed l.items.items (left_after g.T.Item.item_at l.end l.counter l.body)
-    ≡ items_at g.T.Item.item_at l.fn.body
+    prefixed l.items.items (left_after g.T.ListItem.item_at l.end l.counter l.body)
+    ≡ items_at g.T.ListItem.item_at l.fn.body

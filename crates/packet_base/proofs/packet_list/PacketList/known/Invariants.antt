@@ -4,4 +4,4 @@ use Rattle.std.specs.List.{All}
 use Rattle.packet_base.proofs.packet_list.PacketList.known.Given as goal
 
 abbrev pub invariant-loop-item : goal.invariant-loop-item
-invariant-loop-item g l = All g.T.Item.Fits (take l.item-index l.item-items)
+invariant-loop-item g l = All g.T.ListItem.Fits (take l.item-index l.item-items)

@@ -5,4 +5,4 @@ use Rattle.packet_base.proofs.packet_list.PacketList.len_after.Given as goal
 
 abbrev pub invariant-loop-item : goal.invariant-loop-item
 invariant-loop-item g l =
-    l.len ≡ min (l.fn.before + length (flat_map g.T.Item.spelled (take l.item-index l.item-items))) (2 ^ 64 - 1)
+    l.len ≡ min (l.fn.before + length (flat_map g.T.ListItem.spelled (take l.item-index l.item-items))) (2 ^ 64 - 1)
