@@ -30,17 +30,17 @@ joins_more (q ∷ ps) bytes more p (front, rest, sq, kq, e, j) s k =
     (front, rest ++ more, sq, kq, ap (λ z. z ++ more) e ∙ append_assoc front rest more, joins_more ps rest more p j s k)
 
 pub pipe_grows : PipeGrows
-pipe_grows written handled s under_way bytes p h spelled packet =
+pipe_grows written handled s in_transit bytes p h spelled packet =
     record {
       rest = h.rest ++ p ∷ [];
       is = ap (λ z. z ++ p ∷ []) h.is ∙ append_assoc handled h.rest (p ∷ []);
-      joined = subst (Joins (h.rest ++ p ∷ [])) (append_assoc s.bytes under_way bytes) (joins_more h.rest (s.bytes ++ under_way) bytes p h.joined spelled packet);
+      joined = subst (Joins (h.rest ++ p ∷ [])) (append_assoc s.bytes in_transit bytes) (joins_more h.rest (s.bytes ++ in_transit) bytes p h.joined spelled packet);
       sound = h.sound;
     }
 
 pub pipe_carries : PipeCarries
-pipe_carries written handled s piece under_way h =
-    record { rest = h.rest; is = h.is; joined = subst (Joins h.rest) (sym (append_assoc s.bytes piece under_way)) h.joined; sound = h.sound }
+pipe_carries written handled s piece in_transit h =
+    record { rest = h.rest; is = h.is; joined = subst (Joins h.rest) (sym (append_assoc s.bytes piece in_transit)) h.joined; sound = h.sound }
 
 -- ---- taking
 
@@ -52,15 +52,15 @@ nothing_there p [] rest s e = let h = s.2 in cc
 nothing_there p (first ∷ front) rest s e = no_bytes first (front ++ rest) e
 
 pub pipe_gives : PipeGives
-pipe_gives written handled s t under_way p h takes = by h.rest h.is h.joined takes.2
+pipe_gives written handled s t in_transit p h takes = by h.rest h.is h.joined takes.2
   where
-    by : (rest : List Packet) → written ≡ handled ++ rest → Joins rest (s.bytes ++ under_way) → GoesOnWith s.bytes p t.bytes → IsPiped written (handled ++ p ∷ []) t under_way
+    by : (rest : List Packet) → written ≡ handled ++ rest → Joins rest (s.bytes ++ in_transit) → GoesOnWith s.bytes p t.bytes → IsPiped written (handled ++ p ∷ []) t in_transit
     by [] is j (front, sp, kp, e) =
-        absurd (nothing_there p front (t.bytes ++ under_way) sp (sym (append_assoc front t.bytes under_way) ∙ ap (λ z. z ++ under_way) (sym e) ∙ j))
+        absurd (nothing_there p front (t.bytes ++ in_transit) sp (sym (append_assoc front t.bytes in_transit) ∙ ap (λ z. z ++ in_transit) (sym e) ∙ j))
     by (q ∷ rest) is (other, left, sq, kq, eq, j) (front, sp, kp, e) =
-        let same : front ++ (t.bytes ++ under_way) ≡ other ++ left = sym (append_assoc front t.bytes under_way) ∙ ap (λ z. z ++ under_way) (sym e) ∙ eq in
-        let one = none_begins p q front other (t.bytes ++ under_way) left kp kq sp sq same in
-        let left_is : t.bytes ++ under_way ≡ left = append_cancel_left front (t.bytes ++ under_way) left (same ∙ ap (λ z. z ++ left) (sym one.1)) in
+        let same : front ++ (t.bytes ++ in_transit) ≡ other ++ left = sym (append_assoc front t.bytes in_transit) ∙ ap (λ z. z ++ in_transit) (sym e) ∙ eq in
+        let one = none_begins p q front other (t.bytes ++ in_transit) left kp kq sp sq same in
+        let left_is : t.bytes ++ in_transit ≡ left = append_cancel_left front (t.bytes ++ in_transit) left (same ∙ ap (λ z. z ++ left) (sym one.1)) in
         record {
           rest = rest;
           is = is ∙ ap (λ x. handled ++ x ∷ rest) (sym one.0) ∙ sym (append_assoc handled (p ∷ []) rest);
@@ -76,8 +76,8 @@ stands_next [] rest p = refl
 stands_next (q ∷ ps) rest p = stands_next ps rest p
 
 pub pipe_gives_next : PipeGivesNext
-pipe_gives_next written handled s t under_way p piped takes =
-    let after = pipe_gives written handled s t under_way p piped takes in
+pipe_gives_next written handled s t in_transit p piped takes =
+    let after = pipe_gives written handled s t in_transit p piped takes in
     ap (λ l. slice_get l (length handled)) after.is ∙ stands_next handled after.rest p
 
 abbrev pub fault_of : DecodeFault → Stop
@@ -102,14 +102,14 @@ same_stop x y e = cc
 two_kinds : {A : Type 0} (a : A) (x : Stop) → (let b : Result A Stop = Ok a in b) ≡ Err x → ⊥
 two_kinds a x e = cc
 
-no_fault : (rest : List Packet) (held under_way : List ℕ) (fault : DecodeFault) → Joins rest (held ++ under_way) → IsFault fault held → ⊥
-no_fault [] [] under_way fault j f = not_more fault (same_stop (fault_of fault) stops.More (sym (fault_says fault [] f) ∙ is_more))
-no_fault [] (first ∷ held) under_way fault j f = no_bytes first (held ++ under_way) j
-no_fault (p ∷ rest) held under_way fault (front, left, sp, kp, e, j) f =
-    let stays = faults_stay_so held under_way (fault_of fault) (not_more fault) (fault_says fault held f) in
+no_fault : (rest : List Packet) (held in_transit : List ℕ) (fault : DecodeFault) → Joins rest (held ++ in_transit) → IsFault fault held → ⊥
+no_fault [] [] in_transit fault j f = not_more fault (same_stop (fault_of fault) stops.More (sym (fault_says fault [] f) ∙ is_more))
+no_fault [] (first ∷ held) in_transit fault j f = no_bytes first (held ++ in_transit) j
+no_fault (p ∷ rest) held in_transit fault (front, left, sp, kp, e, j) f =
+    let stays = faults_stay_so held in_transit (fault_of fault) (not_more fault) (fault_says fault held f) in
     two_kinds (p, left) (fault_of fault) (sym (ap verdict e ∙ verdict_again p front left kp sp) ∙ stays)
 
 pub pipe_has_no_fault : PipeHasNoFault
-pipe_has_no_fault written handled s t under_way (errors.Decode fault) h takes = absurd (no_fault h.rest s.bytes under_way fault h.joined takes.1)
-pipe_has_no_fault written handled s t under_way errors.Memory h takes = refl
-pipe_has_no_fault written handled s t under_way errors.Failed h takes = absurd (both_ways s.failed h.sound takes.0)
+pipe_has_no_fault written handled s t in_transit (errors.Decode fault) h takes = absurd (no_fault h.rest s.bytes in_transit fault h.joined takes.1)
+pipe_has_no_fault written handled s t in_transit errors.Memory h takes = refl
+pipe_has_no_fault written handled s t in_transit errors.Failed h takes = absurd (both_ways s.failed h.sound takes.0)

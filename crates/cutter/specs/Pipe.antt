@@ -15,10 +15,10 @@ Joins (p ∷ ps) bytes =
 
 -- The packets written on one side are those handled on the other, followed by those in the bytes
 -- that the cutter holds and that are still in transit. No fault was found.
-pub record IsPiped (written handled : List Packet) (s : Stream) (under_way : List ℕ) : Type 0 where
+pub record IsPiped (written handled : List Packet) (s : Stream) (in_transit : List ℕ) : Type 0 where
   pub rest : List Packet
   pub is : written ≡ handled ++ rest
-  pub joined : Joins rest (s.bytes ++ under_way)
+  pub joined : Joins rest (s.bytes ++ in_transit)
   pub sound : s.failed ≡ false
 
 -- nothing is written yet
@@ -28,34 +28,34 @@ PipeOpens = IsPiped [] [] (record { bytes = []; failed = false }) []
 -- a packet is written: its spelling is added at the far end
 abbrev pub PipeGrows : Type 0
 PipeGrows =
-    (written handled : List Packet) (s : Stream) (under_way bytes : List ℕ) (p : Packet)
-    → IsPiped written handled s under_way
-    → Spells p bytes → IsPacket p → IsPiped (written ++ p ∷ []) handled s (under_way ++ bytes)
+    (written handled : List Packet) (s : Stream) (in_transit bytes : List ℕ) (p : Packet)
+    → IsPiped written handled s in_transit
+    → Spells p bytes → IsPacket p → IsPiped (written ++ p ∷ []) handled s (in_transit ++ bytes)
 
 -- bytes are carried, cut anywhere
 abbrev pub PipeCarries : Type 0
 PipeCarries =
-    (written handled : List Packet) (s : Stream) (piece under_way : List ℕ)
-    → IsPiped written handled s (piece ++ under_way)
-    → IsPiped written handled (record s { bytes = s.bytes ++ piece }) under_way
+    (written handled : List Packet) (s : Stream) (piece in_transit : List ℕ)
+    → IsPiped written handled s (piece ++ in_transit)
+    → IsPiped written handled (record s { bytes = s.bytes ++ piece }) in_transit
 
 -- the next packet that the cutter gives is the next one written
 abbrev pub PipeGives : Type 0
 PipeGives =
-    (written handled : List Packet) (s t : Stream) (under_way : List ℕ) (p : Packet)
-    → IsPiped written handled s under_way
-    → Takes s (Ok (Some p)) t → IsPiped written (handled ++ p ∷ []) t under_way
+    (written handled : List Packet) (s t : Stream) (in_transit : List ℕ) (p : Packet)
+    → IsPiped written handled s in_transit
+    → Takes s (Ok (Some p)) t → IsPiped written (handled ++ p ∷ []) t in_transit
 
 -- after n packets that were handled, the cutter gives the one that was written at index n
 abbrev pub PipeGivesNext : Type 0
 PipeGivesNext =
-    (written handled : List Packet) (s t : Stream) (under_way : List ℕ) (p : Packet)
-    → IsPiped written handled s under_way
+    (written handled : List Packet) (s t : Stream) (in_transit : List ℕ) (p : Packet)
+    → IsPiped written handled s in_transit
     → Takes s (Ok (Some p)) t → slice_get written (length handled) ≡ Some p
 
 -- the cutter of a pipe never answers a fault
 abbrev pub PipeHasNoFault : Type 0
 PipeHasNoFault =
-    (written handled : List Packet) (s t : Stream) (under_way : List ℕ) (error : CutError)
-    → IsPiped written handled s under_way
+    (written handled : List Packet) (s t : Stream) (in_transit : List ℕ) (error : CutError)
+    → IsPiped written handled s in_transit
     → Takes s (Err error) t → error ≡ errors.Memory

@@ -116,15 +116,15 @@ no_stop rest held later code joined e = by rest joined
     by [] j = let f = sym (ap verdict j) ∙ stays in cc
     by (p ∷ ps) (front, left, sp, kp, is, j) = let f = sym (ap verdict is ∙ verdict_again p front left kp sp) ∙ stays in cc
 
-exactly_refused : (x : ConnectionName) (core : CoreState) (turn : Turn) (m : Moves core turn) (written read : List Packet) (under_way : List ℕ) → IsOrderly core
-    → IsEnd x core written read under_way → exactly_refusal x m ≡ []
-exactly_refused x core turn (refuses port c code at first is) written read under_way o end = by (same_connection c.name x) refl
+exactly_refused : (x : ConnectionName) (core : CoreState) (turn : Turn) (m : Moves core turn) (written read : List Packet) (in_transit : List ℕ) → IsOrderly core
+    → IsEnd x core written read in_transit → exactly_refusal x m ≡ []
+exactly_refused x core turn (refuses port c code at first is) written read in_transit o end = by (same_connection c.name x) refl
   where
-    there : named x c ≡ true → IsEnd x core written read under_way → ⊥
+    there : named x c ≡ true → IsEnd x core written read in_transit → ⊥
     there named_so (not_yet below none piped) = not_both core.last_name x below (subst (IsGiven core.last_name) (same_name c.name x named_so) (found_given core port c o at))
     there named_so (is_open d given found stage piped) =
         let same : c ≡ d = one c d (sym (found_open x core port c o at named_so) ∙ found) in
-        no_stop piped.rest d.unread under_way code piped.joined (ap (λ (z : Connection). verdict z.unread) (sym same) ∙ is)
+        no_stop piped.rest d.unread in_transit code piped.joined (ap (λ (z : Connection). verdict z.unread) (sym same) ∙ is)
       where
         one : (a b : Connection) → (let q : Option Connection = Some a in q) ≡ Some b → a ≡ b
         one a b e = cc
@@ -133,9 +133,9 @@ exactly_refused x core turn (refuses port c code at first is) written read under
     by : (b : Bool) → same_connection c.name x ≡ b → (exactly_refusal x (let k : Moves core turn = refuses port c code at first is in k)) ≡ []
     by true e = absurd (there e end)
     by false e = rw e refl
-exactly_refused x core turn m written read under_way o end = refl
+exactly_refused x core turn m written read in_transit o end = refl
 
-pub none_refused : (x : ConnectionName) (core : CoreState) (turn : Turn) (m : LossyMoves core turn) (written read : List Packet) (under_way : List ℕ) → IsOrderly core
-    → IsEnd x core written read under_way → refusal_in x m ≡ []
-none_refused x core turn (exactly m) written read under_way o end = exactly_refused x core turn m written read under_way o end
-none_refused x core turn m written read under_way o end = refl
+pub none_refused : (x : ConnectionName) (core : CoreState) (turn : Turn) (m : LossyMoves core turn) (written read : List Packet) (in_transit : List ℕ) → IsOrderly core
+    → IsEnd x core written read in_transit → refusal_in x m ≡ []
+none_refused x core turn (exactly m) written read in_transit o end = exactly_refused x core turn m written read in_transit o end
+none_refused x core turn m written read in_transit o end = refl

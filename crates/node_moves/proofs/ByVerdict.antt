@@ -16,20 +16,20 @@ no_packet p rest e = cc
 same_packet : (a b : Packet × List ℕ) → (let r : Result (Packet × List ℕ) Stop = Ok a in r) ≡ Ok b → a ≡ b
 same_packet a b e = cc
 
-longer_read : (held under_way rest : List ℕ) (p : Packet) → verdict held ≡ Ok (p, rest) → verdict (held ++ under_way) ≡ Ok (p, rest ++ under_way)
-longer_read held under_way rest p e = subst (λ (r : Result (Packet × List ℕ) Stop). StandsWithMore under_way r (verdict (held ++ under_way))) e (verdict_grows held under_way)
+longer_read : (held in_transit rest : List ℕ) (p : Packet) → verdict held ≡ Ok (p, rest) → verdict (held ++ in_transit) ≡ Ok (p, rest ++ in_transit)
+longer_read held in_transit rest p e = subst (λ (r : Result (Packet × List ℕ) Stop). StandsWithMore in_transit r (verdict (held ++ in_transit))) e (verdict_grows held in_transit)
 
-pub gives_next : (written read : List Packet) (held under_way rest : List ℕ) (p : Packet) → IsPiped written read (stream_of held) under_way → verdict held ≡ Ok (p, rest)
-    → IsPiped written (read ++ p ∷ []) (stream_of rest) under_way
-gives_next written read held under_way rest p h e = by h.rest h.is h.joined
+pub gives_next : (written read : List Packet) (held in_transit rest : List ℕ) (p : Packet) → IsPiped written read (stream_of held) in_transit → verdict held ≡ Ok (p, rest)
+    → IsPiped written (read ++ p ∷ []) (stream_of rest) in_transit
+gives_next written read held in_transit rest p h e = by h.rest h.is h.joined
   where
-    whole : verdict (held ++ under_way) ≡ Ok (p, rest ++ under_way)
-    whole = longer_read held under_way rest p e
+    whole : verdict (held ++ in_transit) ≡ Ok (p, rest ++ in_transit)
+    whole = longer_read held in_transit rest p e
 
-    by : (more : List Packet) → written ≡ read ++ more → Joins more (held ++ under_way) → IsPiped written (read ++ p ∷ []) (stream_of rest) under_way
-    by [] is j = absurd (no_packet p (rest ++ under_way) (sym (ap verdict j) ∙ whole))
+    by : (more : List Packet) → written ≡ read ++ more → Joins more (held ++ in_transit) → IsPiped written (read ++ p ∷ []) (stream_of rest) in_transit
+    by [] is j = absurd (no_packet p (rest ++ in_transit) (sym (ap verdict j) ∙ whole))
     by (q ∷ more) is (front, left, sq, kq, eq, j) =
-        let same = same_packet (p, rest ++ under_way) (q, left) (sym whole ∙ ap verdict eq ∙ verdict_again q front left kq sq) in
+        let same = same_packet (p, rest ++ in_transit) (q, left) (sym whole ∙ ap verdict eq ∙ verdict_again q front left kq sq) in
         record {
           rest = more;
           is = is ∙ ap (λ (x : Packet × List ℕ). read ++ x.0 ∷ more) (sym same) ∙ sym (append_assoc read (p ∷ []) more);

@@ -74,14 +74,14 @@ none_more x {turn = turn} m written read later end none =
 
 abbrev ReadsAll : {core : CoreState} {turn : Turn} → LossyMoves core turn → Type 0
 ReadsAll {core = core} {turn = turn} m = IsOrderly turn.core
-    × ((x : ConnectionName) (written read : List Packet) (under_way later : List ℕ) → IsEnd x core written read under_way → under_way ≡ came_on x m ++ later
+    × ((x : ConnectionName) (written read : List Packet) (in_transit later : List ℕ) → IsEnd x core written read in_transit → in_transit ≡ came_on x m ++ later
     → ReadsOn x m written read later)
 
 stays_reads : {core : CoreState} {turn : Turn} (m : LossyMoves core turn) → Stays core turn.core → ((x : ConnectionName) → came_on x m ≡ [])
     → ((x : ConnectionName) → filter (λ command. is_packet_of command x) (proposal_of m) ≡ []) → ReadsAll m
 stays_reads {core = core} {turn = turn} m s no_bytes none = (
   s.orderly,
-  λ x written read under_way later end same.
+  λ x written read in_transit later end same.
       none_more x m written read later
       (end_kept x core turn.core written read later
       (subst (IsEnd x core written read) (same ∙ ap (λ (l : List ℕ). l ++ later) (no_bytes x)) end) (s.kept x) s.last) (none x),
@@ -105,7 +105,7 @@ first_reads : (now : ℕ) (core : CoreState) (port : Port) (c : Connection) (con
     (taken : Takes (commands.Connect c.name connect.client connect.clean) (changes port (asked connect.keep_alive) (changes port (left_with now rest) core)) did) → IsOrderly core
     → ReadsAll (first_move now core port c connect rest did at first reads taken)
 first_reads now core port c connect rest did at first reads taken o =
-    (s.orderly, λ x written read under_way rest_of end same. by x written read rest_of (subst (IsEnd x core written read) same end) (named x c) refl)
+    (s.orderly, λ x written read in_transit rest_of end same. by x written read rest_of (subst (IsEnd x core written read) same end) (named x c) refl)
   where
     command : Command
     command = commands.Connect c.name connect.client connect.clean
@@ -134,7 +134,7 @@ later_reads : (now : ℕ) (core : CoreState) (port : Port) (c : Connection) (pac
     (reads : verdict c.unread ≡ Ok (packet, rest)) (taken : Takes (commands.Packet c.name packet) (changes port (left_with now rest) core) did) → IsOrderly core
     → ReadsAll (later_move now core port c packet rest did at later reads taken)
 later_reads now core port c packet rest did at later reads taken o =
-    (s.orderly, λ x written read under_way rest_of end same. by x written read rest_of (subst (IsEnd x core written read) same end) (named x c) refl)
+    (s.orderly, λ x written read in_transit rest_of end same. by x written read rest_of (subst (IsEnd x core written read) same end) (named x c) refl)
   where
     command : Command
     command = commands.Packet c.name packet
@@ -162,10 +162,10 @@ later_reads now core port c packet rest did at later reads taken o =
 -- ---- bytes are dropped
 
 -- the connection by a port is closed: of one of its name nothing more is read
-closed_end : (x : ConnectionName) (core later : CoreState) (port : Port) (written read : List Packet) (under_way rest : List ℕ) (c : Connection) → IsOrderly core → open_at port core ≡ Some c
-    → named x c ≡ true → open_named x later ≡ None → later.last_name ≡ core.last_name → IsEnd x core written read under_way → IsEnd x later written read rest
-closed_end x core later port written read under_way rest c o at is gone same end =
-    is_over (subst (λ (y : ConnectionName). IsGiven y x) (sym same) given) gone (front_of x core written read under_way end)
+closed_end : (x : ConnectionName) (core later : CoreState) (port : Port) (written read : List Packet) (in_transit rest : List ℕ) (c : Connection) → IsOrderly core → open_at port core ≡ Some c
+    → named x c ≡ true → open_named x later ≡ None → later.last_name ≡ core.last_name → IsEnd x core written read in_transit → IsEnd x later written read rest
+closed_end x core later port written read in_transit rest c o at is gone same end =
+    is_over (subst (λ (y : ConnectionName). IsGiven y x) (sym same) given) gone (front_of x core written read in_transit end)
   where
     given : IsGiven core.last_name x
     given = subst (IsGiven core.last_name) (same_name c.name x is) (found_given core port c o at)
@@ -198,7 +198,7 @@ drop_reads : (core : CoreState) (port : Port) (piece : List ℕ) → IsOrderly c
 drop_reads core port piece o =
     let s = stays_at port closed core o closed_is_mild in (
       s.orderly,
-      λ x written read under_way later end same.
+      λ x written read in_transit later end same.
           none_more x (drop_move core port piece) written read later
           (dropped_end x core port piece written read later o s (open_at port core) refl (subst (IsEnd x core written read) same end)) refl,
     )
@@ -209,8 +209,8 @@ exact_reads : {core : CoreState} {turn : Turn} (m : Moves core turn) → IsOrder
 exact_reads {core = core} {turn = turn} m o =
     let r = nodes_read_in_order core turn m o in (
       r.0,
-      λ x written read under_way later end same.
-          let z = r.1 x written read under_way later end same in record { more = z.more; end = z.end; proposed = z.proposed },
+      λ x written read in_transit later end same.
+          let z = r.1 x written read in_transit later end same in record { more = z.more; end = z.end; proposed = z.proposed },
     )
 
 pub losses_read_in_order : LossesReadInOrder

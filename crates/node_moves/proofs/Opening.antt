@@ -53,9 +53,9 @@ opened_orderly port core later o h =
     alone : (x : ConnectionName) → next_name core ≡ x → Each (λ c. named x c ≡ false) core.connections
     alone x same = subst (λ (y : ConnectionName). Each (λ c. named y c ≡ false) core.connections) same (none_named (next_name core) core o next)
 
-opened_end : (x : ConnectionName) (port : Port) (core later : CoreState) (written read : List Packet) (under_way : List ℕ) → IsOrderly core → IsOpened port core later
-    → IsEnd x core written read under_way → IsEnd x later written read under_way
-opened_end x port core later written read under_way o h end = by end (cases_Bool (same_connection (next_name core) x))
+opened_end : (x : ConnectionName) (port : Port) (core later : CoreState) (written read : List Packet) (in_transit : List ℕ) → IsOrderly core → IsOpened port core later
+    → IsEnd x core written read in_transit → IsEnd x later written read in_transit
+opened_end x port core later written read in_transit o h end = by end (cases_Bool (same_connection (next_name core) x))
   where
     new : Connection
     new = fresh port (next_name core)
@@ -80,17 +80,17 @@ opened_end x port core later written read under_way o h end = by end (cases_Bool
     was_given : same_connection (next_name core) x ≡ true → IsGiven core.last_name x → ⊥
     was_given e given = not_both core.last_name x (subst (Precedes core.last_name) (same_name (next_name core) x e) next) given
 
-    by : IsEnd x core written read under_way → (same_connection (next_name core) x ≡ true) ⊎ (same_connection (next_name core) x ≡ false)
-        → IsEnd x later written read under_way
+    by : IsEnd x core written read in_transit → (same_connection (next_name core) x ≡ true) ⊎ (same_connection (next_name core) x ≡ false)
+        → IsEnd x later written read in_transit
     by (not_yet below none piped) (inl e) =
         let same = same_name (next_name core) x e in
         is_open new (subst (λ (y : ConnectionName). IsGiven y x) (sym (h.last ∙ same)) (last_given x)) (there_now same) (sym (ap is_nothing none))
-        (subst (λ (ps : List Packet). IsPiped written ps (stream_of []) under_way) (sym none) piped)
+        (subst (λ (ps : List Packet). IsPiped written ps (stream_of []) in_transit) (sym none) piped)
     by (is_open c given is first piped) (inl e) = absurd (was_given e given)
     by (is_over given is front) (inl e) = absurd (was_given e given)
     by (not_yet below none piped) (inr other) = come_or_given (cases_name later.last_name x)
       where
-        come_or_given : Precedes later.last_name x ⊎ IsGiven later.last_name x → IsEnd x later written read under_way
+        come_or_given : Precedes later.last_name x ⊎ IsGiven later.last_name x → IsEnd x later written read in_transit
         come_or_given (inl still_below) = not_yet still_below none piped
         come_or_given (inr given) =
             is_over given (as_before other ∙ none_in_view live (named x) core.connections (none_named x core o below))
@@ -101,7 +101,7 @@ opened_end x port core later written read under_way o h end = by end (cases_Bool
 -- what holds after an opening, whether it was refused or not
 pub record OpensWell (core later : CoreState) : Type 0 where
   pub orderly : IsOrderly later
-  pub end : (x : ConnectionName) (written read : List Packet) (under_way : List ℕ) → IsEnd x core written read under_way → IsEnd x later written read under_way
+  pub end : (x : ConnectionName) (written read : List Packet) (in_transit : List ℕ) → IsEnd x core written read in_transit → IsEnd x later written read in_transit
 
 pub opens_well : (port : Port) (core : CoreState) → IsOrderly core → OpensWell core (opens port core)
 unfolding opens
@@ -113,8 +113,8 @@ opens_well port core o = by ((serves core && not (list_any (is_at port) core.con
     by : (b : Bool) → OpensWell core (if b then opened else core)
     by true =
         let h : IsOpened port core opened = record { are = refl; last = refl; joined = refl } in
-        record { orderly = opened_orderly port core opened o h; end = λ x written read under_way end. opened_end x port core opened written read under_way o h end }
-    by false = record { orderly = o; end = λ x written read under_way end. end }
+        record { orderly = opened_orderly port core opened o h; end = λ x written read in_transit end. opened_end x port core opened written read in_transit o h end }
+    by false = record { orderly = o; end = λ x written read in_transit end. end }
 
 -- an open connection stays as it is if another is opened
 pub open_stays : (x : ConnectionName) (port : Port) (core : CoreState) (c : Connection) → IsOrderly core → open_named x core ≡ Some c

@@ -48,13 +48,13 @@ one_then x {next = next} m run written read between later one two =
           ∙ sym (commands_join x (length read) one.more two.more);
     }
 
-runs_read : (x : ConnectionName) {core : CoreState} {turn : Turn} (run : Runs core turn) (written read : List Packet) (under_way later : List ℕ) → IsOrderly core
-    → IsEnd x core written read under_way → under_way ≡ bytes_on x run ++ later → ReadsThrough x run written read later
-runs_read x {core = core} rests written read under_way later o end same =
+runs_read : (x : ConnectionName) {core : CoreState} {turn : Turn} (run : Runs core turn) (written read : List Packet) (in_transit later : List ℕ) → IsOrderly core
+    → IsEnd x core written read in_transit → in_transit ≡ bytes_on x run ++ later → ReadsThrough x run written read later
+runs_read x {core = core} rests written read in_transit later o end same =
     record { more = []; end = subst (λ (ps : List Packet). IsEnd x core written ps later) (sym (append-nil read)) (subst (IsEnd x core written read) same end); proposed = refl }
-runs_read x {core = core} (goes_on {first = first} m run) written read under_way later o end same =
+runs_read x {core = core} (goes_on {first = first} m run) written read in_transit later o end same =
     let all = nodes_read_in_order core first m o in
-    let one = all.1 x written read under_way (bytes_on x run ++ later) end (same ∙ append_assoc (came_on x m) (bytes_on x run) later) in
+    let one = all.1 x written read in_transit (bytes_on x run ++ later) end (same ∙ append_assoc (came_on x m) (bytes_on x run) later) in
     one_then x m run written read (bytes_on x run ++ later) later one
     (runs_read x run written (read ++ one.more) (bytes_on x run ++ later) later all.0 one.end refl)
 

@@ -34,25 +34,25 @@ use Rattle.node_moves.proofs.Kept.Kept.{never, still, ended}
 
 -- ---- moves that read nothing
 
-pub end_kept : (x : ConnectionName) (core later : CoreState) (written read : List Packet) (under_way : List ℕ) → IsEnd x core written read under_way
-    → Kept (open_named x core) (open_named x later) → later.last_name ≡ core.last_name → IsEnd x later written read under_way
-end_kept x core later written read under_way (not_yet below none piped) kept same = not_yet (subst (λ (y : ConnectionName). Precedes y x) (sym same) below) none piped
-end_kept x core later written read under_way (is_open c given is first piped) kept same = by (open_named x core) (open_named x later) kept is refl
+pub end_kept : (x : ConnectionName) (core later : CoreState) (written read : List Packet) (in_transit : List ℕ) → IsEnd x core written read in_transit
+    → Kept (open_named x core) (open_named x later) → later.last_name ≡ core.last_name → IsEnd x later written read in_transit
+end_kept x core later written read in_transit (not_yet below none piped) kept same = not_yet (subst (λ (y : ConnectionName). Precedes y x) (sym same) below) none piped
+end_kept x core later written read in_transit (is_open c given is first piped) kept same = by (open_named x core) (open_named x later) kept is refl
   where
     within : IsGiven later.last_name x
     within = subst (λ (y : ConnectionName). IsGiven y x) (sym same) given
 
-    by : (o p : Option Connection) → Kept o p → o ≡ Some c → open_named x later ≡ p → IsEnd x later written read under_way
+    by : (o p : Option Connection) → Kept o p → o ≡ Some c → open_named x later ≡ p → IsEnd x later written read in_transit
     by None None never e f = absurd (some_none c (sym e))
     by None (Some later_d) z e f = elim z [ ]
     by (Some d) (Some later_d) (still s u) e f =
         let one = same_some d c e in
         is_open later_d within f (ap is_first s ∙ ap (λ (z : Connection). is_first z.stage) one ∙ first)
-        (subst (λ (l : List ℕ). IsPiped written read (stream_of l) under_way) (sym (u ∙ ap (λ (z : Connection). z.unread) one)) piped)
+        (subst (λ (l : List ℕ). IsPiped written read (stream_of l) in_transit) (sym (u ∙ ap (λ (z : Connection). z.unread) one)) piped)
     by (Some d) None ended e f = is_over within f (record { rest = piped.rest; is = piped.is })
-end_kept x core later written read under_way (is_over given is front) kept same = by (open_named x core) (open_named x later) kept is refl
+end_kept x core later written read in_transit (is_over given is front) kept same = by (open_named x core) (open_named x later) kept is refl
   where
-    by : (o p : Option Connection) → Kept o p → o ≡ None → open_named x later ≡ p → IsEnd x later written read under_way
+    by : (o p : Option Connection) → Kept o p → o ≡ None → open_named x later ≡ p → IsEnd x later written read in_transit
     by None (Some later_d) z e f = elim z [ ]
     by None None never e f = is_over (subst (λ (y : ConnectionName). IsGiven y x) (sym same) given) f front
     by (Some d) (Some later_d) (still s u) e f = absurd (some_none d e)
@@ -67,14 +67,14 @@ none_more x {turn = turn} m written read later end none =
 -- what holds for each connection in a move
 abbrev ReadsAll : {core : CoreState} {turn : Turn} → Moves core turn → Type 0
 ReadsAll {core = core} {turn = turn} m = IsOrderly turn.core
-    × ((x : ConnectionName) (written read : List Packet) (under_way later : List ℕ) → IsEnd x core written read under_way → under_way ≡ came_on x m ++ later
+    × ((x : ConnectionName) (written read : List Packet) (in_transit later : List ℕ) → IsEnd x core written read in_transit → in_transit ≡ came_on x m ++ later
     → ReadsOn x m written read later)
 
 stays_reads : {core : CoreState} {turn : Turn} (m : Moves core turn) → Stays core turn.core → ((x : ConnectionName) → came_on x m ≡ [])
     → ((x : ConnectionName) → filter (λ command. is_packet_of command x) (proposal_of m) ≡ []) → ReadsAll m
 stays_reads {core = core} {turn = turn} m s no_bytes none = (
   s.orderly,
-  λ x written read under_way later end same.
+  λ x written read in_transit later end same.
       none_more x m written read later
       (end_kept x core turn.core written read later
       (subst (IsEnd x core written read) (same ∙ ap (λ (l : List ℕ). l ++ later) (no_bytes x)) end) (s.kept x) s.last) (none x),
@@ -98,10 +98,10 @@ pub record IsChange (core later : CoreState) (port : Port) (c : Connection) (f :
   pub name : (d : Connection) → (f d).name ≡ d.name
   pub lives : live (f c) ≡ true
 
-change_other : (x : ConnectionName) (core later : CoreState) (port : Port) (c : Connection) (f : Connection → Connection) (written read : List Packet) (under_way : List ℕ)
-    → IsChange core later port c f → named x c ≡ false → IsEnd x core written read under_way → IsEnd x later written read under_way
-change_other x core later port c f written read under_way h other end =
-    end_kept x core later written read under_way end
+change_other : (x : ConnectionName) (core later : CoreState) (port : Port) (c : Connection) (f : Connection → Connection) (written read : List Packet) (in_transit : List ℕ)
+    → IsChange core later port c f → named x c ≡ false → IsEnd x core written read in_transit → IsEnd x later written read in_transit
+change_other x core later port c f written read in_transit h other end =
+    end_kept x core later written read in_transit end
     (subst (Kept (open_named x core)) (sym (ap (view live (named x)) h.are ∙ view_of_others live (named x) (is_open_at port) f core.connections c (named_kept x f h.name) h.at other))
     (kept_same (open_named x core)))
     h.same
@@ -114,46 +114,46 @@ change_there x core later port c f o h is =
     ∙ rw h.lives refl
 
 -- of the open connection: what is known about it, for it is given and not closed
-record WasOpen (x : ConnectionName) (core : CoreState) (c : Connection) (written read : List Packet) (under_way : List ℕ) : Type 0 where
+record WasOpen (x : ConnectionName) (core : CoreState) (c : Connection) (written read : List Packet) (in_transit : List ℕ) : Type 0 where
   given : IsGiven core.last_name x
   first : is_first c.stage ≡ is_nothing read
-  piped : IsPiped written read (stream_of c.unread) under_way
+  piped : IsPiped written read (stream_of c.unread) in_transit
 
-was_open : (x : ConnectionName) (core : CoreState) (port : Port) (c : Connection) (written read : List Packet) (under_way : List ℕ) → IsOrderly core
-    → open_at port core ≡ Some c → named x c ≡ true → IsEnd x core written read under_way → WasOpen x core c written read under_way
-was_open x core port c written read under_way o at is (not_yet below none piped) =
+was_open : (x : ConnectionName) (core : CoreState) (port : Port) (c : Connection) (written read : List Packet) (in_transit : List ℕ) → IsOrderly core
+    → open_at port core ≡ Some c → named x c ≡ true → IsEnd x core written read in_transit → WasOpen x core c written read in_transit
+was_open x core port c written read in_transit o at is (not_yet below none piped) =
     absurd (not_both core.last_name x below (subst (IsGiven core.last_name) (same_name c.name x is) (found_given core port c o at)))
-was_open x core port c written read under_way o at is (is_open d given there first piped) =
+was_open x core port c written read in_transit o at is (is_open d given there first piped) =
     let one = same_some d c (sym there ∙ found_open x core port c o at is) in
     record {
       given = given;
       first = ap (λ (z : Connection). is_first z.stage) (sym one) ∙ first;
-      piped = subst (λ (z : Connection). IsPiped written read (stream_of z.unread) under_way) one piped;
+      piped = subst (λ (z : Connection). IsPiped written read (stream_of z.unread) in_transit) one piped;
     }
-was_open x core port c written read under_way o at is (is_over given none front) = absurd (some_none c (sym (found_open x core port c o at is) ∙ none))
+was_open x core port c written read in_transit o at is (is_over given none front) = absurd (some_none c (sym (found_open x core port c o at is) ∙ none))
 
 not_nothing : (read : List Packet) (p : Packet) → false ≡ is_nothing (read ++ p ∷ [])
 not_nothing [] p = refl
 not_nothing (q ∷ read) p = refl
 
 -- a packet is read off it
-one_read : (x : ConnectionName) (core later : CoreState) (port : Port) (c : Connection) (f : Connection → Connection) (written read : List Packet) (under_way rest : List ℕ)
+one_read : (x : ConnectionName) (core later : CoreState) (port : Port) (c : Connection) (f : Connection → Connection) (written read : List Packet) (in_transit rest : List ℕ)
     (packet : Packet) → IsOrderly core → IsChange core later port c f → named x c ≡ true → (f c).unread ≡ rest → is_first (f c).stage ≡ false
-    → verdict c.unread ≡ Ok (packet, rest) → WasOpen x core c written read under_way → IsEnd x later written (read ++ packet ∷ []) under_way
-one_read x core later port c f written read under_way rest packet o h is left second reads was =
+    → verdict c.unread ≡ Ok (packet, rest) → WasOpen x core c written read in_transit → IsEnd x later written (read ++ packet ∷ []) in_transit
+one_read x core later port c f written read in_transit rest packet o h is left second reads was =
     is_open (f c) (subst (λ (y : ConnectionName). IsGiven y x) (sym h.same) was.given) (change_there x core later port c f o h is) (second ∙ not_nothing read packet)
-    (subst (λ (l : List ℕ). IsPiped written (read ++ packet ∷ []) (stream_of l) under_way) (sym left)
-    (gives_next written read c.unread under_way rest packet was.piped reads))
+    (subst (λ (l : List ℕ). IsPiped written (read ++ packet ∷ []) (stream_of l) in_transit) (sym left)
+    (gives_next written read c.unread in_transit rest packet was.piped reads))
 
 -- bytes come in on it
-one_held : (x : ConnectionName) (core later : CoreState) (port : Port) (c : Connection) (written read : List Packet) (piece under_way : List ℕ) → IsOrderly core
-    → IsChange core later port c (holding piece) → named x c ≡ true → WasOpen x core c written read (piece ++ under_way) → IsEnd x later written read under_way
-one_held x core later port c written read piece under_way o h is was =
+one_held : (x : ConnectionName) (core later : CoreState) (port : Port) (c : Connection) (written read : List Packet) (piece in_transit : List ℕ) → IsOrderly core
+    → IsChange core later port c (holding piece) → named x c ≡ true → WasOpen x core c written read (piece ++ in_transit) → IsEnd x later written read in_transit
+one_held x core later port c written read piece in_transit o h is was =
     is_open (holding piece c) (subst (λ (y : ConnectionName). IsGiven y x) (sym h.same) was.given) (change_there x core later port c (holding piece) o h is) was.first
     (record {
       rest = was.piped.rest;
       is = was.piped.is;
-      joined = subst (Joins was.piped.rest) (sym (append_assoc c.unread piece under_way)) was.piped.joined;
+      joined = subst (Joins was.piped.rest) (sym (append_assoc c.unread piece in_transit)) was.piped.joined;
       sound = refl;
     })
 
@@ -161,21 +161,21 @@ one_held x core later port c written read piece under_way o h is was =
 
 -- the connection is changed, and then the command is put to the replica
 pub read_then : (x : ConnectionName) (core between later : CoreState) (port : Port) (c : Connection) (f : Connection → Connection) (written read : List Packet)
-    (under_way rest : List ℕ) (packet : Packet) → IsOrderly core → IsChange core between port c f → (f c).unread ≡ rest → is_first (f c).stage ≡ false
-    → verdict c.unread ≡ Ok (packet, rest) → Stays between later → IsEnd x core written read under_way → (b : Bool) → named x c ≡ b
-    → (more : List Packet) × IsEnd x later written (read ++ more) under_way
+    (in_transit rest : List ℕ) (packet : Packet) → IsOrderly core → IsChange core between port c f → (f c).unread ≡ rest → is_first (f c).stage ≡ false
+    → verdict c.unread ≡ Ok (packet, rest) → Stays between later → IsEnd x core written read in_transit → (b : Bool) → named x c ≡ b
+    → (more : List Packet) × IsEnd x later written (read ++ more) in_transit
     × (more ≡ (if b then packet ∷ [] else [])) × (b ≡ true → is_first c.stage ≡ is_nothing read)
-read_then x core between later port c f written read under_way rest packet o h left second reads s end true is =
-    let was = was_open x core port c written read under_way o h.at is end in (
+read_then x core between later port c f written read in_transit rest packet o h left second reads s end true is =
+    let was = was_open x core port c written read in_transit o h.at is end in (
       packet ∷ [],
-      end_kept x between later written (read ++ packet ∷ []) under_way (one_read x core between port c f written read under_way rest packet o h is left second reads was) (s.kept x) s.last,
+      end_kept x between later written (read ++ packet ∷ []) in_transit (one_read x core between port c f written read in_transit rest packet o h is left second reads was) (s.kept x) s.last,
       refl,
       λ e. was.first,
     )
-read_then x core between later port c f written read under_way rest packet o h left second reads s end false other = (
+read_then x core between later port c f written read in_transit rest packet o h left second reads s end false other = (
   [],
-  subst (λ (ps : List Packet). IsEnd x later written ps under_way) (sym (append-nil read))
-      (end_kept x between later written read under_way (change_other x core between port c f written read under_way h other end) (s.kept x) s.last),
+  subst (λ (ps : List Packet). IsEnd x later written ps in_transit) (sym (append-nil read))
+      (end_kept x between later written read in_transit (change_other x core between port c f written read in_transit h other end) (s.kept x) s.last),
   refl,
   λ e. absurd cc,
 )
@@ -220,7 +220,7 @@ later_move now core port c packet rest at later reads room = reads_later now por
 first_reads : (now : ℕ) (core : CoreState) (port : Port) (c : Connection) (connect : Connect) (rest : List ℕ) (at : open_at port core ≡ Some c) (first : is_first c.stage ≡ true)
     (reads : verdict c.unread ≡ Ok (packets.Connect connect, rest)) (room : has_room core ≡ true) → IsOrderly core → ReadsAll (first_move now core port c connect rest at first reads room)
 first_reads now core port c connect rest at first reads room o =
-    (s.orderly, λ x written read under_way rest_of end same. by x written read rest_of (subst (IsEnd x core written read) same end) (named x c) refl)
+    (s.orderly, λ x written read in_transit rest_of end same. by x written read rest_of (subst (IsEnd x core written read) same end) (named x c) refl)
   where
     command : Command
     command = commands.Connect c.name connect.client connect.clean
@@ -248,7 +248,7 @@ first_reads now core port c connect rest at first reads room o =
 later_reads : (now : ℕ) (core : CoreState) (port : Port) (c : Connection) (packet : Packet) (rest : List ℕ) (at : open_at port core ≡ Some c) (later : is_first c.stage ≡ false)
     (reads : verdict c.unread ≡ Ok (packet, rest)) (room : has_room core ≡ true) → IsOrderly core → ReadsAll (later_move now core port c packet rest at later reads room)
 later_reads now core port c packet rest at later reads room o =
-    (s.orderly, λ x written read under_way rest_of end same. by x written read rest_of (subst (IsEnd x core written read) same end) (named x c) refl)
+    (s.orderly, λ x written read in_transit rest_of end same. by x written read rest_of (subst (IsEnd x core written read) same end) (named x c) refl)
   where
     command : Command
     command = commands.Packet c.name packet
@@ -319,7 +319,7 @@ hold_move core port piece = holds port piece
 hold_reads : (core : CoreState) (port : Port) (piece : List ℕ) → IsOrderly core → ReadsAll (hold_move core port piece)
 hold_reads core port piece o = (
   held_orderly core port piece o,
-  λ x written read under_way later end same.
+  λ x written read in_transit later end same.
       none_more x (hold_move core port piece) written read later
       (held_end x core port piece written read later o (open_at port core) refl (subst (IsEnd x core written read) same end)) refl,
 )
@@ -333,7 +333,7 @@ open_reads : (core : CoreState) (port : Port) → IsOrderly core → ReadsAll (o
 open_reads core port o =
     let w = opens_well port core o in (
       w.orderly,
-      λ x written read under_way later end same.
+      λ x written read in_transit later end same.
           none_more x (open_move core port) written read later (w.end x written read later (subst (IsEnd x core written read) same end)) refl,
     )
 

@@ -85,17 +85,17 @@ is_nothing (p ∷ ps) = false
 
 -- Of the packets that a client writes these were read, and these bytes are still to come.
 pub data IsEnd (x : ConnectionName) (core : CoreState) (written read : List Packet)
-    (under_way : List ℕ) : Type 0 where
+    (in_transit : List ℕ) : Type 0 where
   -- the node has not given the name yet: all that is written is in transit
-  not_yet : Precedes core.last_name x → read ≡ [] → IsPiped written [] (stream_of []) under_way →
-      IsEnd x core written read under_way
+  not_yet : Precedes core.last_name x → read ≡ [] → IsPiped written [] (stream_of []) in_transit →
+      IsEnd x core written read in_transit
   -- it has the connection open, and holds the bytes that were not read
   is_open : (c : Connection) → IsGiven core.last_name x → open_named x core ≡ Some c →
       is_first c.stage ≡ is_nothing read →
-      IsPiped written read (stream_of c.unread) under_way → IsEnd x core written read under_way
+      IsPiped written read (stream_of c.unread) in_transit → IsEnd x core written read in_transit
   -- it has the connection no longer open: no more is read
   is_over : IsGiven core.last_name x → open_named x core ≡ None → IsPrefixOf read written →
-      IsEnd x core written read under_way
+      IsEnd x core written read in_transit
 
 -- the commands of a connection's packets from this number on
 abbrev pub commands_of : ConnectionName → ℕ → List Packet → List Command
@@ -114,6 +114,6 @@ pub record ReadsOn (x : ConnectionName) {core : CoreState} {turn : Turn} (m : Mo
 abbrev pub NodesReadInOrder : Type 0
 NodesReadInOrder =
     (core : CoreState) (turn : Turn) (m : Moves core turn) → IsOrderly core → IsOrderly turn.core
-    × ((x : ConnectionName) (written read : List Packet) (under_way later : List ℕ) →
-    IsEnd x core written read under_way →
-    under_way ≡ came_on x m ++ later → ReadsOn x m written read later)
+    × ((x : ConnectionName) (written read : List Packet) (in_transit later : List ℕ) →
+    IsEnd x core written read in_transit →
+    in_transit ≡ came_on x m ++ later → ReadsOn x m written read later)

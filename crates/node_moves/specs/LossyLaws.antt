@@ -38,9 +38,9 @@ abbrev pub LossesReadInOrder : Type 0
 LossesReadInOrder =
     (core : CoreState) (turn : Turn) (m : LossyMoves core turn) → IsOrderly core →
     IsOrderly turn.core
-    × ((x : ConnectionName) (written read : List Packet) (under_way later : List ℕ) →
-    IsEnd x core written read under_way →
-    under_way ≡ came_on x m ++ later → ReadsOn x m written read later)
+    × ((x : ConnectionName) (written read : List Packet) (in_transit later : List ℕ) →
+    IsEnd x core written read in_transit →
+    in_transit ≡ came_on x m ++ later → ReadsOn x m written read later)
 
 -- from the opening on the commands that are proposed under a name are those of a prefix of what is
 -- written
