@@ -5,7 +5,7 @@ use Rattle.std.specs.Map.{update, update_all}
 use Rattle.std.specs.List.Sorted.{IsStrictlySortedBy}
 use Rattle.std.specs.Cmp.Lexicographic.{bytes_decides}
 use Rattle.packet.specs.declared.qos.QoS.{QoS}
-use Rattle.session_base.specs.Subscriptions.{HeldFilter}
+use Rattle.session_base.specs.Subscriptions.{GrantedFilter}
 use Rattle.session_base.specs.KeepingLaws.{AreFiltersApart}
 use Rattle.broker_tables.specs.broker_spec.Place.{Client, same_client}
 use Rattle.broker_tables.specs.broker_base.ClientSession.{ClientSession}
@@ -27,7 +27,7 @@ first_of (Some a) other = Some a
 first_of None other = other
 
 -- each filter is held once
-last_once : (held : List HeldFilter) (g : List ℕ → Option QoS) (f : List ℕ) → AreFiltersApart held → update_all bytes_eq g held f ≡ first_of (qos_at f held) (g f)
+last_once : (held : List GrantedFilter) (g : List ℕ → Option QoS) (f : List ℕ) → AreFiltersApart held → update_all bytes_eq g held f ≡ first_of (qos_at f held) (g f)
 last_once [] g f apart = refl
 last_once (new ∷ more) g f apart = last_once more (update bytes_eq g new.0 (Some new.1)) f apart.1 ∙ by (bytes_eq f new.0) refl
   where
@@ -39,7 +39,7 @@ last_once (new ∷ more) g f apart = last_once more (update bytes_eq g new.0 (So
     by true e = ap₂ (λ b o. first_of o (cond b (Some new.1) (g f))) (bytes_back new.0 f ∙ e) (once e)
     by false e = ap (λ b. first_of (qos_at f more) (cond b (Some new.1) (g f))) (bytes_back new.0 f ∙ e)
 
-held_is : (held : List HeldFilter) (f : List ℕ) → AreFiltersApart held → last_held held f ≡ qos_at f held
+held_is : (held : List GrantedFilter) (f : List ℕ) → AreFiltersApart held → last_held held f ≡ qos_at f held
 held_is held f apart = last_once held (λ _. None) f apart ∙ alone (qos_at f held)
   where
     alone : (o : Option QoS) → first_of o None ≡ o

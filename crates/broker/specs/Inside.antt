@@ -4,7 +4,7 @@ use Rattle.std.specs.Map.{update_all}
 use Rattle.std.specs.List.{AllByRecursion}
 use Rattle.packet.specs.declared.qos.QoS.{QoS}
 use Rattle.broker_tables.specs.retained.Retained.{RetainedTopics}
-use Rattle.session_base.specs.Subscriptions.{HeldFilter}
+use Rattle.session_base.specs.Subscriptions.{GrantedFilter}
 use Rattle.broker_tables.specs.subs_base.Content.{Content, with_filters}
 use Rattle.session_base.specs.FormLaws.{HasForm}
 use Rattle.broker_tables.specs.broker_spec.Connection.{ConnectionName}
@@ -32,7 +32,7 @@ state_read (window, rows, retained) =
     record { window = window; sessions = rows.sessions.entries; retained = retained }
 
 -- the QoS of each filter of a session, the last of a filter counting
-abbrev pub last_held : List HeldFilter → List ℕ → Option QoS
+abbrev pub last_held : List GrantedFilter → List ℕ → Option QoS
 last_held held = update_all bytes_eq (λ _. None) held
 
 -- the filters of all these sessions are put in, client by client

@@ -1,7 +1,7 @@
 -- After one more command what is kept of a client's session is the step of what was kept before, for every place.
 use Rattle.std.proofs.Common.{◌≡◌, ℕ, zero, suc, Bool, true, false, not, ◌&&◌, ◌||◌, if◌then◌else◌, Option, Some, None, List, [], ◌∷◌, ◌++◌, length, map, refl, ap, ◌∙◌}
 use Rattle.std.specs.Prelude.{option_map}
-use Rattle.session_base.specs.Subscriptions.{HeldFilter}
+use Rattle.session_base.specs.Subscriptions.{GrantedFilter}
 use Rattle.broker_spec.specs.retained.Retained.{RetainedTopics}
 use Rattle.session_base.specs.declared.publication.Publication.{Publication}
 use Rattle.broker_spec.specs.Connection.{ConnectionName}
@@ -23,7 +23,7 @@ use Rattle.broker_base.proofs.QueueAfter.{sound_entries, queue_after, copies_are
 -- ---- the record
 
 -- what is kept, of plain values
-abbrev pub kept_with : ℕ → Option Bool → Option ConnectionName → List HeldFilter → List ℕ → List Entry → Option ClientSession
+abbrev pub kept_with : ℕ → Option Bool → Option ConnectionName → List GrantedFilter → List ℕ → List Entry → Option ClientSession
 kept_with n session connection held ids es =
     option_map (λ clean. record { clean = clean; connection = connection; state = record { subscriptions = held; received = ids; queue = queue_of n es } }) session
 
@@ -48,7 +48,7 @@ anew : (n : ℕ) (opened : ConnectionName × Bool) → kept_with n (Some opened.
 anew n opened = ap (λ ids. Some (record { clean = opened.1; connection = Some opened.0; state = record { subscriptions = []; received = []; queue = record { in_flight = map released_flight ids ++ []; waiting = [] } } })) (none_in_flight n)
 
 -- the place's values, from those below
-abbrev pub kept_next : ℕ → Place → ℕ → Client → Option (ConnectionName × Bool) → Option Bool → Option ConnectionName → List HeldFilter → List ℕ → List Entry → List Publication → Option ClientSession
+abbrev pub kept_next : ℕ → Place → ℕ → Client → Option (ConnectionName × Bool) → Option Bool → Option ConnectionName → List GrantedFilter → List ℕ → List Entry → List Publication → Option ClientSession
 kept_next w place n c opened session connection held ids es ps =
     kept_with (suc n) (newest_session opened (expels place.command c) (ends_any place c connection) session) (newest_connection opened (ends_any place c connection) connection)
     (in_session (newest_session opened (expels place.command c) (ends_any place c connection) session) (is_beginning opened session) [] (subscribed place.command place.mark c held))
@@ -57,7 +57,7 @@ kept_next w place n c opened session connection held ids es ps =
     (started w n (newest_connection opened (ends_any place c connection) connection) (answered_by place.command place.mark n c es ++ map (Entry.Waits n) ps)))
 
 next_is : (w : ℕ) (place : Place) (content : RetainedTopics) (n : ℕ) (c : Client) (opened : Option (ConnectionName × Bool)) (session : Option Bool) (connection : Option ConnectionName)
-    (held : List HeldFilter) (ids : List ℕ) (es : List Entry) → Sound n es →
+    (held : List GrantedFilter) (ids : List ℕ) (es : List Entry) → Sound n es →
     kept_next w place n c opened session connection held ids es (queued (copies_with place.command place.mark content c held))
     ≡ filled_by w place content c opened (kept_with n session connection held ids es)
 next_is w place content n c None None connection held ids es s = refl

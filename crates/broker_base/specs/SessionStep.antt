@@ -6,7 +6,7 @@ use Rattle.session_base.specs.packet.declared.packet.Packet.TheVariants as packe
 use Rattle.broker_spec.specs.retained.Retained.{RetainedTopics}
 use Rattle.session_base.specs.declared.publication.Publication.{Publication}
 use Rattle.session_base.specs.Publication.{publication_of, lower_qos}
-use Rattle.session_base.specs.Subscriptions.{HeldFilter, granted_qos}
+use Rattle.session_base.specs.Subscriptions.{GrantedFilter, granted_qos}
 use Rattle.session_base.specs.Session.{empty_session}
 use Rattle.session_base.specs.Queue.{Flight, Queue, on_puback, on_pubrec, on_pubcomp, fill, filled}
 use Rattle.session_base.specs.Copies.{copies_left, copies_waiting}
@@ -21,7 +21,7 @@ use Rattle.broker_spec.specs.declared.command.Command.{Command}
 use Rattle.broker_spec.specs.declared.command.Command.TheVariants as commands
 
 -- the copies that a command makes for a session with these subscriptions
-abbrev pub copies_with : Command → Mark → RetainedTopics → Client → List HeldFilter →
+abbrev pub copies_with : Command → Mark → RetainedTopics → Client → List GrantedFilter →
     List Publication
 copies_with (commands.Packet x (packets.Publish p)) (Mark.Taken d) content c held =
     copy_of (publication_of p)

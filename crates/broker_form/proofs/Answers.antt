@@ -21,10 +21,10 @@ use Rattle.packet.specs.declared.subscribe.Subscribe.{Subscribe}
 use Rattle.packet.specs.declared.suback.SubackCode.{SubackCode}
 use Rattle.broker_spec.specs.retained.Retained.{RetainedTopics}
 use Rattle.session_base.specs.Queue.{room, on_puback, on_pubrec, on_pubcomp}
-use Rattle.session_base.specs.Subscriptions.{HeldFilter, with_subscription}
+use Rattle.session_base.specs.Subscriptions.{GrantedFilter, with_subscription}
 use Rattle.broker_spec.specs.Connection.{ConnectionName}
 use Rattle.broker_spec.specs.Place.{Client, by_bytes, Place, Limits}
-use Rattle.broker_spec.specs.Subscriptions.{as_held}
+use Rattle.broker_spec.specs.Subscriptions.{as_granted}
 use Rattle.broker_spec.specs.Marks.{is_one_too_many, entries_for, grants}
 use Rattle.broker_spec.specs.Answers.{acknowledged, codes_of}
 use Rattle.broker_spec.specs.Logged.{IsBrokerCommand}
@@ -103,15 +103,15 @@ copies_to_spelled w limits place content c None m k r h = tt
 
 -- ---- SUBACK
 
-pub codes_length : (limits : Limits) (content : RetainedTopics) (held : List HeldFilter) (space : ℕ) (filters : List Subscription) →
+pub codes_length : (limits : Limits) (content : RetainedTopics) (held : List GrantedFilter) (space : ℕ) (filters : List Subscription) →
     length (codes_of filters (grants limits content held space filters)) ≡ length filters
 codes_length limits content held space [] = refl
 codes_length limits content held space (new ∷ more) =
     elim (is_one_too_many limits held new || nat_lt space (entries_for content new)) as (λ (b : Bool).
     length (codes_of (new ∷ more) (if b then false ∷ grants limits content held space more
-    else true ∷ grants limits content (with_subscription (as_held new) held) (space - entries_for content new) more)) ≡ suc (length more)) [
+    else true ∷ grants limits content (with_subscription (as_granted new) held) (space - entries_for content new) more)) ≡ suc (length more)) [
       | true ↦ ap suc (codes_length limits content held space more)
-      | false ↦ ap suc (codes_length limits content (with_subscription (as_held new) held) (space - entries_for content new) more)
+      | false ↦ ap suc (codes_length limits content (with_subscription (as_granted new) held) (space - entries_for content new) more)
     ]
 
 one_byte_each : (codes : List SubackCode) → length (flat_map granted codes) ≡ length codes

@@ -7,9 +7,9 @@ use Rattle.packet.specs.declared.subscribe.Subscription.{Subscription}
 use Rattle.broker_spec.specs.retained.Retained.{RetainedTopics}
 use Rattle.session_base.specs.declared.publication.Publication.{Publication}
 use Rattle.session_base.specs.Publication.{is_answered}
-use Rattle.session_base.specs.Subscriptions.{HeldFilter, is_held, with_subscription, with_subscriptions, without_filter, without_filters}
+use Rattle.session_base.specs.Subscriptions.{GrantedFilter, is_subscribed, with_subscription, with_subscriptions, without_filter, without_filters}
 use Rattle.broker_spec.specs.Place.{Limits}
-use Rattle.broker_spec.specs.Subscriptions.{as_held, granted_of}
+use Rattle.broker_spec.specs.Subscriptions.{as_granted, granted_of}
 use Rattle.broker_spec.specs.Entries.{queued, copies_for, copies_for_all}
 use Rattle.broker_spec.specs.Marks.{is_one_too_many, entries_for, grants}
 use Rattle.broker_form.proofs.Queues.{fewer}
@@ -21,7 +21,7 @@ queued_both xs ys =
     ap (λ (zs : List Publication). length zs) (filter-append (λ (p : Publication). is_answered p.qos) xs ys) ∙ length-append (queued xs) (queued ys)
 
 -- the copies for the granted filters have room
-pub grants_have_room : (limits : Limits) (content : RetainedTopics) (held : List HeldFilter) (room : ℕ) (filters : List Subscription) →
+pub grants_have_room : (limits : Limits) (content : RetainedTopics) (held : List GrantedFilter) (room : ℕ) (filters : List Subscription) →
     length (queued (copies_for_all content (granted_of filters (grants limits content held room filters)))) ≤ room
 grants_have_room limits content held room [] = omega arith
 grants_have_room limits content held room (new ∷ more) =
@@ -29,12 +29,12 @@ grants_have_room limits content held room (new ∷ more) =
     (is_one_too_many limits held new || nat_lt room (entries_for content new)) ≡ b →
     length (queued (copies_for_all content (granted_of (new ∷ more)
     (if b then false ∷ grants limits content held room more
-    else true ∷ grants limits content (with_subscription (as_held new) held) (room - entries_for content new) more)))) ≤ room) [
+    else true ∷ grants limits content (with_subscription (as_granted new) held) (room - entries_for content new) more)))) ≤ room) [
       | true ↦ λ e. grants_have_room limits content held room more
       | false ↦ λ e.
-          let k = grants_have_room limits content (with_subscription (as_held new) held) (room - entries_for content new) more in
+          let k = grants_have_room limits content (with_subscription (as_granted new) held) (room - entries_for content new) more in
           let both = queued_both (copies_for content new)
-          (copies_for_all content (granted_of more (grants limits content (with_subscription (as_held new) held) (room - entries_for content new) more))) in
+          (copies_for_all content (granted_of more (grants limits content (with_subscription (as_granted new) held) (room - entries_for content new) more))) in
           let fits = second_no (is_one_too_many limits held new) (nat_lt room (entries_for content new)) e in
           let few : entries_for content new ≤ room = grind (arith, fits) in
           omega (arith, k, both, few)
@@ -47,7 +47,7 @@ grants_have_room limits content held room (new ∷ more) =
 -- ---- filters
 
 -- a filter that is held takes its own place
-pub one_more : (new : HeldFilter) (held : List HeldFilter) → length (with_subscription new held) ≤ suc (length held)
+pub one_more : (new : GrantedFilter) (held : List GrantedFilter) → length (with_subscription new held) ≤ suc (length held)
 one_more new [] = omega arith
 one_more new (old ∷ others) =
     elim (bytes_eq new.0 old.0) as (λ (b : Bool). length (if b then (old.0, new.1) ∷ others else old ∷ with_subscription new others) ≤ suc (suc (length others))) [
@@ -55,38 +55,38 @@ one_more new (old ∷ others) =
       | false ↦ (let k = one_more new others in omega (arith, k))
     ]
 
-same_many : (new : HeldFilter) (held : List HeldFilter) → is_held new.0 held ≡ true → length (with_subscription new held) ≤ length held
+same_many : (new : GrantedFilter) (held : List GrantedFilter) → is_subscribed new.0 held ≡ true → length (with_subscription new held) ≤ length held
 same_many new [] e = absurd (cc)
 same_many new (old ∷ others) e =
-    elim (bytes_eq new.0 old.0) as (λ (b : Bool). (b || is_held new.0 others) ≡ true →
+    elim (bytes_eq new.0 old.0) as (λ (b : Bool). (b || is_subscribed new.0 others) ≡ true →
     length (if b then (old.0, new.1) ∷ others else old ∷ with_subscription new others) ≤ suc (length others)) [
       | true ↦ λ e. omega arith
       | false ↦ λ e. (let k = same_many new others e in omega (arith, k))
     ] e
 
-one_within : (limits : Limits) (held : List HeldFilter) (new : Subscription) → is_one_too_many limits held new ≡ false → length held ≤ limits.subscriptions →
-    length (with_subscription (as_held new) held) ≤ limits.subscriptions
+one_within : (limits : Limits) (held : List GrantedFilter) (new : Subscription) → is_one_too_many limits held new ≡ false → length held ≤ limits.subscriptions →
+    length (with_subscription (as_granted new) held) ≤ limits.subscriptions
 one_within limits held new e few =
-    elim (is_held new.filter held) as (λ (b : Bool). is_held new.filter held ≡ b → (not b && nat_le limits.subscriptions (length held)) ≡ false →
-    length (with_subscription (as_held new) held) ≤ limits.subscriptions) [
-      | true ↦ λ h e. (let k = same_many (as_held new) held h in omega (arith, k, few))
-      | false ↦ λ h e. (let k = one_more (as_held new) held in let less : suc (length held) ≤ limits.subscriptions = grind (arith, e) in omega (arith, k, less))
+    elim (is_subscribed new.filter held) as (λ (b : Bool). is_subscribed new.filter held ≡ b → (not b && nat_le limits.subscriptions (length held)) ≡ false →
+    length (with_subscription (as_granted new) held) ≤ limits.subscriptions) [
+      | true ↦ λ h e. (let k = same_many (as_granted new) held h in omega (arith, k, few))
+      | false ↦ λ h e. (let k = one_more (as_granted new) held in let less : suc (length held) ≤ limits.subscriptions = grind (arith, e) in omega (arith, k, less))
     ] refl e
 
 -- the granted filters are no more than a session may hold
-pub grants_stay_few : (limits : Limits) (content : RetainedTopics) (held : List HeldFilter) (room : ℕ) (filters : List Subscription) →
+pub grants_stay_few : (limits : Limits) (content : RetainedTopics) (held : List GrantedFilter) (room : ℕ) (filters : List Subscription) →
     length held ≤ limits.subscriptions →
-    length (with_subscriptions (map as_held (granted_of filters (grants limits content held room filters))) held) ≤ limits.subscriptions
+    length (with_subscriptions (map as_granted (granted_of filters (grants limits content held room filters))) held) ≤ limits.subscriptions
 grants_stay_few limits content held room [] few = few
 grants_stay_few limits content held room (new ∷ more) few =
     elim (is_one_too_many limits held new || nat_lt room (entries_for content new)) as (λ (b : Bool).
     (is_one_too_many limits held new || nat_lt room (entries_for content new)) ≡ b →
-    length (with_subscriptions (map as_held (granted_of (new ∷ more)
+    length (with_subscriptions (map as_granted (granted_of (new ∷ more)
     (if b then false ∷ grants limits content held room more
-    else true ∷ grants limits content (with_subscription (as_held new) held) (room - entries_for content new) more))) held) ≤ limits.subscriptions) [
+    else true ∷ grants limits content (with_subscription (as_granted new) held) (room - entries_for content new) more))) held) ≤ limits.subscriptions) [
       | true ↦ λ e. grants_stay_few limits content held room more few
       | false ↦ λ e.
-          grants_stay_few limits content (with_subscription (as_held new) held) (room - entries_for content new) more
+          grants_stay_few limits content (with_subscription (as_granted new) held) (room - entries_for content new) more
           (one_within limits held new (first_no (is_one_too_many limits held new) (nat_lt room (entries_for content new)) e) few)
     ] refl
   where
@@ -95,8 +95,8 @@ grants_stay_few limits content held room (new ∷ more) few =
     first_no false b e = refl
 
 -- and what is given up leaves no more than there were
-pub given_up_few : (filters : List (List ℕ)) (held : List HeldFilter) → length (without_filters filters held) ≤ length held
+pub given_up_few : (filters : List (List ℕ)) (held : List GrantedFilter) → length (without_filters filters held) ≤ length held
 given_up_few [] held = omega arith
 given_up_few (one ∷ filters) held =
     let k = given_up_few filters (without_filter one held) in
-    let f = fewer (λ (other : HeldFilter). not (bytes_eq one other.0)) held in omega (arith, k, f)
+    let f = fewer (λ (other : GrantedFilter). not (bytes_eq one other.0)) held in omega (arith, k, f)

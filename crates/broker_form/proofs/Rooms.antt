@@ -11,10 +11,10 @@ use Rattle.broker_spec.specs.retained.Retained.{RetainedTopics}
 use Rattle.session_base.specs.declared.publication.Publication.{Publication}
 use Rattle.session_base.specs.Publication.{publication_of, is_answered, lower_qos}
 use Rattle.session_base.specs.Queue.{Queue, room}
-use Rattle.session_base.specs.Subscriptions.{HeldFilter, with_subscriptions, without_filters, granted_qos}
+use Rattle.session_base.specs.Subscriptions.{GrantedFilter, with_subscriptions, without_filters, granted_qos}
 use Rattle.broker_spec.specs.Connection.{ConnectionName}
 use Rattle.broker_spec.specs.Place.{Client, same_client, Mark, Place, Limits}
-use Rattle.broker_spec.specs.Subscriptions.{as_held, granted_of, subscribed}
+use Rattle.broker_spec.specs.Subscriptions.{as_granted, granted_of, subscribed}
 use Rattle.broker_spec.specs.Entries.{copy_of, queued, copies_for_all}
 use Rattle.broker_spec.specs.Marks.{is_queued_at, grants}
 use Rattle.broker_spec.proofs.ClientsInOrder.{same_is}
@@ -44,7 +44,7 @@ AllHaveRoom limits place content rows = AllByRecursion (λ row. HasRoom limits p
 -- it makes none, and adds no filter
 abbrev pub MakesNothing : Place → Type 0
 MakesNothing place =
-    (content : RetainedTopics) (c : Client) (held : List HeldFilter) →
+    (content : RetainedTopics) (c : Client) (held : List GrantedFilter) →
     (length (queued (copies_with place.command place.mark content c held)) ≡ 0)
     × (length (subscribed place.command place.mark c held) ≤ length held)
 
@@ -107,11 +107,11 @@ granted_entries limits s content true owner kept same few =
 
 granted_filters : (limits : Limits) (s : Subscribe) (content : RetainedTopics) (b : Bool) (owner kept : ClientSession) → (b ≡ true → kept ≡ owner) →
     length kept.state.subscriptions ≤ limits.subscriptions →
-    length (if b then with_subscriptions (map as_held (granted_of s.filters (which limits content owner s))) kept.state.subscriptions else kept.state.subscriptions)
+    length (if b then with_subscriptions (map as_granted (granted_of s.filters (which limits content owner s))) kept.state.subscriptions else kept.state.subscriptions)
     ≤ limits.subscriptions
 granted_filters limits s content false owner kept same few = few
 granted_filters limits s content true owner kept same few =
-    subst (λ (one : ClientSession). length (with_subscriptions (map as_held (granted_of s.filters (which limits content owner s))) one.state.subscriptions) ≤ limits.subscriptions)
+    subst (λ (one : ClientSession). length (with_subscriptions (map as_granted (granted_of s.filters (which limits content owner s))) one.state.subscriptions) ≤ limits.subscriptions)
     (sym (same refl))
     (grants_stay_few limits content owner.state.subscriptions (room limits.entries owner.state.queue) s.filters
     (subst (λ (one : ClientSession). length one.state.subscriptions ≤ limits.subscriptions) (same refl) few))
@@ -164,7 +164,7 @@ owned_rooms limits state x owner (packets.Subscribe s) sorted e h =
 owned_rooms limits state x owner (packets.Unsubscribe u) sorted e h =
     nothing_made limits _ state.retained state.sessions (λ content c held. (refl, given_up (same_client owner.0 c) held)) h
   where
-    given_up : (b : Bool) (held : List HeldFilter) → length (if b then without_filters u.filters held else held) ≤ length held
+    given_up : (b : Bool) (held : List GrantedFilter) → length (if b then without_filters u.filters held else held) ≤ length held
     given_up true held = given_up_few u.filters held
     given_up false held = omega arith
 owned_rooms limits state x owner packet sorted e h =

@@ -8,13 +8,13 @@ use Rattle.std.specs.Prelude.{map}
 use Rattle.broker_spec.specs.retained.Retained.{RetainedTopics}
 use Rattle.broker_spec.specs.session_base.Identifiers.{without_id}
 use Rattle.broker_spec.specs.session_base.Session.{with_filters, with_received, with_queue, with_flights}
-use Rattle.broker_spec.specs.session_base.Subscriptions.{HeldFilter, with_subscriptions, without_filters}
+use Rattle.broker_spec.specs.session_base.Subscriptions.{GrantedFilter, with_subscriptions, without_filters}
 use Rattle.broker_spec.specs.session_base.Queue.{Queue, on_puback, on_pubrec, on_pubcomp, fill}
 use Rattle.broker_spec.specs.session_base.Copies.{copies_left}
 use Rattle.broker_base.specs.Connection.{ConnectionName}
 use Rattle.broker_base.specs.Place.{Client, Mark, Place, only_if}
 use Rattle.broker_base.specs.Past.{ends_any, is_leaving}
-use Rattle.broker_base.specs.Subscriptions.{as_held, granted_of}
+use Rattle.broker_base.specs.Subscriptions.{as_granted, granted_of}
 use Rattle.broker_base.specs.Entries.{copies_for_all}
 use Rattle.broker_base.specs.ClientSession.{ClientSession}
 use Rattle.broker_base.specs.SessionStep.{kept_on, kept_after}
@@ -56,7 +56,7 @@ module _ (w : ℕ) (x : ConnectionName) (content : RetainedTopics) (c : Client) 
       ∙ ap (λ connection. Some (kept_on w (packet_at x packet mark) content c connection kept)) on
 
   -- the session with these, on its connection
-  back_on : (filters : List HeldFilter) (ids : List ℕ) (queue : Queue) →
+  back_on : (filters : List GrantedFilter) (ids : List ℕ) (queue : Queue) →
       Some (record { clean = kept.clean; connection = Some x; state = record { subscriptions = filters; received = ids; queue = queue } })
       ≡ Some (holding (record { subscriptions = filters; received = ids; queue = queue }) kept)
   back_on filters ids queue =
@@ -99,12 +99,12 @@ module _ (w : ℕ) (x : ConnectionName) (content : RetainedTopics) (c : Client) 
         clean = kept.clean;
         connection = Some x;
         state = record {
-          subscriptions = if b then with_subscriptions (map as_held (granted_of s.filters which)) kept.state.subscriptions else kept.state.subscriptions;
+          subscriptions = if b then with_subscriptions (map as_granted (granted_of s.filters which)) kept.state.subscriptions else kept.state.subscriptions;
           received = kept.state.received;
           queue = copies_left w (if b then copies_for_all content (granted_of s.filters which) else []) kept.state.queue;
         };
       })) (same_self c)
-      ∙ back_on (with_subscriptions (map as_held (granted_of s.filters which)) kept.state.subscriptions) kept.state.received
+      ∙ back_on (with_subscriptions (map as_granted (granted_of s.filters which)) kept.state.subscriptions) kept.state.received
       (copies_left w (copies_for_all content (granted_of s.filters which)) kept.state.queue)
 
   -- a PUBLISH that was taken before leaves it

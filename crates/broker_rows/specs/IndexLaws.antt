@@ -4,7 +4,7 @@ use Rattle.std.specs.Prelude.{◌≡◌, ℕ, Bool, if◌then◌else◌, List, S
 use Rattle.std.specs.BTreeMap.{insert_entry}
 use Rattle.subs.specs.packet.declared.delivery.Delivery.{Delivery}
 use Rattle.broker_spec.specs.session_base.declared.publication.Publication.{Publication}
-use Rattle.broker_spec.specs.session_base.Subscriptions.{HeldFilter, with_subscriptions}
+use Rattle.broker_spec.specs.session_base.Subscriptions.{GrantedFilter, with_subscriptions}
 use Rattle.broker_spec.specs.session_base.Subscriptions.{without_filters}
 use Rattle.subs.specs.Content.{no_subscriptions, without_client}
 use Rattle.subs.specs.Granted.{Row}
@@ -32,7 +32,7 @@ WritingKeepsContent =
 -- a SUBSCRIBE sets each filter that is granted (MQTT 3.8.4)
 abbrev pub SubscribingSets : Type 0
 SubscribingSets =
-    (c : Client) → (old new : ClientSession) → (granted : List HeldFilter) → (rows : Sessions) →
+    (c : Client) → (old new : ClientSession) → (granted : List GrantedFilter) → (rows : Sessions) →
     AreByClient rows →
     session_in c rows ≡ Some old →
     new.state.subscriptions ≡ with_subscriptions granted old.state.subscriptions →

@@ -2,14 +2,14 @@
 use Rattle.std.specs.Prelude.{ℕ, if◌then◌else◌, List, [], ◌∷◌, filter, bytes_eq, Option, Some, None}
 use Rattle.std.specs.Map.{keys_of}
 use Rattle.subs.specs.packet.declared.qos.QoS.{QoS}
-use Rattle.broker_spec.specs.session_base.Subscriptions.{HeldFilter}
+use Rattle.broker_spec.specs.session_base.Subscriptions.{GrantedFilter}
 use Rattle.broker_base.specs.Place.{Client}
 use Rattle.broker_base.specs.ClientSession.{ClientSession}
 use Rattle.broker_base.specs.State.{Sessions, session_in}
 use Rattle.subs.specs.Content.{Content, with_row, without_row, without_client}
 
 -- the QoS at which exactly this filter is subscribed
-abbrev pub qos_at : List ℕ → List HeldFilter → Option QoS
+abbrev pub qos_at : List ℕ → List GrantedFilter → Option QoS
 qos_at filter (held ∷ others) = if bytes_eq filter held.0 then Some held.1 else qos_at filter others
 qos_at filter [] = None
 
@@ -25,7 +25,7 @@ content_in sessions client filter = subscribed_in filter (session_in client sess
 -- ---- how an index changes for one client
 
 -- these filters are subscribed, one by one (MQTT 3.8.4)
-abbrev pub all_set : List ℕ → List HeldFilter → Content → Content
+abbrev pub all_set : List ℕ → List GrantedFilter → Content → Content
 all_set client (held ∷ more) content = all_set client more (with_row content client held.0 held.1)
 all_set client [] content = content
 

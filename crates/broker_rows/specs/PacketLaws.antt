@@ -15,7 +15,7 @@ use Rattle.broker_spec.specs.session_base.Copies.{copies_left}
 use Rattle.broker_spec.specs.session_base.Sending.{copies_sent}
 use Rattle.broker_base.specs.Connection.{ConnectionName}
 use Rattle.broker_base.specs.Place.{Client, Mark, Limits}
-use Rattle.broker_base.specs.Subscriptions.{as_held, granted_of}
+use Rattle.broker_base.specs.Subscriptions.{as_granted, granted_of}
 use Rattle.broker_base.specs.Entries.{copies_for_all}
 use Rattle.broker_base.specs.Marks.{grants}
 use Rattle.broker_base.specs.Answers.{acknowledged, codes_of}
@@ -64,7 +64,7 @@ HandledStep =
 -- come (MQTT 3.8.4)
 abbrev pub subscribed_to : ℕ → RetainedTopics → List Subscription → SessionState → SessionState
 subscribed_to window content granted held =
-    with_filters (with_subscriptions (map as_held granted) held.subscriptions)
+    with_filters (with_subscriptions (map as_granted granted) held.subscriptions)
     (with_queue (copies_left window (copies_for_all content granted) held.queue) held)
 
 -- the packets that answer a SUBSCRIBE if these of its filters are granted: SUBACK, then the copies

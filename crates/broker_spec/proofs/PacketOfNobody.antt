@@ -1,7 +1,7 @@
 -- A packet on a connection that is no client's current one: nothing changes, and there is no
 -- output.
 use Rattle.std.proofs.Common.{◌≡◌, ℕ, ◌≤◌, Bool, true, false, not, ◌&&◌, nat_lt, if◌then◌else◌, List, [], ◌∷◌, length, Option, Some, None, ◌⊎◌, inl, inr, refl, sym, ◌∙◌, ap, arith, append-nil}
-use Rattle.session_base.specs.Subscriptions.{HeldFilter}
+use Rattle.session_base.specs.Subscriptions.{GrantedFilter}
 use Rattle.retained.specs.packet.declared.packet.Packet.{Packet}
 use Rattle.retained.specs.packet.declared.packet.Packet.TheVariants as packets
 use Rattle.retained.specs.Retained.{RetainedTopics}
@@ -23,7 +23,7 @@ use Rattle.broker_spec.proofs.NothingWaits.{IsFull, full-at}
 abbrev pub nobodys : ConnectionName → Packet → Place
 nobodys x packet = record { command = commands.Packet x packet; mark = Mark.NoPart }
 
-no-subscription : (packet : Packet) (x : ConnectionName) (c : Client) (held : List HeldFilter) → subscribed (commands.Packet x packet) Mark.NoPart c held ≡ held
+no-subscription : (packet : Packet) (x : ConnectionName) (c : Client) (held : List GrantedFilter) → subscribed (commands.Packet x packet) Mark.NoPart c held ≡ held
 no-subscription (packets.Connect q) x c held = refl
 no-subscription (packets.Connack q) x c held = refl
 no-subscription (packets.Publish p) x c held = refl

@@ -14,7 +14,7 @@ use Rattle.broker_spec.specs.Past.{accepts, ends_any, current_connection, sessio
 use Rattle.broker_spec.specs.Past.{begins, in_session}
 use Rattle.broker_spec.specs.Subscriptions.{granted_of, subscriptions_of}
 use Rattle.retained.specs.lists.Lists.{has_id}
-use Rattle.session_base.specs.Subscriptions.{HeldFilter}
+use Rattle.session_base.specs.Subscriptions.{GrantedFilter}
 use Rattle.broker_spec.specs.Received.{received_of}
 use Rattle.broker_spec.specs.declared.command.Command.{Command}
 use Rattle.broker_spec.specs.declared.command.Command.TheVariants as commands
@@ -80,7 +80,7 @@ RepeatIsUnreleased =
 -- ---- subscriptions
 
 -- the QoS of a filter in a session's list
-abbrev pub qos_asked : List ℕ → List HeldFilter → Option QoS
+abbrev pub qos_asked : List ℕ → List GrantedFilter → Option QoS
 qos_asked f (held ∷ more) = if bytes_eq f held.0 then Some held.1 else qos_asked f more
 qos_asked f [] = None
 

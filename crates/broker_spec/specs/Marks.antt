@@ -12,8 +12,8 @@ use Rattle.broker_spec.specs.Past.{session_of}
 use Rattle.broker_spec.specs.Owner.{clients, owner_of}
 use Rattle.session_base.specs.declared.publication.Publication.{Publication}
 use Rattle.session_base.specs.Publication.{publication_of, is_answered}
-use Rattle.session_base.specs.Subscriptions.{HeldFilter, is_held, with_subscription}
-use Rattle.broker_spec.specs.Subscriptions.{as_held, subscriptions_of, effective_qos}
+use Rattle.session_base.specs.Subscriptions.{GrantedFilter, is_subscribed, with_subscription}
+use Rattle.broker_spec.specs.Subscriptions.{as_granted, subscriptions_of, effective_qos}
 use Rattle.broker_spec.specs.Received.{is_repeat}
 use Rattle.broker_spec.specs.Retained.{retained_publications, is_retained_over}
 use Rattle.broker_spec.specs.Entries.{copies_for, queued}
@@ -41,9 +41,9 @@ is_refused limits past p =
 -- ---- filters of a SUBSCRIBE
 
 -- whether one more filter would be one subscription too many: an identical one is only replaced
-abbrev pub is_one_too_many : Limits → List HeldFilter → Subscription → Bool
+abbrev pub is_one_too_many : Limits → List GrantedFilter → Subscription → Bool
 is_one_too_many limits held new =
-    not (is_held new.filter held) && nat_le limits.subscriptions (length held)
+    not (is_subscribed new.filter held) && nat_le limits.subscriptions (length held)
 
 -- how many entries a subscription makes: the retained publications that it brings at QoS 1 or 2
 abbrev pub entries_for : RetainedTopics → Subscription → ℕ
@@ -51,11 +51,11 @@ entries_for content new = length (queued (copies_for content new))
 
 -- which filters are granted, one after another, with the subscriptions held so far and the room
 -- left
-abbrev pub grants : Limits → RetainedTopics → List HeldFilter → ℕ → List Subscription → List Bool
+abbrev pub grants : Limits → RetainedTopics → List GrantedFilter → ℕ → List Subscription → List Bool
 grants limits content held room (new ∷ more) =
     if is_one_too_many limits held new || nat_lt room (entries_for content new)
     then false ∷ grants limits content held room more
-    else true ∷ grants limits content (with_subscription (as_held new) held)
+    else true ∷ grants limits content (with_subscription (as_granted new) held)
     (room - entries_for content new) more
 grants limits content held room [] = []
 

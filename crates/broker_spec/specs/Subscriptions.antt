@@ -8,14 +8,14 @@ use Rattle.broker_spec.specs.Place.{Client, same_client, Mark, Past}
 use Rattle.broker_spec.specs.Past.{session_of, begins, in_session}
 use Rattle.session_base.specs.declared.publication.Publication.{Publication}
 use Rattle.session_base.specs.Publication.{lower_qos}
-use Rattle.session_base.specs.Subscriptions.{HeldFilter, with_subscriptions}
+use Rattle.session_base.specs.Subscriptions.{GrantedFilter, with_subscriptions}
 use Rattle.session_base.specs.Subscriptions.{without_filters, granted_qos}
 use Rattle.broker_spec.specs.declared.command.Command.{Command}
 use Rattle.broker_spec.specs.declared.command.Command.TheVariants as commands
 
 -- a filter of a SUBSCRIBE with the QoS that it asks for, as a session holds it
-abbrev pub as_held : Subscription → HeldFilter
-as_held s = (s.filter, s.qos)
+abbrev pub as_granted : Subscription → GrantedFilter
+as_granted s = (s.filter, s.qos)
 
 -- the elements of the list that are granted
 abbrev pub granted_of : {A : Type 0} → List A → List Bool → List A
@@ -24,17 +24,17 @@ granted_of (a ∷ more) (granted ∷ others) =
 granted_of _ _ = []
 
 -- the subscriptions after a SUBSCRIBE or UNSUBSCRIBE of the client
-abbrev pub subscribed : Command → Mark → Client → List HeldFilter → List HeldFilter
+abbrev pub subscribed : Command → Mark → Client → List GrantedFilter → List GrantedFilter
 subscribed (commands.Packet x (packets.Subscribe s)) (Mark.Granted d which) c held =
     if same_client d c
-    then with_subscriptions (map as_held (granted_of s.filters which)) held else held
+    then with_subscriptions (map as_granted (granted_of s.filters which)) held else held
 subscribed (commands.Packet x (packets.Unsubscribe u)) (Mark.Handled d) c held =
     if same_client d c then without_filters u.filters held else held
 subscribed _ _ c held = held
 
 -- The subscriptions of a client's session: each filter with the QoS of its last granting, unless it
 -- was removed since; in the order in which they were first granted.
-unfoldable pub subscriptions_of : Past → Client → List HeldFilter
+unfoldable pub subscriptions_of : Past → Client → List GrantedFilter
 subscriptions_of [] c = []
 subscriptions_of (place ∷ past) c =
     in_session (session_of (place ∷ past) c) (begins place past c) []

@@ -11,7 +11,7 @@ use Rattle.broker_session.specs.broker_spec.Connection.{ConnectionName}
 use Rattle.broker_session.specs.broker_spec.Place.{Client, by_bytes}
 use Rattle.broker_session.specs.broker_spec.Answers.{codes_of}
 use Rattle.broker_session.specs.broker_spec.Commands.{usual_limits}
-use Rattle.broker_session.specs.broker_spec.Subscriptions.{as_held, granted_of}
+use Rattle.broker_session.specs.broker_spec.Subscriptions.{as_granted, granted_of}
 use Rattle.broker_session.specs.broker_spec.declared.command.Command.TheVariants as commands
 use Rattle.broker_session.specs.broker_spec.declared.command.Output.TheVariants as outputs
 use Rattle.broker_session.specs.broker_base.ClientSession.{ClientSession}
@@ -54,7 +54,7 @@ pub ties_of_subscribe : (tables after : Tables) (c : Client) (kept new : ClientS
     new.state ≡ subscribed_in_turn usual_limits tables.window tables.retained kept.state s.filters →
     after.sessions.entries ≡ set_value (is_at (by_bytes c)) tables.sessions.entries new →
     after.owners.entries ≡ tables.owners.entries →
-    content_of after.index ≡ all_set c (map as_held (granted_of s.filters (which_of tables kept.state s))) (content_of tables.index) →
+    content_of after.index ≡ all_set c (map as_granted (granted_of s.filters (which_of tables kept.state s))) (content_of tables.index) →
     IsTied after
 ties_of_subscribe tables after c kept new s step held on filters is owners index =
     let turn = subscribes usual_limits tables.window tables.retained kept.state s.filters in
@@ -62,6 +62,6 @@ ties_of_subscribe tables after c kept new s step held on filters is owners index
     (λ q.
     ap (lookup (is_at (by_connection q))) owners ∙ step.tied.owners q
     ∙ sym (owners_written c kept new tables.sessions.entries held on q))
-    (index ∙ ap (all_set c (map as_held (granted_of s.filters (which_of tables kept.state s)))) step.tied.index
-    ∙ sym (subscribing_sets c kept new (map as_held (granted_of s.filters (which_of tables kept.state s))) tables.sessions.entries
+    (index ∙ ap (all_set c (map as_granted (granted_of s.filters (which_of tables kept.state s)))) step.tied.index
+    ∙ sym (subscribing_sets c kept new (map as_granted (granted_of s.filters (which_of tables kept.state s))) tables.sessions.entries
     step.sound.by_client held (ap (λ (state : SessionState). state.subscriptions) (filters ∙ sym turn.1))))

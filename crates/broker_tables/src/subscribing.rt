@@ -4,7 +4,7 @@ ghost use Rattle.std.specs.Prelude.{◌≡◌, ◌++◌, Some, OnOk, IfOk, map};
 ghost use Rattle.broker_session.specs.packet.declared.packet.Packet.TheVariants as packets;
 ghost use Rattle.broker_session.specs.subs_base.ListIndex.{content_of};
 ghost use Rattle.broker_session.specs.broker_spec.Answers.{codes_of};
-ghost use Rattle.broker_session.specs.broker_spec.Subscriptions.{as_held, granted_of};
+ghost use Rattle.broker_session.specs.broker_spec.Subscriptions.{as_granted, granted_of};
 ghost use Rattle.broker_session.specs.broker_spec.declared.command.Command.TheVariants as commands;
 ghost use Rattle.broker_session.specs.broker_rows.Indexed.{all_set};
 ghost use Rattle.broker_session.specs.broker_rows.Owners.{owners_in};
@@ -69,7 +69,8 @@ fn set_all(
     which: &[bool],
 ) -> Result<(), Halted>
     ensures { OnOk result
-        (content_of index.new ≡ all_set client.now (map as_held (granted_of filters.now which.now))
+        (content_of index.new
+        ≡ all_set client.now (map as_granted (granted_of filters.now which.now))
         (content_of index.old)) }
 {
     for (subscription, granted) in filters.iter().zip(which) {

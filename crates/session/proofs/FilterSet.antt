@@ -6,35 +6,35 @@ use Rattle.std.specs.Map.{lookup}
 use Rattle.indexmap.specs.IndexMap.{insert_entry}
 use Rattle.session_base.specs.packet.declared.qos.QoS.{QoS}
 use Rattle.session_base.specs.Counted.{check_form}
-use Rattle.session_base.specs.Subscriptions.{HeldFilter, is_held, with_subscription}
+use Rattle.session_base.specs.Subscriptions.{GrantedFilter, is_subscribed, with_subscription}
 
 -- a filter is set in its place, or comes last
-pub set_as_entry : (filter : List ℕ) (qos : QoS) (held : List HeldFilter) → insert_entry bytes_eq held filter qos ≡ with_subscription (filter, qos) held
+pub set_as_entry : (filter : List ℕ) (qos : QoS) (held : List GrantedFilter) → insert_entry bytes_eq held filter qos ≡ with_subscription (filter, qos) held
 set_as_entry filter qos [] = refl
 set_as_entry filter qos (first ∷ others) =
     ap (λ rest. if bytes_eq filter first.0 then (first.0, qos) ∷ others else first ∷ rest) (set_as_entry filter qos others)
 
 -- a filter is held if the map has it
-pub held_is_found : (filter : List ℕ) (held : List HeldFilter) → is_some (lookup (bytes_eq filter) held) ≡ is_held filter held
+pub held_is_found : (filter : List ℕ) (held : List GrantedFilter) → is_some (lookup (bytes_eq filter) held) ≡ is_subscribed filter held
 held_is_found filter [] = refl
 held_is_found filter (first ∷ others) = by (bytes_eq filter first.0) (held_is_found filter others)
   where
-    by : (b : Bool) → is_some (lookup (bytes_eq filter) others) ≡ is_held filter others →
-        is_some (if b then Some first.1 else lookup (bytes_eq filter) others) ≡ (b || is_held filter others)
+    by : (b : Bool) → is_some (lookup (bytes_eq filter) others) ≡ is_subscribed filter others →
+        is_some (if b then Some first.1 else lookup (bytes_eq filter) others) ≡ (b || is_subscribed filter others)
     by true rest = refl
     by false rest = rest
 
 -- one that is held is never missing in the map
-pub never_missed : (filter : List ℕ) (held : List HeldFilter) → lookup (bytes_eq filter) held ≡ None → is_held filter held ≡ true → ⊥
+pub never_missed : (filter : List ℕ) (held : List GrantedFilter) → lookup (bytes_eq filter) held ≡ None → is_subscribed filter held ≡ true → ⊥
 never_missed filter held missed is =
     let none : is_some (lookup (bytes_eq filter) held) ≡ false = ap is_some missed in
     absurd (cc (none, held_is_found filter held, is))
 
 -- a new filter comes last
-pub new_comes_last : (filter : List ℕ) (qos : QoS) (held : List HeldFilter) → is_held filter held ≡ false → with_subscription (filter, qos) held ≡ held ++ (filter, qos) ∷ []
+pub new_comes_last : (filter : List ℕ) (qos : QoS) (held : List GrantedFilter) → is_subscribed filter held ≡ false → with_subscription (filter, qos) held ≡ held ++ (filter, qos) ∷ []
 new_comes_last filter qos [] new = refl
 new_comes_last filter qos (first ∷ others) new =
-    let parts = or_parts (bytes_eq filter first.0) (is_held filter others) new in
+    let parts = or_parts (bytes_eq filter first.0) (is_subscribed filter others) new in
     rw parts.0 (ap (λ rest. first ∷ rest) (new_comes_last filter qos others parts.1))
 
 -- reading continues if the test is true

@@ -4,7 +4,7 @@ ghost use Rattle.std.specs.Prelude.{◌≡◌, ◌≤◌, ◌++◌, length, OnOk
 ghost use Rattle.std.specs.List.{flat_map, AllByRecursion};
 ghost use Rattle.session_base.specs.packet_base.Spelling.{number};
 ghost use Rattle.session_base.specs.Counted.{counted};
-ghost use Rattle.session_base.specs.Form.{one_byte, held_bytes, flight_bytes, publication_bytes};
+ghost use Rattle.session_base.specs.Form.{one_byte, granted_filter_bytes, flight_bytes, publication_bytes};
 ghost use Rattle.session_base.specs.Form.{state_bytes, HasLength, IsWritable};
 ghost use Rattle.session_base.specs.FormLaws.{HasForm};
 ghost use Rattle.session.specs.Inside.{AreWritable};
@@ -15,7 +15,7 @@ use crate::session_queue::SessionQueue;
 use crate::subscriptions::Subscriptions;
 use session_base::packet::PacketId;
 use session_base::{
-    Awaits, Publication, write_flight, write_held, write_number, write_publication,
+    Awaits, Publication, write_flight, write_granted_filter, write_number, write_publication,
 };
 use std::alloc::AllocError;
 
@@ -38,7 +38,7 @@ impl Subscriptions {
     pub(crate) fn write(&self, bytes: &mut Vec<u8>) -> Result<(), AllocError>
         requires { length self.now ≤ MAX_SUBSCRIPTIONS }
         ensures { OnOk result
-            (bytes.new.items ≡ bytes.old.items ++ counted one_byte held_bytes self.now) }
+            (bytes.new.items ≡ bytes.old.items ++ counted one_byte granted_filter_bytes self.now) }
     {
         bytes.push(self.filters.len() as u8)?;
         self.write_each(bytes)
@@ -46,10 +46,11 @@ impl Subscriptions {
 
     // Appends each filter with its QoS.
     fn write_each(&self, bytes: &mut Vec<u8>) -> Result<(), AllocError>
-        ensures { OnOk result (bytes.new.items ≡ bytes.old.items ++ flat_map held_bytes self.now) }
+        ensures { OnOk result
+            (bytes.new.items ≡ bytes.old.items ++ flat_map granted_filter_bytes self.now) }
     {
         for (filter, qos) in &self.filters {
-            write_held(filter, *qos, bytes)?;
+            write_granted_filter(filter, *qos, bytes)?;
         }
         Ok(())
     }

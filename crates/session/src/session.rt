@@ -4,7 +4,7 @@ ghost use Rattle.std.specs.Prelude.{◌≡◌, ◌≢◌, ◌≤◌, ◌<◌, �
 ghost use Rattle.std.specs.Prelude.{OnOk, OnErr};
 ghost use Rattle.session_base.specs.lists.Lists.{has_id};
 ghost use Rattle.session_base.specs.Identifiers.{with_id, without_id};
-ghost use Rattle.session_base.specs.Subscriptions.{is_held, with_subscription};
+ghost use Rattle.session_base.specs.Subscriptions.{is_subscribed, with_subscription};
 ghost use Rattle.session_base.specs.Subscriptions.{without_filter, granted_qos};
 ghost use Rattle.session_base.specs.Queue.{on_puback, on_pubrec, on_pubcomp, enqueue, room, filled};
 ghost use Rattle.session_base.specs.Sending.{fill_sends, resend, pubrec_sends};
@@ -211,7 +211,7 @@ impl Session {
         ensures err { OnErr result (self.new ≡ self.old) }
 
         // `Err` only for a new filter.
-        ensures held { is_held filter self.old.subscriptions ≡ true → IsOk result }
+        ensures held { is_subscribed filter self.old.subscriptions ≡ true → IsOk result }
     {
         self.subscriptions.set(filter, qos)
     }
@@ -226,7 +226,7 @@ impl Session {
 
     /// Says whether this filter is a subscription of the session.
     pub fn has_subscription(&self, filter: &Filter) -> bool
-        ensures { result ≡ is_held filter.now self.now.subscriptions }
+        ensures { result ≡ is_subscribed filter.now self.now.subscriptions }
     {
         self.subscriptions.contains(filter)
     }

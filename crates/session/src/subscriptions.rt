@@ -1,7 +1,7 @@
 // The subscriptions of a session (MQTT 3.8.4, 3.10.4).
 
 ghost use Rattle.std.specs.Prelude.{◌≡◌, [], true, IsOk, OnOk, OnErr, length};
-ghost use Rattle.session_base.specs.Subscriptions.{is_held, with_subscription};
+ghost use Rattle.session_base.specs.Subscriptions.{is_subscribed, with_subscription};
 ghost use Rattle.session_base.specs.Subscriptions.{without_filter, granted_qos};
 ghost use Rattle.session_base.specs.Publication.{greater_qos};
 
@@ -19,9 +19,9 @@ pub(crate) struct Subscriptions {
 
 impl Model for Subscriptions {
     ghost use Rattle.std.specs.Prelude.{List};
-    ghost use Rattle.session_base.specs.Subscriptions.{HeldFilter};
+    ghost use Rattle.session_base.specs.Subscriptions.{GrantedFilter};
 
-    ghost Value = { List HeldFilter };
+    ghost Value = { List GrantedFilter };
 
     ghost view = { λ subscriptions. subscriptions.filters.entries };
 }
@@ -52,7 +52,7 @@ impl Subscriptions {
 
     /// Says whether the filter is among them.
     pub(crate) fn contains(&self, filter: &Filter) -> bool
-        ensures { result ≡ is_held filter.now self.now }
+        ensures { result ≡ is_subscribed filter.now self.now }
     {
         self.filters.contains_key(filter)
     }
@@ -61,7 +61,7 @@ impl Subscriptions {
     pub(crate) fn set(&mut self, filter: Filter, qos: QoS) -> Result<(), AllocError>
         ensures ok { OnOk result (self.new ≡ with_subscription (filter, qos) self.old) }
         ensures err { OnErr result (self.new ≡ self.old) }
-        ensures held { is_held filter self.old ≡ true → IsOk result }
+        ensures held { is_subscribed filter self.old ≡ true → IsOk result }
     {
         self.filters.insert(filter, qos)?;
         Ok(())

@@ -6,7 +6,7 @@ ghost use Rattle.std.specs.Ordering.{nat_cmp};
 ghost use Rattle.session_base.specs.packet_base.Outcome.{Gives, Reads};
 ghost use Rattle.session_base.specs.packet_base.Reading.{byte_at, number_at, id_at};
 ghost use Rattle.session_base.specs.Counted.{counted_at, items_after, last_of, Adds};
-ghost use Rattle.session_base.specs.Form.{is_new_filter, held_at, is_above, may_follow, flight_at};
+ghost use Rattle.session_base.specs.Form.{is_new_filter, granted_filter_at, is_above, may_follow, flight_at};
 ghost use Rattle.session_base.specs.Form.{anything, was_released, waiting_at, state_at};
 ghost use Rattle.session_base.specs.lists.Lists.{has_id};
 ghost use Rattle.session_base.specs.Queue.{ids_of};
@@ -21,7 +21,9 @@ use indexmap::IndexMap;
 use session_base::packet::{PacketId, QoS};
 use session_base::packet_base::{Reader, Stop};
 use session_base::topics::{Filter, MalformedKind};
-use session_base::{Awaits, Publication, check_form, read_flight, read_held, read_waiting};
+use session_base::{
+    Awaits, Publication, check_form, read_flight, read_granted_filter, read_waiting,
+};
 use std::alloc::Global;
 use std::collections::VecDeque;
 
@@ -33,14 +35,14 @@ impl Subscriptions {
     #[tactic(auto, unfolding(session_base::specs::Counted::counted_at))]
     pub(crate) fn read(alloc: Global, reader: &mut Reader) -> Result<Subscriptions, Stop>
         ensures { Reads (λ x. x) result reader.new
-            (counted_at byte_at is_new_filter held_at MAX_SUBSCRIPTIONS reader.old) }
+            (counted_at byte_at is_new_filter granted_filter_at MAX_SUBSCRIPTIONS reader.old) }
     {
         let count = reader.byte()?;
         check_form(usize::from(count) <= MAX_SUBSCRIPTIONS)?;
         read_filters(alloc, count, reader)
     }
 
-    // Adds a filter that is not yet held.
+    // Adds a filter that the session does not have yet.
     fn add(&mut self, filter: Filter, qos: QoS) -> Result<(), Stop>
         ensures { Adds is_new_filter self.old (filter, qos) result self.new }
     {
@@ -55,11 +57,11 @@ impl Subscriptions {
 // Reads this many filters, each of which is new, with their QoS.
 fn read_filters(alloc: Global, count: u8, reader: &mut Reader) -> Result<Subscriptions, Stop>
     ensures { Reads (λ x. x) result reader.new
-        (items_after is_new_filter held_at count [] reader.old) }
+        (items_after is_new_filter granted_filter_at count [] reader.old) }
 {
     let mut read = Subscriptions::new(alloc);
     for _ in 0..count {
-        let (filter, qos) = read_held(alloc, reader)?;
+        let (filter, qos) = read_granted_filter(alloc, reader)?;
         read.add(filter, qos)?;
     }
     Ok(read)

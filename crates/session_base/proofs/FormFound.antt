@@ -5,9 +5,9 @@ use Rattle.packet_base.specs.Reading.{byte_at, number_at, id_at}
 use Rattle.packet_base.proofs.Steps.{then_if}
 use Rattle.packet_base.proofs.FieldsFound.{IsBytes}
 use Rattle.session_base.specs.Session.{SessionState}
-use Rattle.session_base.specs.InRange.{IsHeld, IsInFlight, IsWaiting}
+use Rattle.session_base.specs.InRange.{IsGrantedFilter, IsInFlight, IsWaiting}
 use Rattle.session_base.specs.Counted.{counted_at}
-use Rattle.session_base.specs.Form.{held_at, flight_at, waiting_at, is_new_filter, is_above, may_follow, anything, state_at}
+use Rattle.session_base.specs.Form.{granted_filter_at, flight_at, waiting_at, is_new_filter, is_above, may_follow, anything, state_at}
 use Rattle.session_base.specs.FormLaws.{HasForm, FitsIn, ReadHasForm}
 use Rattle.session_base.proofs.Found.{AreRead, counted_found}
 use Rattle.session_base.proofs.FieldsFound.{a_byte, a_number, an_id, a_held_one, a_flight, a_waiting_one}
@@ -17,8 +17,8 @@ pub read_has_form : ReadHasForm
 unfolding state_at
 read_has_form window small bytes fits =
     let Q : SessionState × List ℕ → Type 0 = λ x. HasForm x.0 × FitsIn window x.0 × IsBytes x.1 in
-    then_if (counted_at byte_at is_new_filter held_at 64 bytes) _ (λ x. AreRead is_new_filter IsHeld 64 x.0 × IsBytes x.1) Q
-    (counted_found byte_at is_new_filter held_at IsHeld 64 a_byte a_held_one bytes fits) (λ filters a.
+    then_if (counted_at byte_at is_new_filter granted_filter_at 64 bytes) _ (λ x. AreRead is_new_filter IsGrantedFilter 64 x.0 × IsBytes x.1) Q
+    (counted_found byte_at is_new_filter granted_filter_at IsGrantedFilter 64 a_byte a_held_one bytes fits) (λ filters a.
     then_if (counted_at number_at is_above id_at 65535 filters.1) _ (λ x. AreRead is_above IsId 65535 x.0 × IsBytes x.1) Q
     (counted_found number_at is_above id_at IsId 65535 a_number an_id filters.1 a.1) (λ ids b.
     then_if (counted_at number_at may_follow flight_at window ids.1) _ (λ x. AreRead may_follow IsInFlight window x.0 × IsBytes x.1) Q

@@ -2,13 +2,13 @@
 use Rattle.std.specs.Prelude.{ℕ, Bool, true, not, ◌&&◌, ◌||◌, nat_lt, List, Option, Some, None}
 use Rattle.lists.specs.Lists.{has_id}
 use Rattle.session_base.specs.declared.publication.Publication.{Publication}
-use Rattle.session_base.specs.Subscriptions.{HeldFilter, is_held}
+use Rattle.session_base.specs.Subscriptions.{GrantedFilter, is_subscribed}
 use Rattle.session_base.specs.Queue.{Flight, ids_of, is_released}
 use Rattle.session_base.specs.Counted.{last_of}
 
--- a filter that is not held yet
-abbrev pub is_new_filter : List HeldFilter → HeldFilter → Bool
-is_new_filter front held = not (is_held held.0 front)
+-- a filter that the session does not have yet
+abbrev pub is_new_filter : List GrantedFilter → GrantedFilter → Bool
+is_new_filter front held = not (is_subscribed held.0 front)
 
 -- an identifier above the last one, if there is one
 abbrev pub is_over : Option ℕ → ℕ → Bool

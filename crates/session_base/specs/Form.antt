@@ -13,11 +13,11 @@ use Rattle.session_base.specs.declared.publication.Publication.{Publication}
 use Rattle.session_base.specs.declared.awaits.Awaits.{Awaits}
 use Rattle.session_base.specs.declared.awaits.Awaits.TheVariants as waits_for
 use Rattle.session_base.specs.Publication.{is_answered, is_acknowledged}
-use Rattle.session_base.specs.Subscriptions.{HeldFilter}
+use Rattle.session_base.specs.Subscriptions.{GrantedFilter}
 use Rattle.session_base.specs.Queue.{Flight}
 use Rattle.session_base.specs.Session.{SessionState, max_entries, max_subscriptions}
 use Rattle.session_base.specs.Counted.{check_form, counted_at}
-pub use Rattle.session_base.specs.Writing.{long_number, one_byte, publication_bytes, held_bytes}
+pub use Rattle.session_base.specs.Writing.{long_number, one_byte, publication_bytes, granted_filter_bytes}
 pub use Rattle.session_base.specs.Writing.{awaits_bytes, flight_bytes, state_bytes}
 pub use Rattle.session_base.specs.Writing.{HasLength, IsWritable}
 pub use Rattle.session_base.specs.Follows.{is_new_filter, is_over, is_above, was_released}
@@ -66,8 +66,8 @@ publication_at bytes = do
   Ok (p, payload.1)
 
 -- a filter with its QoS
-unfoldable pub held_at : List ℕ → Result (HeldFilter × List ℕ) Stop
-held_at bytes = do
+unfoldable pub granted_filter_at : List ℕ → Result (GrantedFilter × List ℕ) Stop
+granted_filter_at bytes = do
   filter ← filter_at bytes
   qos ← qos_at filter.1
   Ok ((filter.0, qos.0), qos.1)
@@ -106,7 +106,7 @@ flight_at bytes = do
 -- and waiting
 unfoldable pub state_at : ℕ → List ℕ → Result (SessionState × List ℕ) Stop
 state_at window bytes = do
-  subscriptions ← counted_at byte_at is_new_filter held_at max_subscriptions bytes
+  subscriptions ← counted_at byte_at is_new_filter granted_filter_at max_subscriptions bytes
   received ← counted_at number_at is_above id_at 65535 subscriptions.1
   in_flight ← counted_at number_at may_follow flight_at window received.1
   waiting ← counted_at number_at anything waiting_at (max_entries - length in_flight.0) in_flight.1

@@ -9,14 +9,14 @@ use Rattle.session_base.specs.KeepingLaws.{AreFiltersApart}
 use Rattle.session_base.specs.OrderLaws.{IsReleasedFirst}
 use Rattle.session_base.specs.Queue.{ids_of}
 use Rattle.session_base.specs.Session.{SessionState, max_entries, max_subscriptions}
-use Rattle.session_base.specs.InRange.{IsHeld, IsQueue}
+use Rattle.session_base.specs.InRange.{IsGrantedFilter, IsQueue}
 use Rattle.session_base.specs.Form.{state_bytes, state_at}
 
 -- a session that has a form: each filter once, received identifiers rising, those in flight
 -- distinct, the released entries first, no more of each than it may hold, and each in its range
 pub record HasForm (s : SessionState) : Type 0 where
   pub filters_apart : AreFiltersApart s.subscriptions
-  pub filters : AllByRecursion IsHeld s.subscriptions
+  pub filters : AllByRecursion IsGrantedFilter s.subscriptions
   pub few_filters : length s.subscriptions ≤ max_subscriptions
   pub rising : IsStrictlySortedBy nat_cmp s.received
   pub received : AllByRecursion IsId s.received

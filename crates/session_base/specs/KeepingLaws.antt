@@ -4,18 +4,18 @@ use Rattle.std.specs.Prelude.{◌≡◌, ℕ, false, if◌then◌else◌, List, 
 use Rattle.std.specs.List.Sorted.{IsStrictlySortedBy}
 use Rattle.std.specs.Ordering.{nat_cmp}
 use Rattle.session_base.specs.Identifiers.{with_id, without_id}
-use Rattle.session_base.specs.Subscriptions.{HeldFilter, is_held, with_subscription, without_filter}
+use Rattle.session_base.specs.Subscriptions.{GrantedFilter, is_subscribed, with_subscription, without_filter}
 
--- no filter is held twice
-abbrev pub AreFiltersApart : List HeldFilter → Type 0
-AreFiltersApart (held ∷ others) = (is_held held.0 others ≡ false) × AreFiltersApart others
+-- no filter occurs twice
+abbrev pub AreFiltersApart : List GrantedFilter → Type 0
+AreFiltersApart (held ∷ others) = (is_subscribed held.0 others ≡ false) × AreFiltersApart others
 AreFiltersApart [] = Unit {0}
 
 -- a granting and a giving up keep it so
 abbrev pub FiltersStayApart : Type 0
 FiltersStayApart =
-    (held : List HeldFilter) → AreFiltersApart held →
-    ((new : HeldFilter) → AreFiltersApart (with_subscription new held))
+    (held : List GrantedFilter) → AreFiltersApart held →
+    ((new : GrantedFilter) → AreFiltersApart (with_subscription new held))
     × ((given_up : List ℕ) → AreFiltersApart (without_filter given_up held))
 
 -- received identifiers stay in rising order, each once
@@ -25,12 +25,12 @@ ReceivedStayRising =
     IsStrictlySortedBy nat_cmp (with_id id ids) × IsStrictlySortedBy nat_cmp (without_id id ids)
 
 -- the filters alone, in order
-abbrev pub filters_of : List HeldFilter → List (List ℕ)
+abbrev pub filters_of : List GrantedFilter → List (List ℕ)
 filters_of = map (λ held. held.0)
 
--- a filter that is held keeps its place, and a new one comes last (MQTT 3.8.4)
+-- a filter that the session has keeps its place, and a new one comes last (MQTT 3.8.4)
 abbrev pub FiltersKeepTheirOrder : Type 0
 FiltersKeepTheirOrder =
-    (new : HeldFilter) → (held : List HeldFilter) →
+    (new : GrantedFilter) → (held : List GrantedFilter) →
     filters_of (with_subscription new held)
-    ≡ (if is_held new.0 held then filters_of held else filters_of held ++ new.0 ∷ [])
+    ≡ (if is_subscribed new.0 held then filters_of held else filters_of held ++ new.0 ∷ [])

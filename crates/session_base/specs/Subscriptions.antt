@@ -8,35 +8,35 @@ use Rattle.packet.specs.declared.qos.QoS.{QoS}
 use Rattle.session_base.specs.Publication.{greater_qos}
 
 -- a filter of a session, with the QoS at which it was granted last
-abbrev pub HeldFilter : Type 0
-HeldFilter = List ℕ × QoS
+abbrev pub GrantedFilter : Type 0
+GrantedFilter = List ℕ × QoS
 
--- whether a filter is held, compared character by character
-abbrev pub is_held : List ℕ → List HeldFilter → Bool
-is_held filter = list_any (λ held. bytes_eq filter held.0)
+-- whether the session has a subscription of a filter, compared character by character
+abbrev pub is_subscribed : List ℕ → List GrantedFilter → Bool
+is_subscribed filter = list_any (λ held. bytes_eq filter held.0)
 
 -- an identical filter takes the new QoS in its place, and a new one comes last (MQTT 3.8.4)
-abbrev pub with_subscription : HeldFilter → List HeldFilter → List HeldFilter
+abbrev pub with_subscription : GrantedFilter → List GrantedFilter → List GrantedFilter
 with_subscription new (old ∷ others) =
     if bytes_eq new.0 old.0 then (old.0, new.1) ∷ others else old ∷ with_subscription new others
 with_subscription new [] = new ∷ []
 
 -- the subscriptions after all of these, one by one
-abbrev pub with_subscriptions : List HeldFilter → List HeldFilter → List HeldFilter
+abbrev pub with_subscriptions : List GrantedFilter → List GrantedFilter → List GrantedFilter
 with_subscriptions (new ∷ more) held = with_subscriptions more (with_subscription new held)
 with_subscriptions [] held = held
 
 -- a filter is given up, compared character by character (MQTT 3.10.4)
-abbrev pub without_filter : List ℕ → List HeldFilter → List HeldFilter
+abbrev pub without_filter : List ℕ → List GrantedFilter → List GrantedFilter
 without_filter given_up = filter (λ held. not (bytes_eq given_up held.0))
 
 -- the subscriptions after all of these filters are given up, one by one
-abbrev pub without_filters : List (List ℕ) → List HeldFilter → List HeldFilter
+abbrev pub without_filters : List (List ℕ) → List GrantedFilter → List GrantedFilter
 without_filters (given_up ∷ more) held = without_filters more (without_filter given_up held)
 without_filters [] held = held
 
 -- the greatest QoS of the filters that match the topic (MQTT 3.3.5)
-abbrev pub granted_qos : List ℕ → List HeldFilter → Option QoS
+abbrev pub granted_qos : List ℕ → List GrantedFilter → Option QoS
 granted_qos topic (held ∷ others) =
     if is_match held.0 topic then Some (greater_qos held.1 (granted_qos topic others))
     else granted_qos topic others

@@ -7,7 +7,7 @@ use Rattle.packet.specs.QoS.{qos_number}
 use Rattle.session_base.specs.declared.publication.Publication.{Publication}
 use Rattle.session_base.specs.declared.awaits.Awaits.{Awaits}
 use Rattle.session_base.specs.declared.awaits.Awaits.TheVariants as waits_for
-use Rattle.session_base.specs.Subscriptions.{HeldFilter}
+use Rattle.session_base.specs.Subscriptions.{GrantedFilter}
 use Rattle.session_base.specs.Queue.{Flight}
 use Rattle.session_base.specs.Session.{SessionState}
 use Rattle.session_base.specs.Counted.{counted}
@@ -27,8 +27,8 @@ publication_bytes p =
     ∷ (text p.topic ++ (long_number (length p.payload) ++ p.payload))
 
 -- a filter with its QoS
-abbrev pub held_bytes : HeldFilter → List ℕ
-held_bytes held = text held.0 ++ one_byte (qos_number held.1)
+abbrev pub granted_filter_bytes : GrantedFilter → List ℕ
+granted_filter_bytes held = text held.0 ++ one_byte (qos_number held.1)
 
 -- what an entry waits for: 0 PUBACK, 1 PUBREC, 2 PUBCOMP, with its publication if it still has one
 abbrev pub awaits_bytes : Awaits → List ℕ
@@ -44,7 +44,7 @@ flight_bytes flight = number flight.0 ++ awaits_bytes flight.1
 -- waits
 abbrev pub state_bytes : SessionState → List ℕ
 state_bytes s =
-    counted one_byte held_bytes s.subscriptions
+    counted one_byte granted_filter_bytes s.subscriptions
     ++ (counted number number s.received
     ++ (counted number flight_bytes s.queue.in_flight
     ++ counted number publication_bytes s.queue.waiting))

@@ -20,9 +20,9 @@ pub use packet_base;
 pub use packet_base::topics;
 pub use publication::{Publication, delivery};
 pub use reading::{
-    body_length, check_form, read_flag, read_flight, read_held, read_long_number, read_publication,
-    read_qos, read_waiting,
+    body_length, check_form, read_flag, read_flight, read_granted_filter, read_long_number,
+    read_publication, read_qos, read_waiting,
 };
 pub use writing::{
-    write_flight, write_held, write_number, write_payload, write_publication, write_text,
+    write_flight, write_granted_filter, write_number, write_payload, write_publication, write_text,
 };

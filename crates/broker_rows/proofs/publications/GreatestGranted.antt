@@ -8,7 +8,7 @@ use Rattle.subs.specs.topics.Matching.{is_match}
 use Rattle.subs.specs.packet.declared.qos.QoS.{QoS}
 use Rattle.subs.specs.packet.QoS.{qos_number}
 use Rattle.broker_spec.specs.session_base.Publication.{greater_qos}
-use Rattle.broker_spec.specs.session_base.Subscriptions.{HeldFilter, is_held, granted_qos}
+use Rattle.broker_spec.specs.session_base.Subscriptions.{GrantedFilter, is_subscribed, granted_qos}
 use Rattle.broker_rows.specs.Indexed.{qos_at}
 use Rattle.broker_spec.specs.session_base.KeepingLaws.{AreFiltersApart}
 
@@ -40,7 +40,7 @@ greater_cases q (Some b) =
 -- ---- of a session's subscriptions
 
 -- a matching filter's QoS is at most the one that is granted
-pub reaches : (topic : List ℕ) (held : List HeldFilter) (f : List ℕ) (q : QoS) → qos_at f held ≡ Some q → is_match f topic ≡ true →
+pub reaches : (topic : List ℕ) (held : List GrantedFilter) (f : List ℕ) (q : QoS) → qos_at f held ≡ Some q → is_match f topic ≡ true →
     (p : QoS) × (granted_qos topic held ≡ Some p) × (qos_number q ≤ qos_number p)
 reaches topic [] f q found is = absurd (cc)
 reaches topic (s ∷ others) f q found is =
@@ -66,7 +66,7 @@ reaches topic (s ∷ others) f q found is =
     ] refl found
 
 -- the subscription of a filter after the first, if filters are apart
-at_after : (s : HeldFilter) (others : List HeldFilter) (f : List ℕ) (p : QoS) → qos_at s.0 others ≡ None → qos_at f others ≡ Some p → qos_at f (s ∷ others) ≡ Some p
+at_after : (s : GrantedFilter) (others : List GrantedFilter) (f : List ℕ) (p : QoS) → qos_at s.0 others ≡ None → qos_at f others ≡ Some p → qos_at f (s ∷ others) ≡ Some p
 at_after s others f p apart found =
     elim (bytes_eq f s.0) as (λ v. bytes_eq f s.0 ≡ v → cond v (Some s.1) (qos_at f others) ≡ Some p) [
       | true ↦ λ t.
@@ -76,13 +76,13 @@ at_after s others f p apart found =
     ] refl
 
 -- a filter that is not held has no QoS
-pub none_held : (f : List ℕ) (held : List HeldFilter) → is_held f held ≡ false → qos_at f held ≡ None
+pub none_held : (f : List ℕ) (held : List GrantedFilter) → is_subscribed f held ≡ false → qos_at f held ≡ None
 none_held f [] e = refl
 none_held f (old ∷ others) e =
-    let parts = or_parts (bytes_eq f old.0) (is_held f others) e in rw (parts.0) (none_held f others parts.1)
+    let parts = or_parts (bytes_eq f old.0) (is_subscribed f others) e in rw (parts.0) (none_held f others parts.1)
 
 -- what is granted is the QoS of a matching filter
-pub comes : (topic : List ℕ) (held : List HeldFilter) (p : QoS) → AreFiltersApart held → granted_qos topic held ≡ Some p →
+pub comes : (topic : List ℕ) (held : List GrantedFilter) (p : QoS) → AreFiltersApart held → granted_qos topic held ≡ Some p →
     (f : List ℕ) × (qos_at f held ≡ Some p) × (is_match f topic ≡ true)
 comes topic [] p apart is = absurd (cc)
 comes topic (s ∷ others) p apart is =

@@ -10,7 +10,7 @@ use Rattle.broker_spec.specs.session_base.Queue.{room}
 use Rattle.broker_spec.specs.session_base.Copies.{copies_left}
 use Rattle.broker_spec.specs.session_base.Sending.{copies_sent}
 use Rattle.broker_base.specs.Place.{Limits}
-use Rattle.broker_base.specs.Subscriptions.{as_held, granted_of}
+use Rattle.broker_base.specs.Subscriptions.{as_granted, granted_of}
 use Rattle.broker_base.specs.Entries.{copies_for, copies_for_all}
 use Rattle.broker_base.specs.Marks.{is_one_too_many, entries_for, grants}
 use Rattle.broker_rows.specs.PacketLaws.{subscribed_to}
@@ -37,7 +37,7 @@ module _ (limits : Limits) (w : ℕ) (content : RetainedTopics) where
   subscribed_first : (new : Subscription) (more : List Subscription) (held : SessionState) →
       subscribed_to w content (new ∷ more) held ≡ subscribed_to w content more (subscribed_to w content (new ∷ []) held)
   subscribed_first new more held =
-      ap (λ queue. with_filters (with_subscriptions (map as_held more) (with_subscription (as_held new) held.subscriptions)) (with_queue queue held))
+      ap (λ queue. with_filters (with_subscriptions (map as_granted more) (with_subscription (as_granted new) held.subscriptions)) (with_queue queue held))
       ((copies_join w (copies_for content new) (copies_for_all content more) held.queue).0
       ∙ ap (copies_left w (copies_for_all content more)) (sym (queue_by new held)))
 
@@ -61,14 +61,14 @@ module _ (limits : Limits) (w : ℕ) (content : RetainedTopics) where
     where
       by : (b : Bool) →
           grants limits content held.subscriptions (room limits.entries held.queue) more ≡ granted_in_turn limits w content held more →
-          grants limits content (with_subscription (as_held new) held.subscriptions) (room limits.entries (subscribed_to w content (new ∷ []) held).queue) more
+          grants limits content (with_subscription (as_granted new) held.subscriptions) (room limits.entries (subscribed_to w content (new ∷ []) held).queue) more
           ≡ granted_in_turn limits w content (subscribed_to w content (new ∷ []) held) more →
           (if b then false ∷ grants limits content held.subscriptions (room limits.entries held.queue) more
-          else true ∷ grants limits content (with_subscription (as_held new) held.subscriptions) (room limits.entries held.queue - entries_for content new) more)
+          else true ∷ grants limits content (with_subscription (as_granted new) held.subscriptions) (room limits.entries held.queue - entries_for content new) more)
           ≡ not b ∷ granted_in_turn limits w content (if not b then subscribed_to w content (new ∷ []) held else held) more
       by true stays goes_on = ap (λ rest. false ∷ rest) stays
       by false stays goes_on =
-          ap (λ r. true ∷ grants limits content (with_subscription (as_held new) held.subscriptions) r more) (sym (room_by new held))
+          ap (λ r. true ∷ grants limits content (with_subscription (as_granted new) held.subscriptions) r more) (sym (room_by new held))
           ∙ ap (λ rest. true ∷ rest) goes_on
 
   -- the session

@@ -10,7 +10,7 @@ use Rattle.broker_session.specs.subs_base.ListIndex.{content_of}
 use Rattle.broker_session.specs.broker_spec.Place.{by_bytes}
 use Rattle.broker_session.specs.broker_spec.Answers.{codes_of}
 use Rattle.broker_session.specs.broker_spec.Commands.{usual_limits}
-use Rattle.broker_session.specs.broker_spec.Subscriptions.{as_held, granted_of}
+use Rattle.broker_session.specs.broker_spec.Subscriptions.{as_granted, granted_of}
 use Rattle.broker_session.specs.broker_spec.declared.command.Output.TheVariants as outputs
 use Rattle.broker_session.specs.broker_base.ClientSession.{ClientSession}
 use Rattle.broker_session.specs.broker_base.State.{Sessions, session_in}
@@ -88,4 +88,4 @@ returns-clause-tied c =
     ∙ (λ i. subscribed_in_turn usual_limits t.window t.retained (state i) (c.as_slice-filters.ensures i)))
     (c.get_mut.follows.holds _).0 refl
     (c.in_ok-set_all.ensures
-    ∙ (λ i. all_set c.args.client.now (map as_held (granted_of (c.as_slice-filters.ensures i) ((c.deref.ensures.value ∙ which) i))) (content_of t.index)))
+    ∙ (λ i. all_set c.args.client.now (map as_granted (granted_of (c.as_slice-filters.ensures i) ((c.deref.ensures.value ∙ which) i))) (content_of t.index)))

@@ -1,6 +1,6 @@
 -- A map sets an entry in its place or last, and is refused memory only for a key that it does not have.
 use Rattle.std.proofs.Common.{◌∙◌, ap}
-use Rattle.session_base.specs.Subscriptions.{is_held, with_subscription}
+use Rattle.session_base.specs.Subscriptions.{is_subscribed, with_subscription}
 use Rattle.session.proofs.FilterSet.{set_as_entry, never_missed}
 use Rattle.session.proofs.subscriptions.Subscriptions.set.Goals as goal
 
@@ -12,4 +12,4 @@ returns-clause-ok c =
 
 pub returns-in_err-insert-clause-held : goal.returns-in_err-insert-clause-held
 returns-in_err-insert-clause-held c held =
-    absurd (never_missed c.args.filter c.self.inside.filters.entries c.in_err-insert.ensures.absent (ap (is_held c.args.filter) c.self.view_is ∙ held))
+    absurd (never_missed c.args.filter c.self.inside.filters.entries c.in_err-insert.ensures.absent (ap (is_subscribed c.args.filter) c.self.view_is ∙ held))
