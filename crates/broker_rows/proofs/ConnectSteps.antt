@@ -23,7 +23,7 @@ use Rattle.broker_base.specs.Output.{Output}
 use Rattle.broker_base.specs.Output.TheVariants.{Send}
 use Rattle.broker_base.proofs.SessionsStayByClient.{ComesBefore, before_more}
 use Rattle.broker_rows.specs.Touched.{written, is_accepted, is_taken}
-use Rattle.broker_rows.specs.ConnectLaws.{is_admitted, BeginningStep, ResumingStep, FullStep, InsertionWrites}
+use Rattle.broker_rows.specs.ConnectLaws.{may_have_session, BeginningStep, ResumingStep, FullStep, InsertionWrites}
 use Rattle.broker_rows.proofs.CommandOfNobody.{nobody_owns, nobody_stays}
 use Rattle.broker_rows.proofs.NewConnection.{put_left}
 use Rattle.broker_rows.proofs.ServedStep.{retained_same}
@@ -52,14 +52,14 @@ insertion_writes c old new (row ∷ rows) by_client found = by (by_bytes c row.0
 -- ---- an accepted Connect
 
 -- its mark
-accepted_mark : (limits : Limits) (state : State) (x : ConnectionName) (c : Client) (clean : Bool) → owner_in x state.sessions ≡ None → is_admitted limits state c ≡ true →
+accepted_mark : (limits : Limits) (state : State) (x : ConnectionName) (c : Client) (clean : Bool) → owner_in x state.sessions ≡ None → may_have_session limits state c ≡ true →
     mark_in limits state (commands.Connect x c clean) ≡ Mark.Accepted
 accepted_mark limits state x c clean none admitted =
     ap (connect_mark_in limits state c) none ∙ ap (λ b. if b then Mark.Accepted else Mark.Full) admitted
 
 -- with what it puts in the client's place, and what it answers
 accepted_step : (limits : Limits) (later : ℕ) (state : State) (x : ConnectionName) (c : Client) (clean : Bool) (kept : ClientSession) (answers : List Output) → IsSound state →
-    owner_in x state.sessions ≡ None → is_admitted limits state c ≡ true → kept_connected state.window (x, clean) (session_in c state.sessions) ≡ kept →
+    owner_in x state.sessions ≡ None → may_have_session limits state c ≡ true → kept_connected state.window (x, clean) (session_in c state.sessions) ≡ kept →
     connect_answers_in state.window x clean (session_in c state.sessions) Mark.Accepted ≡ answers →
     step limits later state (commands.Connect x c clean)
     ≡ (record { window = state.window; sessions = insert_entry by_bytes state.sessions c kept; retained = state.retained }, answers)

@@ -21,8 +21,8 @@ use Rattle.broker_rows.specs.Touched.{written}
 use Rattle.broker_rows.specs.Served.{with_session, left_off}
 
 -- whether the client has a session, or one more may begin
-abbrev pub is_admitted : Limits → State → Client → Bool
-is_admitted limits state c =
+abbrev pub may_have_session : Limits → State → Client → Bool
+may_have_session limits state c =
     is_some (session_in c state.sessions) || nat_lt (length state.sessions) limits.sessions
 
 -- whether an accepted Connect with this flag begins a session of the client
@@ -37,7 +37,7 @@ abbrev pub BeginningStep : Type 0
 BeginningStep =
     (limits : Limits) → (later : ℕ) → (state : State) → (x : ConnectionName) → (c : Client) →
     (clean : Bool) → IsSound state →
-    owner_in x state.sessions ≡ None → is_admitted limits state c ≡ true →
+    owner_in x state.sessions ≡ None → may_have_session limits state c ≡ true →
     begins_in state c clean ≡ true →
     step limits later state (commands.Connect x c clean)
     ≡ (
@@ -72,7 +72,7 @@ abbrev pub FullStep : Type 0
 FullStep =
     (limits : Limits) → (later : ℕ) → (state : State) → (x : ConnectionName) → (c : Client) →
     (clean : Bool) →
-    owner_in x state.sessions ≡ None → is_admitted limits state c ≡ false →
+    owner_in x state.sessions ≡ None → may_have_session limits state c ≡ false →
     step limits later state (commands.Connect x c clean) ≡ (state, turned_away x ∷ Close x ∷ [])
 
 -- if the client has a session, the insertion of one writes it

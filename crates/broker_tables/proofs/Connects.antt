@@ -16,7 +16,7 @@ use Rattle.broker_session.specs.broker_base.State.{session_in, owner_in}
 use Rattle.broker_session.specs.broker_base.StepAnswers.{connection_of}
 use Rattle.broker_session.specs.broker_rows.Served.{IsServed}
 use Rattle.broker_session.specs.broker_rows.Published.{changed}
-use Rattle.broker_session.specs.broker_rows.ConnectLaws.{is_admitted, begins_in}
+use Rattle.broker_session.specs.broker_rows.ConnectLaws.{may_have_session, begins_in}
 use Rattle.broker_session.specs.broker_rows.Owners.{owners_in, with_owner, without_owner}
 use Rattle.broker_session.proofs.of_broker_rows.ConnectSteps.{beginning_step, resuming_step, full_step}
 use Rattle.broker_session.proofs.of_broker_rows.LeavingSteps.{further_connect_step}
@@ -52,7 +52,7 @@ further_of tables x c kept named clean served =
 
 module _ (tables : Tables) (x : ConnectionName) (c : Client) (clean : Bool) (step : IsConsistent tables) (none : owners_in tables.sessions.entries x ≡ None) where
   -- a session begins
-  pub beginning_of : is_admitted usual_limits (state_in tables) c ≡ true → begins_in (state_in tables) c clean ≡ true →
+  pub beginning_of : may_have_session usual_limits (state_in tables) c ≡ true → begins_in (state_in tables) c clean ≡ true →
       stepped tables (commands.Connect x c clean)
       ≡ (
         record {
@@ -76,7 +76,7 @@ module _ (tables : Tables) (x : ConnectionName) (c : Client) (clean : Bool) (ste
       ∙ sym (beginning_drops c (x, clean) tables.sessions.entries step.sound.by_client))
 
   -- there are too many
-  pub full_of : is_admitted usual_limits (state_in tables) c ≡ false →
+  pub full_of : may_have_session usual_limits (state_in tables) c ≡ false →
       stepped tables (commands.Connect x c clean) ≡ (state_in tables, turned_away x ∷ outputs.Close x ∷ [])
   unfolding stepped
   full_of full = full_step usual_limits 64 (state_in tables) x c clean (is_nobodys tables x none) full

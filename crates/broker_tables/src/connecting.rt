@@ -10,10 +10,10 @@ ghost use Rattle.broker_session.specs.broker_base.SessionStep.{kept_resumed};
 ghost use Rattle.broker_session.specs.broker_base.State.{session_in};
 ghost use Rattle.broker_session.specs.broker_base.StepAnswers.{connection_of};
 ghost use Rattle.broker_session.specs.broker_rows.Owners.{owners_in, with_owner, without_owner};
-ghost use Rattle.broker_session.specs.broker_rows.ConnectLaws.{is_admitted, begins_in};
+ghost use Rattle.broker_session.specs.broker_rows.ConnectLaws.{may_have_session, begins_in};
 ghost use Rattle.broker_tables.specs.Tables.{IsConsistent, IsTied, owners_at, state_in, stepped};
-ghost use Rattle.broker_tables.specs.declared.connecting.Admission.TheVariants.{Begins, GoesOn};
-ghost use Rattle.broker_tables.specs.declared.connecting.Admission.TheVariants.{TurnedAway};
+ghost use Rattle.broker_tables.specs.declared.connecting.ConnectOutcome.TheVariants.{Begins, GoesOn};
+ghost use Rattle.broker_tables.specs.declared.connecting.ConnectOutcome.TheVariants.{TurnedAway};
 ghost use Rattle.broker_session.specs.broker_rows.Published.{changed};
 ghost use Rattle.broker_tables.specs.Inside.{HasOthersOf, HasOthersThanOwners};
 ghost use Rattle.broker_tables.specs.Connecting.{goes_on_in, TakesOver};
@@ -30,7 +30,7 @@ use std::collections::BTreeMap;
 
 /// What a Connect does on a connection that is no client's current one.
 #[derive(Clone, Copy, Debug, PartialEq, Eq)]
-pub(crate) enum Admission {
+pub(crate) enum ConnectOutcome {
     // A session begins.
     Begins,
     // The client's session continues.
@@ -62,10 +62,10 @@ impl Tables {
             self.close(connection, out)?;
             return Ok(());
         }
-        match self.admission(client, clean) {
-            Admission::Begins => self.begin(connection, client, clean, out)?,
-            Admission::GoesOn => self.resume(connection, client, clean, out)?,
-            Admission::TurnedAway => turn_away(connection, out)?,
+        match self.outcome_of(client, clean) {
+            ConnectOutcome::Begins => self.begin(connection, client, clean, out)?,
+            ConnectOutcome::GoesOn => self.resume(connection, client, clean, out)?,
+            ConnectOutcome::TurnedAway => turn_away(connection, out)?,
         }
         Ok(())
     }
@@ -73,27 +73,27 @@ impl Tables {
     // Says what a Connect does that is no violation. A session continues if it exists and neither
     // it nor the Connect is clean. Otherwise one begins, if the client has one or there is room for
     // one more (MQTT 3.1.2.4). If there is none, the client is turned away.
-    fn admission(&self, client: &ClientId, clean: bool) -> Admission
+    fn outcome_of(&self, client: &ClientId, clean: bool) -> ConnectOutcome
         ensures goes_on { result ≡ GoesOn → goes_on_in (state_in self.now) client.now clean ≡ true }
         ensures begins { result ≡ Begins → begins_in (state_in self.now) client.now clean ≡ true }
-        ensures admitted { result ≡ Begins
-            → is_admitted usual_limits (state_in self.now) client.now ≡ true }
+        ensures room { result ≡ Begins
+            → may_have_session usual_limits (state_in self.now) client.now ≡ true }
         ensures full { result ≡ TurnedAway
-            → is_admitted usual_limits (state_in self.now) client.now ≡ false }
+            → may_have_session usual_limits (state_in self.now) client.now ≡ false }
     {
         match self.sessions.get(client) {
             Some(row) => {
                 if clean || row.clean {
-                    Admission::Begins
+                    ConnectOutcome::Begins
                 } else {
-                    Admission::GoesOn
+                    ConnectOutcome::GoesOn
                 }
             }
             None => {
                 if self.sessions.len() < MAX_SESSIONS {
-                    Admission::Begins
+                    ConnectOutcome::Begins
                 } else {
-                    Admission::TurnedAway
+                    ConnectOutcome::TurnedAway
                 }
             }
         }
@@ -109,7 +109,7 @@ impl Tables {
     ) -> Result<(), Halted>
         requires consistent { IsConsistent self.old }
         requires nobodys { owners_in self.old.sessions.entries connection ≡ None }
-        requires admitted { is_admitted usual_limits (state_in self.old) client.now ≡ true }
+        requires room { may_have_session usual_limits (state_in self.old) client.now ≡ true }
         requires begins { begins_in (state_in self.old) client.now clean ≡ true }
         ensures state { OnOk result
             (state_in self.new

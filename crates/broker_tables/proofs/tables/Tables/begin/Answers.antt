@@ -16,7 +16,7 @@ returns-clause-state c =
       retained = c.in_ok-welcome.ensures.others.retained i;
     })
     ∙ sym (ap (λ p. p.0)
-    (beginning_of t c.args.connection c.args.client.now c.args.clean c.requires.consistent c.requires.nobodys c.requires.admitted c.requires.begins))
+    (beginning_of t c.args.connection c.args.client.now c.args.clean c.requires.consistent c.requires.nobodys c.requires.room c.requires.begins))
 
 pub returns-clause-outputs : goal.returns-clause-outputs
 returns-clause-outputs c =
@@ -24,7 +24,7 @@ returns-clause-outputs c =
     c.in_ok-welcome.ensures.outputs
     ∙ ap (λ given. c.args.out.now.items ++ given)
     (sym (ap (λ p. p.1)
-    (beginning_of t c.args.connection c.args.client.now c.args.clean c.requires.consistent c.requires.nobodys c.requires.admitted c.requires.begins)))
+    (beginning_of t c.args.connection c.args.client.now c.args.clean c.requires.consistent c.requires.nobodys c.requires.room c.requires.begins)))
 
 pub returns-clause-tied : goal.returns-clause-tied
 returns-clause-tied c =

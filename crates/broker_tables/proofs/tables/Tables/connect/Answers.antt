@@ -21,7 +21,7 @@ returns-in_ok-turn_away-in-TurnedAway-clause-state c =
     sym (ap (λ p. p.0)
     (full_of c.args.self.now c.args.connection c.args.client.now c.args.clean c.requires
     (not_there c.args.self.now c.args.connection c.requires (sym c.contains_key.ensures ∙ c.if-contains_key.false))
-    (c.admission.ensures.full c.in-TurnedAway.is)))
+    (c.outcome_of.ensures.full c.in-TurnedAway.is)))
 
 pub returns-in_ok-turn_away-in-TurnedAway-clause-outputs : goal.returns-in_ok-turn_away-in-TurnedAway-clause-outputs
 returns-in_ok-turn_away-in-TurnedAway-clause-outputs c =
@@ -30,4 +30,4 @@ returns-in_ok-turn_away-in-TurnedAway-clause-outputs c =
     (sym (ap (λ p. p.1)
     (full_of c.args.self.now c.args.connection c.args.client.now c.args.clean c.requires
     (not_there c.args.self.now c.args.connection c.requires (sym c.contains_key.ensures ∙ c.if-contains_key.false))
-    (c.admission.ensures.full c.in-TurnedAway.is))))
+    (c.outcome_of.ensures.full c.in-TurnedAway.is))))
