@@ -86,12 +86,12 @@ impl SteppingNode {
             (Drives Ticks) self.old.core self.new.core effects.old.items effects.new.items }
     {
         let mut given = Vec::new(self.alloc);
-        self.say_again(&mut given);
+        self.tick_replica(&mut given);
         self.handle_all(given, effects);
     }
 
     // Gives a tick to the replica only.
-    fn say_again(&mut self, given: &mut Vec<Effect<Command, Output>>)
+    fn tick_replica(&mut self, given: &mut Vec<Effect<Command, Output>>)
         requires { given.old.items ≡ [] }
         ensures hears { Hears self.old self.new
             (heard Ticks self.old.core.replica.state) given.new.items }

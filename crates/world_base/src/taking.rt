@@ -167,7 +167,7 @@ impl SteppingNode {
         let stage = connection.stage;
         match connection.next(now) {
             Front::More => return false,
-            Front::Packet(packet) => self.take(port, name, stage, packet, effects),
+            Front::Packet(packet) => self.on_packet(port, name, stage, packet, effects),
             Front::Refused(_) | Front::Fault => self.lose(name, stage, effects),
             Front::OutOfMemory => {
                 self.out_of_memory = true;
@@ -178,7 +178,7 @@ impl SteppingNode {
     }
 
     // Takes a packet that was read: the first must be a CONNECT (MQTT-3.1.0-1).
-    fn take(
+    fn on_packet(
         &mut self,
         port: Port,
         name: ConnectionName,
@@ -195,7 +195,7 @@ impl SteppingNode {
             self.old.core self.new.core effects.old.items effects.new.items }
     {
         if !stage.is_first() {
-            return self.say(port, name, packet, effects);
+            return self.propose_packet(port, name, packet, effects);
         }
         match packet {
             Packet::Connect(connect) => {
@@ -226,7 +226,7 @@ impl SteppingNode {
     }
 
     // Proposes a later packet. A refused proposal closes the connection.
-    fn say(
+    fn propose_packet(
         &mut self,
         port: Port,
         name: ConnectionName,

@@ -52,7 +52,7 @@ returns-in-Packet-clause-turns c =
     (rw (← c.self.view_is) (changed_there c.args.port (λ _. c.next.new.self) _ c.index_at.result c.in-Some.index
     c.index_mut-connection.result.now c.next.new.self (rw (← c.self.view_is) at c.index_at.ensures) c.in-Some.is
     c.index_mut-connection.ensures.value refl))
-    c.take.ensures.turns
+    c.on_packet.ensures.turns
 
 pub returns-in-Refused-clause-turns : goal.returns-in-Refused-clause-turns
 returns-in-Refused-clause-turns c =
@@ -102,7 +102,7 @@ returns-in-Packet-clause-run c =
     (rw (← c.self.view_is) (core_changed c.args.port (λ _. c.next.new.self) _ c.index_at.result c.in-Some.index
     c.index_mut-connection.result.now c.next.new.self (rw (← c.self.view_is) at c.index_at.ensures) c.in-Some.is
     c.index_mut-connection.ensures.value refl))
-    c.take.ensures.run
+    c.on_packet.ensures.run
 
 pub returns-in-Refused-clause-run : goal.returns-in-Refused-clause-run
 returns-in-Refused-clause-run c =

@@ -4,7 +4,7 @@ use Rattle.world_base.specs.Inside.{Running}
 use Rattle.world_base.proofs.Closes.{closes_refused}
 use Rattle.world_base.specs.LossyReading.{Shuts}
 use Rattle.world_base.proofs.EndsRun.{ran_asked, ran_otherwise, shuts_by}
-use Rattle.world_base.proofs.stepping_node.SteppingNode.say.Goals as goal
+use Rattle.world_base.proofs.stepping_node.SteppingNode.propose_packet.Goals as goal
 
 pub returns-then-not-propose-clause-turns : goal.returns-then-not-propose-clause-turns
 returns-then-not-propose-clause-turns c =

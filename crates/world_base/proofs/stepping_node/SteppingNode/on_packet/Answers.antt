@@ -2,11 +2,11 @@ use Rattle.std.proofs.Common.{sym, ◌∙◌}
 use Rattle.world_base.proofs.EndsRun.{core_of}
 use Rattle.world_base.proofs.Fronts.{turns_other}
 use Rattle.world_base.proofs.FrontsRun.{ran_connects, ran_later, ran_other}
-use Rattle.world_base.proofs.stepping_node.SteppingNode.take.Goals as goal
+use Rattle.world_base.proofs.stepping_node.SteppingNode.on_packet.Goals as goal
 
 pub returns-then-not-is_first-clause-run : goal.returns-then-not-is_first-clause-run
 returns-then-not-is_first-clause-run c =
-    ran_later _ c.args.port c.args.name c.args.packet _ _ _ _ (sym c.is_first.ensures ∙ c.if-not-is_first.true) c.say.ensures.run
+    ran_later _ c.args.port c.args.name c.args.packet _ _ _ _ (sym c.is_first.ensures ∙ c.if-not-is_first.true) c.propose_packet.ensures.run
 
 pub returns-in-Connect-clause-run : goal.returns-in-Connect-clause-run
 returns-in-Connect-clause-run c =

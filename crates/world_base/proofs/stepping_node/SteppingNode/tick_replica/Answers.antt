@@ -3,7 +3,7 @@ use Rattle.ballot.specs.Protocol.Input.{Ticks}
 use Rattle.world_base.specs.Inside.{Acts, Running}
 use Rattle.world_base.specs.Turns.{heard}
 use Rattle.world_base.proofs.Answering.{acts_kept}
-use Rattle.world_base.proofs.stepping_node.SteppingNode.say_again.Goals as goal
+use Rattle.world_base.proofs.stepping_node.SteppingNode.tick_replica.Goals as goal
 
 pub returns-clause-acts : goal.returns-clause-acts
 returns-clause-acts c =
