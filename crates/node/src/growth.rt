@@ -1,7 +1,8 @@
 // How many bytes are brought by the items that a node takes.
 
 ghost use Rattle.std.specs.Prelude.{◌≡◌, ◌+◌, ◌*◌, ℕ, length, max, nat_lt, sum_by};
-ghost use Rattle.node.specs.Growth.{bytes_of_body, bytes_of_command, bytes_of_packet, counted, grown};
+ghost use Rattle.node.specs.Growth.{bytes_of_body, bytes_of_command, bytes_of_packet, command_bytes};
+ghost use Rattle.node.specs.Growth.{counted, grown, min_large};
 
 use world_base::packet::{Packet, Subscribe, Unsubscribe};
 use world_base::{Body, Command, Item};
@@ -16,7 +17,7 @@ const COMMAND_BYTES: u64 = 128;
 /// the snapshot has bytes.
 pub(crate) fn is_large(bytes: u64, commands: u64, snapshot: &[u8]) -> bool
     ensures { (all : ℕ) → bytes ≡ counted all →
-        result ≡ nat_lt (max 16777216 (length snapshot.now)) (all + 128 * commands) }
+        result ≡ nat_lt (max min_large (length snapshot.now)) (all + command_bytes * commands) }
 {
     let size = commands.saturating_mul(COMMAND_BYTES).saturating_add(bytes);
     size > MIN_LARGE.max(snapshot.len() as u64)
