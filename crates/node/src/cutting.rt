@@ -7,11 +7,11 @@ ghost use Rattle.node.specs.Cutting.{cuts_after};
 const TICKS_A_CUT: u64 = 50;
 
 /// How many ticks lie between the first cuts of nodes with neighbouring numbers.
-const APART: u64 = 7;
+const TICKS_APART: u64 = 7;
 
 /// Says whether the node of a number has its log cut after this many ticks.
 pub fn cuts_after(number: u8, ticks: u64) -> bool
     ensures { result ≡ cuts_after number ticks }
 {
-    ticks % TICKS_A_CUT == u64::from(number) * APART % TICKS_A_CUT
+    ticks % TICKS_A_CUT == u64::from(number) * TICKS_APART % TICKS_A_CUT
 }

@@ -18,7 +18,7 @@ use std::time::{Clock, Duration};
 use world_base::{Item, Memory};
 
 /// How many times, at most, a gate is asked before one taking.
-const ASKS: u32 = 10_000;
+const GATE_ASKS: u32 = 10_000;
 
 /// How long the thread sleeps after each time that the gate does not open, in milliseconds.
 const ASK_MILLIS: u64 = 1;
@@ -176,7 +176,7 @@ impl<'g, J: NodeNaming, S: Stated<J>, G: Gate> Node<'g, J, S, G> {
     fn ask<R: Wait + Clock>(&self, rt: &R, gate: &G, taking: u64) -> bool
         ensures { WasAsked G.answers self.now.number taking result }
     {
-        for _ in 1..ASKS {
+        for _ in 1..GATE_ASKS {
             if gate.open(rt, self.number, taking) {
                 return true;
             }

@@ -14,7 +14,7 @@ use streams::{Blocked, Closed, Link, WriteToken};
 
 /// How long the thread sleeps at most before it looks whether the listener is closed, in
 /// milliseconds.
-const LOOK_MILLIS: u64 = 200;
+const CLOSED_LOOK_MILLIS: u64 = 200;
 
 /// How long it sleeps at first before it tries sockets again that were full, in milliseconds.
 const FIRST_MILLIS: u64 = 1;
@@ -38,7 +38,7 @@ impl<'a, J: NodeNaming, S: Stated<J>, G: Gate> Shared<'a, J, S, G> {
             pause = next_pause(pause, tried, left);
             self.blocked_waker.park_timeout(
                 rt,
-                Duration::from_millis(if left == 0 { LOOK_MILLIS } else { pause }),
+                Duration::from_millis(if left == 0 { CLOSED_LOOK_MILLIS } else { pause }),
             );
         }
         unreachable!()

@@ -23,8 +23,8 @@ const TICK_MILLIS: u64 = 200;
 /// looks this takes about as long as it takes to wake a thread.
 const LOOKS: u32 = 64;
 
-/// How many steps it waits between two looks.
-const STEPS: u32 = 8;
+/// How many spins it waits between two looks.
+const SPINS: u32 = 8;
 
 /// When the node got the time last, and how many times, at most 2^64 - 1.
 #[derive(Clone, Copy)]
@@ -190,7 +190,7 @@ impl<'a, J: NodeNaming, S: Stated<J>, G: Gate> Shared<'a, J, S, G> {
 
 // Waits for less than a microsecond.
 fn pause() {
-    for _ in 0..STEPS {
+    for _ in 0..SPINS {
         hint::spin_loop();
     }
 }

@@ -23,7 +23,7 @@ use std::thread;
 use std::time::{Clock, Duration};
 
 /// How long to wait between two looks, in milliseconds.
-const LOOK_MILLIS: u64 = 1;
+const NODE_LOOK_MILLIS: u64 = 1;
 
 /// How many times to look whether a node is served.
 const LOOKS: u32 = 1_000;
@@ -155,7 +155,7 @@ impl Cluster {
             if status.is_some() {
                 return status;
             }
-            thread::sleep(rt, Duration::from_millis(LOOK_MILLIS));
+            thread::sleep(rt, Duration::from_millis(NODE_LOOK_MILLIS));
         }
         None
     }
@@ -249,7 +249,7 @@ fn await_stop<R: Wait + Clock>(rt: &R, node: &Peer) {
         if matches!(node.status(rt), Some(status) if status.stopped) {
             return;
         }
-        thread::sleep(rt, Duration::from_millis(LOOK_MILLIS));
+        thread::sleep(rt, Duration::from_millis(NODE_LOOK_MILLIS));
     }
 }
 

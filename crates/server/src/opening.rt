@@ -10,7 +10,7 @@ use node_threads::{NodeContexts, Opened};
 use std::alloc::Global;
 
 /// One more than the greatest number of a node.
-const NUMBERS_END: u8 = MAX_NODE + 1;
+const NODE_NUMBERS_END: u8 = MAX_NODE + 1;
 
 /// Opens the nodes of all listeners, each as the one of its listener's number, in rising order.
 /// `BadMembers` comes if two listeners have one number, if a number is outside 1 to 15, and if no
@@ -26,7 +26,7 @@ pub(crate) fn open_all(
         length opened.items ≡ length contexts.entry.listeners.now) }
 {
     let mut opened = Vec::with_capacity(alloc, contexts.listeners.len())?;
-    for number in 1..NUMBERS_END {
+    for number in 1..NODE_NUMBERS_END {
         if contexts.listener_of(number).is_some() {
             opened.push(open(alloc, number, config)?)?;
         }

@@ -6,7 +6,7 @@ use std::thread::Threads;
 use std::time::{Clock, Duration};
 
 /// How long a thread sleeps before it looks again whether all were started, in milliseconds.
-const LOOK_MILLIS: u64 = 1;
+const START_LOOK_MILLIS: u64 = 1;
 
 /// Says whether this many threads can be started at the same time. They are started, wait for each
 /// other, and end again.
@@ -39,7 +39,7 @@ fn await_all<R: Wait + Clock>(rt: &R, are_started: &Mutex<bool>) {
         if *are_started.lock(rt) {
             return;
         }
-        thread::sleep(rt, Duration::from_millis(LOOK_MILLIS));
+        thread::sleep(rt, Duration::from_millis(START_LOOK_MILLIS));
     }
 }
 
