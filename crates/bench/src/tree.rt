@@ -14,7 +14,7 @@ const FILTERS: u32 = 64;
 /// How many clients have one filter cleared and set again.
 const CHANGES: u32 = 1_000;
 
-/// Whose last filter matches the topic.
+// Whose last filter matches the topic.
 #[derive(Clone, Copy, Debug)]
 enum Shape {
     /// Each client's, by `+` at one level.

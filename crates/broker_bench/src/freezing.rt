@@ -20,7 +20,7 @@ const WAITING: [u32; 2] = [0, 100];
 /// Whose filters the sessions have.
 const KINDS: [Filters; 2] = [Filters::Shared, Filters::Own];
 
-/// A broker's sessions besides the publisher's.
+// A broker's sessions besides the publisher's.
 #[derive(Clone, Copy)]
 struct Crowd {
     sessions: u32,

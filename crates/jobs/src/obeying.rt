@@ -14,7 +14,7 @@ use std::io::{BufRead, ErrorKind, Write};
 use std::sync::Wait;
 use std::time::Clock;
 
-/// What a line orders.
+// What a line orders.
 #[derive(Drop)]
 enum Order {
     /// The server ends.

@@ -26,7 +26,7 @@ const LOOKS: u32 = 64;
 /// How many spins it waits between two looks.
 const SPINS: u32 = 8;
 
-/// When the node got the time last, and how many times, at most 2^64 - 1.
+// When the node got the time last, and how many times, at most 2^64 - 1.
 #[derive(Clone, Copy)]
 struct LastTick {
     time: u64,

@@ -264,7 +264,7 @@ fn peers_of(alloc: Global, numbers: &[u8]) -> Result<Vec<Peer>, Memory>
     Ok(nodes)
 }
 
-/// The nodes and the master, as receivers of messages.
+// The nodes and the master, as receivers of messages.
 #[derive(Drop)]
 struct Round<'a> {
     cluster: &'a Cluster,

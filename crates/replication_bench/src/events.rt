@@ -11,7 +11,7 @@ use world::World;
 /// After how many events another node takes over.
 const UNTIL_A_TAKEOVER: u64 = 1_000;
 
-/// The processor time of all events, of the takeovers among them, and of the last one.
+// The processor time of all events, of the takeovers among them, and of the last one.
 #[derive(Clone, Copy)]
 struct Times {
     whole: Duration,

@@ -165,7 +165,7 @@ where
     Ok((served.answer, outcome.into_reports()?))
 }
 
-/// How a run of nodes ended.
+// How a run of nodes ended.
 #[derive(Drop)]
 struct Served<T: Drop> {
     /// What the caller's function returned.

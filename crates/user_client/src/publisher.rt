@@ -43,7 +43,7 @@ impl Model for Publisher {
     ghost view = { λ p. record { caller = p.caller; once = p.once } };
 }
 
-/// The progress of a publisher on one connection.
+// The progress of a publisher on one connection.
 #[derive(Clone, Copy, Debug, PartialEq, Eq)]
 enum Progress {
     /// It waits for the server.

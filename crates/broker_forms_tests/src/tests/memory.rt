@@ -14,7 +14,7 @@ const SUBSCRIBE: &[u8] = &[0x82, 8, 0, 1, 0, 3, 0x74, 0x2F, 0x23, 2];
 /// PUBLISH of `x` on `t/1` at QoS 2 with RETAIN 1 and identifier 1.
 const RETAINED: &[u8] = &[0x35, 8, 0, 3, 0x74, 0x2F, 0x31, 0, 1, 0x78];
 
-/// What happened to a call.
+// What happened to a call.
 #[derive(Clone, Copy, Debug, PartialEq, Eq)]
 enum Outcome {
     Done,

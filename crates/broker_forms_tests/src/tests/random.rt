@@ -11,7 +11,7 @@ const COMMANDS: u64 = 20_000;
 
 const FROZEN: u64 = 1_000;
 
-/// Numbers by a fixed rule: the upper bits of a product's remainder.
+// Numbers by a fixed rule: the upper bits of a product's remainder.
 #[derive(Drop)]
 struct Numbers {
     state: u64,

@@ -126,7 +126,7 @@ const SENT: &[Row<'static>] = &[
     (Act::Bytes(EMPTY), None, NOTHING, 0, 3),
 ];
 
-/// What an accepted publication shows besides its session: QoS, RETAIN, topic and payload.
+// What an accepted publication shows besides its session: QoS, RETAIN, topic and payload.
 type Shown<'a> = (QoS, bool, &'a str, &'a [u8]);
 
 // Says whether a publication of the first session shows these fields.

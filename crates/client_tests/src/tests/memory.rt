@@ -9,8 +9,8 @@ use std::test::*;
 use user_client::client::{ClientCore, ClientError};
 use user_client::packet::QoS;
 
-/// What others may see of a client, apart from its bytes: how many are kept and were accepted,
-/// whether it is connected, and whether the server had its session.
+// What others may see of a client, apart from its bytes: how many are kept and were accepted,
+// whether it is connected, and whether the server had its session.
 type Shown = (usize, usize, bool, bool);
 
 fn shown_by(client: &ClientCore) -> Shown {

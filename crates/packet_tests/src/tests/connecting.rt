@@ -41,7 +41,7 @@ fn changed(at: usize, byte: u8) -> [u8; 15] {
     bytes
 }
 
-/// An index of that CONNECT, the byte there, and what it is then.
+// An index of that CONNECT, the byte there, and what it is then.
 type Change = (usize, u8, Answer);
 
 // Returns the first row whose CONNECT is answered otherwise.

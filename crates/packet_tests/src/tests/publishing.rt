@@ -59,8 +59,8 @@ fn answers_and_empty_packets_are_written_and_read(rt: HostRuntime) {
     assert_eq!(rt; other_spelling(rt.alloc(), ANSWERS), None);
 }
 
-/// The result of a PUBLISH with a payload of this many sevens that is written after the bytes 1 and
-/// 2.
+// The result of a PUBLISH with a payload of this many sevens that is written after the bytes 1 and
+// 2.
 #[derive(Clone, Copy)]
 struct Large<'a> {
     /// How many bytes of payload.
@@ -80,8 +80,8 @@ fn is_read_after(alloc: Global, packet: &Packet, bytes: &[u8]) -> bool {
     }
 }
 
-/// The number of the refusal, if there is one, and how many bytes there are then; none of either if
-/// there was no memory for the PUBLISH.
+// The number of the refusal, if there is one, and how many bytes there are then; none of either if
+// there was no memory for the PUBLISH.
 type Attempt = (Option<u8>, usize);
 
 // Returns what came of a packet, if it is not written as expected, or is not refused and not read

@@ -22,7 +22,7 @@ const TOPICS: [&str; 16] = [
     "$s/b", "$s/b/c", "a/$s",
 ];
 
-/// Numbers by a fixed rule: the upper bits of a product's remainder.
+// Numbers by a fixed rule: the upper bits of a product's remainder.
 #[derive(Drop)]
 struct Numbers {
     state: u64,
@@ -38,7 +38,7 @@ impl Numbers {
     }
 }
 
-/// Both indexes, after the same calls.
+// Both indexes, after the same calls.
 #[derive(Drop)]
 struct Both {
     list: ListIndex,

@@ -4,7 +4,7 @@ use std::alloc::{AllocError, Global};
 use std::test::*;
 use topics::*;
 
-/// A text, and one that comes after it.
+// A text, and one that comes after it.
 type Order<'a> = (&'a str, &'a str);
 
 fn is_text_copied(text: &Text, wanted: &str) -> bool {

@@ -5,10 +5,10 @@ use std::alloc::Global;
 use std::test::*;
 use topics::MalformedKind;
 
-/// A text that repeats a part this many times, and its fault.
+// A text that repeats a part this many times, and its fault.
 type Row<'a> = (&'a str, usize, Option<MalformedKind>);
 
-/// The index of a row, and the fault of its text.
+// The index of a row, and the fault of its text.
 type Other = (usize, Option<MalformedKind>);
 
 // Returns the fault of a row's text as a Topic Filter; `Memory` also if there is none for the text.
