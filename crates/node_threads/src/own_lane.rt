@@ -9,7 +9,8 @@ use std::marker::Model;
 
 /// The lane by which everything is sent to a node that does not come from its clients, and the
 /// node's number. It is under a lock, so its type says what it sent since it was made: the time,
-/// cuts of the log, and what was queued for the node.
+/// cuts of the log, and what was queued for the node. No clause of a call that locks it says whose
+/// it is, so whoever locks it asks it for its number.
 #[derive(Drop)]
 pub(crate) struct OwnLane<J: NodeNaming> {
     number: u8,

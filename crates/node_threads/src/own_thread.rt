@@ -60,7 +60,7 @@ impl<'a, J: NodeNaming, S: Stated<J>, G: Gate> ServedNode<'a, J, S, G> {
     // got the time last.
     fn do_own_turn<R: Wait + Clock>(&self, rt: &R, last: LastTick) -> LastTick {
         let mut own = self.own.lock(rt);
-        // It is this node's, but no clause is about what is under a lock.
+        // It is this node's, which no clause says: see `OwnLane`.
         if own.number() != self.shared.context.node.number {
             return last;
         }

@@ -271,7 +271,7 @@ struct Round<'a> {
 }
 
 impl<'a> Carrier for Round<'a> {
-    // No clause is about what is under a lock.
+    // It carries into outboxes under their locks, of which no clause says anything: see `Outbox`.
     ghost carries = { λ _ _ _ _. Unit {0} };
 
     fn carry<R: Wait>(&mut self, rt: &R, outgoing: Outgoing) {

@@ -33,8 +33,9 @@ const MAX_WAITING: usize = 524_288;
 const MAX_HELPED: usize = 16;
 
 /// What the other nodes and the master have for a node, in the order in which it was queued. It is
-/// under a lock, so its type says where each item comes from, and how many messages of other nodes
-/// wait at most.
+/// under a lock, and what is under a lock is known by its type alone: no clause of a call that
+/// locks it says whose it is. So its type says where each item comes from, and how many messages of
+/// other nodes wait at most, and whoever locks it asks it for its number.
 #[derive(Drop)]
 pub(crate) struct Outbox {
     number: u8,

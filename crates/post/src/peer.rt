@@ -91,7 +91,7 @@ impl Peer {
         requires { outgoing.receiver ≡ self.now.number }
     {
         let mut outbox = self.outbox.lock(rt);
-        // It is this node's, but no clause is about what is under a lock.
+        // It is this node's, which no clause says: see `Outbox`.
         if outbox.number() == self.number {
             let _ = outgoing.queue_in(&mut outbox);
         } else {
@@ -161,8 +161,8 @@ impl Peer {
     {
         let mut master = master.lock(rt);
         let mut outbox = self.outbox.lock(rt);
-        // It is this node's, but no clause is about what is under a lock. If it were another's,
-        // the answer would be `Memory` too.
+        // It is this node's, which no clause says: see `Outbox`. If it were another's, the answer
+        // would be `Memory` too.
         if outbox.number() != self.number {
             return Err(OrderError::Memory);
         }
@@ -183,7 +183,7 @@ impl Peer {
         requires { answer.receiver ≡ self.now.number }
     {
         let mut outbox = self.outbox.lock(rt);
-        // It is this node's, but no clause is about what is under a lock.
+        // It is this node's, which no clause says: see `Outbox`.
         if outbox.number() == self.number {
             let _ = outbox.queue_answer(answer);
         } else {
@@ -196,7 +196,7 @@ impl Peer {
         requires { IsPosted self.now.number item }
     {
         let mut outbox = self.outbox.lock(rt);
-        // It is this node's, but no clause is about what is under a lock.
+        // It is this node's, which no clause says: see `Outbox`.
         outbox.number() == self.number && outbox.queue(item)
     }
 
