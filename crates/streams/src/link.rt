@@ -113,8 +113,8 @@ impl Link {
         Patient::new(&self.stream)
     }
 
-    /// Takes the token, with which the caller writes. If another thread has it, that one looks
-    /// again.
+    /// Takes the token, with which the caller writes. There is none if another thread has it, which
+    /// then looks again, or if the stream has ended.
     pub fn take_token<R: Wait>(&self, rt: &R) -> Option<WriteToken>
         ensures { IfSome result (λ token. IsTokenOf self.now.port token) }
     {

@@ -28,8 +28,8 @@ impl WriteSlot {
         }
     }
 
-    /// Takes the token, if it is this port's. If none is kept, another thread writes, and that one
-    /// looks again.
+    /// Takes the token, if it is this port's; one of another port is dropped, and its stream with
+    /// it. If none is kept, another thread writes, and looks again, or the stream has ended.
     pub(crate) fn take(&mut self, port: Port) -> Option<WriteToken>
         ensures its { IfSome result (λ token. IsTokenOf port token) }
         ensures takes { result ≡ token_of port self.old.token }

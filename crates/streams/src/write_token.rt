@@ -15,9 +15,8 @@ use std::sync::Wait;
 pub(crate) type Stream = Outflow<PortTap, Socket>;
 
 /// The right to write on a connection's stream. A connection has one, made with it, so one thread
-/// at a time writes, and its stream is whole wherever the token is kept. It cannot be dropped:
-/// whoever has it puts it back, leaves it to the thread that continues with full sockets, or ends
-/// the stream.
+/// at a time writes, and its stream is whole wherever the token is kept. It cannot be dropped: the
+/// thread that has it puts it back, makes a `Blocked` of it, or ends the stream.
 pub struct WriteToken {
     stream: Stream,
 }
