@@ -20,8 +20,8 @@ const NODES: u8 = 7;
 // - snapshots: the States and Installs among them, in the group that cuts, whose log has a base;
 // - outputs: those of numbers that left. A start gives none.
 // What is drawn depends on no group, so the numbers of what is drawn are of the rule of drawing
-// alone. The figures are a check that the protocol does not change by mistake. They were first
-// worked out by a program apart, which is not kept, and none follows from the others.
+// alone. The figures are a check that the protocol does not change by mistake. `tools/figures`
+// works them out by the same rules and none of the code; none follows from the others.
 const FIGURES: [u64; 6] = [689, 116, 539, 5_358, 612, 389];
 
 // The group that cuts and the one that does not, the message that comes next, and the last number
