@@ -1,17 +1,15 @@
 // The order to end the session of a client.
 
 use super::hand::text_of;
-use super::orders::{Served, free_port, serve};
+use super::orders::{Talk, first_missed};
 use jobs::command_line::Subscribe;
 use jobs::packet::QoS;
 use jobs::{JobError, subscribe};
 use std::io::{PipeWriter, Write};
-use std::net::{Net, TcpListener, TcpStream};
-use std::rt::Files;
-use std::sync::Wait;
+use std::net::{Net, TcpStream};
+use std::thread;
 use std::thread::Threads;
 use std::time::{Clock, Duration};
-use std::{io, thread};
 
 // Identifiers with blanks, of 64 bytes and of 65, an empty one, one with U+0000; and lines that are
 // no such order. Then the only node that serves crashes.
@@ -81,8 +79,8 @@ fn orders_all<R: Clock>(rt: &R, orders: PipeWriter) -> bool {
         && gives(rt, &mut orders, 1_000, LAST)
 }
 
-// Says whether the orders are given, and the client reports that its session is lost.
-fn talks<R>(rt: &R, orders: PipeWriter, address: &str) -> bool
+/// Says whether the orders are given, and the client reports that its session is lost.
+pub(super) fn talks<R>(rt: &R, orders: PipeWriter, address: &str) -> bool
 where
     R: Threads + Clock + Sync + AllocGlobal + Net<Stream = TcpStream>,
 {
@@ -90,47 +88,10 @@ where
     ordered && lost
 }
 
-// Returns what is not so: the nodes of this table are served, and the client reports that its
-// session is lost.
-fn missed_with<R>(rt: &R, served: &Served, output: &mut Vec<u8>) -> Option<&'static str>
-where
-    R: Files + Threads + Wait + Clock + Sync + AllocGlobal,
-    R: Net<Listener = TcpListener, Stream = TcpStream>,
-{
-    let Ok((input, orders)) = io::pipe(rt) else {
-        return Some("there is a pipe");
-    };
-    let (is_served, talked) = thread::join(
-        rt,
-        || serve(rt, served.table.as_str(), input, output),
-        || talks(rt, orders, served.address.as_str()),
-    );
-    match (is_served, talked) {
-        (true, true) => None,
-        (false, _) => Some("the nodes are served"),
-        (true, false) => Some("the orders are given, and the client's session is lost"),
-    }
-}
-
-// Returns what is not so of nodes on this port and their client.
-fn missed_at<R>(rt: &R, port: u16, output: &mut Vec<u8>) -> Option<&'static str>
-where
-    R: Files + Threads + Wait + Clock + Sync + AllocGlobal,
-    R: Net<Listener = TcpListener, Stream = TcpStream>,
-{
-    match Served::new(rt.alloc(), port) {
-        Ok(served) => missed_with(rt, &served, output),
-        Err(_) => Some("there is memory for a table"),
-    }
-}
-
 #[test]
 fn clients_are_expelled(rt: HostRuntime) {
     let mut output = Vec::new(rt.alloc());
-    let missed = match free_port(&rt) {
-        Ok(port) => missed_at(&rt, port, &mut output),
-        Err(_) => Some("a port is free"),
-    };
+    let missed = first_missed(&rt, Talk::Expels, &mut output);
     let came = text_of(output.as_slice());
     assert_eq!(rt; missed, None, "{came}");
     assert_eq!(rt; came, ANSWERS);

@@ -1,5 +1,6 @@
 // Orders to the nodes of a server, while its two clients run.
 
+use super::expels::talks;
 use super::hand::text_of;
 use jobs::command_line::{Publish, Subscribe};
 use jobs::packet::QoS;
@@ -61,9 +62,9 @@ where
     Ok(TcpListener::bind(rt, "127.0.0.1:0")?.local_addr()?.port())
 }
 
-/// Serves the nodes of a table, with orders that come by a pipe, and writes what they answer. Says
-/// whether that succeeds.
-pub(super) fn serve<R>(rt: &R, table: &str, orders: PipeReader, output: &mut Vec<u8>) -> bool
+// Serves the nodes of a table, with orders that come by a pipe, and writes what they answer. Says
+// whether that succeeds.
+fn serve<R>(rt: &R, table: &str, orders: PipeReader, output: &mut Vec<u8>) -> bool
 where
     R: Threads + Wait + Clock + Sync + AllocGlobal,
     R: Net<Listener = TcpListener, Stream = TcpStream>,
@@ -163,20 +164,47 @@ where
         && orders.write_all(THEN.as_bytes()).is_ok()
 }
 
-// Returns what is not so of nodes on this port and their clients.
-fn missed_at<R>(rt: &R, port: u16, output: &mut Vec<u8>) -> Option<&'static str>
+/// Which orders are given, and what clients do meanwhile.
+#[derive(Clone, Copy)]
+pub(super) enum Talk {
+    /// Those of `orders_are_answered`, while two clients talk.
+    Orders,
+    /// Those that end sessions, while one client waits.
+    Expels,
+}
+
+impl Talk {
+    // Says whether all do as they have to.
+    fn is_done<R>(self, rt: &R, orders: PipeWriter, address: &str) -> bool
+    where
+        R: Threads + Clock + Sync + AllocGlobal,
+        R: Net<Listener = TcpListener, Stream = TcpStream>,
+    {
+        match self {
+            Talk::Orders => order_all(rt, orders, address),
+            Talk::Expels => talks(rt, orders, address),
+        }
+    }
+}
+
+/// Returns what is not so of nodes on a port that is free, with these orders and clients.
+pub(super) fn first_missed<R>(rt: &R, talk: Talk, output: &mut Vec<u8>) -> Option<&'static str>
 where
     R: Files + Threads + Wait + Clock + Sync + AllocGlobal,
     R: Net<Listener = TcpListener, Stream = TcpStream>,
 {
+    let Ok(port) = free_port(rt) else {
+        return Some("a port is free");
+    };
     match Served::new(rt.alloc(), port) {
-        Ok(served) => missed_with(rt, &served, output),
+        Ok(served) => missed_with(rt, &served, talk, output),
         Err(_) => Some("there is memory for a table"),
     }
 }
 
-// Returns what is not so: the nodes of this table are served, and the clients talk.
-fn missed_with<R>(rt: &R, served: &Served, output: &mut Vec<u8>) -> Option<&'static str>
+// Returns what is not so: the nodes of this table are served, and orders and clients are as they
+// have to be.
+fn missed_with<R>(rt: &R, served: &Served, talk: Talk, output: &mut Vec<u8>) -> Option<&'static str>
 where
     R: Files + Threads + Wait + Clock + Sync + AllocGlobal,
     R: Net<Listener = TcpListener, Stream = TcpStream>,
@@ -187,22 +215,19 @@ where
     let (is_served, talked) = thread::join(
         rt,
         || serve(rt, served.table.as_str(), input, output),
-        || order_all(rt, orders, served.address.as_str()),
+        || talk.is_done(rt, orders, served.address.as_str()),
     );
     match (is_served, talked) {
         (true, true) => None,
         (false, _) => Some("the nodes are served"),
-        (true, false) => Some("the orders are given, and the clients talk"),
+        (true, false) => Some("the orders are given, and the clients do as they have to"),
     }
 }
 
 #[test]
 fn orders_are_answered(rt: HostRuntime) {
     let mut output = Vec::new(rt.alloc());
-    let missed = match free_port(&rt) {
-        Ok(port) => missed_at(&rt, port, &mut output),
-        Err(_) => Some("a port is free"),
-    };
+    let missed = first_missed(&rt, Talk::Orders, &mut output);
     let came = text_of(output.as_slice());
     assert_eq!(rt; missed, None, "{came}");
     assert_eq!(rt; came, ANSWERS);
