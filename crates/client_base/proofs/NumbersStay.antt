@@ -8,12 +8,12 @@ use Rattle.session_base.specs.packet.declared.packet.Packet.TheVariants as packe
 use Rattle.session_base.specs.lists.Lists.{has_id}
 use Rattle.session_base.specs.declared.publication.Publication.{Publication}
 use Rattle.session_base.specs.Publication.{is_answered, publication_of}
-use Rattle.client_base.specs.Keeper.{Own, Keeper, Side, next_number}
+use Rattle.client_base.specs.Keeper.{Own, Keeper, Side, next_number, number_in}
 use Rattle.client_base.specs.Handled.{discarded, handled, handled_online, handled_first}
 use Rattle.client_base.specs.Handshakes.{at_puback, at_pubrec, at_pubcomp, is_sent_with, releasing, takes_in}
 use Rattle.client_base.specs.Steps.{Call}
 use Rattle.client_base.specs.Called.{adds_own, keeper_goes}
-use Rattle.client_base.specs.OrderLaws.{AreNumbered, number_in, NumbersStay}
+use Rattle.client_base.specs.OrderLaws.{AreNumbered, NumbersStay}
 use Rattle.client_base.proofs.PublishingOrder.{changed, puback_same, pubrec_same, pubcomp_same, all_numbered, one_more}
 
 -- the earlier ones from 0 on, and the others after them

@@ -3,11 +3,11 @@ use Rattle.std.proofs.Common.{◌≡◌, ℕ, ◌+◌, suc, Bool, true, false, n
 use Rattle.std.proofs.lemmas.Bool.{both_ways}
 use Rattle.session_base.specs.Publication.{is_acknowledged}
 use Rattle.client_base.specs.declared.kept_publication.KeptPublication.{KeptPublication}
-use Rattle.client_base.specs.Keeper.{Own, Written}
+use Rattle.client_base.specs.Keeper.{Own, Written, number_in}
 use Rattle.client_base.specs.Written.{sent_all, sent_again, sent_first, publishes}
 use Rattle.client_base.specs.Handshakes.{at_puback, at_pubrec, at_pubcomp}
 use Rattle.client_base.specs.History.{IsSentFirst, sent_of}
-use Rattle.client_base.specs.OrderLaws.{AreNumbered, number_in, numbers_of, RisesFrom, GoesOutInOrder}
+use Rattle.client_base.specs.OrderLaws.{AreNumbered, numbers_of, RisesFrom, GoesOutInOrder}
 
 -- ---- what is sent, in order
 

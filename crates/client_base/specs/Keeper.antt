@@ -63,6 +63,13 @@ new_keeper c =
       was_served = false;
     }
 
+-- the number of a publication: how many the client published before it
+abbrev pub number_in : Own → ℕ
+number_in (Own.Unsent k p id) = k
+number_in (Own.Sent k p id) = k
+number_in (Own.Released k p id) = k
+number_in (Own.Done k p) = k
+
 -- the identifiers of a client's publications that are not done
 abbrev pub ids_of_own : List Own → List ℕ
 ids_of_own (Own.Unsent k p id ∷ own) = id ∷ ids_of_own own

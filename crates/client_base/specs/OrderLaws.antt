@@ -1,17 +1,10 @@
 -- What is kept is sent in the order in which it was published (MQTT 4.6).
 use Rattle.std.specs.Prelude.{◌≡◌, ℕ, ◌<◌, suc, List, [], ◌∷◌, ◌++◌, Option, Some, None}
-use Rattle.client_base.specs.Keeper.{Own, Written, Side, all_own}
+use Rattle.client_base.specs.Keeper.{Own, Written, Side, all_own, number_in}
 use Rattle.client_base.specs.Written.{sent_again, sent_first}
 use Rattle.client_base.specs.Steps.{Call}
 use Rattle.client_base.specs.Called.{keeper_goes}
 use Rattle.client_base.specs.History.{IsSentFirst}
-
--- the number of a publication, in the order of publishing
-abbrev pub number_in : Own → ℕ
-number_in (Own.Unsent k p id) = k
-number_in (Own.Sent k p id) = k
-number_in (Own.Released k p id) = k
-number_in (Own.Done k p) = k
 
 -- from this number on, the numbers of the publications are their indices
 abbrev pub AreNumbered : ℕ → List Own → Type 0

@@ -10,7 +10,7 @@ use Rattle.broker_base.specs.broker_spec.Received.{is_new}
 use Rattle.broker_base.specs.broker_spec.declared.command.Command.{Command}
 use Rattle.broker_base.specs.broker_spec.declared.command.Command.TheVariants as commands
 use Rattle.client_base.specs.session_base.declared.publication.Publication.{Publication}
-use Rattle.client_base.specs.Keeper.{Own, Written}
+use Rattle.client_base.specs.Keeper.{Own, Written, number_in}
 use Rattle.exactly_once.specs.Sides.{Connection}
 use Rattle.exactly_once.specs.StoryCommands.{count_of}
 
@@ -53,13 +53,6 @@ abbrev pub is_two : QoS → Bool
 is_two qualities.AtMostOnce = false
 is_two qualities.AtLeastOnce = false
 is_two qualities.ExactlyOnce = true
-
--- the number of a publication: how many the client published before it
-abbrev pub number_in : Own → ℕ
-number_in (Own.Unsent k p id) = k
-number_in (Own.Sent k p id) = k
-number_in (Own.Released k p id) = k
-number_in (Own.Done k p) = k
 
 -- the publication itself
 abbrev pub publication_in : Own → Publication

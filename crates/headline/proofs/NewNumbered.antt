@@ -5,10 +5,10 @@ use Rattle.std.specs.Prelude.{slice_get}
 use Rattle.std.proofs.lemmas.List.{map-append}
 use Rattle.byte_world.specs.lists.Lists.{IsPrefixOf}
 use Rattle.byte_world.specs.session_base.declared.publication.Publication.{Publication}
-use Rattle.byte_world.specs.client_base.Keeper.{Own, all_own}
+use Rattle.byte_world.specs.client_base.Keeper.{Own, all_own, number_in}
 use Rattle.byte_world.proofs.of_client_base.NumbersStay.{AreAllNumbered, joined_numbers}
 use Rattle.byte_world.specs.client_base.OrderLaws.{AreNumbered}
-use Rattle.byte_world.specs.exactly_once.Carried.{is_two, new_numbers, number_in, publication_in, publications_of, published}
+use Rattle.byte_world.specs.exactly_once.Carried.{is_two, new_numbers, publication_in, publications_of, published}
 use Rattle.byte_world.specs.exactly_once.Story.{Story}
 use Rattle.byte_world.proofs.of_exactly_once.Ends.{Split, split_map}
 use Rattle.headline.specs.Shown.{at_two}

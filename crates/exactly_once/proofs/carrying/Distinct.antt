@@ -7,8 +7,8 @@ use Rattle.broker_base.proofs.EntersOnce.{one_if}
 use Rattle.client_base.specs.lists.Lists.{In, has_id, IsDistinct}
 use Rattle.client_base.specs.lists.Lists.In.{here, there}
 use Rattle.client_base.proofs.of_lists.Tests.{none_or, or_none, eq_turn}
-use Rattle.client_base.specs.Keeper.{Own}
-use Rattle.exactly_once.specs.Carried.{is_two, published, publications_of, publication_in, number_in}
+use Rattle.client_base.specs.Keeper.{Own, number_in}
+use Rattle.exactly_once.specs.Carried.{is_two, published, publications_of, publication_in}
 use Rattle.client_base.specs.OrderLaws.{AreNumbered}
 use Rattle.exactly_once.specs.Inside.Shape as shape
 

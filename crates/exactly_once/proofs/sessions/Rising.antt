@@ -4,9 +4,9 @@ use Rattle.std.proofs.Common.{◌≡◌, ◌<◌, ◌≤◌, ◌+◌, ℕ, suc, 
 use Rattle.client_base.specs.lists.Lists.{has_id, IsDistinct, IsPrefixOf, Each}
 use Rattle.client_base.proofs.of_lists.OfEach.{each_then, each_left}
 use Rattle.client_base.proofs.of_lists.Tests.{none_or}
-use Rattle.client_base.specs.Keeper.{Own}
+use Rattle.client_base.specs.Keeper.{Own, number_in}
 use Rattle.client_base.specs.OrderLaws.{AreNumbered}
-use Rattle.exactly_once.specs.Carried.{is_two, published, publication_in, number_in}
+use Rattle.exactly_once.specs.Carried.{is_two, published, publication_in}
 use Rattle.exactly_once.specs.Lives.{IsRising}
 use Rattle.exactly_once.proofs.carrying.Distinct.{number_first}
 
