@@ -20,7 +20,7 @@ use std::collections::BTreeMap;
 use subs_base::packet::{ClientId, QoS};
 use topics::split_level;
 
-/// The clients that were found, with the QoS of each.
+// The clients that were found, with the QoS of each.
 type Found = BTreeMap<ClientId, QoS>;
 
 impl Nodes {
