@@ -47,7 +47,7 @@ abbrev pub IsRising : List ℕ → Type 0
 IsRising (n ∷ numbers) = Each (λ m. n < m) numbers × IsRising numbers
 IsRising [] = Unit {0}
 
--- the publisher's publications, over all its sessions
+-- the publisher's, over all its sessions: `PublishedOnce` but for `rises` and `in_order`
 pub record PublishedOverSessions (limits : Limits) (s : Story) : Type 0 where
   -- a place that carries one has its PUBLISH
   pub carried : (place : Place) (below : Past) (x : ConnectionName) (p : Publish) (k : ℕ) →
