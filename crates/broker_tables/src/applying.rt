@@ -21,7 +21,11 @@ impl Tables {
             Command::Connect(connection, client, clean) => {
                 self.connect(*connection, client, *clean, out)
             }
-            Command::Packet(connection, packet) => self.packet(*connection, packet.packet(), out),
+            Command::Packet(connection, packet) => self.do_packet(
+                *connection,
+                packet.packet(),
+                out,
+            ),
             Command::Lost(connection) => {
                 self.lose(*connection);
                 Ok(())

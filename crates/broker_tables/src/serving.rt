@@ -17,7 +17,7 @@ use std::alloc::AllocError;
 impl Tables {
     /// Does a packet that arrived on a connection. On a connection that is no client's current one
     /// it does nothing.
-    pub(crate) fn packet(
+    pub(crate) fn do_packet(
         &mut self,
         connection: ConnectionName,
         packet: &Packet,
