@@ -168,10 +168,10 @@ impl SteppingNode {
         match connection.next(now) {
             Front::More => return false,
             Front::Packet(packet) => self.on_packet(port, name, stage, packet, effects),
-            Front::Refused(_) | Front::Fault => self.lose(name, stage, effects),
+            Front::Refused(_) | Front::Fault => self.report_lost(name, stage, effects),
             Front::OutOfMemory => {
                 self.out_of_memory = true;
-                self.lose(name, stage, effects);
+                self.report_lost(name, stage, effects);
             }
         }
         true
@@ -248,7 +248,7 @@ impl SteppingNode {
     }
 
     // Reports to the broker that a connection is lost, if its CONNECT was proposed.
-    fn lose(
+    fn report_lost(
         &mut self,
         name: ConnectionName,
         stage: ConnectionStage,

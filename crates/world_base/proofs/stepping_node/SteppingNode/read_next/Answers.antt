@@ -63,7 +63,7 @@ returns-in-Refused-clause-turns c =
     (rw (← c.self.view_is) (changed_there c.args.port (λ _. c.next.new.self) _ c.index_at.result c.in-Some.index
     c.index_mut-connection.result.now c.next.new.self (rw (← c.self.view_is) at c.index_at.ensures) c.in-Some.is
     c.index_mut-connection.ensures.value refl))
-    c.lose.ensures.turns
+    c.report_lost.ensures.turns
 
 pub returns-in_default-clause-run : goal.returns-in_default-clause-run
 returns-in_default-clause-run c =
@@ -113,7 +113,7 @@ returns-in-Refused-clause-run c =
     (rw (← c.self.view_is) (core_changed c.args.port (λ _. c.next.new.self) _ c.index_at.result c.in-Some.index
     c.index_mut-connection.result.now c.next.new.self (rw (← c.self.view_is) at c.index_at.ensures) c.in-Some.is
     c.index_mut-connection.ensures.value refl))
-    c.lose.ensures.run
+    c.report_lost.ensures.run
 
 pub returns-in-OutOfMemory-clause-run : goal.returns-in-OutOfMemory-clause-run
 returns-in-OutOfMemory-clause-run c =
@@ -124,4 +124,4 @@ returns-in-OutOfMemory-clause-run c =
     (rw (← c.self.view_is) (core_changed c.args.port (λ _. c.next.new.self) _ c.index_at.result c.in-Some.index
     c.index_mut-connection.result.now c.next.new.self (rw (← c.self.view_is) at c.index_at.ensures) c.in-Some.is
     c.index_mut-connection.ensures.value refl))
-    c.lose-in-OutOfMemory.ensures.run
+    c.report_lost-in-OutOfMemory.ensures.run

@@ -1,7 +1,7 @@
 use Rattle.std.proofs.Common.{sym, ◌∙◌}
 use Rattle.world_base.proofs.EndsRun.{ran_tells, ran_tells_not}
 use Rattle.world_base.proofs.TurnsJoin.{turns_idle}
-use Rattle.world_base.proofs.stepping_node.SteppingNode.lose.Goals as goal
+use Rattle.world_base.proofs.stepping_node.SteppingNode.report_lost.Goals as goal
 
 pub returns-then-is_proposed-clause-turns : goal.returns-then-is_proposed-clause-turns
 returns-then-is_proposed-clause-turns c = rw (sym c.is_proposed.ensures ∙ c.if-is_proposed.true) c.propose.ensures.turns
