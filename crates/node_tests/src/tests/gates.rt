@@ -2,7 +2,7 @@
 
 ghost use Rattle.std.specs.Prelude.{◌≡◌};
 
-use super::nodes::{Start, fresh_two};
+use super::nodes::{Start, fresh_two, sends};
 use node::mailbox::Lane;
 use node::{Gate, Item, Node, NodeNaming, NodeState, Report, Stated};
 use std::alloc::Global;
@@ -154,16 +154,9 @@ where
 
 // Says whether three ticks are sent by the only lane of a node.
 fn sends_three<J: NodeNaming, R: Wait>(rt: &R, lanes: &mut [Lane<Item, J>]) -> bool {
-    let Some(lane) = lanes.first_mut() else {
-        return false;
-    };
-    for now in 1..=3u64 {
-        let receipt = lane.receipt();
-        if lane.send(rt, Item::Tick(now), receipt).is_err() {
-            return false;
-        }
-    }
-    true
+    sends(rt, lanes, 0, Item::Tick(1))
+        && sends(rt, lanes, 0, Item::Tick(2))
+        && sends(rt, lanes, 0, Item::Tick(3))
 }
 
 // Says whether a report says that this many of three ticks were taken and the others are left over,
