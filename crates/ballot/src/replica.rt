@@ -33,7 +33,6 @@ pub const MAX_PLACES: u64 = 1 << 40;
 
 /// A log, the machine that it drives and a role in a ballot. It reaches other nodes only by the
 /// messages that its calls return. Its calls also return the machine's outputs, with their places.
-#[derive(Drop)]
 pub struct Replica<M: Machine> {
     // Gives memory for lists and messages.
     alloc: Global,
@@ -64,6 +63,28 @@ pub struct Replica<M: Machine> {
     stopped: bool,
     // How many of its calls ran out of memory, up to 2^64 - 1.
     losses: u64,
+}
+
+impl<M: Machine> Drop for Replica<M> {
+    fn drop(self) {
+        let Replica {
+            alloc: _,
+            id: _,
+            joined: _,
+            held_in: _,
+            role: _,
+            members: _members,
+            previous: _,
+            previous_members: _previous_members,
+            lacking: _lacking,
+            progress: _progress,
+            log: _log,
+            committed: _,
+            machine: _machine,
+            stopped: _,
+            losses: _,
+        } = self;
+    }
 }
 
 impl<M: Machine> Model for Replica<M> {

@@ -14,9 +14,14 @@ pub const MAX_NODE: u8 = 15;
 pub const MAX_MEMBERS: usize = 7;
 
 /// The numbers of nodes, in the order in which they were given.
-#[derive(Drop)]
 pub struct Members {
     numbers: Vec<u8>,
+}
+
+impl Drop for Members {
+    fn drop(self) {
+        let Members { numbers: _numbers } = self;
+    }
 }
 
 impl Model for Members {

@@ -9,11 +9,20 @@ use std::marker::Model;
 
 /// Commands from a place on, the base, and the frozen machine in place of the places below it.
 /// Places count from 0. At base 0 there is no snapshot.
-#[derive(Drop)]
 pub struct Log<C> {
     base: u64,
     snapshot: Vec<u8>,
     rest: Vec<C>,
+}
+
+impl<C: Drop> Drop for Log<C> {
+    fn drop(self) {
+        let Log {
+            base: _,
+            snapshot: _snapshot,
+            rest: _rest,
+        } = self;
+    }
 }
 
 impl<C> Model for Log<C> {
@@ -135,8 +144,20 @@ impl<C: Drop> Log<C> {
             ≡ record self.old { rest = drop (self.old.base - other.base) other.rest } }
     {
         let count = (self.base - other.base) as usize;
-        self.rest = other.rest;
+        self.rest = other.into_rest();
         drop_front(&mut self.rest, count);
+    }
+
+    // Returns the commands from the base on.
+    fn into_rest(self) -> Vec<C>
+        ensures { result.items ≡ self.rest }
+    {
+        let Log {
+            base: _,
+            snapshot: _snapshot,
+            rest,
+        } = self;
+        rest
     }
 }
 

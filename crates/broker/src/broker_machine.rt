@@ -13,9 +13,14 @@ use std::marker::Model;
 
 /// A broker after some list of commands. Its value in contracts is its state: the window, the
 /// sessions by client, and what is retained.
-#[derive(Drop)]
 pub struct BrokerMachine {
     tables: Tables,
+}
+
+impl Drop for BrokerMachine {
+    fn drop(self) {
+        let BrokerMachine { tables: _tables } = self;
+    }
 }
 
 impl Model for BrokerMachine {

@@ -13,7 +13,6 @@ use std::marker::Model;
 
 /// A client's session, with the CleanSession flag of its CONNECT and the connection on which the
 /// client is served, if any.
-#[derive(Drop)]
 pub struct ClientRow {
     /// CleanSession of the CONNECT that opened its connection last (MQTT 3.1.2.4).
     pub clean: bool,
@@ -21,6 +20,16 @@ pub struct ClientRow {
     pub connection: Option<ConnectionName>,
     /// What is in the session.
     pub state: Session,
+}
+
+impl Drop for ClientRow {
+    fn drop(self) {
+        let ClientRow {
+            clean: _,
+            connection: _connection,
+            state: _state,
+        } = self;
+    }
 }
 
 impl Model for ClientRow {

@@ -12,9 +12,15 @@ use std::marker::Model;
 
 /// A packet that can be written down, as a packet in a log has to be: its body has at most
 /// `MAX_BODY` bytes and none of its lists is empty. Its value in contracts is the packet.
-#[derive(Debug, Drop)]
+#[derive(Debug)]
 pub struct SizedPacket {
     packet: Packet,
+}
+
+impl Drop for SizedPacket {
+    fn drop(self) {
+        let SizedPacket { packet: _packet } = self;
+    }
 }
 
 impl Model for SizedPacket {

@@ -15,7 +15,6 @@ use std::collections::BTreeMap;
 
 /// The sessions by client, and the retained publications. The map of connections and the index of
 /// subscriptions contain nothing new: they find a row without a walk over all.
-#[derive(Drop)]
 pub struct Tables {
     /// How many entries of a session are in flight at once.
     pub window: Window,
@@ -29,6 +28,19 @@ pub struct Tables {
     pub retained: RetainedStore,
     /// The allocator for what is made for a command.
     pub alloc: Global,
+}
+
+impl Drop for Tables {
+    fn drop(self) {
+        let Tables {
+            window: _window,
+            sessions: _sessions,
+            owners: _owners,
+            index: _index,
+            retained: _retained,
+            alloc: _,
+        } = self;
+    }
 }
 
 impl Tables {

@@ -12,7 +12,6 @@ use std::marker::Model;
 /// A client that keeps its side of the handshakes over its connections (MQTT 4.3, 4.4). Its
 /// sessions are never clean. `outgoing` returns the bytes to the server, `on_bytes` takes the bytes
 /// from the server.
-#[derive(Drop)]
 pub struct ClientCore {
     // The fields up to `accepted` mean what those of `ClientState` (client_base,
     // `specs/State.antt`) do.
@@ -32,6 +31,27 @@ pub struct ClientCore {
     /// The bytes for the server that were not yet handed over.
     pub(crate) out: Vec<u8>,
     pub(crate) alloc: Global,
+}
+
+impl Drop for ClientCore {
+    fn drop(self) {
+        let ClientCore {
+            client: _client,
+            keep_alive: _,
+            released: _released,
+            sent: _sent,
+            unsent: _unsent,
+            received: _received,
+            requests: _requests,
+            stage: _stage,
+            session: _,
+            present: _,
+            accepted: _accepted,
+            cutter: _cutter,
+            out: _out,
+            alloc: _,
+        } = self;
+    }
 }
 
 impl Model for ClientCore {

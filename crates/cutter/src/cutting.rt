@@ -13,11 +13,20 @@ use std::marker::Model;
 
 /// The bytes of a stream that came and are not taken yet. How the stream is cut into pieces makes
 /// no difference to the packets that are taken.
-#[derive(Drop)]
 pub struct Cutter {
     bytes: BytesMut,
     failed: bool,
     alloc: Global,
+}
+
+impl Drop for Cutter {
+    fn drop(self) {
+        let Cutter {
+            bytes: _bytes,
+            failed: _,
+            alloc: _,
+        } = self;
+    }
 }
 
 impl Model for Cutter {

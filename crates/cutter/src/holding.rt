@@ -11,9 +11,14 @@ use std::marker::Model;
 use std::mem;
 
 /// Bytes in order: what came at once, or what waits to be handed over.
-#[derive(Drop)]
 pub struct Piece {
     bytes: Vec<u8>,
+}
+
+impl Drop for Piece {
+    fn drop(self) {
+        let Piece { bytes: _bytes } = self;
+    }
 }
 
 impl Model for Piece {

@@ -34,7 +34,6 @@ mod stepping;
 
 /// A master and replicas of a machine that communicate only by their messages. All messages ever
 /// sent may arrive at any time, again and in any order, or never.
-#[derive(Drop)]
 pub struct Group<M: Machine> {
     alloc: Global,
     master: Master,
@@ -47,6 +46,22 @@ pub struct Group<M: Machine> {
     told: Told,
     next: Told,
     losses: u64,
+}
+
+impl<M: Machine> Drop for Group<M> {
+    fn drop(self) {
+        let Group {
+            alloc: _,
+            master: _master,
+            nodes: _nodes,
+            sent: _sent,
+            left: _left,
+            archive: _archive,
+            told: _told,
+            next: _next,
+            losses: _,
+        } = self;
+    }
 }
 
 impl<M: Machine> Model for Group<M> {

@@ -18,12 +18,22 @@ pub const MAX_BALLOT: u64 = 0x1_0000_0000;
 
 /// The active ballot with its members, and at most one ballot that waits to be activated. None of
 /// its calls takes memory.
-#[derive(Drop)]
 pub struct Master {
     active: u64,
     members: Members,
     waiting: Option<(u64, Config)>,
     given: u64,
+}
+
+impl Drop for Master {
+    fn drop(self) {
+        let Master {
+            active: _,
+            members: _members,
+            waiting: _waiting,
+            given: _,
+        } = self;
+    }
 }
 
 impl Model for Master {

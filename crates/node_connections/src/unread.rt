@@ -11,10 +11,18 @@ use std::marker::Model;
 
 /// The bytes of a connection that came and are not read yet. Its stream has had no fault: the
 /// connection is closed at the first one.
-#[derive(Drop)]
 pub struct Unread {
     alloc: Global,
     cutter: Cutter,
+}
+
+impl Drop for Unread {
+    fn drop(self) {
+        let Unread {
+            alloc: _,
+            cutter: _cutter,
+        } = self;
+    }
 }
 
 impl Model for Unread {

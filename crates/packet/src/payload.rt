@@ -11,9 +11,15 @@ use std::sync::ArcSlice;
 /// The payload of a publication: any bytes (MQTT 3.3.3), never changed. Its value in contracts is
 /// its bytes. A copy is one more reference to them: it takes no memory, and fails only if the
 /// references can no longer be counted.
-#[derive(Debug, Drop)]
+#[derive(Debug)]
 pub struct Payload {
     bytes: ArcSlice<u8>,
+}
+
+impl Drop for Payload {
+    fn drop(self) {
+        let Payload { bytes: _bytes } = self;
+    }
 }
 
 impl Model for Payload {

@@ -27,9 +27,15 @@ use topics::MalformedKind;
 
 /// A list in a packet, such as the filters of a SUBSCRIBE. Its value in contracts is the list of
 /// its items. Making it from a vector and getting the vector back take no memory.
-#[derive(Debug, Drop)]
+#[derive(Debug)]
 pub struct PacketList<T> {
     items: Vec<T>,
+}
+
+impl<T: Drop> Drop for PacketList<T> {
+    fn drop(self) {
+        let PacketList { items: _items } = self;
+    }
 }
 
 impl<T> Model for PacketList<T> {

@@ -23,9 +23,15 @@ pub const MAX_TOPICS: usize = 16_384;
 
 /// For each topic its last publication with RETAIN 1 (MQTT 3.3.1.3), at most [`MAX_TOPICS`] of
 /// them.
-#[derive(Debug, Drop)]
+#[derive(Debug)]
 pub struct RetainedStore {
     topics: BTreeMap<TopicName, RetainedPublication>,
+}
+
+impl Drop for RetainedStore {
+    fn drop(self) {
+        let RetainedStore { topics: _topics } = self;
+    }
 }
 
 impl Model for RetainedStore {

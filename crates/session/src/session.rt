@@ -33,11 +33,20 @@ pub const MAX_SUBSCRIPTIONS: usize = 64;
 
 /// One client's session: its subscriptions, the identifiers of QoS 2 publications that were
 /// received, the entries in flight and those that wait.
-#[derive(Drop)]
 pub struct Session {
     pub(crate) subscriptions: Subscriptions,
     pub(crate) received: Received,
     pub(crate) queue: SessionQueue,
+}
+
+impl Drop for Session {
+    fn drop(self) {
+        let Session {
+            subscriptions: _subscriptions,
+            received: _received,
+            queue: _queue,
+        } = self;
+    }
 }
 
 impl Model for Session {

@@ -20,12 +20,22 @@ use topics::{Filter, TopicName};
 
 /// An index that walks the levels of a topic: the cost of a publication depends on its levels and
 /// the rows that are found, not on other subscriptions.
-#[derive(Debug, Drop)]
+#[derive(Debug)]
 pub struct TreeIndex {
     /// Each client with its filters, which are removed with it.
     clients: ListIndex,
     pub(crate) nodes: Nodes,
     alloc: Global,
+}
+
+impl Drop for TreeIndex {
+    fn drop(self) {
+        let TreeIndex {
+            clients: _clients,
+            nodes: _nodes,
+            alloc: _,
+        } = self;
+    }
 }
 
 impl Model for TreeIndex {

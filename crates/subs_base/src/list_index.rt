@@ -37,10 +37,19 @@ use std::collections::BTreeMap;
 use std::marker::Model;
 
 /// An index that looks at every filter of every client for each publication.
-#[derive(Debug, Drop)]
+#[derive(Debug)]
 pub struct ListIndex {
     clients: BTreeMap<ClientId, BTreeMap<Filter, QoS>>,
     alloc: Global,
+}
+
+impl Drop for ListIndex {
+    fn drop(self) {
+        let ListIndex {
+            clients: _clients,
+            alloc: _,
+        } = self;
+    }
 }
 
 impl Model for ListIndex {

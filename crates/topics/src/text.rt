@@ -24,9 +24,15 @@ use std::sync::ArcStr;
 /// A text that is never changed, compared and ordered by its bytes, which are its value in
 /// contracts. A copy is one more reference to the same bytes: it takes no memory, and fails only if
 /// the references can no longer be counted.
-#[derive(Debug, Drop)]
+#[derive(Debug)]
 pub struct Text {
     text: ArcStr,
+}
+
+impl Drop for Text {
+    fn drop(self) {
+        let Text { text: _text } = self;
+    }
 }
 
 impl Model for Text {

@@ -36,7 +36,6 @@ pub struct WorldClient {
 /// Nodes with their master, and clients that keep their side of the handshakes, with a pipe of
 /// bytes each way on every connection. Whatever is in transit arrives late, again or never, as
 /// events say.
-#[derive(Drop)]
 pub struct World {
     pub(crate) alloc: Global,
     pub(crate) nodes: Nodes,
@@ -46,6 +45,19 @@ pub struct World {
     // The numbers of the connections whose end at the node is open, rising.
     pub(crate) open_ends: Vec<u64>,
     pub(crate) losses: u64,
+}
+
+impl Drop for World {
+    fn drop(self) {
+        let World {
+            alloc: _,
+            nodes: _nodes,
+            clients: _clients,
+            connections: _connections,
+            open_ends: _open_ends,
+            losses: _,
+        } = self;
+    }
 }
 
 impl Model for World {

@@ -26,10 +26,18 @@ use std::marker::Model;
 
 /// A replica of the broker with its connections. It takes items, one by one, and hands over the
 /// bytes that it queues for each connection.
-#[derive(Drop)]
 pub struct NodeCore {
     stepping: SteppingNode,
     losses: u64,
+}
+
+impl Drop for NodeCore {
+    fn drop(self) {
+        let NodeCore {
+            stepping: _stepping,
+            losses: _,
+        } = self;
+    }
 }
 
 impl Model for NodeCore {

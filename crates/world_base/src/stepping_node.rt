@@ -27,7 +27,6 @@ use std::alloc::Global;
 use std::marker::Model;
 
 /// A replica of the broker with its connections, and whether memory ran out in the current step.
-#[derive(Drop)]
 pub struct SteppingNode {
     pub(crate) alloc: Global,
     pub(crate) replica: Replica<BrokerMachine>,
@@ -36,6 +35,19 @@ pub struct SteppingNode {
     pub(crate) last_count: u64,
     pub(crate) connections: Vec<Connection>,
     pub(crate) out_of_memory: bool,
+}
+
+impl Drop for SteppingNode {
+    fn drop(self) {
+        let SteppingNode {
+            alloc: _,
+            replica: _replica,
+            last_ballot: _,
+            last_count: _,
+            connections: _connections,
+            out_of_memory: _,
+        } = self;
+    }
 }
 
 impl Model for SteppingNode {

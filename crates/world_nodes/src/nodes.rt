@@ -26,7 +26,6 @@ use std::marker::Model;
 /// Nodes with the connections of their clients, their master, and all messages that they ever sent:
 /// any may come late, again or never. Nodes are numbered from 1, messages from 0 in the order of
 /// their sending.
-#[derive(Drop)]
 pub struct Nodes {
     pub(crate) alloc: Global,
     pub(crate) master: Master,
@@ -35,6 +34,20 @@ pub struct Nodes {
     pub(crate) archive: Vec<Command>,
     pub(crate) counters: Counters,
     pub(crate) losses: u64,
+}
+
+impl Drop for Nodes {
+    fn drop(self) {
+        let Nodes {
+            alloc: _,
+            master: _master,
+            nodes: _nodes,
+            sent: _sent,
+            archive: _archive,
+            counters: _counters,
+            losses: _,
+        } = self;
+    }
 }
 
 impl Model for Nodes {

@@ -18,13 +18,23 @@ use std::marker::Model;
 /// A client with all its connections, the oldest first, and the bytes in transit on each. It holds
 /// at most the newest one; what is in transit to nodes on the others still comes up, and the client
 /// receives nothing more on them.
-#[derive(Drop)]
 pub struct PipedClient {
     pub(crate) alloc: Global,
     pub(crate) core: ClientCore,
     pub(crate) ways: Vec<Way>,
     // Whether it holds the newest connection.
     pub(crate) holds: bool,
+}
+
+impl Drop for PipedClient {
+    fn drop(self) {
+        let PipedClient {
+            alloc: _,
+            core: _core,
+            ways: _ways,
+            holds: _,
+        } = self;
+    }
 }
 
 impl Model for PipedClient {
