@@ -17,11 +17,11 @@ const CHANGES: u32 = 1_000;
 // Whose last filter matches the topic.
 #[derive(Clone, Copy, Debug)]
 enum Shape {
-    /// Each client's, by `+` at one level.
+    // Each client's, by `+` at one level.
     One,
-    /// Each client's, only by `#`.
+    // Each client's, only by `#`.
     All,
-    /// That of ten clients.
+    // That of ten clients.
     Ten,
 }
 

@@ -31,11 +31,11 @@ use std::collections::BTreeMap;
 /// What a Connect does on a connection that is no client's current one.
 #[derive(Clone, Copy, Debug, PartialEq, Eq)]
 pub(crate) enum ConnectOutcome {
-    // A session begins.
+    /// A session begins.
     Begins,
-    // The client's session continues.
+    /// The client's session continues.
     GoesOn,
-    // There are too many sessions.
+    /// There are too many sessions.
     TurnedAway,
 }
 

@@ -22,7 +22,7 @@ const ROOM_KEPT: usize = 65_536;
 pub struct Unwritten {
     alloc: Global,
     bytes: Vec<u8>,
-    /// How many of these bytes were written.
+    // How many of these bytes were written.
     done: usize,
 }
 

@@ -17,15 +17,15 @@ use std::time::Clock;
 // What a line orders.
 #[derive(Drop)]
 enum Order {
-    /// The server ends.
+    // The server ends.
     Quit,
-    /// The status of each node is printed.
+    // The status of each node is printed.
     Status,
-    /// The next ballot is given to a configuration.
+    // The next ballot is given to a configuration.
     Assign(Config),
-    /// A node crashes.
+    // A node crashes.
     Crash(u8),
-    /// The session of a client ends.
+    // The session of a client ends.
     Expel(ClientId),
 }
 

@@ -17,7 +17,7 @@ pub(crate) struct Dealer<T: Drop, J: Naming> {
     pub(crate) queue: Arc<Queue<T>, Global>,
     pub(crate) pass: Knowledge<T>,
     pub(crate) inbox: u8,
-    // How many items of each lane that it has made were taken: none.
+    /// How many items of each lane that it has made were taken: none.
     pub(crate) counts: Vec<u64>,
     pub(crate) naming: PhantomData<J>,
 }

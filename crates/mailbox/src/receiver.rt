@@ -20,7 +20,7 @@ pub struct Receiver<T: Drop, J: Naming> {
     pub(crate) queue: Arc<Queue<T>, Global>,
     pub(crate) pass: Knowledge<T>,
     pub(crate) inbox: u8,
-    // How many items of each lane were taken. The rule of the inbox keeps each below 2^55.
+    /// How many items of each lane were taken. The rule of the inbox keeps each below 2^55.
     pub(crate) counts: Vec<u64>,
     pub(crate) naming: PhantomData<J>,
 }

@@ -21,7 +21,7 @@ const MAX_ENTERING: u64 = 262_144;
 /// them.
 #[derive(Drop)]
 pub struct Intake {
-    /// None before the node is served.
+    // None before the node is served.
     status: Option<Status>,
     entering: u64,
     earlier_end: u64,

@@ -25,9 +25,9 @@ use world_base::{Command, Effect, Handed, Item, Memory, NodeCore, Output, Port, 
 pub struct NodeState<J: NodeNaming> {
     receiver: Receiver<Item, J>,
     core: NodeCore,
-    /// How many bytes the items brought that were taken since the last cut, at most 2^64 - 1.
+    // How many bytes the items brought that were taken since the last cut, at most 2^64 - 1.
     grown: u64,
-    /// How many times [`NodeState::take_one`] was called, at most 2^64 - 1.
+    // How many times [`NodeState::take_one`] was called, at most 2^64 - 1.
     takings: u64,
 }
 

@@ -15,12 +15,12 @@ const MAX_AT_ONCE: u32 = 16;
 /// for one item.
 #[derive(Drop)]
 pub struct Permit<'n> {
-    /// The number of the taking, if there is a gate.
+    // The number of the taking, if there is a gate.
     taking: Option<u64>,
     most: u32,
-    /// The gate opened for it, or there is none.
+    // The gate opened for it, or there is none.
     is_open: bool,
-    /// Until this is dropped no other taking begins.
+    // Until this is dropped no other taking begins.
     passing: Option<MutexGuard<'n, ()>>,
 }
 

@@ -43,11 +43,11 @@ pub struct Node<'g, J: NodeNaming, S: Stated<J>, G: Gate> {
     state: Mutex<S>,
     number: u8,
     gate: Option<&'g G>,
-    /// The holder of this asks the gate, takes, and informs the gate.
+    // The holder of this asks the gate, takes, and informs the gate.
     passing: Mutex<()>,
-    /// The number of takings for which the gate did not open, at most 2^64 - 1.
+    // The number of takings for which the gate did not open, at most 2^64 - 1.
     missed: Mutex<u64>,
-    /// The allocated report for its end.
+    // The allocated report for its end.
     room: Report,
     naming: PhantomData<J>,
 }

@@ -29,7 +29,7 @@ pub struct ServedNode<'a, J: NodeNaming, S: Stated<J>, G: Gate> {
     /// The lane of everything that does not come from a client. The thread that holds it does the
     /// node's turn with what was queued for the node: its own thread, or one that queued something.
     pub(crate) own: Mutex<OwnLane<J>>,
-    /// The lanes of its connections, while no thread works with them.
+    // The lanes of its connections, while no thread works with them.
     lane_slots: Mutex<LaneSlots<J>>,
     /// A gate is asked before each taking.
     pub(crate) is_gated: bool,

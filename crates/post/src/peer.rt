@@ -47,13 +47,13 @@ impl Model for Entering {
 pub struct Peer {
     /// The node's number.
     pub number: u8,
-    /// What the other nodes and the master have for it.
+    // What the other nodes and the master have for it.
     outbox: Mutex<Outbox>,
-    /// Its status after its last change, and what it takes from its clients.
+    // Its status after its last change, and what it takes from its clients.
     intake: Mutex<Intake>,
-    /// Whether the order to crash was queued for it.
+    // Whether the order to crash was queued for it.
     is_crash_ordered: Mutex<bool>,
-    /// Lets its own thread sleep, and wakes it.
+    // Lets its own thread sleep, and wakes it.
     waker: Waker,
 }
 

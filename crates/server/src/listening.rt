@@ -168,11 +168,11 @@ where
 // How a run of nodes ended.
 #[derive(Drop)]
 struct Served<T: Drop> {
-    /// What the caller's function returned.
+    // What the caller's function returned.
     answer: T,
-    /// Whether each node's threads could be started.
+    // Whether each node's threads could be started.
     all_started: bool,
-    /// The witnesses that the nodes' listeners were closed, in the order of the nodes.
+    // The witnesses that the nodes' listeners were closed, in the order of the nodes.
     closings: Vec<Closed>,
 }
 

@@ -9,7 +9,7 @@ use std::alloc::{AllocError, Global};
 #[derive(Drop)]
 pub(crate) struct Outcome {
     reports: Vec<NodeReport>,
-    /// Why a node was not served.
+    // Why a node was not served.
     failure: Option<ServeError>,
 }
 

@@ -14,8 +14,8 @@ pub struct Group {
     pub subscribers: Vec<Subscriber>,
     /// The last letter of the topic.
     pub letter: u8,
-    /// How many publications there are. Until the publisher knows this, it is the greatest number
-    /// that there may be.
+    // How many publications there are. Until the publisher knows this, it is the greatest number
+    // that there may be.
     last: AtomicU64,
 }
 

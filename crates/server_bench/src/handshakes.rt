@@ -15,7 +15,7 @@ const ROOM: usize = 65_536;
 pub struct Handshakes<'a> {
     stream: &'a TcpStream,
     room: Vec<u8>,
-    /// What came and is no whole packet yet.
+    // What came and is no whole packet yet.
     held: Vec<u8>,
     spare: Vec<u8>,
     /// What is to be written.

@@ -8,7 +8,7 @@ use std::net::TcpStream;
 pub struct Heard {
     /// Their payloads.
     pub payloads: Vec<u8>,
-    /// The identifiers whose PUBREL has not come.
+    // The identifiers whose PUBREL has not come.
     unreleased: Vec<[u8; 2]>,
 }
 

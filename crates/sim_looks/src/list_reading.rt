@@ -22,13 +22,13 @@ struct Kept {
 pub struct ListReading {
     alloc: Global,
     sessions: Vec<Session>,
-    /// Those that ended, the oldest first.
+    // Those that ended, the oldest first.
     ended: Vec<Session>,
-    /// In the order of the topics' bytes.
+    // In the order of the topics' bytes.
     retained: Vec<Kept>,
-    /// By the number of a publication at QoS 1 or 2: whether it was taken.
+    // By the number of a publication at QoS 1 or 2: whether it was taken.
     taken: Vec<bool>,
-    /// How many commands were read.
+    // How many commands were read.
     read: usize,
 }
 

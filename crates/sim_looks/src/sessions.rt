@@ -36,7 +36,7 @@ pub struct Session {
     /// Its current connection.
     pub connection: Option<ConnectionName>,
     filters: Vec<(Filter, QoS)>,
-    /// The identifiers of PUBLISHes at QoS 2 whose PUBREL did not come yet.
+    // The identifiers of PUBLISHes at QoS 2 whose PUBREL did not come yet.
     received: Vec<PacketId>,
     /// All that it ever had to send at QoS 2, the oldest first.
     pub entries: Vec<Entry>,

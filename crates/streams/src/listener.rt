@@ -32,7 +32,7 @@ pub struct Listener {
     /// The node's number.
     pub number: u8,
     listener: TcpListener,
-    /// The connections that are served.
+    // The connections that are served.
     connections: ConnectionTable,
 }
 

@@ -13,7 +13,7 @@ use node::{Handed, Memory, NodeNaming, NodeState, Port};
 #[derive(Drop)]
 pub struct PortTap {
     port: Port,
-    /// How many bytes were handed over by it, at most 2^64 - 1.
+    // How many bytes were handed over by it, at most 2^64 - 1.
     handed: u64,
 }
 

@@ -9,9 +9,9 @@ use std::mem;
 /// Where a connection's token is kept while no thread writes: as its stream, which may be dropped.
 #[derive(Drop)]
 pub(crate) struct WriteSlot {
-    /// None while a thread writes, and for good once the stream takes no more.
+    // None while a thread writes, and for good once the stream takes no more.
     token: Option<Stream>,
-    /// More may have been queued since the thread that writes looked.
+    // More may have been queued since the thread that writes looked.
     again: bool,
 }
 

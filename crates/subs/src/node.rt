@@ -21,7 +21,7 @@ pub(crate) struct Node {
     pub(crate) here: Rows,
     /// Those of the filter with `#` after it.
     pub(crate) rest: Rows,
-    /// The nodes of the next levels, except `+`.
+    // The nodes of the next levels, except `+`.
     named: BTreeMap<Vec<u8>, NodeId>,
     /// The node of `+`.
     pub(crate) plus: Option<NodeId>,

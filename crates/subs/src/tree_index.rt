@@ -22,7 +22,7 @@ use topics::{Filter, TopicName};
 /// the rows that are found, not on other subscriptions.
 #[derive(Debug)]
 pub struct TreeIndex {
-    /// Each client with its filters, which are removed with it.
+    // Each client with its filters, which are removed with it.
     clients: ListIndex,
     pub(crate) nodes: Nodes,
     alloc: Global,

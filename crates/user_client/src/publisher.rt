@@ -46,11 +46,11 @@ impl Model for Publisher {
 // The progress of a publisher on one connection.
 #[derive(Clone, Copy, Debug, PartialEq, Eq)]
 enum Progress {
-    /// It waits for the server.
+    // It waits for the server.
     Waits,
-    /// The publication is acknowledged, or written if no answer is needed.
+    // The publication is acknowledged, or written if no answer is needed.
     Done,
-    /// The connection is lost.
+    // The connection is lost.
     Lost,
 }
 

@@ -12,22 +12,22 @@ pub struct Course {
     alloc: Global,
     draw: Draw,
     nodes: u8,
-    /// The message that comes next.
+    // The message that comes next.
     next: u64,
-    /// How many subscriptions were drawn, and how many publications; each of these carries its
-    /// number.
+    // How many subscriptions were drawn, and how many publications; each of these carries its
+    // number.
     asked: u64,
     serial: u64,
-    /// How many connections were opened, and the last one of each client with the one before.
+    // How many connections were opened, and the last one of each client with the one before.
     opened: u64,
     last: Vec<(u64, u64)>,
-    /// The last connection on which bytes could not be carried.
+    // The last connection on which bytes could not be carried.
     closed: u64,
-    /// The primary of each ballot that was given, from ballot 1 on.
+    // The primary of each ballot that was given, from ballot 1 on.
     primaries: Vec<u8>,
-    /// The nodes that crashed.
+    // The nodes that crashed.
     crashed: Vec<u8>,
-    /// How many events happened.
+    // How many events happened.
     count: u64,
 }
 

@@ -40,9 +40,9 @@ pub struct World {
     pub(crate) alloc: Global,
     pub(crate) nodes: Nodes,
     pub(crate) clients: Vec<WorldClient>,
-    // Connection n + 1 is at index n.
+    /// Connection n + 1 is at index n.
     pub(crate) connections: Vec<ConnectionSlot>,
-    // The numbers of the connections whose end at the node is open, rising.
+    /// The numbers of the connections whose end at the node is open, rising.
     pub(crate) open_ends: Vec<u64>,
     pub(crate) losses: u64,
 }

@@ -30,7 +30,7 @@ use std::marker::Model;
 pub struct SteppingNode {
     pub(crate) alloc: Global,
     pub(crate) replica: Replica<BrokerMachine>,
-    // The name of the connection that was accepted last, both 0 before the first.
+    /// The name of the connection that was accepted last, both 0 before the first.
     pub(crate) last_ballot: u64,
     pub(crate) last_count: u64,
     pub(crate) connections: Vec<Connection>,

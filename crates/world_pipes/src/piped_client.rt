@@ -22,7 +22,7 @@ pub struct PipedClient {
     pub(crate) alloc: Global,
     pub(crate) core: ClientCore,
     pub(crate) ways: Vec<Way>,
-    // Whether it holds the newest connection.
+    /// Whether it holds the newest connection.
     pub(crate) holds: bool,
 }
 

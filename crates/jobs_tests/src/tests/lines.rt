@@ -50,22 +50,22 @@ const NEGATIVE: [&str; 8] = [
 // The result of the words of a command line.
 #[derive(Clone, Copy)]
 enum Outcome<'a> {
-    /// They ask for a server with this file.
+    // They ask for a server with this file.
     Serves(&'a str),
-    /// For a script, in this file or in none.
+    // For a script, in this file or in none.
     Plays(Option<&'a str>),
-    /// For a way out to these members with this client.
+    // For a way out to these members with this client.
     Escapes(&'a str, &'a str),
-    /// For the publication that is above: the first one, or the one that is retained.
+    // For the publication that is above: the first one, or the one that is retained.
     Publishes,
     Retains,
-    /// For the subscription that is above.
+    // For the subscription that is above.
     Subscribes,
-    /// They are refused for this.
+    // They are refused for this.
     Refused(ErrorKind),
-    /// One of the words that go together is missing.
+    // One of the words that go together is missing.
     Incomplete,
-    /// They are answered by a text that contains this.
+    // They are answered by a text that contains this.
     Answered(&'a str),
 }
 

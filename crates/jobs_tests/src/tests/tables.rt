@@ -12,11 +12,11 @@ const TWO: &str = "primary = 2 # keys in any order\nmembers = [1, 2]\n\
 // The result of a text.
 #[derive(Clone, Copy)]
 enum Outcome {
-    /// It is the table of two nodes.
+    // It is the table of two nodes.
     Two,
-    /// It is a table.
+    // It is a table.
     Read,
-    /// It is none.
+    // It is none.
     Refused,
 }
 

@@ -63,11 +63,11 @@ fn answers_and_empty_packets_are_written_and_read(rt: HostRuntime) {
 // 2.
 #[derive(Clone, Copy)]
 struct Large<'a> {
-    /// How many bytes of payload.
+    // How many bytes of payload.
     count: usize,
-    /// The number of the refusal, if there is one.
+    // The number of the refusal, if there is one.
     refusal: Option<u8>,
-    /// How many bytes are there then, and which come first.
+    // How many bytes are there then, and which come first.
     len: usize,
     front: &'a [u8],
 }

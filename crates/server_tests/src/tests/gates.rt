@@ -84,9 +84,9 @@ struct Meeting {
     nodes: usize,
     there: Mutex<[bool; 3]>,
     met: Mutex<bool>,
-    /// How many takings each node has done.
+    // How many takings each node has done.
     done: Mutex<[u64; 3]>,
-    /// Each call named the taking after those that were done.
+    // Each call named the taking after those that were done.
     in_order: Mutex<bool>,
 }
 
