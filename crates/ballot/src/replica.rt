@@ -334,7 +334,7 @@ impl<M: Machine> Replica<M> {
         }
     }
 
-    // Counts a call in which memory ran out.
+    // Counts a call as a loss unless it was whole.
     fn count(&mut self, whole: bool)
         ensures { self.new ≡ record self.old {
           losses = if whole then self.old.losses else one_more self.old.losses;

@@ -10,7 +10,7 @@ pub enum Role {
     Backup,
     /// A new primary that asks for the earlier ballot's log.
     Fetching,
-    /// A new primary that hands its log to the members.
+    /// A new primary that sends its log to the members.
     Installing,
     /// The primary that takes proposals.
     Active,
@@ -37,7 +37,7 @@ impl Role {
         }
     }
 
-    /// Says whether this is a new primary that hands its log to the members.
+    /// Says whether this is a new primary that sends its log to the members.
     pub fn is_installing(self) -> bool
         ensures { result ≡ is_installing self }
     {

@@ -3,7 +3,7 @@
 ghost use Rattle.std.specs.Prelude.{◌≡◌, ◌<◌, ◌≤◌, ◌^◌, ◌↔◌, IsNone, IfSome, IsSome};
 ghost use Rattle.broker_spec.specs.Connection.{IsConnectionName};
 
-/// The greatest ballot of a name. It is also `MAX_BALLOT` of `master`, which gives no greater one.
+/// The greatest ballot of a name. No greater one is ever given.
 pub const MAX_BALLOT: u64 = 0x1_0000_0000;
 
 /// The greatest number of a connection in its ballot.

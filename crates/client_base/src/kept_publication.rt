@@ -1,4 +1,4 @@
-// A publication of the client whose handshake has not ended.
+// A publication that a client would send again.
 
 use session_base::Publication;
 use session_base::packet::PacketId;

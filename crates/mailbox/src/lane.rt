@@ -87,8 +87,9 @@ impl<T: Drop, J: Naming> Lane<T, J> {
         }
     }
 
-    /// Ends the lane, which then sends no more. The receipt that is returned says all that this one
-    /// said, and counts fewer items that all lanes together will ever send.
+    /// Ends the lane, which then sends no more. The receipt that is returned says all that the
+    /// given one said. Its bound on what all lanes will ever send is lower by what this one did not
+    /// send.
     pub fn end(self, receipt: Receipt<T, J>) -> Receipt<T, J>
         requires { receipt.inbox ≡ self.inbox }
         ensures { result ≡ record receipt {

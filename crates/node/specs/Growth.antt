@@ -58,7 +58,7 @@ can_drop core =
 abbrev pub command_bytes : ℕ
 command_bytes = 128
 
--- the least that counts as many bytes when a log is cut because of its size: 16 MiB
+-- a log that counts at most as many bytes is not cut because of its size: 16 MiB
 abbrev pub min_large : ℕ
 min_large = 16777216
 

@@ -7,7 +7,7 @@ ghost use Rattle.node.specs.Growth.{counted, grown, min_large};
 use world_base::packet::{Packet, Subscribe, Unsubscribe};
 use world_base::{Body, Command, Item};
 
-/// The least that counts as many bytes when a log is cut because of its size.
+/// A log that counts at most as many bytes is not cut because of its size.
 const MIN_LARGE: u64 = 16_777_216;
 
 /// What a command of the log counts in addition to the bytes of its packet.

@@ -27,7 +27,7 @@ const MAX_PENDING: usize = 134_217_728;
 pub enum ConnectionStage {
     /// Its first packet is awaited.
     Awaits,
-    /// Its CONNECT became a command.
+    /// Its CONNECT was proposed, or is about to be.
     Proposed,
     /// It is closed.
     Over,
@@ -43,7 +43,7 @@ impl ConnectionStage {
         self == ConnectionStage::Awaits
     }
 
-    /// Says whether the CONNECT of the connection became a command, and it is open.
+    /// Says whether the connection is open, and its CONNECT was proposed or is about to be.
     pub fn is_proposed(self) -> bool
         ensures { result ≡ is_proposed self }
     {
@@ -58,7 +58,7 @@ pub struct Connection {
     pub port: Port,
     /// Its name, which the broker knows it by.
     pub name: ConnectionName,
-    /// How far it is: opened, proposed, failed or over.
+    /// How far it is.
     pub stage: ConnectionStage,
     /// The most seconds between two packets of its client, by its CONNECT; 0 for no limit (MQTT
     /// 3.1.2.10).

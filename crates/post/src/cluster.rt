@@ -190,10 +190,10 @@ impl Cluster {
         self.nodes.iter().find(|node| node.number == number)
     }
 
-    /// Delivers what steps of this node gave for others, in order. The caller has the node's lock,
-    /// so messages keep the order of the steps. A message for a number that no node has is lost. A
-    /// message of a node wakes nobody: the caller has it taken, or calls [`Cluster::wake_urgent`],
-    /// once it has released the lock.
+    /// Delivers what steps of a node gave for others, in order. `giver` is that node's state, as
+    /// evidence that the caller has its lock: so messages keep the order of the steps. A message
+    /// for a number that no node has is lost. A message of a node wakes nobody: the caller has it
+    /// taken, or calls [`Cluster::wake_urgent`], once it has released the lock.
     pub fn hand_on<J: NodeNaming, R: Wait>(&self, rt: &R, giver: &NodeState<J>, given: Given) {
         let _ = giver;
         carry_all(rt, &mut Round { cluster: self }, given);

@@ -47,7 +47,7 @@ impl Answer {
         self.receiver
     }
 
-    /// Loses the answer, because no node has the number of its receiver.
+    /// Loses the answer: `cluster` shows that no node has the number of its receiver.
     pub(crate) fn lose(self, cluster: &Cluster)
         requires { has_id self.receiver cluster.now ≡ false }
     {
@@ -58,7 +58,7 @@ impl Answer {
         } = self;
     }
 
-    /// Loses the answer, because an outbox is not of its receiver.
+    /// Loses the answer: `outbox` is not of its receiver.
     pub(crate) fn lose_at(self, outbox: &Outbox)
         requires { outbox.now.number ≡ self.receiver → ⊥ }
     {

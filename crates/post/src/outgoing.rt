@@ -83,7 +83,8 @@ impl Outgoing {
         master.answer(message)
     }
 
-    /// Loses the message, which is not for the master, because no node has its number.
+    /// Loses the message: it is not for the master, and `cluster` shows that no node has the number
+    /// of its receiver.
     pub(crate) fn lose(self, cluster: &Cluster)
         requires master { self.receiver ≡ 0 → ⊥ }
         requires none { has_id self.receiver cluster.now ≡ false }
@@ -95,7 +96,7 @@ impl Outgoing {
         } = self;
     }
 
-    /// Loses the message, because an outbox is not of its node.
+    /// Loses the message: `outbox` is not of its receiver.
     pub(crate) fn lose_at(self, outbox: &Outbox)
         requires { outbox.now.number ≡ self.receiver → ⊥ }
     {

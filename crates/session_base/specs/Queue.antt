@@ -29,7 +29,7 @@ awaited p = if is_acknowledged p.qos then waits_for.Puback p else waits_for.Pubr
 
 -- ---- the client's answers
 
--- whether an entry waits for PUBACK
+-- whether an entry in flight waits for PUBACK
 abbrev pub is_puback : Awaits → Bool
 is_puback (waits_for.Puback p) = true
 is_puback _ = false

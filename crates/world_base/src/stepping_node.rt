@@ -204,7 +204,7 @@ impl SteppingNode {
         }
     }
 
-    /// Turns the CONNECT of the open connection of a port, with this keep alive, into a command.
+    /// Notes that the CONNECT of the open connection of a port, with this keep alive, is proposed.
     pub fn ask_at(&mut self, port: Port, keep_alive: u16)
         ensures { self.new
             ≡ record self.old { core = changes port (asked keep_alive) self.old.core } }

@@ -118,8 +118,8 @@ impl<M: Machine> Replica<M> {
     }
 
     // Sends the last place to the others, as a primary that has become active, and commits what all
-    // hold. If it stops, it is again as it was while it handed its log over, with this many places
-    // applied and this progress.
+    // hold. If it stops, it is again as it was while it sent its log, with this many places applied
+    // and this progress.
     fn begin(
         &mut self,
         committed: u64,

@@ -1,4 +1,4 @@
-// What a new primary does once it has handed its log over, or its ballot was superseded.
+// What a new primary does once members have taken its log, or its ballot was superseded.
 
 ghost use Rattle.std.specs.Prelude.{◌≡◌, ◌&&◌, ◌==◌, []};
 ghost use Rattle.std.specs.List.{list_any};
@@ -53,7 +53,7 @@ impl<M: Machine> Replica<M> {
         self.installs(ballot) && self.lacking.contains(&from)
     }
 
-    /// Says whether this is the new primary of a ballot, which hands its log over.
+    /// Says whether this is the new primary of a ballot, which sends its log.
     pub(super) fn installs(&self, ballot: u64) -> bool
         ensures { result ≡ (self.now.state.joined == ballot
             && is_installing self.now.state.role) }
