@@ -129,7 +129,7 @@ impl Connection {
         self.stage.is_first()
     }
 
-    /// Says whether its CONNECT became a command, and it is open.
+    /// Says whether it is open, and its CONNECT was proposed or is about to be.
     pub fn is_proposed(&self) -> bool
         ensures { result ≡ is_proposed self.now.stage }
     {
@@ -210,7 +210,7 @@ impl Connection {
         front
     }
 
-    /// Notes that its CONNECT, which has this keep alive, became a command.
+    /// Notes that its CONNECT, which has this keep alive, is proposed.
     pub fn ask(&mut self, keep_alive: u16)
         ensures { self.new ≡ asked keep_alive self.old }
     {

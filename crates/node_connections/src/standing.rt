@@ -5,7 +5,7 @@
 pub enum Standing {
     /// It is open, and its first packet is awaited.
     Awaits,
-    /// It is open, and its CONNECT became a command.
+    /// It is open, and its CONNECT was proposed.
     Open,
     /// It is closed, or there is none.
     Closed,

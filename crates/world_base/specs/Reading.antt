@@ -42,14 +42,14 @@ loses_open port core (Some c) = loses port c core
 unfoldable pub ends : Port → CoreState → Turn
 ends port core = loses_open port core (open_at port core)
 
--- a CONNECT becomes a command; a refused proposal closes the connection
+-- a CONNECT is proposed; a refused proposal closes the connection
 abbrev pub asks : Port → ConnectionName → Connect → CoreState → Turn
 asks port name connect core =
     if has_room core
     then proposes (commands.Connect name connect.client connect.clean) core
     else quiet (changes port closed core)
 
--- a later packet, a CONNECT too, becomes a command; a refused proposal closes the connection
+-- a later packet, a CONNECT too, is proposed; a refused proposal closes the connection
 abbrev pub says : Port → ConnectionName → Packet → CoreState → Turn
 says port name packet core =
     if has_room core
