@@ -12,14 +12,11 @@ use broker_tables::ClientRow;
 use broker_tables::broker_spec::{ConnectionName, Window};
 use broker_tables::retained::RetainedPublication;
 use broker_tables::session::Session;
-use packet::packet_base::{Reader, Stop};
+use packet::packet_base::{OUT_OF_MEMORY, Reader, Stop};
 use packet::topics::{MalformedKind, TopicName};
 use packet::{ClientId, MAX_BODY, Payload};
 use session_base::{Publication, body_length, check_form, read_flag, read_long_number, read_qos};
 use std::alloc::Global;
-
-/// Stops a reading because memory ran out. It is also `OUT_OF_MEMORY` of `session`.
-pub(crate) const OUT_OF_MEMORY: Stop = Stop::Malformed(MalformedKind::Memory);
 
 // ---- the window
 

@@ -15,7 +15,7 @@ ghost use Rattle.broker_tables.specs.Tables.{IsTied, state_in};
 ghost use Rattle.broker_tables.specs.retained.Retained.{IsRising};
 ghost use Rattle.broker.specs.Inside.{AreOwned, state_read, all_held, last_held};
 
-use crate::reading::{OUT_OF_MEMORY, read_head, read_topic};
+use crate::reading::{read_head, read_topic};
 use crate::rows::Rows;
 use broker_form::thawed_is_in_range;
 use broker_tables::broker_spec::Window;
@@ -23,7 +23,7 @@ use broker_tables::retained::{MAX_TOPICS, RetainedPublication, RetainedStore};
 use broker_tables::session::Session;
 use broker_tables::subs::{ListIndex, SubIndex, TreeIndex};
 use broker_tables::{ClientRow, Tables};
-use packet::packet_base::{Reader, Stop};
+use packet::packet_base::{OUT_OF_MEMORY, Reader, Stop};
 use packet::topics::{Filter, TopicName};
 use packet::{ClientId, QoS};
 use session_base::check_form;

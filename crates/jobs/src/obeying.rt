@@ -6,6 +6,7 @@ ghost use Rattle.jobs.specs.Orders.{IsRefusedBy};
 ghost use Rattle.jobs.specs.declared.obeying.Order.TheVariants as orders;
 
 use crate::job_error::JobError;
+use crate::scripts::client_of;
 use command_line::ListeningNode;
 use command_line::packet::ClientId;
 use server::{Cluster, Config, Idle, MAX_NODE, Members, Memory, ProposeError, Status};
@@ -103,10 +104,7 @@ fn expel_of(alloc: Global, client: &str) -> Result<Order, u8>
     ensures sound { OnOk result (client_fault client.now ≡ None) }
     ensures refused { IfErr result (IsRefusedBy client.now) }
 {
-    match ClientId::new(alloc, client) {
-        Ok(client) => Ok(Order::Expel(client)),
-        Err(fault) => Err(fault.number()),
-    }
+    Ok(Order::Expel(client_of(alloc, client)?))
 }
 
 // Returns the number that a word says. A number above 255 counts as 255, which no node has. A sign

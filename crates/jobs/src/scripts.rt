@@ -64,8 +64,8 @@ fn print_way<O: Write>(
     escape_text(alloc, text, members.as_slice(), &client, output)
 }
 
-// Returns the client with this identifier, or the number by which it is refused.
-fn client_of(alloc: Global, word: &str) -> Result<ClientId, u8>
+/// Returns the client with this identifier, or the number by which it is refused.
+pub(crate) fn client_of(alloc: Global, word: &str) -> Result<ClientId, u8>
     ensures value { IfOk result (λ client. client ≡ word.now) }
     ensures sound { OnOk result (client_fault word.now ≡ None) }
     ensures refused { IfErr result (IsRefusedBy word.now) }

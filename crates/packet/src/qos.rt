@@ -20,7 +20,7 @@ pub enum QoS {
 
 impl QoS {
     /// Returns the QoS of this number; above 2 there is none (MQTT 3.3.1.2, 3.8.3).
-    pub(crate) fn of(number: u8) -> Result<QoS, Stop>
+    pub fn of(number: u8) -> Result<QoS, Stop>
         ensures { result ≡ qos_of number }
     {
         match number {

@@ -17,6 +17,9 @@ pub enum Stop {
     Refused(RefusalCode),
 }
 
+/// Stops a reading because memory ran out.
+pub const OUT_OF_MEMORY: Stop = Stop::Malformed(MalformedKind::Memory);
+
 impl From<MalformedKind> for Stop {
     ghost use Rattle.packet_base.specs.declared.stop.Stop.TheVariants.{Malformed};
 

@@ -163,7 +163,7 @@ impl MessagingMaster {
         let Body::Activate(ballot) = asked.body else {
             return None;
         };
-        let body = body_of(self.master.activate(ballot), ballot);
+        let body = answer_of(self.master.activate(ballot), ballot);
         Some(Answer {
             receiver: asked.from,
             message: Message { from: MASTER, body },
@@ -171,8 +171,8 @@ impl MessagingMaster {
     }
 }
 
-// Returns what the master sends to a primary about its ballot.
-fn body_of(activation: Activation, ballot: u64) -> Body<Command>
+// Returns what the master sends to a primary about its ballot, as `answer_of` of `master` does.
+fn answer_of(activation: Activation, ballot: u64) -> Body<Command>
     ensures { result ≡ body_of activation ballot }
 {
     match activation {

@@ -21,7 +21,7 @@ ghost use Rattle.retained.specs.Retained.{matching_entries};
 ghost use Rattle.retained.specs.Inside.{IsFront, StandsBefore, IsAround, HoldsMatches};
 
 use crate::retained_publication::RetainedPublication;
-use packet::topics::{Filter, TopicName, matches};
+use packet::topics::{Filter, TopicName, has_no_wildcard, matches};
 use std::alloc::{AllocError, Global};
 use std::collections::BTreeMap;
 use std::ops::Bound;
@@ -119,7 +119,7 @@ fn literal_front(filter: &str) -> Option<&str>
     ensures { IfSome result (λ front. StandsBefore front.now filter.now) }
 {
     let front = front_part(filter)?;
-    if !has_no_wildcard(front) {
+    if !has_no_wildcard(front.as_bytes()) {
         return None;
     }
     Some(front)
@@ -135,11 +135,4 @@ fn front_part(filter: &str) -> Option<&str>
     }
     let (front, _) = filter.split_once("/#")?;
     Some(front)
-}
-
-// Says whether neither wildcard is in a text.
-fn has_no_wildcard(text: &str) -> bool
-    ensures { result ≡ has_no_wildcard text.now }
-{
-    !text.as_bytes().contains(&b'+') && !text.as_bytes().contains(&b'#')
 }

@@ -19,16 +19,13 @@ use crate::session_queue::{SessionQueue, put_last};
 use crate::subscriptions::Subscriptions;
 use indexmap::IndexMap;
 use session_base::packet::{PacketId, QoS};
-use session_base::packet_base::{Reader, Stop};
-use session_base::topics::{Filter, MalformedKind};
+use session_base::packet_base::{OUT_OF_MEMORY, Reader, Stop};
+use session_base::topics::Filter;
 use session_base::{
     Awaits, Publication, check_form, read_flight, read_granted_filter, read_waiting,
 };
 use std::alloc::Global;
 use std::collections::VecDeque;
-
-/// Stops a reading because memory ran out. It is also `OUT_OF_MEMORY` of `broker`.
-const OUT_OF_MEMORY: Stop = Stop::Malformed(MalformedKind::Memory);
 
 impl Subscriptions {
     /// Reads as many filters as their count says, none of them twice.

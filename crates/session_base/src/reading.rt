@@ -2,7 +2,6 @@
 // of the form stop the reading; the reader is not to be used after an error.
 
 ghost use Rattle.std.specs.Prelude.{◌≡◌, Ok};
-ghost use Rattle.packet.specs.QoS.{qos_of};
 ghost use Rattle.packet.specs.Spelling.{max_body};
 ghost use Rattle.packet_base.specs.Outcome.{Gives, Reads};
 ghost use Rattle.session_base.specs.Counted.{check_form};
@@ -13,7 +12,7 @@ ghost use Rattle.session_base.specs.Form.{awaits_at, flight_at};
 use crate::{Awaits, Publication};
 use packet::{MAX_BODY, PacketId, Payload, QoS};
 use packet_base::topics::{Filter, MalformedKind};
-use packet_base::{Reader, Stop};
+use packet_base::{OUT_OF_MEMORY, Reader, Stop};
 use std::alloc::Global;
 
 /// Checks a form: the error, `Shape`, comes if the test does not hold.
@@ -50,19 +49,7 @@ pub fn read_long_number(reader: &mut Reader) -> Result<u32, Stop>
 pub fn read_qos(reader: &mut Reader) -> Result<QoS, Stop>
     ensures { Reads (λ x. x) result reader.new (qos_at reader.old) }
 {
-    qos_of(reader.byte()?)
-}
-
-// Returns the QoS of a number.
-fn qos_of(number: u8) -> Result<QoS, Stop>
-    ensures { Gives (λ x. x) result (qos_of number) }
-{
-    match number {
-        0 => Ok(QoS::AtMostOnce),
-        1 => Ok(QoS::AtLeastOnce),
-        2 => Ok(QoS::ExactlyOnce),
-        _ => Err(Stop::Malformed(MalformedKind::Qos)),
-    }
+    QoS::of(reader.byte()?)
 }
 
 /// Reads a publication whose PUBLISH is within the size limit of a packet.
@@ -91,7 +78,7 @@ fn payload_of(alloc: Global, bytes: &[u8]) -> Result<Payload, Stop>
 {
     match Payload::new(alloc, bytes) {
         Ok(payload) => Ok(payload),
-        Err(_) => Err(Stop::Malformed(MalformedKind::Memory)),
+        Err(_) => Err(OUT_OF_MEMORY),
     }
 }
 

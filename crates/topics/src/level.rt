@@ -39,7 +39,7 @@ pub(crate) fn has_length(text: &[u8]) -> bool
 }
 
 /// Says whether neither `+` nor `#` is in a text (MQTT 4.7.1).
-pub(crate) fn has_no_wildcard(text: &[u8]) -> bool
+pub fn has_no_wildcard(text: &[u8]) -> bool
     ensures { result ≡ has_no_wildcard text.now }
 {
     !text.contains(&b'+') && !text.contains(&b'#')

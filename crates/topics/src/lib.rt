@@ -13,7 +13,7 @@ mod topic_name;
 
 pub use filter::Filter;
 pub use laws::{bare_matches_itself, matches_is_tested};
-pub use level::split_level;
+pub use level::{has_no_wildcard, split_level};
 pub use malformed::MalformedKind;
 pub use matching::matches;
 pub use text::Text;
