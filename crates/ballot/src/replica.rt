@@ -14,8 +14,8 @@ ghost use Rattle.ballot_base.specs.Serving.{added, commit_at, max_places, propos
 use crate::error::{OpeningError, ProposeError};
 use ballot_base::machine::{Halted, Machine};
 use ballot_base::{
-    Config, Effect, Log, MAX_NODE, Members, Progress, Role, Status, apply_places, least_held,
-    progress_of_others, send_appends, send_commits,
+    Config, Effect, Log, MAX_NODE, Members, Progress, Role, Status, apply_places, counted,
+    least_held, progress_of_others, send_appends, send_commits,
 };
 use std::alloc::Global;
 use std::marker::Model;
@@ -275,7 +275,7 @@ impl<M: Machine> Replica<M> {
         );
         let Ok(()) = self.log.push(command) else {
             out.truncate(before);
-            self.losses = self.losses.saturating_add(1);
+            self.losses = counted(self.losses, false);
             return Err(ProposeError::Memory);
         };
         let held = least_held(self.log.places(), &self.progress);
