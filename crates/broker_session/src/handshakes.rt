@@ -19,7 +19,7 @@ pub fn is_handshake(packet: &Packet) -> bool
     )
 }
 
-/// Does a step of a handshake in the session of a connected client. What waits may start once an
+/// Takes a step of a handshake in the session of a connected client. What waits may start once an
 /// entry is finished (MQTT 4.6).
 pub fn do_handshake(
     session: &mut Session,

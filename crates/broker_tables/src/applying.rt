@@ -8,7 +8,7 @@ use broker_session::broker_spec::{Command, Output};
 use broker_session::machine::Halted;
 
 impl Tables {
-    /// Does one command, and appends its outputs. `Halted` says that memory ran out: the tables may
+    /// Applies one command, and appends its outputs. `Halted` says that memory ran out: the tables may
     /// then be half changed, and are not used again.
     pub fn apply(&mut self, command: &Command, out: &mut Vec<Output>) -> Result<(), Halted>
         requires { IsConsistent self.old }
@@ -21,13 +21,13 @@ impl Tables {
             Command::Connect(connection, client, clean) => {
                 self.connect(*connection, client, *clean, out)
             }
-            Command::Packet(connection, packet) => self.do_packet(
+            Command::Packet(connection, packet) => self.handle_packet(
                 *connection,
                 packet.packet(),
                 out,
             ),
             Command::Lost(connection) => {
-                self.lose(*connection);
+                self.end_connection(*connection);
                 Ok(())
             }
             Command::Start(ballot) => {

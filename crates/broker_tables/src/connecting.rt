@@ -40,7 +40,7 @@ pub(crate) enum ConnectOutcome {
 }
 
 impl Tables {
-    /// Does a Connect. On a connection that is a client's current one it is a violation
+    /// Handles a Connect. On a connection that is a client's current one it is a violation
     /// (MQTT-3.1.0-2).
     pub(crate) fn connect(
         &mut self,

@@ -14,7 +14,7 @@ use broker_session::packet::{ClientId, Packet};
 use broker_session::{do_handshake, send_all};
 
 impl Tables {
-    /// Does a step of a handshake of the client that is served on this connection.
+    /// Takes a step of a handshake of the client that is served on this connection.
     pub(crate) fn handshake(
         &mut self,
         connection: ConnectionName,

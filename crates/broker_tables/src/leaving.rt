@@ -14,7 +14,7 @@ use broker_session::subs::SubIndex;
 impl Tables {
     /// Ends a connection: its client is no longer served, and a clean session ends with it,
     /// including its subscriptions. A connection that is no client's current one changes nothing.
-    pub(crate) fn lose(&mut self, connection: ConnectionName)
+    pub(crate) fn end_connection(&mut self, connection: ConnectionName)
         requires { IsConsistent self.old }
         ensures state { state_in self.new ≡ (stepped self.old (commands.Lost connection)).0 }
         ensures tied { IsTied self.new }
@@ -45,7 +45,7 @@ impl Tables {
         ensures tied { OnOk result (IsTied self.new) }
     {
         out.push(Output::Close(connection))?;
-        self.lose(connection);
+        self.end_connection(connection);
         Ok(())
     }
 }

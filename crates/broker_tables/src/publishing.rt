@@ -30,7 +30,7 @@ use std::alloc::AllocError;
 use std::collections::BTreeMap;
 
 impl Tables {
-    /// Does a PUBLISH of the client that is served on this connection. A repeat is answered once
+    /// Handles a PUBLISH of the client that is served on this connection. A repeat is answered once
     /// more, one for which there is no room closes the connection, and any other is taken.
     pub(crate) fn publish(
         &mut self,
@@ -60,7 +60,7 @@ impl Tables {
             return Ok(());
         }
         acknowledge(connection, publish.delivery, out)?;
-        self.note(client, publish.delivery)?;
+        self.note_received(client, publish.delivery)?;
         deliver_all(&mut self.sessions, self.window, &publication, &granted, out)?;
         retain(&mut self.retained, publication)?;
         Ok(())
@@ -89,7 +89,7 @@ impl Tables {
 
     // Notes the identifier of a PUBLISH at QoS 2 in the session of this client, if it has one (MQTT
     // 4.3.3).
-    fn note(&mut self, client: &ClientId, delivery: Delivery) -> Result<(), Halted>
+    fn note_received(&mut self, client: &ClientId, delivery: Delivery) -> Result<(), Halted>
         requires { IfSome (session_in client.now self.old.sessions.entries)
             (λ kept. is_again kept delivery ≡ false) }
         ensures sessions { OnOk result
@@ -98,7 +98,7 @@ impl Tables {
         ensures others { HasOthersOf self.old self.new }
     {
         if let Some(row) = self.sessions.get_mut(client) {
-            note(row, delivery)?;
+            note_identifier(row, delivery)?;
         }
         Ok(())
     }
@@ -131,7 +131,7 @@ fn acknowledge(
 }
 
 // Notes the identifier of a PUBLISH at QoS 2 in the session of a row (MQTT 4.3.3).
-fn note(row: &mut ClientRow, delivery: Delivery) -> Result<(), Halted>
+fn note_identifier(row: &mut ClientRow, delivery: Delivery) -> Result<(), Halted>
     requires { is_again row.old delivery ≡ false }
     ensures { OnOk result (row.new ≡ received_on delivery row.old) }
 {

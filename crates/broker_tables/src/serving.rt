@@ -15,9 +15,9 @@ use broker_session::packet::{ClientId, Packet};
 use std::alloc::AllocError;
 
 impl Tables {
-    /// Does a packet that arrived on a connection. On a connection that is no client's current one
+    /// Handles a packet that arrived on a connection. On a connection that is no client's current one
     /// it does nothing.
-    pub(crate) fn do_packet(
+    pub(crate) fn handle_packet(
         &mut self,
         connection: ConnectionName,
         packet: &Packet,
@@ -38,7 +38,7 @@ impl Tables {
         Ok(())
     }
 
-    // Does a packet of the client that is served on this connection.
+    // Handles a packet of the client that is served on this connection.
     fn serve(
         &mut self,
         connection: ConnectionName,

@@ -16,7 +16,7 @@ use broker_session::subs::{SubIndex, TreeIndex};
 use std::collections::BTreeMap;
 
 impl Tables {
-    /// Does a Start: no client is served any more, the clean sessions end, and the window is the
+    /// Handles a Start: no client is served any more, the clean sessions end, and the window is the
     /// wide one.
     pub(crate) fn start(&mut self, ballot: u64)
         requires { IsConsistent self.old }

@@ -19,7 +19,7 @@ use broker_session::subs::{SubIndex, TreeIndex};
 use broker_session::topics::Filter;
 
 impl Tables {
-    /// Does an UNSUBSCRIBE of the client that is served on this connection.
+    /// Handles an UNSUBSCRIBE of the client that is served on this connection.
     pub(crate) fn unsubscribe(
         &mut self,
         connection: ConnectionName,

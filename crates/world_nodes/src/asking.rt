@@ -67,7 +67,7 @@ fn apply_all(alloc: Global, machine: &mut BrokerMachine, commands: &[Command]) -
     Ok(())
 }
 
-// Does one command on a machine.
+// Applies one command on a machine.
 fn apply(
     machine: &mut BrokerMachine,
     command: &Command,

@@ -13,7 +13,7 @@ use Rattle.broker_session.specs.broker_rows.Served.{IsServed}
 use Rattle.broker_tables.specs.Tables.{state_in}
 use Rattle.broker_tables.proofs.FoundByMaps.{has_session, is_served, some_is}
 use Rattle.broker_tables.proofs.Losses.{loss_step, nobodys_loss, ties_after, left_clean, left_other}
-use Rattle.broker_tables.proofs.tables.Tables.lose.Goals as goal
+use Rattle.broker_tables.proofs.tables.Tables.end_connection.Goals as goal
 
 pub returns-in_default-clause-state : goal.returns-in_default-clause-state
 returns-in_default-clause-state c =

@@ -2,7 +2,7 @@
 use Rattle.std.proofs.Common.{◌∙◌, ◌++◌, ap, sym}
 use Rattle.std.proofs.lemmas.List.{append-nil}
 use Rattle.broker_tables.proofs.Packets.{nobodys_of}
-use Rattle.broker_tables.proofs.tables.Tables.do_packet.Goals as goal
+use Rattle.broker_tables.proofs.tables.Tables.handle_packet.Goals as goal
 
 pub returns-in-None-clause-state : goal.returns-in-None-clause-state
 returns-in-None-clause-state c =

@@ -2,7 +2,7 @@
 use Rattle.std.proofs.Common.{◌∙◌, ap, sym}
 use Rattle.broker_session.specs.broker_rows.Published.{received_on}
 use Rattle.broker_session.proofs.of_broker_rows.OneChanged.{change_is_of_one_row}
-use Rattle.broker_tables.proofs.tables.Tables.note.Goals as goal
+use Rattle.broker_tables.proofs.tables.Tables.note_received.Goals as goal
 
 pub returns-in_default-clause-sessions : goal.returns-in_default-clause-sessions
 returns-in_default-clause-sessions c =

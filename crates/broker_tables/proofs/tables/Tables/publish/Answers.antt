@@ -66,10 +66,10 @@ returns-clause-state c =
     let taken : is_refused_in usual_limits (state_in t) (publication_of c.args.publish.now) ≡ false
     = ap (is_refused_in usual_limits (state_in t)) (sym c.in_ok-publication.ensures) ∙ sym c.refuses.ensures ∙ c.if-refuses.false in
     (λ i. record {
-      window = c.in_ok-note.ensures.others.window i;
+      window = c.in_ok-note_received.ensures.others.window i;
       sessions = (c.in_ok-deliver_all.ensures.state
-          ∙ (λ j. all_delivered (c.in_ok-note.ensures.others.window j) (c.in_ok-publication.ensures j) (c.deref-2.ensures.value j) (c.in_ok-note.ensures.sessions j))) i;
-      retained = (c.in_ok-retain.ensures ∙ (λ j. retains (c.in_ok-publication.ensures j) (c.in_ok-note.ensures.others.retained j))) i;
+          ∙ (λ j. all_delivered (c.in_ok-note_received.ensures.others.window j) (c.in_ok-publication.ensures j) (c.deref-2.ensures.value j) (c.in_ok-note_received.ensures.sessions j))) i;
+      retained = (c.in_ok-retain.ensures ∙ (λ j. retains (c.in_ok-publication.ensures j) (c.in_ok-note_received.ensures.others.retained j))) i;
     })
     ∙ sym (ap (λ p. p.0)
     (taken_of t c.args.connection c.args.client.now kept served c.args.publish.now (sym c.is_again.ensures ∙ c.if-is_again.false) taken
@@ -84,7 +84,7 @@ returns-clause-outputs c =
     = ap (is_refused_in usual_limits (state_in t)) (sym c.in_ok-publication.ensures) ∙ sym c.refuses.ensures ∙ c.if-refuses.false in
     c.in_ok-deliver_all.ensures.outputs
     ∙ (λ i. c.in_ok-acknowledge-2.ensures i
-    ++ answered_in_turn (c.in_ok-note.ensures.others.window i) (c.in_ok-publication.ensures i) (c.deref-2.ensures.value i) (c.in_ok-note.ensures.sessions i))
+    ++ answered_in_turn (c.in_ok-note_received.ensures.others.window i) (c.in_ok-publication.ensures i) (c.deref-2.ensures.value i) (c.in_ok-note_received.ensures.sessions i))
     ∙ append_assoc c.args.out.now.items (acknowledged c.args.connection c.args.publish.now.delivery)
     (answered_in_turn t.window (publication_of c.args.publish.now) c.in_ok-granted.granted.items
     (changed c.args.client.now (received_on c.args.publish.now.delivery) t.sessions.entries))
@@ -97,8 +97,8 @@ pub returns-clause-tied : goal.returns-clause-tied
 returns-clause-tied c =
     ties_of_taken c.args.self.now _ c.args.client.now c.args.publish.now c.in_ok-granted.granted.items c.requires.consistent.tied
     (c.in_ok-deliver_all.ensures.state
-    ∙ (λ j. all_delivered (c.in_ok-note.ensures.others.window j) (c.in_ok-publication.ensures j) (c.deref-2.ensures.value j) (c.in_ok-note.ensures.sessions j)))
-    c.in_ok-note.ensures.others.owners c.in_ok-note.ensures.others.index
+    ∙ (λ j. all_delivered (c.in_ok-note_received.ensures.others.window j) (c.in_ok-publication.ensures j) (c.deref-2.ensures.value j) (c.in_ok-note_received.ensures.sessions j)))
+    c.in_ok-note_received.ensures.others.owners c.in_ok-note_received.ensures.others.index
 
 pub deliver_all-requires : goal.deliver_all-requires
 deliver_all-requires c =
@@ -108,12 +108,12 @@ deliver_all-requires c =
     let taken : is_refused_in usual_limits (state_in t) (publication_of c.args.publish.now) ≡ false
     = ap (is_refused_in usual_limits (state_in t)) (sym c.in_ok-publication.ensures) ∙ sym c.refuses.ensures ∙ c.if-refuses.false in
     record {
-      room = subst (λ (w : ℕ). HaveRoomInTurn usual_limits w c.in_ok-publication.publication c.deref-2.result.now c.note.new.self.sessions.entries)
-          (sym c.in_ok-note.ensures.others.window)
-          (subst (λ (p : Publication). HaveRoomInTurn usual_limits t.window p c.deref-2.result.now c.note.new.self.sessions.entries)
+      room = subst (λ (w : ℕ). HaveRoomInTurn usual_limits w c.in_ok-publication.publication c.deref-2.result.now c.note_received.new.self.sessions.entries)
+          (sym c.in_ok-note_received.ensures.others.window)
+          (subst (λ (p : Publication). HaveRoomInTurn usual_limits t.window p c.deref-2.result.now c.note_received.new.self.sessions.entries)
           (sym c.in_ok-publication.ensures)
-          (subst (λ (rows : List Row). HaveRoomInTurn usual_limits t.window (publication_of c.args.publish.now) rows c.note.new.self.sessions.entries)
+          (subst (λ (rows : List Row). HaveRoomInTurn usual_limits t.window (publication_of c.args.publish.now) rows c.note_received.new.self.sessions.entries)
           (sym c.deref-2.ensures.value)
           (room_of_taken t c.args.connection c.args.client.now kept served c.args.publish.now taken
-          c.in_ok-granted.granted.items c.in_ok-granted.ensures c.note.new.self.sessions.entries c.in_ok-note.ensures.sessions)));
+          c.in_ok-granted.granted.items c.in_ok-granted.ensures c.note_received.new.self.sessions.entries c.in_ok-note_received.ensures.sessions)));
     }
