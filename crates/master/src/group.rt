@@ -319,7 +319,7 @@ impl<M: Machine> Group<M> {
     }
 
     // Counts a loss: nothing happens, because memory ran out.
-    fn lose(&mut self)
+    fn count_loss(&mut self)
         ensures { self.new ≡ record self.old { losses = one_more self.old.losses } }
     {
         self.losses = counted(self.losses, false, true);

@@ -67,7 +67,7 @@ impl World {
         if self.connect(client, node) {
             self.gather(node);
         } else if self.is_whole(before) {
-            self.lose();
+            self.count_loss();
         }
     }
 
@@ -119,7 +119,7 @@ impl World {
         if !self.clients[at].piped.is_open() {
             return Err(Idle);
         }
-        lose(&mut self.clients[at].piped);
+        lose_connection(&mut self.clients[at].piped);
         Ok(())
     }
 
@@ -208,7 +208,7 @@ impl World {
         match done {
             Ok(Sending::Sent) => Ok(()),
             Ok(Sending::Lost) | Err(ClientError::Memory) => {
-                self.lose();
+                self.count_loss();
                 Ok(())
             }
             Err(_) => Err(Idle),
@@ -283,7 +283,7 @@ fn takes(nodes: &mut Nodes, node: u8, port: Port) -> bool
 }
 
 // Lets a client lose its connection.
-fn lose(piped: &mut PipedClient)
+fn lose_connection(piped: &mut PipedClient)
     ensures lost { Loses piped.old piped.new }
     ensures goes { FollowsAll piped.old piped.new }
     ensures leads { leads piped.new.ways ≡ leads piped.old.ways }

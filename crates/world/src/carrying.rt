@@ -45,7 +45,7 @@ impl World {
         if had {
             self.gather(slot.node);
         } else {
-            self.lose();
+            self.count_loss();
         }
         Ok(())
     }
@@ -97,7 +97,7 @@ impl World {
         ensures { self.new ≡ (if had_memory then self.old else forgetful self.old) }
     {
         if !had_memory {
-            self.lose();
+            self.count_loss();
         }
     }
 }

@@ -197,7 +197,7 @@ impl World {
     }
 
     /// Counts that memory ran out.
-    pub(crate) fn lose(&mut self)
+    pub(crate) fn count_loss(&mut self)
         ensures lost { self.new ≡ record self.old { losses = one_more self.old.losses } }
         ensures rises { self.old.losses ≤ self.new.losses }
     {
@@ -213,7 +213,7 @@ impl World {
         ensures rises { self.old.losses ≤ self.new.losses }
     {
         if self.losses == counted && !self.is_whole(before) {
-            self.lose();
+            self.count_loss();
         }
     }
 

@@ -162,7 +162,7 @@ impl Nodes {
     }
 
     /// Counts that nothing happened, because memory ran out.
-    pub(crate) fn lose(&mut self)
+    pub(crate) fn count_loss(&mut self)
         ensures lost { self.new ≡ forgetful self.old }
         ensures rises { self.old.losses ≤ self.new.losses }
     {

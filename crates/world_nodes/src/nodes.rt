@@ -122,7 +122,7 @@ impl Nodes {
             return Err(Idle);
         }
         if self.give(config).is_err() {
-            self.lose();
+            self.count_loss();
         }
         Ok(())
     }
@@ -160,7 +160,7 @@ impl Nodes {
             return Ok(());
         }
         let Ok(message) = copy_of::<BrokerMachine>(self.alloc, message) else {
-            self.lose();
+            self.count_loss();
             return Ok(());
         };
         self.act(receiver, Item::Peer(message))
@@ -224,7 +224,7 @@ impl Nodes {
         match client.clone() {
             Ok(client) => self.act(node, Item::Expel(client)),
             Err(_) => {
-                self.lose();
+                self.count_loss();
                 Ok(())
             }
         }
@@ -317,7 +317,7 @@ impl Nodes {
         match core.outgoing(port, out) {
             Ok(handed) => Ok(handed),
             Err(_) => {
-                self.lose();
+                self.count_loss();
                 Ok(Handed::Open)
             }
         }

@@ -42,7 +42,7 @@ impl<M: Machine> Group<M> {
         }
         match M::copy(self.alloc, command) {
             Ok(command) => self.take_input(at, Taken::Proposed(command)),
-            Err(_) => self.lose(),
+            Err(_) => self.count_loss(),
         }
         Ok(())
     }
@@ -61,7 +61,7 @@ impl<M: Machine> Group<M> {
         }
         match self.give(config) {
             Ok(()) => {}
-            Err(_) => self.lose(),
+            Err(_) => self.count_loss(),
         }
         Ok(())
     }
@@ -114,7 +114,7 @@ impl<M: Machine> Group<M> {
         }
         match copy_of::<M>(self.alloc, message) {
             Ok(message) => self.take_input(at, Taken::Received(message)),
-            Err(_) => self.lose(),
+            Err(_) => self.count_loss(),
         }
         Ok(())
     }

@@ -16,7 +16,7 @@ returns-in-Ok-clause-step g c =
 pub returns-in-Err-clause-step : goal.returns-in-Err-clause-step
 returns-in-Err-clause-step g c =
     let rules = g.M.Machine.rules in
-    steps_lost rules c.args.self.now _ (Assign c.args.config.now) (rw c.in-Err.ensures.err at c.lose.ensures)
+    steps_lost rules c.args.self.now _ (Assign c.args.config.now) (rw c.in-Err.ensures.err at c.count_loss.ensures)
 
 pub returns-in-Ok-clause-quiet : goal.returns-in-Ok-clause-quiet
 returns-in-Ok-clause-quiet g c =

@@ -65,7 +65,7 @@ returns-in-Ok-clause-idle g c =
 pub returns-in-Err-clause-step : goal.returns-in-Err-clause-step
 returns-in-Err-clause-step g c =
     let rules = g.M.Machine.rules in
-    steps_lost rules c.args.self.now _ (Deliver c.args.number) c.lose.ensures
+    steps_lost rules c.args.self.now _ (Deliver c.args.number) c.count_loss.ensures
 
 pub returns-in-Err-clause-idle : goal.returns-in-Err-clause-idle
 returns-in-Err-clause-idle g c =

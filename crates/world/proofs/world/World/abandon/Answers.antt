@@ -19,8 +19,8 @@ pub invariant_of-self : goal.invariant_of-self
 invariant_of-self c =
     let few : c.in-Some.at < length c.self.inside.clients.items = rw (← c.self.view_is) at c.in-Some.ensures.below in
     let found = get_there c.self.inside.clients.items c.in-Some.at c.index_mut.result.now few c.index_mut.ensures.value in (
-      housed_still c.self.inside.clients.items c.self.inside.connections.items c.in-Some.at c.index_mut.result.now c.lose.new.piped found
-          c.lose.ensures.leads c.self.invariant.0,
+      housed_still c.self.inside.clients.items c.self.inside.connections.items c.in-Some.at c.index_mut.result.now c.lose_connection.new.piped found
+          c.lose_connection.ensures.leads c.self.invariant.0,
       c.self.invariant.1,
     )
 
@@ -34,7 +34,7 @@ returns-clause-goes c =
       connections = c.self.inside.connections.items;
       losses = c.self.inside.losses;
     } in
-    rw (← c.self.view_is) (client_goes_on old c.in-Some.at c.index_mut.result.now c.lose.new.piped found c.lose.ensures.goes)
+    rw (← c.self.view_is) (client_goes_on old c.in-Some.at c.index_mut.result.now c.lose_connection.new.piped found c.lose_connection.ensures.goes)
 
 pub returns-clause-meets : goal.returns-clause-meets
 returns-clause-meets c =
@@ -49,5 +49,5 @@ returns-clause-meets c =
       losses = c.self.inside.losses;
     } in
     rw (← c.self.view_is)
-    (inl (abandon_meets c.args.client.now old c.in-Some.at c.index_mut.result.now c.lose.new.piped (sym first) found
-    (subst (λ (k : WorldClient). is_holding k.piped ≡ true) (same_Some c.index.result.now c.index_mut.result.now (sym before ∙ found)) (sym c.is_open.ensures ∙ c.if-not-is_open.false)) c.lose.ensures.lost))
+    (inl (abandon_meets c.args.client.now old c.in-Some.at c.index_mut.result.now c.lose_connection.new.piped (sym first) found
+    (subst (λ (k : WorldClient). is_holding k.piped ≡ true) (same_Some c.index.result.now c.index_mut.result.now (sym before ∙ found)) (sym c.is_open.ensures ∙ c.if-not-is_open.false)) c.lose_connection.ensures.lost))

@@ -19,14 +19,14 @@ returns-then-connect-clause-begins c =
 pub returns-then-is_whole-clause-goes : goal.returns-then-is_whole-clause-goes
 returns-then-is_whole-clause-goes c =
     goes_on_join _ _ _ c.connect.ensures.goes
-    (goes_on_still _ _ (ap (λ (w : WorldState). w.nodes) c.lose.ensures.lost) (ap (λ (w : WorldState). w.clients) c.lose.ensures.lost) c.lose.ensures.rises)
+    (goes_on_still _ _ (ap (λ (w : WorldState). w.nodes) c.count_loss.ensures.lost) (ap (λ (w : WorldState). w.clients) c.count_loss.ensures.lost) c.count_loss.ensures.rises)
 
 pub returns-then-is_whole-clause-begins : goal.returns-then-is_whole-clause-begins
 returns-then-is_whole-clause-begins c =
     inr (inr (
       c.connect.new.self,
       c.connect.ensures.none c.if-connect.false,
-      c.lose.ensures.lost ∙ ap (λ (k : ℕ). let w : WorldState = record c.connect.new.self { losses = one_more k } in w) c.connect.ensures.losses,
+      c.count_loss.ensures.lost ∙ ap (λ (k : ℕ). let w : WorldState = record c.connect.new.self { losses = one_more k } in w) c.connect.ensures.losses,
     ))
 
 pub returns-else-is_whole-clause-begins : goal.returns-else-is_whole-clause-begins

@@ -17,10 +17,10 @@ returns-then-had-clause-meets c =
 pub returns-else-had-clause-goes : goal.returns-else-had-clause-goes
 returns-else-had-clause-goes c =
     goes_on_join _ _ _ c.take_up.ensures.goes
-    (goes_on_still _ _ (ap (λ (w : WorldState). w.nodes) c.lose.ensures.lost) (ap (λ (w : WorldState). w.clients) c.lose.ensures.lost) c.lose.ensures.rises)
+    (goes_on_still _ _ (ap (λ (w : WorldState). w.nodes) c.count_loss.ensures.lost) (ap (λ (w : WorldState). w.clients) c.count_loss.ensures.lost) c.count_loss.ensures.rises)
 
 pub returns-else-had-clause-meets : goal.returns-else-had-clause-meets
 returns-else-had-clause-meets c =
-    inr (lost_up c.args.number c.args.slot c.args.count c.args.self.now c.take_up.new.self c.lose.new.self c.requires.stands c.requires.positive c.requires.up
+    inr (lost_up c.args.number c.args.slot c.args.count c.args.self.now c.take_up.new.self c.count_loss.new.self c.requires.stands c.requires.positive c.requires.up
     (subst (λ (had : Bool). TakesUpOnWhere had c.args.number c.args.slot c.args.count c.args.self.now c.take_up.new.self) c.if-had.false c.in_ok-had.ensures.takes)
-    c.lose.ensures.lost)
+    c.count_loss.ensures.lost)

@@ -95,7 +95,7 @@ returns-in-Err-clause-step c =
     let below : c.args.node ≤ length c.self.inside.nodes.items = omega (arith, c.self.inside.nodes.ok.0, c.len.ensures, c.if-node-len.false) in
     let found = stands_there c.self.inside.nodes.items c.args.node c.index_mut-core.result.now c.if-node-eq0.false below c.index_mut-core.ensures.value in
     inr (
-      c.lose.ensures.lost ∙ ap forgetful (rests (let old : NodesState = record {
+      c.count_loss.ensures.lost ∙ ap forgetful (rests (let old : NodesState = record {
         master = c.self.inside.master;
         nodes = c.self.inside.nodes.items;
         sent = c.self.inside.sent.items;

@@ -1,6 +1,6 @@
 use Rattle.std.proofs.Common.{arith}
 use Rattle.master.proofs.LossesCounted.{counts_lost}
-use Rattle.master.proofs.group.Group.lose.Goals as goal
+use Rattle.master.proofs.group.Group.count_loss.Goals as goal
 
 pub invariant_of-self : goal.invariant_of-self
 invariant_of-self g c = (

@@ -2,7 +2,7 @@ use Rattle.std.proofs.Common.{ap}
 use Rattle.world_events.specs.world_pipes.Piped.{Piped}
 use Rattle.world.specs.SlotsAreValid.{leads}
 use Rattle.world.proofs.ClientGoes.{losing_goes}
-use Rattle.world.proofs.calling.lose.Goals as goal
+use Rattle.world.proofs.calling.lose_connection.Goals as goal
 
 pub returns-clause-goes : goal.returns-clause-goes
 returns-clause-goes c = losing_goes c.args.piped.now c.abandon.new.self c.abandon.ensures.goes
