@@ -211,7 +211,7 @@ impl Connection {
     }
 
     /// Notes that its CONNECT, which has this keep alive, is proposed.
-    pub fn ask(&mut self, keep_alive: u16)
+    pub fn note_proposed(&mut self, keep_alive: u16)
         ensures { self.new ≡ asked keep_alive self.old }
     {
         self.stage = ConnectionStage::Proposed;

@@ -28,13 +28,17 @@ impl SteppingNode {
             return false;
         }
         let mut given = Vec::new(self.alloc);
-        let taken = self.ask(command, &mut given);
+        let taken = self.propose_to_replica(command, &mut given);
         self.handle_all(given, effects);
         taken
     }
 
     // Proposes a command to the replica only.
-    fn ask(&mut self, command: Command, given: &mut Vec<Effect<Command, Output>>) -> bool
+    fn propose_to_replica(
+        &mut self,
+        command: Command,
+        given: &mut Vec<Effect<Command, Output>>,
+    ) -> bool
         requires serving { serves self.old.core ≡ true }
         requires empty { given.old.items ≡ [] }
         ensures hears { Hears self.old self.new

@@ -205,12 +205,12 @@ impl SteppingNode {
     }
 
     /// Notes that the CONNECT of the open connection of a port, with this keep alive, is proposed.
-    pub fn ask_at(&mut self, port: Port, keep_alive: u16)
+    pub fn note_proposed_at(&mut self, port: Port, keep_alive: u16)
         ensures { self.new
             ≡ record self.old { core = changes port (asked keep_alive) self.old.core } }
     {
         if let Some(index) = self.index_at(port) {
-            self.connections[index].ask(keep_alive);
+            self.connections[index].note_proposed(keep_alive);
         }
     }
 

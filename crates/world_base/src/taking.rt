@@ -38,10 +38,10 @@ impl SteppingNode {
             self.new.out_of_memory ≡ self.old.out_of_memory }
     {
         if self.ignores(&item) {
-            return self.lose_failed(effects);
+            return self.report_failed(effects);
         }
         self.do_item(item, effects);
-        self.lose_failed(effects);
+        self.report_failed(effects);
     }
 
     /// Ignores a message without effect, and reports each connection that failed to the broker.
@@ -58,7 +58,7 @@ impl SteppingNode {
         ensures quiet { find has_failed self.old.core.connections ≡ None →
             self.new.out_of_memory ≡ self.old.out_of_memory }
     {
-        self.lose_failed(effects);
+        self.report_failed(effects);
     }
 
     // Does what the item says, without the losses that follow from it.
@@ -199,7 +199,7 @@ impl SteppingNode {
         }
         match packet {
             Packet::Connect(connect) => {
-                self.ask_at(port, connect.keep_alive);
+                self.note_proposed_at(port, connect.keep_alive);
                 self.connect(port, name, connect, effects);
             }
             _ => self.close(port),
@@ -289,7 +289,7 @@ impl SteppingNode {
 
     // Reports each connection that failed to the broker. What is then sent may close others, which
     // are reported too.
-    fn lose_failed(&mut self, effects: &mut Vec<Effect<Command, Output>>)
+    fn report_failed(&mut self, effects: &mut Vec<Effect<Command, Output>>)
         ensures turns { DoesTurn self.old self.new effects.old.items effects.new.items
             (loses_all_failed self.old.core) }
         ensures run { Ran LosesAllFailed
@@ -297,14 +297,14 @@ impl SteppingNode {
         ensures none { find has_failed self.old.core.connections ≡ None → self.new ≡ self.old }
     {
         for _connection in 0..self.listed() {
-            if !self.lose_one_failed(effects) {
+            if !self.report_one_failed(effects) {
                 return;
             }
         }
     }
 
     // Reports the first connection that failed to the broker. Returns whether there was one.
-    fn lose_one_failed(&mut self, effects: &mut Vec<Effect<Command, Output>>) -> bool
+    fn report_one_failed(&mut self, effects: &mut Vec<Effect<Command, Output>>) -> bool
         ensures turns { DoesTurn self.old self.new effects.old.items effects.new.items
             (loses_failed self.old.core) }
         ensures run { Ran LosesFailed

@@ -5,20 +5,20 @@ use Rattle.world_base.proofs.stepping_node.SteppingNode.act_on.Goals as goal
 
 pub returns-then-ignores-clause-turns : goal.returns-then-ignores-clause-turns
 returns-then-ignores-clause-turns c =
-    turns_ignored c.args.item _ _ _ _ (c.ignores.ensures.0 c.if-ignores.true) c.lose_failed.ensures.turns
+    turns_ignored c.args.item _ _ _ _ (c.ignores.ensures.0 c.if-ignores.true) c.report_failed.ensures.turns
 
 pub returns-then-ignores-clause-run : goal.returns-then-ignores-clause-run
 returns-then-ignores-clause-run c =
-    ran_ignored c.args.item _ _ _ _ (c.ignores.ensures.0 c.if-ignores.true) c.lose_failed.ensures.run
+    ran_ignored c.args.item _ _ _ _ (c.ignores.ensures.0 c.if-ignores.true) c.report_failed.ensures.run
 
 pub returns-then-ignores-clause-quiet : goal.returns-then-ignores-clause-quiet
-returns-then-ignores-clause-quiet c = λ _ failed. quiet_ignored _ _ c.lose_failed.ensures.none failed
+returns-then-ignores-clause-quiet c = λ _ failed. quiet_ignored _ _ c.report_failed.ensures.none failed
 
 pub returns-clause-run : goal.returns-clause-run
 returns-clause-run c =
-    ran_then (DoesItem c.args.item) LosesAllFailed _ _ _ _ _ _ c.do_item.ensures.run c.lose_failed-2.ensures.run
+    ran_then (DoesItem c.args.item) LosesAllFailed _ _ _ _ _ _ c.do_item.ensures.run c.report_failed-2.ensures.run
 
 pub returns-clause-quiet : goal.returns-clause-quiet
 returns-clause-quiet c =
     quiet_otherwise c.args.item _ _ _ c.ignores.result c.if-ignores.false c.ignores.ensures c.do_item.ensures.heard c.do_item.ensures.crash c.do_item.ensures.ended
-    c.lose_failed-2.ensures.none
+    c.report_failed-2.ensures.none

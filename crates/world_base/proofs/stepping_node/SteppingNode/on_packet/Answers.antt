@@ -10,8 +10,8 @@ returns-then-not-is_first-clause-run c =
 
 pub returns-in-Connect-clause-run : goal.returns-in-Connect-clause-run
 returns-in-Connect-clause-run c =
-    ran_connects _ c.args.port c.args.name c.in-Connect.connect c.args.packet _ c.ask_at.new.self.core _ _ _
-    (sym c.is_first.ensures ∙ c.if-not-is_first.false) c.in-Connect.is (core_of _ _ c.ask_at.ensures) c.connect.ensures.run
+    ran_connects _ c.args.port c.args.name c.in-Connect.connect c.args.packet _ c.note_proposed_at.new.self.core _ _ _
+    (sym c.is_first.ensures ∙ c.if-not-is_first.false) c.in-Connect.is (core_of _ _ c.note_proposed_at.ensures) c.connect.ensures.run
 
 pub returns-clause-turns : goal.returns-clause-turns
 returns-clause-turns c =

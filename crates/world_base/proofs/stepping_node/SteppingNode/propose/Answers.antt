@@ -14,8 +14,8 @@ returns-then-not-serves-clause-run c =
 pub returns-clause-turns : goal.returns-clause-turns
 returns-clause-turns c =
     turns_proposed _ _ _ c.args.command _ _ _ (sym c.serves.ensures ∙ c.if-not-serves.false)
-    c.ask-taken.ensures.hears c.handle_all.ensures.turns
+    c.propose_to_replica-taken.ensures.hears c.handle_all.ensures.turns
 
 pub returns-clause-run : goal.returns-clause-run
 returns-clause-run c =
-    proposed_all c.ask-taken.result c.args.command _ _ _ _ _ _ c.ask-taken.ensures.answered c.handle_all.ensures.run
+    proposed_all c.propose_to_replica-taken.result c.args.command _ _ _ _ _ _ c.propose_to_replica-taken.ensures.answered c.handle_all.ensures.run

@@ -1,7 +1,7 @@
 use Rattle.std.proofs.Common.{◌∙◌, inr, arith}
 use Rattle.world_base.proofs.Answering.{answered_kept}
 use Rattle.world_base.proofs.Asked.{left_true, right_false, room_answered, has_room_by}
-use Rattle.world_base.proofs.stepping_node.SteppingNode.ask.Goals as goal
+use Rattle.world_base.proofs.stepping_node.SteppingNode.propose_to_replica.Goals as goal
 
 pub returns-clause-taken : goal.returns-clause-taken
 returns-clause-taken c = λ whole.

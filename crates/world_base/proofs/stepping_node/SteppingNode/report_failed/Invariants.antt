@@ -6,7 +6,7 @@ use Rattle.world_base.specs.Inside.{Ran, DoesTurn}
 use Rattle.world_base.specs.Lossy.{Repeated}
 use Rattle.world_base.specs.LossyReading.{LosesFailed}
 use Rattle.world_base.specs.Turns.{repeated}
-use Rattle.world_base.proofs.stepping_node.SteppingNode.lose_failed.Given as goal
+use Rattle.world_base.proofs.stepping_node.SteppingNode.report_failed.Given as goal
 
 abbrev pub invariant-loop-connection : goal.invariant-loop-connection
 invariant-loop-connection l = record {

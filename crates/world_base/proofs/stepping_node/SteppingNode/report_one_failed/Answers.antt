@@ -4,7 +4,7 @@ use Rattle.world_base.proofs.Changes.{there, core_there}
 use Rattle.world_base.proofs.EndsRun.{idle_failed, ran_failed, ran_none_failed}
 use Rattle.world_base.proofs.Failures.{failed_none, failed_next, failed_one, none_some}
 use Rattle.world_base.proofs.Indices.{none_found, found_there}
-use Rattle.world_base.proofs.stepping_node.SteppingNode.lose_one_failed.Goals as goal
+use Rattle.world_base.proofs.stepping_node.SteppingNode.report_one_failed.Goals as goal
 
 pub returns-in_default-clause-turns : goal.returns-in_default-clause-turns
 returns-in_default-clause-turns c =

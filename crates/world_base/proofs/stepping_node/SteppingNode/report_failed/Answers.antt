@@ -1,0 +1,66 @@
+use Rattle.std.proofs.Common.{◌≡◌, ◌≤◌, ℕ, suc, ◌+◌, length, refl, subst, arith}
+use Rattle.world_base.specs.Failing.{loses_failed}
+use Rattle.world_base.specs.Inside.{Ran, DoesTurn}
+use Rattle.world_base.specs.Lossy.{Repeated}
+use Rattle.world_base.specs.LossyStep.{LosesAllFailed}
+use Rattle.world_base.specs.LossyReading.{LosesFailed}
+use Rattle.world_base.specs.Turns.{repeated}
+use Rattle.world_base.proofs.Accounts.{ran_as, ran_enough, ran_more, ran_none}
+use Rattle.world_base.proofs.Failures.{none_again}
+use Rattle.world_base.proofs.Repeats.{repeats_none, repeats_more, repeats_enough}
+use Rattle.world_base.proofs.stepping_node.SteppingNode.report_failed.Goals as goal
+
+pub loop-connection-init : goal.loop-connection-init
+loop-connection-init c = record {
+  turns = repeats_none loses_failed c.args.self.now c.args.effects.now.items;
+  run = ran_none LosesFailed c.args.self.now.core c.args.effects.now.items;
+  none = λ _. refl;
+}
+
+-- none is left that failed
+pub returns-then-not-report_one_failed-clause-turns : goal.returns-then-not-report_one_failed-clause-turns
+returns-then-not-report_one_failed-clause-turns c =
+    let few : suc c.loop-connection._connection ≤ length c.args.self.now.core.connections =
+    omega (arith, c.loop-connection-test.true, c.listed-connection-end.ensures) in
+    repeats_enough loses_failed (suc c.loop-connection._connection) (length c.args.self.now.core.connections)
+    c.args.self.now c.report_one_failed.new.self c.args.effects.now.items c.report_one_failed.new.effects.items few
+    (repeats_more loses_failed c.loop-connection._connection c.args.self.now c.loop-connection.self c.report_one_failed.new.self
+    c.args.effects.now.items c.loop-connection.effects.items c.report_one_failed.new.effects.items
+    c.loop-connection.invariant.turns c.report_one_failed.ensures.turns)
+    (λ _. c.report_one_failed.ensures.done c.if-not-report_one_failed.true)
+
+pub returns-then-not-report_one_failed-clause-run : goal.returns-then-not-report_one_failed-clause-run
+returns-then-not-report_one_failed-clause-run c =
+    let few : suc c.loop-connection._connection ≤ length c.args.self.now.core.connections =
+    omega (arith, c.loop-connection-test.true, c.listed-connection-end.ensures) in
+    ran_as (Repeated (length c.args.self.now.core.connections) LosesFailed) LosesAllFailed
+    c.args.self.now.core c.args.self.now.core _ _ _ (λ did runs. runs)
+    (ran_enough LosesFailed (suc c.loop-connection._connection) (length c.args.self.now.core.connections)
+    c.args.self.now.core c.report_one_failed.new.self.core c.args.effects.now.items c.report_one_failed.new.effects.items few
+    (ran_more LosesFailed c.loop-connection._connection c.args.self.now.core c.loop-connection.self.core c.report_one_failed.new.self.core
+    c.args.effects.now.items c.loop-connection.effects.items c.report_one_failed.new.effects.items
+    c.loop-connection.invariant.run c.report_one_failed.ensures.run)
+    (c.report_one_failed.ensures.idle c.if-not-report_one_failed.true))
+
+pub loop-connection-preserved : goal.loop-connection-preserved
+loop-connection-preserved c =
+    let one_more : suc c.loop-connection._connection ≡ c.loop-connection._connection + 1 = omega arith in
+    record {
+      turns = subst (λ (k : ℕ). DoesTurn c.args.self.now c.report_one_failed.new.self c.args.effects.now.items c.report_one_failed.new.effects.items
+          (repeated k loses_failed c.args.self.now.core)) one_more
+          (repeats_more loses_failed c.loop-connection._connection c.args.self.now c.loop-connection.self c.report_one_failed.new.self
+          c.args.effects.now.items c.loop-connection.effects.items c.report_one_failed.new.effects.items
+          c.loop-connection.invariant.turns c.report_one_failed.ensures.turns);
+      run = subst (λ (k : ℕ). Ran (Repeated k LosesFailed) c.args.self.now.core c.report_one_failed.new.self.core
+          c.args.effects.now.items c.report_one_failed.new.effects.items) one_more
+          (ran_more LosesFailed c.loop-connection._connection c.args.self.now.core c.loop-connection.self.core c.report_one_failed.new.self.core
+          c.args.effects.now.items c.loop-connection.effects.items c.report_one_failed.new.effects.items
+          c.loop-connection.invariant.run c.report_one_failed.ensures.run);
+      none = none_again c.args.self.now c.loop-connection.self c.report_one_failed.new.self c.loop-connection.invariant.none
+          c.report_one_failed.ensures.none;
+    }
+
+pub returns-then-not-report_one_failed-clause-none : goal.returns-then-not-report_one_failed-clause-none
+returns-then-not-report_one_failed-clause-none c =
+    none_again c.args.self.now c.loop-connection.self c.report_one_failed.new.self c.loop-connection.invariant.none
+    c.report_one_failed.ensures.none
