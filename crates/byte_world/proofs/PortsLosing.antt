@@ -28,7 +28,7 @@ use Rattle.node_group.specs.world_base.LossyProposals.Declines.{no_room, forgets
 use Rattle.node_group.specs.world_base.Lossy.HandlesAll.{nothing, does, tells, loses}
 use Rattle.node_group.specs.world_base.LossyStep.{ActsOn, Holds, LosesAllFailed, Opens, ReadsAll, RunsOn, DoesItem}
 use Rattle.node_group.specs.world_base.LossyReading.{Asks, Begins, Closes, Ends, EndsSilent, LosesFailed, ReadsNext, Shuts}
-use Rattle.node_group.specs.world_base.LossyReading.Ends.{none_open, untold, told}
+use Rattle.node_group.specs.world_base.LossyReading.Ends.{none_open, unproposed, proposed}
 use Rattle.node_group.specs.world_base.LossyReading.EndsSilent.{none_silent, ends_one}
 use Rattle.node_group.specs.world_base.LossyReading.LosesFailed.{none_failed, tells_one}
 use Rattle.node_group.specs.world_base.LossyReading.ReadsNext.{waits, first, later, refuses, ends}
@@ -95,8 +95,8 @@ module _ (P : Connection → Type 0) (follows : IsFollowed P) where
 
   ends_kept : (port : Port) → Keeps (Ends port)
   ends_kept port core did (none_open none is) all = becomes core did is all
-  ends_kept port core did (untold c found other is) all = becomes (changes port closed core) did is (shut_at P follows port core all)
-  ends_kept port core did (told c found heard proposes) all = proposes_kept (commands.Lost c.name) (changes port closed core) did proposes (shut_at P follows port core all)
+  ends_kept port core did (unproposed c found other is) all = becomes (changes port closed core) did is (shut_at P follows port core all)
+  ends_kept port core did (proposed c found heard proposes) all = proposes_kept (commands.Lost c.name) (changes port closed core) did proposes (shut_at P follows port core all)
 
   silent_kept : (now : ℕ) → Keeps (EndsSilent now)
   silent_kept now core did (none_silent none is) all = becomes core did is all
@@ -133,7 +133,7 @@ module _ (P : Connection → Type 0) (follows : IsFollowed P) where
   reads_kept now port core did (waits c found more is) all = becomes core did is all
   reads_kept now port core did (first c packet rest found awaits is runs) all =
       begins_kept port c.name packet (changes port (left_with now rest) core) did runs (left_kept now port rest core all)
-  reads_kept now port core did (later c packet rest found proposed is runs) all =
+  reads_kept now port core did (later c packet rest found after_first is runs) all =
       asks_kept (commands.Packet c.name packet) (Shuts port) (shuts_kept port) (changes port (left_with now rest) core) did runs (left_kept now port rest core all)
   reads_kept now port core did (refuses c code found awaits is runs) all =
       becomes (changes port (refused code) core) did runs

@@ -14,7 +14,7 @@ use Rattle.world_base.specs.Lossy.{Account, joined, quietly}
 use Rattle.world_base.specs.LossyStep.{Cuts, Holds, LosesAllFailed, Opens, DoesItem}
 use Rattle.world_base.specs.LossyReading.{EndsSilent, ReadsNext}
 use Rattle.world_base.specs.LossyStep.Cuts.{nothing_to_cut, cuts_log as cuts_log_at, forgets_cut}
-use Rattle.world_base.specs.LossyReading.Ends.{none_open, untold, told}
+use Rattle.world_base.specs.LossyReading.Ends.{none_open, unproposed, proposed}
 use Rattle.world_base.specs.Reading.{changes, open_at, unread_of}
 use Rattle.world_base.specs.Step.{crashed, opens, settled, with_cut}
 use Rattle.node_moves.specs.Ends.{piece_on}
@@ -51,10 +51,10 @@ held port piece now core did (inl is) =
     (λ next tail. first_move (exactly (holds port piece)) false (λ x. came_with x (Bytes port piece now) core) refl (λ x. refl) (λ e. refl) tt tail)
 held port piece now core did (inr (none_open none is)) =
     before_is core (quietly core) did [] false _ is (λ next tail. first_calm false (λ x. came_with x (Bytes port piece now) core) (λ x. ap (piece_on x piece) none) tail)
-held port piece now core did (inr (untold c found other is)) =
+held port piece now core did (inr (unproposed c found other is)) =
     before_is core (quietly (changes port closed core)) did [] false _ is
     (λ next tail. first_move (drops port piece) false (λ x. came_with x (Bytes port piece now) core) refl (λ x. refl) (λ e. refl) tt tail)
-held port piece now core did (inr (told c found heard proposes)) =
+held port piece now core did (inr (proposed c found heard proposes)) =
     λ next tail. first_move (drops port piece) false (λ x. came_with x (Bytes port piece now) core) refl (λ x. refl) (λ e. refl) tt
     (calm_join (still_lost c.name (changes port closed core) did proposes) tail)
 

@@ -21,7 +21,7 @@ use Rattle.world_base.specs.LossyProposals.{Declines, Proposes}
 use Rattle.world_base.specs.LossyProposals.Declines.{no_room, forgets as forgets_it, stops}
 use Rattle.world_base.specs.LossyStep.{LosesAllFailed}
 use Rattle.world_base.specs.LossyReading.{Asks, Begins, Closes, Ends, EndsSilent, LosesFailed, ReadsNext, Shuts}
-use Rattle.world_base.specs.LossyReading.Ends.{none_open, untold, told}
+use Rattle.world_base.specs.LossyReading.Ends.{none_open, unproposed, proposed}
 use Rattle.world_base.specs.LossyReading.EndsSilent.{none_silent, ends_one}
 use Rattle.world_base.specs.LossyReading.LosesFailed.{none_failed, tells_one}
 use Rattle.world_base.specs.LossyReading.ReadsNext.{waits, first, later, refuses as refuses_it, ends}
@@ -113,8 +113,8 @@ closing port core = calm_move (exactly (closes port)) (refl, refl, refl, λ x. r
 
 pub still_ends : (port : Port) (core : CoreState) (did : Account) → Ends port core did → Still core did
 still_ends port core did (none_open none is) = by_none core did is
-still_ends port core did (untold c found other is) = by_account core (changes port closed core) did is (closing port core)
-still_ends port core did (told c found heard proposes) =
+still_ends port core did (unproposed c found other is) = by_account core (changes port closed core) did is (closing port core)
+still_ends port core did (proposed c found heard proposes) =
     still_after core (changes port closed core) did (closing port core) (still_lost c.name (changes port closed core) did proposes)
 
 pub still_silent : (now : ℕ) (core : CoreState) (did : Account) → EndsSilent now core did → Still core did
@@ -201,9 +201,9 @@ failing_at port core = calm_move (fails port) (refl, refl, refl, λ x. refl)
 
 still_says : (now : ℕ) (port : Port) (c : Connection) (core : CoreState) (packet : Packet) (rest : List ℕ) (did : Account) → open_at port core ≡ Some c → is_first c.stage ≡ false
     → verdict c.unread ≡ Ok (packet, rest) → Asks (commands.Packet c.name packet) (Shuts port) (changes port (left_with now rest) core) did → Still core did
-still_says now port c core packet rest did at proposed is (inl taken) =
-    calm_move (later_losing now port c packet rest did at proposed is taken) (refl, refl, refl, λ x. refl)
-still_says now port c core packet rest did at proposed is (inr other) = by other.next
+still_says now port c core packet rest did at after_first is (inl taken) =
+    calm_move (later_losing now port c packet rest did at after_first is taken) (refl, refl, refl, λ x. refl)
+still_says now port c core packet rest did at after_first is (inr other) = by other.next
   where
     by : Shuts port other.one.core other.two → Still core did
     by (inl shut) =
@@ -216,7 +216,7 @@ still_says now port c core packet rest did at proposed is (inr other) = by other
 pub still_reads : (now : ℕ) (port : Port) (core : CoreState) (did : Account) → ReadsNext now port core did → Still core did
 still_reads now port core did (waits c found more is) = by_none core did is
 still_reads now port core did (first c packet rest found awaits is runs) = still_begins now port c core packet rest did found awaits is runs
-still_reads now port core did (later c packet rest found proposed is runs) = still_says now port c core packet rest did found proposed is runs
+still_reads now port core did (later c packet rest found after_first is runs) = still_says now port c core packet rest did found after_first is runs
 still_reads now port core did (refuses_it c code found awaits is runs) =
     by_account core (changes port (refused code) core) did runs (calm_move (exactly (refuses port c code found awaits is)) (refl, refl, refl, λ x. refl))
 still_reads now port core did (ends runs) = still_ends port core did runs
@@ -257,10 +257,10 @@ still_freezes (exactly (hears input other)) calm = tt
 still_freezes (exactly (opens_one port)) calm = tt
 still_freezes (exactly (holds port piece)) calm = tt
 still_freezes (exactly (reads_first now port c connect rest at awaits is room)) calm = tt
-still_freezes (exactly (reads_later now port c packet rest at proposed is room)) calm = tt
+still_freezes (exactly (reads_later now port c packet rest at after_first is room)) calm = tt
 still_freezes (exactly (closes port)) calm = tt
 still_freezes (exactly (refuses port c code at awaits is)) calm = tt
-still_freezes (exactly (loses_one port c at proposed)) calm = tt
+still_freezes (exactly (loses_one port c at known)) calm = tt
 still_freezes (exactly (loses_next c at)) calm = tt
 still_freezes (exactly (expels_one client)) calm = tt
 still_freezes (exactly (cuts_log can)) calm = absurd cc
@@ -269,7 +269,7 @@ still_freezes (exactly settles) calm = tt
 still_freezes (exactly (hands port)) calm = tt
 still_freezes (hears_losing input did other drives) calm = tt
 still_freezes (first_losing now port c connect rest did at awaits is taken) calm = tt
-still_freezes (later_losing now port c packet rest did at proposed is taken) calm = tt
+still_freezes (later_losing now port c packet rest did at after_first is taken) calm = tt
 still_freezes (tells_losing name did taken) calm = tt
 still_freezes (expels_losing client did taken) calm = tt
 still_freezes forgets calm = tt

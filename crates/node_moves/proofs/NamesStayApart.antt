@@ -30,7 +30,7 @@ use Rattle.world_base.specs.LossyProposals.Declines.{no_room, forgets, stops}
 use Rattle.world_base.specs.Lossy.HandlesAll.{nothing, does, tells, loses}
 use Rattle.world_base.specs.LossyStep.{ActsOn, Holds, RunsOn, DoesItem}
 use Rattle.world_base.specs.LossyReading.{Asks, Begins, Closes, Ends, EndsSilent, LosesFailed, ReadsNext, Shuts}
-use Rattle.world_base.specs.LossyReading.Ends.{none_open, untold, told}
+use Rattle.world_base.specs.LossyReading.Ends.{none_open, unproposed, proposed}
 use Rattle.world_base.specs.LossyReading.EndsSilent.{none_silent, ends_one}
 use Rattle.world_base.specs.LossyReading.LosesFailed.{none_failed, tells_one}
 use Rattle.world_base.specs.LossyReading.ReadsNext.{waits, first, later, refuses, ends}
@@ -203,8 +203,8 @@ keep_asked command Otherwise on core did (inr other) = keep_then Declines Otherw
 
 keep_ended : (port : Port) (core : CoreState) (did : Account) → Ends port core did → Keep core did.core
 keep_ended port core did (none_open none is) = by_account core core did is (keep_same core)
-keep_ended port core did (untold c found other is) = by_account core (changes port closed core) did is (keep_closed port core)
-keep_ended port core did (told c found heard proposes) =
+keep_ended port core did (unproposed c found other is) = by_account core (changes port closed core) did is (keep_closed port core)
+keep_ended port core did (proposed c found heard proposes) =
     keep_both core (changes port closed core) did.core (keep_closed port core)
     (keep_proposed (commands.Lost c.name) (changes port closed core) did proposes)
 
@@ -243,7 +243,7 @@ keep_read now port core did (waits c found more is) = by_account core core did i
 keep_read now port core did (first c packet rest found awaits is runs) =
     keep_both core (changes port (left_with now rest) core) did.core (keep_left port now rest core)
     (keep_begun port c.name packet (changes port (left_with now rest) core) did runs)
-keep_read now port core did (later c packet rest found proposed is runs) =
+keep_read now port core did (later c packet rest found after_first is runs) =
     keep_both core (changes port (left_with now rest) core) did.core (keep_left port now rest core)
     (keep_asked (commands.Packet c.name packet) (Shuts port) (keep_shuts port) (changes port (left_with now rest) core) did runs)
 keep_read now port core did (refuses c code found awaits is runs) =

@@ -17,7 +17,7 @@ use Rattle.world_base.specs.Lossy.{Account, Then, quietly}
 use Rattle.world_base.specs.LossyProposals.{Declines, Proposes}
 use Rattle.world_base.specs.LossyStep.{Holds}
 use Rattle.world_base.specs.LossyReading.{Asks, Ends, EndsSilent, LosesFailed, Shuts}
-use Rattle.world_base.specs.LossyReading.Ends.{none_open, untold, told}
+use Rattle.world_base.specs.LossyReading.Ends.{none_open, unproposed, proposed}
 use Rattle.world_base.specs.LossyReading.EndsSilent.{none_silent, ends_one}
 use Rattle.world_base.specs.LossyReading.LosesFailed.{none_failed, tells_one}
 use Rattle.world_base.specs.Reading.{changes, open_at}
@@ -35,14 +35,14 @@ ran_none_open port core x e = ran_quietly (Ends port) core core x (none_open e r
 
 pub ran_untold : (port : Port) (c : Connection) (a b : CoreState) (x : List (Effect Command Output)) → open_at port a ≡ Some c →
     is_proposed c.stage ≡ false → b ≡ changes port closed a → Ran (Ends port) a b x x
-ran_untold port c a b x found other shut = ran_quietly (Ends port) a b x (untold c found other (ap quietly shut))
+ran_untold port c a b x found other shut = ran_quietly (Ends port) a b x (unproposed c found other (ap quietly shut))
 
 pub ran_told : (port : Port) (c : Connection) (a b r : CoreState) (taken : Bool) (x y : List (Effect Command Output)) →
     open_at port a ≡ Some c → is_proposed c.stage ≡ true → b ≡ changes port closed a →
     Ran (ProposedBy taken (commands.Lost c.name)) b r x y → Ran (Ends port) a r x y
 ran_told port c a b r taken x y found heard shut ran =
     ran_as (ProposedBy taken (commands.Lost c.name)) (Ends port) a b r x y
-    (λ did runs. told c found heard (as_proposes taken (commands.Lost c.name) (changes port closed a) did
+    (λ did runs. proposed c found heard (as_proposes taken (commands.Lost c.name) (changes port closed a) did
     (subst (λ (k : CoreState). ProposedBy taken (commands.Lost c.name) k did) shut runs))) ran
 
 -- it is reported to the broker if its CONNECT was proposed
@@ -69,9 +69,9 @@ ran_lost port c a b r x y found shut ran = by (is_proposed c.stage) refl ran
     by : (p : Bool) → is_proposed c.stage ≡ p → Ran (ReportsLost p c.name) b r x y → Ran (Ends port) a r x y
     by true e tells =
         ran_as (ReportsLost true c.name) (Ends port) a b r x y
-        (λ did runs. told c found e (subst (λ (k : CoreState). ReportsLost true c.name k did) shut runs)) tells
+        (λ did runs. proposed c found e (subst (λ (k : CoreState). ReportsLost true c.name k did) shut runs)) tells
     by false e tells =
-        ran_as (ReportsLost false c.name) (Ends port) a b r x y (λ did runs. untold c found e (runs ∙ ap quietly shut)) tells
+        ran_as (ReportsLost false c.name) (Ends port) a b r x y (λ did runs. unproposed c found e (runs ∙ ap quietly shut)) tells
 
 -- ---- silent and failed ones
 

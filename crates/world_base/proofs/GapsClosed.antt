@@ -27,7 +27,7 @@ use Rattle.world_base.specs.LossyProposals.Declines.{no_room, forgets, stops}
 use Rattle.world_base.specs.LossyStep.{ActsOn, Cuts, Holds, Opens, DoesItem}
 use Rattle.world_base.specs.LossyReading.{Asks, Begins, Closes, Ends, EndsSilent, LosesFailed, ReadsNext, Shuts}
 use Rattle.world_base.specs.LossyStep.Cuts.{nothing_to_cut, cuts_log, forgets_cut}
-use Rattle.world_base.specs.LossyReading.Ends.{none_open, untold, told}
+use Rattle.world_base.specs.LossyReading.Ends.{none_open, unproposed, proposed}
 use Rattle.world_base.specs.LossyReading.EndsSilent.{none_silent, ends_one}
 use Rattle.world_base.specs.LossyReading.LosesFailed.{none_failed, tells_one}
 use Rattle.world_base.specs.LossyReading.ReadsNext.{waits, first, later, refuses, ends}
@@ -109,8 +109,8 @@ asks_on command Otherwise on core did (inr other) = then_on Declines Otherwise d
 
 ends_on : (port : Port) (core : CoreState) (did : Account) → Ends port core did → Goes core did
 ends_on port core did (none_open none is) = quietly_on core core did is (each_itself core.connections)
-ends_on port core did (untold c found other is) = quietly_on core (changes port closed core) did is (closes_on port core)
-ends_on port core did (told c found heard proposes) =
+ends_on port core did (unproposed c found other is) = quietly_on core (changes port closed core) did is (closes_on port core)
+ends_on port core did (proposed c found heard proposes) =
     after_on core (changes port closed core) did (closes_on port core)
     (proposes_on (commands.Lost c.name) (changes port closed core) did proposes)
 
@@ -153,7 +153,7 @@ reads_on now port core did (waits c found more is) = quietly_on core core did is
 reads_on now port core did (first c packet rest found awaits is runs) =
     after_on core (changes port (left_with now rest) core) did (left_on port now rest core)
     (begins_on port c.name packet (changes port (left_with now rest) core) did runs)
-reads_on now port core did (later c packet rest found proposed is runs) =
+reads_on now port core did (later c packet rest found after_first is runs) =
     after_on core (changes port (left_with now rest) core) did (left_on port now rest core)
     (asks_on (commands.Packet c.name packet) (Shuts port) (shuts_on port) (changes port (left_with now rest) core) did runs)
 reads_on now port core did (refuses c code found awaits is runs) =

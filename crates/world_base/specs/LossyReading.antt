@@ -26,10 +26,10 @@ pub data Ends (port : Port) (core : CoreState) (did : Account) : Type 0 where
   -- no connection is open at the port
   none_open : open_at port core ≡ None → did ≡ quietly core → Ends port core did
   -- its Connect was not proposed
-  untold : (c : Connection) → open_at port core ≡ Some c → is_proposed c.stage ≡ false →
+  unproposed : (c : Connection) → open_at port core ≡ Some c → is_proposed c.stage ≡ false →
       did ≡ quietly (changes port closed core) → Ends port core did
   -- its Connect was proposed, so its loss is proposed too
-  told : (c : Connection) → open_at port core ≡ Some c → is_proposed c.stage ≡ true →
+  proposed : (c : Connection) → open_at port core ≡ Some c → is_proposed c.stage ≡ true →
       Proposes (commands.Lost c.name) (changes port closed core) did → Ends port core did
 
 -- the silent connection with the lowest port ends
