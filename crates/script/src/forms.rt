@@ -179,11 +179,11 @@ pub(crate) fn publish(alloc: Global, fields: &[&str]) -> Result<ScriptLine, Fiel
     ensures value { IfOk result (λ line. publish_of (texts fields.now) ≡ Some line) }
     ensures form { IsErrOf result FieldFault.Form → publish_of (texts fields.now) ≡ None }
 {
-    let [name, about, level, keep, bytes] = fields else {
+    let [name, about, quality, keep, bytes] = fields else {
         return Err(FieldFault::Form);
     };
     let name = client(alloc, name)?;
-    Ok(ScriptLine::Publish(name, publication(alloc, about, level, keep, bytes)?))
+    Ok(ScriptLine::Publish(name, publication(alloc, about, quality, keep, bytes)?))
 }
 
 // Returns the publication of the last four fields.
@@ -191,21 +191,21 @@ pub(crate) fn publish(alloc: Global, fields: &[&str]) -> Result<ScriptLine, Fiel
 fn publication(
     alloc: Global,
     about: &str,
-    level: &str,
+    quality: &str,
     keep: &str,
     bytes: &str,
 ) -> Result<Publication, FieldFault>
     ensures value { IfOk result (λ sent.
-        publication_of about.now level.now keep.now bytes.now ≡ Some sent) }
+        publication_of about.now quality.now keep.now bytes.now ≡ Some sent) }
     ensures form { IsErrOf result FieldFault.Form
-        → publication_of about.now level.now keep.now bytes.now ≡ None }
+        → publication_of about.now quality.now keep.now bytes.now ≡ None }
 {
     let about = topic(alloc, about)?;
-    let level = qos(level)?;
+    let quality = qos(quality)?;
     let keep = retain(keep)?;
     Ok(Publication {
         retain: keep,
-        qos: level,
+        qos: quality,
         topic: about,
         payload: payload(alloc, bytes)?,
     })
@@ -216,12 +216,12 @@ pub(crate) fn subscribe(alloc: Global, fields: &[&str]) -> Result<ScriptLine, Fi
     ensures value { IfOk result (λ line. subscribe_of (texts fields.now) ≡ Some line) }
     ensures form { IsErrOf result FieldFault.Form → subscribe_of (texts fields.now) ≡ None }
 {
-    let [name, pattern, level] = fields else {
+    let [name, pattern, quality] = fields else {
         return Err(FieldFault::Form);
     };
     let name = client(alloc, name)?;
     let pattern = filter(alloc, pattern)?;
-    Ok(ScriptLine::Subscribe(name, pattern, qos(level)?))
+    Ok(ScriptLine::Subscribe(name, pattern, qos(quality)?))
 }
 
 /// Reads the fields of `unsubscribe b t/#`: client b unsubscribes.

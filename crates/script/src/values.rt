@@ -51,7 +51,7 @@ pub(crate) fn numbers(alloc: Global, text: &str) -> Result<Numbers, FieldFault>
     Ok(Numbers::new(numbers))
 }
 
-/// Returns a level of delivery.
+/// Returns a QoS, 0 to 2.
 #[tactic(auto, unfolding(crate::specs::Fields::qos_of))]
 pub(crate) fn qos(text: &str) -> Result<QoS, FieldFault>
     ensures value { IfOk result (λ qos. qos_of text.now ≡ Some qos) }
