@@ -58,9 +58,9 @@ can_drop core =
 abbrev pub command_bytes : ℕ
 command_bytes = 128
 
--- a log that counts at most as many bytes is not cut because of its size: 16 MiB
-abbrev pub min_large : ℕ
-min_large = 16777216
+-- up to this size a log is not cut because of it: 16 MiB
+abbrev pub max_small : ℕ
+max_small = 16777216
 
 -- Whether the log of a node that took these items is to be cut because of its size. It is if there
 -- are commands to drop, and what was taken since the last cut counts more than 16 MiB and more than
@@ -68,7 +68,7 @@ min_large = 16777216
 abbrev pub wants_cut : List (ℕ × Item) → CoreState → Bool
 wants_cut taken core =
     can_drop core
-    && nat_lt (max min_large (length core.replica.state.log.snapshot))
+    && nat_lt (max max_small (length core.replica.state.log.snapshot))
     (bytes_since_cut taken
     + command_bytes * (core.replica.state.committed - core.replica.state.log.base))
 
