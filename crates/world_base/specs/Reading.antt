@@ -42,21 +42,22 @@ loses_open port core (Some c) = loses port c core
 unfoldable pub ends : Port → CoreState → Turn
 ends port core = loses_open port core (open_at port core)
 
--- a CONNECT is proposed; a refused proposal closes the connection
+-- a CONNECT is proposed (`connect` in code); a refused proposal closes the connection
 abbrev pub asks : Port → ConnectionName → Connect → CoreState → Turn
 asks port name connect core =
     if has_room core
     then proposes (commands.Connect name connect.client connect.clean) core
     else quiet (changes port closed core)
 
--- a later packet, a CONNECT too, is proposed; a refused proposal closes the connection
+-- a later packet, a CONNECT too, is proposed (`propose_packet` in code); a refused proposal
+-- closes the connection
 abbrev pub says : Port → ConnectionName → Packet → CoreState → Turn
 says port name packet core =
     if has_room core
     then proposes (commands.Packet name packet) core
     else quiet (changes port closed core)
 
--- the first packet of a connection must be a CONNECT (MQTT-3.1.0-1)
+-- the first packet of a connection (`on_packet` in code) must be a CONNECT (MQTT-3.1.0-1)
 abbrev pub begins : Port → ConnectionName → Packet → CoreState → Turn
 begins port name (packets.Connect connect) core =
     asks port name connect (changes port (asked connect.keep_alive) core)
