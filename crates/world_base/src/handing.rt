@@ -15,15 +15,15 @@ impl SteppingNode {
     /// Appends what was queued for a port and not yet handed over. If memory runs out, nothing
     /// changes; it does not run out if nothing was queued.
     pub fn outgoing(&mut self, port: Port, out: &mut Vec<u8>) -> Result<Handed, Memory>
-        ensures ok { OnOk result
+        ensures left { OnOk result
             (self.new ≡ record self.old { core = hands_over port self.old.core }) }
         ensures bytes { OnOk result
             (out.new.items ≡ out.old.items ++ bytes_of (listed_at port self.old.core)) }
         ensures answer { IfOk result (λ handed.
             handed ≡ answer_of (listed_at port self.old.core)) }
         ensures nothing { bytes_of (listed_at port self.old.core) ≡ [] → IsOk result }
-        ensures err { OnErr result (self.new ≡ self.old) }
-        ensures same { OnErr result (out.new.items ≡ out.old.items) }
+        ensures same { OnErr result (self.new ≡ self.old) }
+        ensures err { OnErr result (out.new.items ≡ out.old.items) }
     {
         let Some(index) = self.index_listed(port) else {
             return Ok(Handed::Closed);

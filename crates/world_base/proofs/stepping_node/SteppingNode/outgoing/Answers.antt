@@ -6,8 +6,8 @@ use Rattle.world_base.proofs.HandsOver.{handed_none, handed_there}
 use Rattle.world_base.proofs.Indices.{none_found, found_there}
 use Rattle.world_base.proofs.stepping_node.SteppingNode.outgoing.Goals as goal
 
-pub returns-in_default-clause-ok : goal.returns-in_default-clause-ok
-returns-in_default-clause-ok c =
+pub returns-in_default-clause-left : goal.returns-in_default-clause-left
+returns-in_default-clause-left c =
     handed_none c.args.port _ (none_found (is_at c.args.port) _ (sym c.in_default.is ∙ c.index_listed.ensures))
 
 pub returns-in_default-clause-bytes : goal.returns-in_default-clause-bytes
@@ -20,8 +20,8 @@ returns-in_default-clause-answer c =
     sym (ap answer_of (none_found (is_at c.args.port) c.args.self.now.core.connections
     (sym c.in_default.is ∙ c.index_listed.ensures)))
 
-pub returns-clause-ok : goal.returns-clause-ok
-returns-clause-ok c =
+pub returns-clause-left : goal.returns-clause-left
+returns-clause-left c =
     let at = rw (← c.self.view_is) at c.index_listed.ensures in
     rw (← c.self.view_is) (handed_there c.args.port _ c.index_listed.result c.in-Some.index
     c.index_mut-connection.result.now c.outgoing.new.self _ at c.in-Some.is c.index_mut-connection.ensures.value
