@@ -42,22 +42,21 @@ is_refused limits past p =
 
 -- whether one more filter would be one subscription too many: an identical one is only replaced
 abbrev pub is_one_too_many : Limits → List GrantedFilter → Subscription → Bool
-is_one_too_many limits held new =
-    not (is_subscribed new.filter held) && nat_le limits.subscriptions (length held)
+is_one_too_many limits granted new =
+    not (is_subscribed new.filter granted) && nat_le limits.subscriptions (length granted)
 
 -- how many entries a subscription makes: the retained publications that it brings at QoS 1 or 2
 abbrev pub entries_for : RetainedTopics → Subscription → ℕ
 entries_for content new = length (queued (copies_for content new))
 
--- which filters are granted, one after another, with the subscriptions held so far and the room
--- left
+-- which filters are granted, one after another, with the subscriptions so far and the room left
 abbrev pub grants : Limits → RetainedTopics → List GrantedFilter → ℕ → List Subscription → List Bool
-grants limits content held room (new ∷ more) =
-    if is_one_too_many limits held new || nat_lt room (entries_for content new)
-    then false ∷ grants limits content held room more
-    else true ∷ grants limits content (with_subscription (as_granted new) held)
+grants limits content granted room (new ∷ more) =
+    if is_one_too_many limits granted new || nat_lt room (entries_for content new)
+    then false ∷ grants limits content granted room more
+    else true ∷ grants limits content (with_subscription (as_granted new) granted)
     (room - entries_for content new) more
-grants limits content held room [] = []
+grants limits content granted room [] = []
 
 -- ---- marks
 

@@ -220,7 +220,7 @@ impl Session {
         ensures err { OnErr result (self.new ≡ self.old) }
 
         // `Err` only for a new filter.
-        ensures held { is_subscribed filter self.old.subscriptions ≡ true → IsOk result }
+        ensures subscribed { is_subscribed filter self.old.subscriptions ≡ true → IsOk result }
     {
         self.subscriptions.set(filter, qos)
     }

@@ -61,7 +61,7 @@ impl Subscriptions {
     pub(crate) fn set(&mut self, filter: Filter, qos: QoS) -> Result<(), AllocError>
         ensures ok { OnOk result (self.new ≡ with_subscription (filter, qos) self.old) }
         ensures err { OnErr result (self.new ≡ self.old) }
-        ensures held { is_subscribed filter self.old ≡ true → IsOk result }
+        ensures subscribed { is_subscribed filter self.old ≡ true → IsOk result }
     {
         self.filters.insert(filter, qos)?;
         Ok(())
@@ -71,7 +71,7 @@ impl Subscriptions {
     pub(crate) fn remove(&mut self, filter: &Filter)
         ensures { self.new ≡ without_filter filter.now self.old }
     {
-        self.filters.retain(|held, _qos| !(*filter == *held));
+        self.filters.retain(|granted, _qos| !(*filter == *granted));
     }
 
     /// Returns the greatest QoS of the filters that match the topic.

@@ -8,7 +8,7 @@ use Rattle.session_base.specs.Counted.{last_of}
 
 -- a filter that the session does not have yet
 abbrev pub is_new_filter : List GrantedFilter → GrantedFilter → Bool
-is_new_filter front held = not (is_subscribed held.0 front)
+is_new_filter front granted = not (is_subscribed granted.0 front)
 
 -- an identifier above the last one, if there is one
 abbrev pub is_over : Option ℕ → ℕ → Bool

@@ -29,7 +29,7 @@ IsInFlight (id, waits_for.Pubcomp) = IsId id
 
 -- a subscription: a filter that is lawful
 abbrev pub IsGrantedFilter : GrantedFilter → Type 0
-IsGrantedFilter held = IsTrue (is_filter held.0)
+IsGrantedFilter granted = IsTrue (is_filter granted.0)
 
 -- a queue of no more entries than the limit, each in its range
 pub record IsQueue (limit : ℕ) (queue : Queue) : Type 0 where

@@ -8,15 +8,16 @@ use Rattle.session_base.specs.Subscriptions.{GrantedFilter, is_subscribed, with_
 
 -- no filter occurs twice
 abbrev pub AreFiltersApart : List GrantedFilter → Type 0
-AreFiltersApart (held ∷ others) = (is_subscribed held.0 others ≡ false) × AreFiltersApart others
+AreFiltersApart (granted ∷ others) =
+    (is_subscribed granted.0 others ≡ false) × AreFiltersApart others
 AreFiltersApart [] = Unit {0}
 
 -- a granting and a giving up keep it so
 abbrev pub FiltersStayApart : Type 0
 FiltersStayApart =
-    (held : List GrantedFilter) → AreFiltersApart held →
-    ((new : GrantedFilter) → AreFiltersApart (with_subscription new held))
-    × ((given_up : List ℕ) → AreFiltersApart (without_filter given_up held))
+    (granted : List GrantedFilter) → AreFiltersApart granted →
+    ((new : GrantedFilter) → AreFiltersApart (with_subscription new granted))
+    × ((given_up : List ℕ) → AreFiltersApart (without_filter given_up granted))
 
 -- received identifiers stay in rising order, each once
 abbrev pub ReceivedStayRising : Type 0
@@ -26,11 +27,11 @@ ReceivedStayRising =
 
 -- the filters alone, in order
 abbrev pub filters_of : List GrantedFilter → List (List ℕ)
-filters_of = map (λ held. held.0)
+filters_of = map (λ granted. granted.0)
 
 -- a filter that the session has keeps its place, and a new one comes last (MQTT 3.8.4)
 abbrev pub FiltersKeepTheirOrder : Type 0
 FiltersKeepTheirOrder =
-    (new : GrantedFilter) → (held : List GrantedFilter) →
-    filters_of (with_subscription new held)
-    ≡ (if is_subscribed new.0 held then filters_of held else filters_of held ++ new.0 ∷ [])
+    (new : GrantedFilter) → (granted : List GrantedFilter) →
+    filters_of (with_subscription new granted)
+    ≡ (if is_subscribed new.0 granted then filters_of granted else filters_of granted ++ new.0 ∷ [])

@@ -13,7 +13,7 @@ GrantedFilter = List ℕ × QoS
 
 -- whether the session has a subscription of a filter, compared character by character
 abbrev pub is_subscribed : List ℕ → List GrantedFilter → Bool
-is_subscribed filter = list_any (λ held. bytes_eq filter held.0)
+is_subscribed filter = list_any (λ granted. bytes_eq filter granted.0)
 
 -- an identical filter takes the new QoS in its place, and a new one comes last (MQTT 3.8.4)
 abbrev pub with_subscription : GrantedFilter → List GrantedFilter → List GrantedFilter
@@ -23,21 +23,21 @@ with_subscription new [] = new ∷ []
 
 -- the subscriptions after all of these, one by one
 abbrev pub with_subscriptions : List GrantedFilter → List GrantedFilter → List GrantedFilter
-with_subscriptions (new ∷ more) held = with_subscriptions more (with_subscription new held)
-with_subscriptions [] held = held
+with_subscriptions (new ∷ more) granted = with_subscriptions more (with_subscription new granted)
+with_subscriptions [] granted = granted
 
 -- a filter is given up, compared character by character (MQTT 3.10.4)
 abbrev pub without_filter : List ℕ → List GrantedFilter → List GrantedFilter
-without_filter given_up = filter (λ held. not (bytes_eq given_up held.0))
+without_filter given_up = filter (λ granted. not (bytes_eq given_up granted.0))
 
 -- the subscriptions after all of these filters are given up, one by one
 abbrev pub without_filters : List (List ℕ) → List GrantedFilter → List GrantedFilter
-without_filters (given_up ∷ more) held = without_filters more (without_filter given_up held)
-without_filters [] held = held
+without_filters (given_up ∷ more) granted = without_filters more (without_filter given_up granted)
+without_filters [] granted = granted
 
 -- the greatest QoS of the filters that match the topic (MQTT 3.3.5)
 abbrev pub granted_qos : List ℕ → List GrantedFilter → Option QoS
-granted_qos topic (held ∷ others) =
-    if is_match held.0 topic then Some (greater_qos held.1 (granted_qos topic others))
+granted_qos topic (granted ∷ others) =
+    if is_match granted.0 topic then Some (greater_qos granted.1 (granted_qos topic others))
     else granted_qos topic others
 granted_qos topic [] = None

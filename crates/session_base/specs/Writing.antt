@@ -28,7 +28,7 @@ publication_bytes p =
 
 -- a filter with its QoS
 abbrev pub granted_filter_bytes : GrantedFilter → List ℕ
-granted_filter_bytes held = text held.0 ++ one_byte (qos_number held.1)
+granted_filter_bytes granted = text granted.0 ++ one_byte (qos_number granted.1)
 
 -- what an entry waits for: 0 PUBACK, 1 PUBREC, 2 PUBCOMP, with its publication if it still has one
 abbrev pub awaits_bytes : Awaits → List ℕ

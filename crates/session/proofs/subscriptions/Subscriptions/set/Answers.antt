@@ -10,6 +10,6 @@ returns-clause-ok c =
     ∙ set_as_entry c.args.filter c.args.qos c.self.inside.filters.entries
     ∙ ap (with_subscription (c.args.filter, c.args.qos)) c.self.view_is
 
-pub returns-in_err-insert-clause-held : goal.returns-in_err-insert-clause-held
-returns-in_err-insert-clause-held c held =
-    absurd (never_missed c.args.filter c.self.inside.filters.entries c.in_err-insert.ensures.absent (ap (is_subscribed c.args.filter) c.self.view_is ∙ held))
+pub returns-in_err-insert-clause-subscribed : goal.returns-in_err-insert-clause-subscribed
+returns-in_err-insert-clause-subscribed c subscribed =
+    absurd (never_missed c.args.filter c.self.inside.filters.entries c.in_err-insert.ensures.absent (ap (is_subscribed c.args.filter) c.self.view_is ∙ subscribed))
