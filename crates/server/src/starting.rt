@@ -12,11 +12,11 @@ const START_LOOK_MILLIS: u64 = 1;
 /// other, and end again.
 pub(crate) fn can_start<R: Threads + Wait + Clock + Sync>(rt: &R, count: usize) -> bool {
     let are_started = Mutex::new(false);
-    start_all(rt, count, &are_started)
+    start_waiting(rt, count, &are_started)
 }
 
 // Starts this many threads, none of which ends before all were started. Returns whether all were.
-fn start_all<R: Threads + Wait + Clock + Sync>(
+fn start_waiting<R: Threads + Wait + Clock + Sync>(
     rt: &R,
     count: usize,
     are_started: &Mutex<bool>,
@@ -28,7 +28,7 @@ fn start_all<R: Threads + Wait + Clock + Sync>(
                 all = false;
             }
         }
-        set(rt, are_started);
+        let_end(rt, are_started);
         all
     })
 }
@@ -44,6 +44,6 @@ fn await_all<R: Wait + Clock>(rt: &R, are_started: &Mutex<bool>) {
 }
 
 // Lets the threads end.
-fn set<R: Wait>(rt: &R, are_started: &Mutex<bool>) {
+fn let_end<R: Wait>(rt: &R, are_started: &Mutex<bool>) {
     *are_started.lock(rt) = true;
 }
