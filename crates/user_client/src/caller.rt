@@ -127,14 +127,14 @@ impl Caller {
     {
         let was_connected = self.core.connected();
         let goes_on = goes_on(self.core.on_bytes(piece))?;
-        self.is_first()?;
+        self.check_first_session()?;
         let is_connected = self.core.connected();
         self.was_accepted = self.was_accepted || is_connected;
         Ok(news_of(goes_on, was_connected, is_connected))
     }
 
     // Checks that before the first accepted connection the server has no session of the client.
-    fn is_first(&self) -> Result<(), UserClientError>
+    fn check_first_session(&self) -> Result<(), UserClientError>
         ensures ok { OnOk result (IsFirst self.now self.now.core) }
         ensures err { IfErr result (λ fault. fault ≡ UserClientError.SessionPresent) }
     {

@@ -17,7 +17,7 @@ returns-clause-trace c =
       | else-self w ↦ w.self-is ∙ c.connected-is_connected.ensures ∙ sym (ap (λ (was : Bool). was || online) w.if-self.false)
     ] in
     heard c.self.inside.core c.self.inside.was_accepted c.if-self.self c.args.piece.now c.on_bytes.result c.on_bytes.new.self
-    c.self.view_is c.on_bytes.ensures c.in_ok-goes_on.ensures.ok c.in_ok-is_first.ensures.ok now
+    c.self.view_is c.on_bytes.ensures c.in_ok-goes_on.ensures.ok c.in_ok-check_first_session.ensures.ok now
 
 pub returns-in_err-goes_on-clause-lost : goal.returns-in_err-goes_on-clause-lost
 returns-in_err-goes_on-clause-lost c =
