@@ -16,8 +16,8 @@ use Rattle.broker_spec.specs.declared.command.Command.TheVariants as commands
 use Rattle.broker_spec.specs.declared.command.Output.TheVariants.{Close}
 
 -- b subscribes, and a publishes x at QoS 2, which starts for b
-abbrev pub x_is_under_way : List Command
-x_is_under_way =
+abbrev pub x_is_in_transit : List Command
+x_is_in_transit =
     subscribed_at qualities.ExactlyOnce
     ++ gets 2 (publish (deliveries.ExactlyOnce false 1) false (codes "x")) ∷ []
 
@@ -25,7 +25,7 @@ x_is_under_way =
 -- session begins, and its answers match no entry
 abbrev pub ExpelledOnce : Type 0
 ExpelledOnce =
-    Gives usual_limits x_is_under_way
+    Gives usual_limits x_is_in_transit
     (commands.Expel b ∷ commands.Expel b
     ∷ gets 2 (publish (deliveries.ExactlyOnce false 2) false (codes "y"))
     ∷ gets 1 (packets.Pubrec 1) ∷ connect 3 b ∷ gets 3 (packets.Pubrec 1)
@@ -37,7 +37,7 @@ ExpelledOnce =
 -- nothing of the session is left: no connection, no session, no entry
 abbrev pub NothingIsLeft : Type 0
 NothingIsLeft =
-    let past = past_of usual_limits (x_is_under_way ++ commands.Expel b ∷ []) in
+    let past = past_of usual_limits (x_is_in_transit ++ commands.Expel b ∷ []) in
     (current_connection past b ≡ None) × (session_of past b ≡ None)
     × (entries_of usual_limits past b ≡ [])
     × (session_of past a ≡ Some false) × (current_connection past a ≡ Some (nth 2))
@@ -45,9 +45,9 @@ NothingIsLeft =
 -- the identifiers that were received are removed too, so the same publication is taken once more
 abbrev pub IdentifiersAreGone : Type 0
 IdentifiersAreGone =
-    let past = past_of usual_limits (x_is_under_way ++ commands.Expel a ∷ connect 4 a ∷ []) in
-    (received_of (past_of usual_limits x_is_under_way) a ≡ 1 ∷ []) × (received_of past a ≡ [])
-    × Gives usual_limits (x_is_under_way ++ commands.Expel a ∷ connect 4 a ∷ [])
+    let past = past_of usual_limits (x_is_in_transit ++ commands.Expel a ∷ connect 4 a ∷ []) in
+    (received_of (past_of usual_limits x_is_in_transit) a ≡ 1 ∷ []) × (received_of past a ≡ [])
+    × Gives usual_limits (x_is_in_transit ++ commands.Expel a ∷ connect 4 a ∷ [])
     (gets 4 (publish (deliveries.ExactlyOnce true 1) false (codes "x")) ∷ [])
     ((sends 4 (packets.Pubrec 1)
     ∷ sends 1 (publish (deliveries.ExactlyOnce false 2) false (codes "x")) ∷ []) ∷ [])
