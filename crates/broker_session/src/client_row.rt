@@ -52,6 +52,7 @@ impl ClientRow {
             state: Session::new(alloc),
         }
     }
+
     /// Continues a session that is not clean on this connection. What is in flight is sent again,
     /// then what may start starts (MQTT 4.4).
     pub fn come_back(

@@ -102,8 +102,8 @@ impl<'a, J: NodeNaming, S: Stated<J>, G: Gate> Shared<'a, J, S, G> {
     {
         let mut node = self.node.lock(rt);
         let state = node.state();
-        // The lane is one of this node's inbox, and the permit is for its next taking: no clause
-        // says so of what is under a lock.
+        // The lane is one of this node's inbox, and the permit is for its next taking; no clause
+        // says so: see `OwnLane`.
         if state.number() != lane.number() || !permit.is_for(state) {
             return true;
         }

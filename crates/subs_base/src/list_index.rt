@@ -230,7 +230,7 @@ fn greatest(filters: &BTreeMap<Filter, QoS>, topic: &TopicName) -> Option<QoS>
     best
 }
 
-// Returns the greater one of a QoS and the best so far, as `greater` of `session`.
+// Returns the greater one of a QoS and the best so far.
 fn greater(qos: QoS, best: Option<QoS>) -> QoS
     ensures { result ≡ greater qos best }
 {
