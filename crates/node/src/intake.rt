@@ -23,13 +23,13 @@ const MAX_ENTERING: u64 = 262_144;
 pub struct Intake {
     // None before the node is served.
     status: Option<Status>,
-    /// How many bytes are in transit to the node.
+    // How many bytes are in transit to the node.
     entering: u64,
-    /// How many places at the front of the node's log have the bytes that `earlier` counts.
+    // How many places at the front of the node's log have the bytes that `earlier` counts.
     earlier_end: u64,
-    /// How many bytes that the node took are in these places.
+    // How many bytes that the node took are in these places.
     earlier: u64,
-    /// How many bytes that it took are in places after these.
+    // How many bytes that it took are in places after these.
     later: u64,
 }
 
