@@ -1,7 +1,7 @@
 // The order to end the session of a client.
 
 use super::hand::text_of;
-use super::orders::{Talk, first_missed};
+use super::orders::{Given, first_missed};
 use jobs::command_line::Subscribe;
 use jobs::packet::QoS;
 use jobs::{JobError, subscribe};
@@ -91,7 +91,7 @@ where
 #[test]
 fn clients_are_expelled(rt: HostRuntime) {
     let mut output = Vec::new(rt.alloc());
-    let missed = first_missed(&rt, Talk::Expels, &mut output);
+    let missed = first_missed(&rt, Given::Expels, &mut output);
     let came = text_of(output.as_slice());
     assert_eq!(rt; missed, None, "{came}");
     assert_eq!(rt; came, ANSWERS);

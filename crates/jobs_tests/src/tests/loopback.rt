@@ -2,7 +2,7 @@
 // between them.
 
 use super::hand::does;
-use super::orders::{Served, free_port};
+use super::orders::{PRINTED, Served, free_port};
 use std::io::{BufReader, PipeReader, PipeWriter, Write};
 use std::net::{Net, TcpListener, TcpStream};
 use std::rt::Files;
@@ -16,11 +16,8 @@ const ORDERS: &str = "assign 2 2\ncrash 1\ncrash 1\n";
 
 const ANSWERS: &str = "ballot 2\ncrashed 1\nrefused 24\nbye\n";
 
-// What the subscriber prints of what the publisher publishes.
-const PRINTED: &str = "2 0 t/1 x\n";
-
 // How long the nodes and then the subscriber get to come, in milliseconds.
-const REST: u64 = 3_000;
+const COMING_MILLIS: u64 = 3_000;
 
 // A file with a table of two nodes, of which the first serves on an address.
 #[derive(Drop)]
@@ -161,7 +158,7 @@ where
         "x",
         table.served.address.as_str(),
     ];
-    thread::sleep(rt, Duration::from_millis(REST));
+    thread::sleep(rt, Duration::from_millis(COMING_MILLIS));
     ends_so(rt, words.as_slice(), "")
 }
 

@@ -31,8 +31,8 @@ const ANSWERS: &str = "refused 24\n\
     refused 24\n\
     bye\n";
 
-// What the subscriber prints of what the publisher publishes.
-const PRINTED: &str = "2 0 t/1 x\n";
+/// What the subscriber prints of what the publisher publishes.
+pub(super) const PRINTED: &str = "2 0 t/1 x\n";
 
 /// A table of two nodes, of which the first serves on an address, and that address.
 #[derive(Drop)]
@@ -166,14 +166,14 @@ where
 
 /// Which orders are given, and what clients do meanwhile.
 #[derive(Clone, Copy)]
-pub(super) enum Talk {
+pub(super) enum Given {
     /// Those of `orders_are_answered`, while two clients talk.
     Orders,
     /// Those that end sessions, while one client waits.
     Expels,
 }
 
-impl Talk {
+impl Given {
     // Says whether all do as they have to.
     fn is_done<R>(self, rt: &R, orders: PipeWriter, address: &str) -> bool
     where
@@ -181,14 +181,14 @@ impl Talk {
         R: Net<Listener = TcpListener, Stream = TcpStream>,
     {
         match self {
-            Talk::Orders => order_all(rt, orders, address),
-            Talk::Expels => talks(rt, orders, address),
+            Given::Orders => order_all(rt, orders, address),
+            Given::Expels => talks(rt, orders, address),
         }
     }
 }
 
 /// Returns what is not so of nodes on a port that is free, with these orders and clients.
-pub(super) fn first_missed<R>(rt: &R, talk: Talk, output: &mut Vec<u8>) -> Option<&'static str>
+pub(super) fn first_missed<R>(rt: &R, given: Given, output: &mut Vec<u8>) -> Option<&'static str>
 where
     R: Files + Threads + Wait + Clock + Sync + AllocGlobal,
     R: Net<Listener = TcpListener, Stream = TcpStream>,
@@ -197,14 +197,19 @@ where
         return Some("a port is free");
     };
     match Served::new(rt.alloc(), port) {
-        Ok(served) => missed_with(rt, &served, talk, output),
+        Ok(served) => missed_with(rt, &served, given, output),
         Err(_) => Some("there is memory for a table"),
     }
 }
 
 // Returns what is not so: the nodes of this table are served, and orders and clients are as they
 // have to be.
-fn missed_with<R>(rt: &R, served: &Served, talk: Talk, output: &mut Vec<u8>) -> Option<&'static str>
+fn missed_with<R>(
+    rt: &R,
+    served: &Served,
+    given: Given,
+    output: &mut Vec<u8>,
+) -> Option<&'static str>
 where
     R: Files + Threads + Wait + Clock + Sync + AllocGlobal,
     R: Net<Listener = TcpListener, Stream = TcpStream>,
@@ -215,7 +220,7 @@ where
     let (is_served, talked) = thread::join(
         rt,
         || serve(rt, served.table.as_str(), input, output),
-        || talk.is_done(rt, orders, served.address.as_str()),
+        || given.is_done(rt, orders, served.address.as_str()),
     );
     match (is_served, talked) {
         (true, true) => None,
@@ -227,7 +232,7 @@ where
 #[test]
 fn orders_are_answered(rt: HostRuntime) {
     let mut output = Vec::new(rt.alloc());
-    let missed = first_missed(&rt, Talk::Orders, &mut output);
+    let missed = first_missed(&rt, Given::Orders, &mut output);
     let came = text_of(output.as_slice());
     assert_eq!(rt; missed, None, "{came}");
     assert_eq!(rt; came, ANSWERS);
