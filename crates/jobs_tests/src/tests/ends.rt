@@ -1,8 +1,8 @@
 // How each job ends: its exit status, and what it writes.
 
-use crate::tests::hand::{does, text_of};
+use crate::tests::hand::{does, serves, text_of};
 use jobs::command_line::LineFault;
-use jobs::{JobError, print_fault, refuse, serve_table};
+use jobs::{JobError, print_fault, refuse};
 use std::alloc::Global;
 use std::net::{Net, TcpListener, TcpStream};
 use std::rt::Files;
@@ -143,30 +143,14 @@ fn tables_are_refused_with_their_text(rt: HostRuntime) {
     for (text, told) in REFUSED {
         let mut output = Vec::new(rt.alloc());
         let mut faults = Vec::new(rt.alloc());
-        let is_served = serves(&rt, text, &mut output, &mut faults);
+        let mut input = b"quit\n".as_slice();
+        let is_served = serves(&rt, text, &mut input, &mut output, &mut faults) == 0;
         let came = (
             is_served,
             text_of(output.as_slice()),
             text_of(faults.as_slice()),
         );
         assert_eq!(rt; came, (false, "", *told), "{text}");
-    }
-}
-
-// Serves the nodes of this table until `quit`. Says whether that succeeds; if not, the fault is
-// printed.
-fn serves<R>(rt: &R, text: &str, output: &mut Vec<u8>, faults: &mut Vec<u8>) -> bool
-where
-    R: Threads + Wait + Clock + Sync + AllocGlobal,
-    R: Net<Listener = TcpListener, Stream = TcpStream>,
-{
-    let mut input = b"quit\n".as_slice();
-    match serve_table(rt, text, &mut input, output, faults) {
-        Ok(()) => true,
-        Err(fault) => {
-            print_fault(faults, &fault);
-            false
-        }
     }
 }
 

@@ -1,12 +1,12 @@
 // Inputs of a server that end, that fail, and that give no order.
 
-use jobs::{print_fault, serve_table};
-use std::io::{BufRead, BufReader, ErrorKind, Read};
+use crate::tests::hand::{serves, text_of};
+use std::io;
+use std::io::{BufReader, ErrorKind, Read};
 use std::net::{Net, TcpListener, TcpStream};
 use std::sync::Wait;
 use std::thread::Threads;
 use std::time::Clock;
-use std::{io, str};
 
 // A table of one node on the loopback.
 const ONE: &str = "members = [1]\nprimary = 1\n[[node]]\nid = 1\nlisten = \"127.0.0.1:0\"\n";
@@ -14,31 +14,8 @@ const ONE: &str = "members = [1]\nprimary = 1\n[[node]]\nid = 1\nlisten = \"127.
 // One that other machines may reach.
 const OPEN: &str = "members = [1]\nprimary = 1\n[[node]]\nid = 1\nlisten = \"0.0.0.0:0\"\n";
 
-// Says whether a node of this table is served with this input, ends with this exit status, prints
-// this, and reports this among other lines.
-fn is_served<R, I>(
-    rt: &R,
-    table: &str,
-    input: &mut I,
-    status: u8,
-    printed: &str,
-    reported: &str,
-) -> bool
-where
-    R: Threads + Wait + Clock + Sync + AllocGlobal,
-    R: Net<Listener = TcpListener, Stream = TcpStream>,
-    I: BufRead,
-{
-    let mut output = Vec::new(rt.alloc());
-    let mut faults = Vec::new(rt.alloc());
-    let ended = match serve_table(rt, table, input, &mut output, &mut faults) {
-        Ok(()) => 0,
-        Err(fault) => print_fault(&mut faults, &fault),
-    };
-    ended == status
-        && output.as_slice() == printed.as_bytes()
-        && str::from_utf8(faults.as_slice()).is_ok_and(|text| text.contains(reported))
-}
+// What is reported of the node of that table.
+const LISTENS: &str = "node 1 listens on 127.0.0.1:";
 
 // What is printed of an input that comes whole.
 const WHOLE: &[(&str, &str)] = &[
@@ -58,15 +35,12 @@ const WHOLE: &[(&str, &str)] = &[
 fn the_end_of_input_prints_bye(rt: HostRuntime) {
     for (text, printed) in WHOLE {
         let mut input = text.as_bytes();
-        let is_so = is_served(
-            &rt,
-            ONE,
-            &mut input,
-            0,
-            printed,
-            "node 1 listens on 127.0.0.1:",
-        );
-        assert!(rt; is_so, "{text}");
+        let mut output = Vec::new(rt.alloc());
+        let mut faults = Vec::new(rt.alloc());
+        let status = serves(&rt, ONE, &mut input, &mut output, &mut faults);
+        let told = text_of(faults.as_slice());
+        let came = (status, text_of(output.as_slice()), told.contains(LISTENS));
+        assert_eq!(rt; came, (0, *printed, true), "{text}: {told}");
     }
 }
 
@@ -74,7 +48,13 @@ fn the_end_of_input_prints_bye(rt: HostRuntime) {
 #[test]
 fn an_open_address_is_printed(rt: HostRuntime) {
     let reported = "node 1 is not on a loopback address: whoever reaches it can publish\n";
-    assert!(rt; is_served(&rt, OPEN, &mut b"".as_slice(), 0, "bye\n", reported));
+    let mut input = b"".as_slice();
+    let mut output = Vec::new(rt.alloc());
+    let mut faults = Vec::new(rt.alloc());
+    let status = serves(&rt, OPEN, &mut input, &mut output, &mut faults);
+    let told = text_of(faults.as_slice());
+    let came = (status, text_of(output.as_slice()), told.contains(reported));
+    assert_eq!(rt; came, (0, "bye\n", true), "{told}");
 }
 
 // An input whose first read fails.
@@ -98,16 +78,15 @@ impl Read for Failing {
     }
 }
 
-// Says whether nodes served with an input whose first read fails in this way, and which then
-// continues with this, end with this exit status, and print and report this.
-fn ends_so<R>(
+// Serves the node with an input whose first read fails in this way, and which then continues with
+// this. Returns the exit status; none if there was no memory for the input.
+fn serves_failing<R>(
     rt: &R,
     kind: ErrorKind,
     rest: &'static [u8],
-    status: u8,
-    printed: &str,
-    reported: &str,
-) -> bool
+    output: &mut Vec<u8>,
+    faults: &mut Vec<u8>,
+) -> Option<u8>
 where
     R: Threads + Wait + Clock + Sync + AllocGlobal,
     R: Net<Listener = TcpListener, Stream = TcpStream>,
@@ -118,29 +97,31 @@ where
         rest,
     };
     match BufReader::new(rt.alloc(), failing) {
-        Ok(mut input) => is_served(rt, ONE, &mut input, status, printed, reported),
-        Err(_) => false,
+        Ok(mut input) => Some(serves(rt, ONE, &mut input, output, faults)),
+        Err(_) => None,
     }
 }
 
 #[test]
 fn an_input_that_cannot_be_read_ends_the_server(rt: HostRuntime) {
     let reported = "vbroker: standard input could not be read\n";
-    assert!(rt; ends_so(&rt, ErrorKind::Other, b"status\n", 1, "", reported));
+    let rest = b"status\n".as_slice();
+    let mut output = Vec::new(rt.alloc());
+    let mut faults = Vec::new(rt.alloc());
+    let status = serves_failing(&rt, ErrorKind::Other, rest, &mut output, &mut faults);
+    let told = text_of(faults.as_slice());
+    let came = (status, text_of(output.as_slice()), told.contains(reported));
+    assert_eq!(rt; came, (Some(1), "", true), "{told}");
 }
 
 // The server continues after a line for which memory ran out.
 #[test]
 fn a_line_without_memory_is_refused(rt: HostRuntime) {
     let rest = b"status\nquit\n".as_slice();
-    assert!(rt;
-        ends_so(
-            &rt,
-            ErrorKind::OutOfMemory,
-            rest,
-            0,
-            "refused 12\nbye\n",
-            ""
-        )
-    );
+    let mut output = Vec::new(rt.alloc());
+    let mut faults = Vec::new(rt.alloc());
+    let status = serves_failing(&rt, ErrorKind::OutOfMemory, rest, &mut output, &mut faults);
+    let told = text_of(faults.as_slice());
+    let came = (status, text_of(output.as_slice()), told.contains(LISTENS));
+    assert_eq!(rt; came, (Some(0), "refused 12\nbye\n", true), "{told}");
 }

@@ -1,6 +1,6 @@
 // Scripts, from the input and from a file.
 
-use crate::tests::hand::{End, does, ends, text_of};
+use crate::tests::hand::{End, does, text_of};
 use std::fs;
 use std::net::{Net, TcpListener, TcpStream};
 use std::rt::Files;
@@ -29,8 +29,17 @@ const PLAYED: &[(&str, End<'static>)] = &[
 #[test]
 fn scripts_of_the_input_are_played(rt: HostRuntime) {
     for (script, end) in PLAYED {
-        let is_played = ends(&rt, &["vbroker", "play"], script.as_bytes(), *end);
-        assert!(rt; is_played, "{script}");
+        let mut input = script.as_bytes();
+        let mut output = Vec::new(rt.alloc());
+        let mut faults = Vec::new(rt.alloc());
+        let words = ["vbroker", "play"];
+        let status = does(&rt, words.as_slice(), &mut input, &mut output, &mut faults);
+        let came = (
+            status,
+            text_of(output.as_slice()),
+            text_of(faults.as_slice()),
+        );
+        assert_eq!(rt; came, *end, "{script}");
     }
 }
 
@@ -61,9 +70,17 @@ const ESCAPED: &[(&str, &str, &str, End<'static>)] = &[
 #[test]
 fn ways_out_are_printed(rt: HostRuntime) {
     for (node, client, script, end) in ESCAPED {
+        let mut input = script.as_bytes();
+        let mut output = Vec::new(rt.alloc());
+        let mut faults = Vec::new(rt.alloc());
         let words = ["vbroker", "play", "--escape", *node, "--client", *client];
-        let is_printed = ends(&rt, words.as_slice(), script.as_bytes(), *end);
-        assert!(rt; is_printed, "{node}, {client}, {script}");
+        let status = does(&rt, words.as_slice(), &mut input, &mut output, &mut faults);
+        let came = (
+            status,
+            text_of(output.as_slice()),
+            text_of(faults.as_slice()),
+        );
+        assert_eq!(rt; came, *end, "{node}, {client}, {script}");
     }
 }
 
