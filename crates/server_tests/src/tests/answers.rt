@@ -1,24 +1,12 @@
 // What one client is answered, and when it is closed.
 
-use super::nodes::fault_in;
+use super::nodes::{fault_in, missed_with};
 use super::row::{Missed, Row, Table, unless};
 use server::Listener;
 use server_clients::{Flood, connect, fills, join, open};
 use std::io::Read;
 use std::net::{Net, TcpStream};
 use std::time::{Clock, Instant};
-
-const VISITS: &[Table] = &[Table {
-    name: "a client is answered",
-    members: &[1],
-    row: Row::Visits,
-}];
-
-const SILENCES: &[Table] = &[Table {
-    name: "a silent client is closed",
-    members: &[1],
-    row: Row::Silence,
-}];
 
 // A flood to several members: each packet is a place of the log of each.
 const FLOODS: &[Table] = &[
@@ -41,12 +29,12 @@ const FLOODS: &[Table] = &[
 
 #[test]
 fn one_client_is_answered(rt: HostRuntime) {
-    assert_eq!(rt; fault_in(&rt, VISITS), None);
+    assert_eq!(rt; missed_with(&rt, &[1], Row::Visits), None);
 }
 
 #[test]
 fn a_silent_client_is_closed_in_time(rt: HostRuntime) {
-    assert_eq!(rt; fault_in(&rt, SILENCES), None);
+    assert_eq!(rt; missed_with(&rt, &[1], Row::Silence), None);
 }
 
 #[test]

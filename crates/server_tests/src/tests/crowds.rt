@@ -1,6 +1,6 @@
 // Many clients, at the same time and one after another.
 
-use super::nodes::fault_in;
+use super::nodes::{fault_in, missed_with};
 use super::row::{Missed, Row, Table, unless};
 use server::Listener;
 use server_clients::{
@@ -14,22 +14,8 @@ use std::sync::Wait;
 use std::thread;
 use std::time::{Clock, Duration};
 
-const TABLES: &[Table] = &[
-    Table {
-        name: "a sixty-first client is closed",
-        members: &[1],
-        row: Row::Sixty,
-    },
-    Table {
-        name: "200 clients, one after another, are accepted",
-        members: &[1],
-        row: Row::ComeAndGo,
-    },
-    Table {
-        name: "sixty clients that say nothing are ended",
-        members: &[1],
-        row: Row::SilentOnes,
-    },
+// A client that never reads, with one member and with several.
+const DEAF: &[Table] = &[
     Table {
         name: "a client that never reads makes room for another",
         members: &[1],
@@ -43,19 +29,28 @@ const TABLES: &[Table] = &[
 ];
 
 #[test]
-fn a_node_serves_sixty_and_makes_room(rt: HostRuntime) {
-    assert_eq!(rt; fault_in(&rt, TABLES), None);
+fn a_sixty_first_client_is_closed(rt: HostRuntime) {
+    assert_eq!(rt; missed_with(&rt, &[1], Row::Sixty), None);
 }
 
-const NEVER_READS: &[Table] = &[Table {
-    name: "a subscriber gets 50 MB beside one that never reads",
-    members: &[1],
-    row: Row::NeverReads,
-}];
+#[test]
+fn clients_that_come_and_go_are_accepted(rt: HostRuntime) {
+    assert_eq!(rt; missed_with(&rt, &[1], Row::ComeAndGo), None);
+}
+
+#[test]
+fn clients_without_a_first_packet_are_ended(rt: HostRuntime) {
+    assert_eq!(rt; missed_with(&rt, &[1], Row::SilentOnes), None);
+}
+
+#[test]
+fn a_client_that_never_reads_makes_room(rt: HostRuntime) {
+    assert_eq!(rt; fault_in(&rt, DEAF), None);
+}
 
 #[test]
 fn a_client_that_never_reads_keeps_nobody_waiting(rt: HostRuntime) {
-    assert_eq!(rt; fault_in(&rt, NEVER_READS), None);
+    assert_eq!(rt; missed_with(&rt, &[1], Row::NeverReads), None);
 }
 
 /// Sixty clients are answered by PINGRESP while they are connected and one more has come. Returns

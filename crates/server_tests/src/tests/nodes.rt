@@ -63,9 +63,9 @@ where
     None
 }
 
-// Returns the first step of a row that is not so with these nodes, the members of ballot 1. Node 1
-// is the primary.
-fn missed_with<R>(rt: &R, members: &[u8], row: Row) -> Missed
+/// Returns the first step of a row that is not so with nodes of its own, the members of ballot 1.
+/// Node 1 is the primary.
+pub(super) fn missed_with<R>(rt: &R, members: &[u8], row: Row) -> Missed
 where
     R: AllocGlobal
         + Threads
