@@ -1,11 +1,9 @@
 //! Tests of what a broker stores, through public calls: sessions, the indexes of subscriptions,
-//! retained publications, and the functions that carry laws. It has only tests and a few laws.
+//! retained publications. It has only tests and a few laws.
 #![tactic(auto)]
 
 #[cfg(test)]
 mod indexes;
-#[cfg(test)]
-mod laws;
 mod readings;
 #[cfg(test)]
 mod retaining;
@@ -13,6 +11,6 @@ mod retaining;
 mod sessions;
 
 pub use readings::{
-    answers_fit_the_qos, live_connections_are_current, released_entries_are_read,
-    removing_needs_no_room,
+    answers_fit_the_qos, expels_of_nobody_are_nothing, live_connections_are_current,
+    released_entries_are_read, removing_needs_no_room,
 };

@@ -1,4 +1,4 @@
-// Entries in flight: their copies, and the laws of a queue.
+// Entries in flight: their copies.
 
 use session::packet::{Payload, QoS};
 use session::session_base::*;
@@ -66,15 +66,4 @@ fn missed_copy(alloc: Global) -> Option<&'static str> {
 #[test]
 fn copies_are_equal(rt: HostRuntime) {
     assert_eq!(rt; missed_copy(rt.alloc()), None);
-}
-
-// The laws are calls that do nothing.
-#[test]
-fn laws_can_be_called() {
-    fill_takes_what_waits();
-    fills_join();
-    answers_keep_identifiers_apart();
-    other_answers_change_nothing();
-    resend_keeps_the_order();
-    sessions_keep_their_form();
 }

@@ -1,10 +1,7 @@
-// What the parts of a client share: refusals, requests and laws.
+// What the parts of a client share: refusals and requests.
 
 use std::test::Fail;
-use user_client::client_base::{
-    ClientError, Request, Stage, accepted_once_an_identifier, history_is_followed,
-    identifiers_are_distinct, publishing_order_is_kept,
-};
+use user_client::client_base::{ClientError, Request, Stage};
 use user_client::packet::PacketId;
 use user_client::topics::MalformedKind;
 
@@ -27,15 +24,6 @@ fn requests_are_compared(rt: HostRuntime) {
     assert_ne!(rt; Request::Subscribes(one), Request::Unsubscribes(one));
     assert_ne!(rt; Request::Subscribes(one), Request::Subscribes(two));
     assert_ne!(rt; Stage::Opened, Stage::Online);
-}
-
-// The laws are calls that do nothing.
-#[test]
-fn laws_can_be_called() {
-    accepted_once_an_identifier();
-    history_is_followed();
-    identifiers_are_distinct();
-    publishing_order_is_kept();
 }
 
 // What a fault says to a user.

@@ -2,7 +2,7 @@
 
 use crate::indexes::calls::Call::{self, Clear, DropClient, Granted, Set};
 use crate::indexes::calls::first_fault;
-use broker_form::subs::{ListIndex, SubIndex, TreeIndex, grants_one_list};
+use broker_form::subs::{ListIndex, SubIndex, TreeIndex};
 use session::packet::QoS::{AtLeastOnce, AtMostOnce, ExactlyOnce};
 use std::alloc::Global;
 
@@ -131,7 +131,6 @@ fn first_row<I: SubIndex>(alloc: Global, rows: &[&[Call<'_>]]) -> Option<(usize,
 
 #[test]
 fn the_list_answers_its_rows(rt: HostRuntime) {
-    grants_one_list();
     assert_eq!(rt; first_row::<ListIndex>(rt.alloc(), ROWS), None);
 }
 

@@ -198,9 +198,3 @@ fn kinds_have_their_numbers_and_texts(rt: HostRuntime) {
     assert!(rt; is_printed, "the kind Topic is printed");
     assert_eq!(rt; MalformedKind::from(AllocError), MalformedKind::Memory);
 }
-
-#[test]
-fn laws_can_be_called() {
-    matches_is_tested();
-    bare_matches_itself();
-}
