@@ -45,8 +45,8 @@ struct Both {
     tree: TreeIndex,
 }
 
-fn set_alike(both: &mut Both, client: &ClientId, filter: &Filter, level: u64) -> bool {
-    let qos = match level % 3 {
+fn set_alike(both: &mut Both, client: &ClientId, filter: &Filter, number: u64) -> bool {
+    let qos = match number % 3 {
         0 => QoS::AtMostOnce,
         1 => QoS::AtLeastOnce,
         _ => QoS::ExactlyOnce,

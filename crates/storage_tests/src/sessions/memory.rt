@@ -2,7 +2,7 @@
 // runs out of memory leaves the session, and what was to be sent, as they were, and does its work
 // when it is made again.
 
-use crate::sessions::row::Sent::{Again, New, Release};
+use crate::sessions::row::Sent::{Again, New, Pubrel};
 use crate::sessions::row::{Sent, are_sent, publication};
 use session::packet::{Packet, PacketId, QoS};
 use session::session_base::Publication;
@@ -55,7 +55,7 @@ fn is_released(alloc: Global, session: &mut Session) -> bool {
     let is_sent = session.on_pubrec(id, &mut out).is_ok()
         || (out.is_empty() && session.on_pubrec(id, &mut out).is_ok());
     is_sent
-        && are_sent(out.as_slice(), &[Release(1)])
+        && are_sent(out.as_slice(), &[Pubrel(1)])
         && session.on_pubrec(PacketId::new(9), &mut out).is_ok()
         && out.len() == 1
 }
@@ -78,7 +78,7 @@ fn missed_step(alloc: Global, session: &mut Session) -> Option<&'static str> {
         Some("nothing is sent twice")
     } else if !is_released(alloc, session) {
         Some("the PUBREC of the first is answered, one of identifier 9 is not")
-    } else if !sends_again(alloc, session, &[Release(1), Again(2), Again(3)]) {
+    } else if !sends_again(alloc, session, &[Pubrel(1), Again(2), Again(3)]) {
         Some("PUBREL of the first and the other two are sent again")
     } else if !is_received(session) {
         Some("identifier 7 comes for the first time, and then again")

@@ -17,7 +17,7 @@ pub(crate) enum Sent {
     /// A PUBLISH with this identifier and DUP 1.
     Again(u16),
     /// A PUBREL.
-    Release(u16),
+    Pubrel(u16),
 }
 
 /// What is done to a session.
@@ -27,7 +27,7 @@ pub(crate) enum Row<'a> {
     Enqueue(u32, QoS),
     /// The queue is full.
     IsFull,
-    /// As many more may wait.
+    /// There is room for this many more.
     Room(usize),
     /// What a fill sends.
     Fill(&'a [Sent]),
@@ -39,12 +39,12 @@ pub(crate) enum Row<'a> {
     Pubcomp(u16),
     /// A PUBLISH at QoS 2 comes with an identifier.
     Inbound(u16, Arrival),
-    Release(u16),
+    Pubrel(u16),
     /// Whether an identifier is one of those that were received.
     Received(u16, bool),
     /// A subscription, and how many there are then.
     Subscribe(&'a str, QoS, usize),
-    /// One less, and how many there are then.
+    /// A filter is removed, and how many there are then.
     Unsubscribe(&'a str, usize),
     /// At which QoS `t/1` is granted.
     Granted(Option<QoS>),
@@ -84,7 +84,7 @@ fn is_right(alloc: Global, session: &mut Session, row: Row<'_>) -> bool {
         Row::Pubrec(number, wanted) => pubrec(alloc, session, number, wanted),
         Row::Pubcomp(number) => id_of(number).map(|id| session.on_pubcomp(id)).is_some(),
         Row::Inbound(number, arrival) => inbound(session, number, arrival),
-        Row::Release(number) => id_of(number).map(|id| session.on_pubrel(id)).is_some(),
+        Row::Pubrel(number) => id_of(number).map(|id| session.on_pubrel(id)).is_some(),
         Row::Received(number, is) => is_received(session, number) == is,
         Row::Subscribe(text, qos, count) => subscribe(alloc, session, text, qos, count),
         Row::Unsubscribe(text, count) => unsubscribe(alloc, session, text, count),
@@ -159,7 +159,7 @@ fn is_sent(packet: &Packet, sent: Sent) -> bool {
     match (packet, sent) {
         (Packet::Publish(publish), Sent::New(id)) => is_delivered(publish.delivery, false, id),
         (Packet::Publish(publish), Sent::Again(id)) => is_delivered(publish.delivery, true, id),
-        (Packet::Pubrel(id), Sent::Release(wanted)) => id.number() == wanted,
+        (Packet::Pubrel(id), Sent::Pubrel(wanted)) => id.number() == wanted,
         _ => false,
     }
 }
