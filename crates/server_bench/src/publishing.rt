@@ -11,7 +11,7 @@ use std::thread;
 use std::time::{Clock, Duration, Instant};
 
 /// How long a publisher sleeps that is far ahead, in microseconds.
-const PAUSE: u64 = 50;
+const PAUSE_MICROS: u64 = 50;
 
 /// How long subscribers may take after the time of the publishers, in seconds.
 const PATIENCE: u64 = 30;
@@ -75,7 +75,7 @@ impl<'a> Publisher<'a> {
         let room = load.room(self.sent, self.ends.done, group.taken());
         self.put(group, load, room.min(last.saturating_sub(self.sent)))?;
         if self.ends.out.is_empty() && self.under_way() == 0 {
-            thread::sleep(rt, Duration::from_micros(PAUSE));
+            thread::sleep(rt, Duration::from_micros(PAUSE_MICROS));
         }
         self.ends.write()?;
         if self.under_way() > 0 {

@@ -48,7 +48,7 @@ const PING_UNSUBSCRIBE_AND_VIOLATIONS: &[Row<'static>] = &[
 ];
 
 #[test]
-fn ping_unsubscribe_and_violations(rt: HostRuntime) {
+fn requests_are_answered_and_violations_close(rt: HostRuntime) {
     let fault = first_fault(
         rt.alloc(),
         Start::Fresh,

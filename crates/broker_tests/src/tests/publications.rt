@@ -30,7 +30,7 @@ const RETAINED_AT_SUBSCRIBE: &[Row<'static>] = &[
 ];
 
 #[test]
-fn retained_at_subscribe(rt: HostRuntime) {
+fn a_retained_message_comes_at_subscribe(rt: HostRuntime) {
     let fault = first_fault(rt.alloc(), Start::Fresh, Run::Rows(RETAINED_AT_SUBSCRIBE));
     assert_eq!(rt; fault, None);
 }
@@ -48,7 +48,7 @@ const TWO_FILTERS_ONE_PUBLICATION: &[Row<'static>] = &[
 ];
 
 #[test]
-fn two_filters_one_publication(rt: HostRuntime) {
+fn two_filters_bring_one_publication(rt: HostRuntime) {
     let fault = first_fault(
         rt.alloc(),
         Start::Fresh,
