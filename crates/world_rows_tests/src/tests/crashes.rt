@@ -1,30 +1,9 @@
 // A primary that crashes.
 
-use crate::tests::row::{Action, Row, Said, Table, fault_in};
-
-// The packets after the takeover, as MQTT 3.1.1 spells them. CONNECT (3.1): 13 bytes follow, the
-// protocol's name, its level 4, no flag, so that the session is kept, no keep alive, and the Client
-// Identifier.
-const CONNECT_A: &[u8] = b"\x10\x0D\x00\x04MQTT\x04\x00\x00\x00\x00\x01a";
-
-const CONNECT_B: &[u8] = b"\x10\x0D\x00\x04MQTT\x04\x00\x00\x00\x00\x01b";
-
-// CONNACK (3.2): Session Present, and accepted.
-const PRESENT: &[u8] = b"\x20\x02\x01\x00";
-
-// PUBLISH (3.3) sent again: DUP, QoS 2, no RETAIN. 8 bytes follow, the Topic Name, Packet
-// Identifier 1 and the payload.
-const PUBLISH_AGAIN: &[u8] = b"\x3C\x08\x00\x03t/1\x00\x01x";
-
-// What the subscriber is sent when it comes back: both.
-const PRESENT_AND_PUBLISH: &[u8] = b"\x20\x02\x01\x00\x3C\x08\x00\x03t/1\x00\x01x";
-
-// PUBREC (3.5), and PUBREL, whose lower bits are 0010 (3.6), of Packet Identifier 1.
-const PUBREC: &[u8] = b"\x50\x02\x00\x01";
-
-const PUBREL: &[u8] = b"\x62\x02\x00\x01";
-
-const NOTHING: &[u8] = b"";
+use crate::tests::row::{
+    Action, CONNECT_A, CONNECT_B, NOTHING, PRESENT, PRESENT_AND_PUBLISH, PUBLISH_AGAIN, PUBREC,
+    PUBREL, Row, Said, Table, fault_in,
+};
 
 // What is agreed while the primary holds a publication that its backup does not hold yet: both
 // CONNECTs, and the SUBSCRIBE between them.
@@ -66,9 +45,9 @@ pub const CRASHED: &[Row] = &[
     Row::Does(Action::Publish("a"), 9, 3),
     Row::Does(Action::Up(2), 10, 3),
     Row::Agrees(BEFORE),
-    Row::HasDown(2, b""),
+    Row::HasDown(2, NOTHING),
     Row::Does(Action::Deliver(9), 11, 4),
-    Row::HasDown(2, b""),
+    Row::HasDown(2, NOTHING),
     Row::Does(Action::Crash(1), 11, 4),
     Row::Idle(Action::Crash(1)),
     Row::Idle(Action::Tick(1)),
@@ -133,12 +112,16 @@ const NOBODY: &[Row] = &[
     Row::Active(1),
 ];
 
-const TABLES: &[Table] = &[
-    ("crashed", 2, &[1, 2], CRASHED),
-    ("nobody", 2, &[1], NOBODY),
-];
+const CRASHES: &[Table] = &[("crashed", 2, &[1, 2], CRASHED)];
 
 #[test]
-fn primaries_crash(rt: HostRuntime) {
-    assert_eq!(rt; fault_in(rt.alloc(), TABLES), None);
+fn a_backup_takes_over_from_a_crashed_primary(rt: HostRuntime) {
+    assert_eq!(rt; fault_in(rt.alloc(), CRASHES), None);
+}
+
+const NOBODYS: &[Table] = &[("nobody", 2, &[1], NOBODY)];
+
+#[test]
+fn nothing_happens_at_a_crashed_sole_member(rt: HostRuntime) {
+    assert_eq!(rt; fault_in(rt.alloc(), NOBODYS), None);
 }

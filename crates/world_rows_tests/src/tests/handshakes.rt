@@ -1,6 +1,6 @@
 // A publication at QoS 2 from one client to another, byte by byte.
 
-use crate::tests::row::{Action, Row, Table, fault_in};
+use crate::tests::row::{Action, NOTHING, PUBLISH, PUBREC, PUBREL, Row, Table, fault_in};
 
 // A subscription of `b`, a publication of `a`, and both handshakes to their ends. The numbers of
 // `Does`: messages sent (none with one node), commands agreed.
@@ -21,12 +21,12 @@ const WHOLE: &[Row] = &[
     Row::Does(Action::Up(2), 0, 3),
     Row::Does(Action::Down(2), 0, 3),
     Row::Does(Action::Publish("a"), 0, 3),
-    Row::HasUp(2, b"\x34\x08\x00\x03t/1\x00\x01x"),
+    Row::HasUp(2, PUBLISH),
     Row::Does(Action::Up(2), 0, 4),
-    Row::HasDown(2, b"\x50\x02\x00\x01"),
-    Row::HasDown(1, b"\x34\x08\x00\x03t/1\x00\x01x"),
+    Row::HasDown(2, PUBREC),
+    Row::HasDown(1, PUBLISH),
     Row::Does(Action::Down(2), 0, 4),
-    Row::HasUp(2, b"\x62\x02\x00\x01"),
+    Row::HasUp(2, PUBREL),
     Row::Does(Action::Up(2), 0, 5),
     Row::HasDown(2, b"\x70\x02\x00\x01"),
     Row::Does(Action::Down(2), 0, 5),
@@ -36,12 +36,12 @@ const WHOLE: &[Row] = &[
     Row::Does(Action::DownSome(1, 1), 0, 5),
     Row::Took("b", 1, 1),
     Row::Took("a", 0, 0),
-    Row::HasUp(1, b"\x50\x02\x00\x01"),
+    Row::HasUp(1, PUBREC),
     Row::Does(Action::Up(1), 0, 6),
-    Row::HasDown(1, b"\x62\x02\x00\x01"),
+    Row::HasDown(1, PUBREL),
     Row::Does(Action::Down(1), 0, 6),
     Row::Does(Action::Up(1), 0, 7),
-    Row::HasDown(1, b""),
+    Row::HasDown(1, NOTHING),
     Row::Took("b", 1, 1),
 ];
 

@@ -1,10 +1,8 @@
 // Connections that are lost and ended, at one end and at the other.
 
-use crate::tests::row::{Action, Row, Table, fault_in};
-
-const CONNECT: &[u8] = b"\x10\x0D\x00\x04MQTT\x04\x00\x00\x00\x00\x01a";
-
-const PUBLISH: &[u8] = b"\x34\x08\x00\x03t/1\x00\x01x";
+use crate::tests::row::{
+    ABSENT, Action, CONNECT_A, NOTHING, PRESENT, PUBLISH, PUBREC, Row, Table, fault_in,
+};
 
 // A client abandons its connection before it gets the CONNACK. What it published meanwhile is sent
 // on the next connection, where its session is found. Each end is closed once.
@@ -18,22 +16,22 @@ const ABANDONED: &[Row] = &[
     Row::Idle(Action::UpSome(1, 2)),
     Row::Idle(Action::UpSome(1, 0)),
     Row::Does(Action::UpSome(1, 1), 0, 1),
-    Row::HasDown(1, b"\x20\x02\x00\x00"),
+    Row::HasDown(1, ABSENT),
     Row::Does(Action::Publish("a"), 0, 1),
-    Row::HasUp(1, b""),
+    Row::HasUp(1, NOTHING),
     Row::Does(Action::Abandon("a"), 0, 1),
     Row::Idle(Action::Abandon("a")),
     Row::Idle(Action::Down(1)),
     Row::Does(Action::Notice(1), 0, 2),
     Row::Idle(Action::Notice(1)),
     Row::Does(Action::Open("a", 1), 0, 2),
-    Row::HasUp(2, CONNECT),
+    Row::HasUp(2, CONNECT_A),
     Row::Does(Action::Up(2), 0, 3),
-    Row::HasDown(2, b"\x20\x02\x01\x00"),
+    Row::HasDown(2, PRESENT),
     Row::Does(Action::Down(2), 0, 3),
     Row::HasUp(2, PUBLISH),
     Row::Does(Action::Up(2), 0, 4),
-    Row::HasDown(2, b"\x50\x02\x00\x01"),
+    Row::HasDown(2, PUBREC),
     Row::Idle(Action::Notice(3)),
 ];
 
@@ -58,7 +56,7 @@ const TAKEN_OVER: &[Row] = &[
     Row::Does(Action::Abandon("a"), 0, 1),
     Row::Does(Action::Open("a", 1), 0, 1),
     Row::Does(Action::Up(2), 0, 2),
-    Row::HasDown(2, b"\x20\x02\x01\x00"),
+    Row::HasDown(2, PRESENT),
     Row::Idle(Action::Notice(1)),
     Row::Does(Action::Down(2), 0, 2),
 ];

@@ -1,25 +1,25 @@
 // Messages that come again, or in another order.
 
-use crate::tests::row::{Action, Row, Table, fault_in};
+use crate::tests::row::{ABSENT, Action, CONNECT_A, NOTHING, Row, Table, fault_in};
 
 // A CONNECT is answered once the backup holds it. Then the Commit comes again, the Held, and the
 // Append, which is held again; an Append that is already there adds nothing. The numbers of `Does`,
 // here and in the next table: messages sent, commands agreed.
 const REPEATED: &[Row] = &[
     Row::Does(Action::Open("a", 1), 0, 0),
-    Row::HasUp(1, b"\x10\x0D\x00\x04MQTT\x04\x00\x00\x00\x00\x01a"),
+    Row::HasUp(1, CONNECT_A),
     Row::Does(Action::Up(1), 1, 0),
-    Row::HasDown(1, b""),
+    Row::HasDown(1, NOTHING),
     Row::Idle(Action::Deliver(1)),
     Row::Does(Action::Deliver(0), 2, 1),
-    Row::HasDown(1, b""),
+    Row::HasDown(1, NOTHING),
     Row::Does(Action::Deliver(1), 3, 1),
-    Row::HasDown(1, b"\x20\x02\x00\x00"),
+    Row::HasDown(1, ABSENT),
     Row::Does(Action::Down(1), 3, 1),
     Row::Does(Action::Deliver(2), 3, 1),
     Row::Does(Action::Deliver(1), 3, 1),
     Row::Does(Action::Deliver(0), 4, 1),
-    Row::HasDown(1, b""),
+    Row::HasDown(1, NOTHING),
     Row::Idle(Action::Down(1)),
     Row::Idle(Action::Deliver(4)),
     Row::Active(1),
@@ -35,10 +35,10 @@ const TICKED: &[Row] = &[
     Row::Idle(Action::Tick(0)),
     Row::Does(Action::Deliver(1), 4, 1),
     Row::Does(Action::Deliver(3), 5, 1),
-    Row::HasDown(1, b"\x20\x02\x00\x00"),
+    Row::HasDown(1, ABSENT),
     Row::Does(Action::Deliver(0), 6, 1),
     Row::Does(Action::Deliver(5), 6, 1),
-    Row::HasDown(1, b"\x20\x02\x00\x00"),
+    Row::HasDown(1, ABSENT),
 ];
 
 const TABLES: &[Table] = &[

@@ -1,17 +1,11 @@
 // A primary of a ballot that is over.
 
-use crate::tests::row::{Action, Fault, Row, Said, Table, fault_at, fault_in, is_right, opened};
+use crate::tests::row::{
+    Action, Fault, NOTHING, PRESENT_AND_PUBLISH, PUBREC, Row, Said, Table, fault_at, fault_in,
+    is_right, opened,
+};
 use std::alloc::Global;
 use world::World;
-
-// What a subscriber is sent when it comes back (MQTT 3.1.1): its session is present (3.2), and the
-// publication again with DUP (3.3).
-const PRESENT_AND_PUBLISH: &[u8] = b"\x20\x02\x01\x00\x3C\x08\x00\x03t/1\x00\x01x";
-
-// PUBREC (3.5) of Packet Identifier 1, which answers the publisher.
-const PUBREC: &[u8] = b"\x50\x02\x00\x01";
-
-const NOTHING: &[u8] = b"";
 
 // What is agreed at the end. The PUBREC of the subscriber, which only the stale primary holds, is
 // not.

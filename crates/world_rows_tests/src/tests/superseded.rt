@@ -1,12 +1,6 @@
 // A ballot that waits for its activation when the next one is given.
 
-use crate::tests::row::{Action, Row, Said, Table, fault_in};
-
-// CONNECT of client `a` with CleanSession 0 and keep alive 0, and CONNACK 0 without a session
-// present (MQTT 3.1, 3.2).
-const CONNECT: &[u8] = b"\x10\x0D\x00\x04MQTT\x04\x00\x00\x00\x00\x01a";
-
-const ACCEPTED: &[u8] = b"\x20\x02\x00\x00";
+use crate::tests::row::{ABSENT, Action, CONNECT_A, NOTHING, Row, Said, Table, fault_in};
 
 const AFTER: &[Said] = &[Said::Start(3), Said::Connect("a")];
 
@@ -35,13 +29,13 @@ pub const SUPERSEDED: &[Row] = &[
     Row::Idle(Action::Open("a", 1)),
     Row::Idle(Action::Open("a", 2)),
     Row::Does(Action::Open("a", 3), 12, 1),
-    Row::HasUp(1, CONNECT),
-    Row::HasDown(1, b""),
+    Row::HasUp(1, CONNECT_A),
+    Row::HasDown(1, NOTHING),
     Row::Does(Action::Up(1), 12, 2),
-    Row::HasUp(1, b""),
-    Row::HasDown(1, ACCEPTED),
+    Row::HasUp(1, NOTHING),
+    Row::HasDown(1, ABSENT),
     Row::Does(Action::Down(1), 12, 2),
-    Row::HasDown(1, b""),
+    Row::HasDown(1, NOTHING),
     Row::Took("a", 0, 0),
     Row::Active(3),
     Row::Agrees(AFTER),

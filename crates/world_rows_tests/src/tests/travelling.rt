@@ -1,9 +1,6 @@
 // Nodes that cut their logs.
 
-use crate::tests::row::{Action, Row, Said, Table, fault_in};
-
-// CONNACK (3.2): Session Present, and accepted.
-const PRESENT: &[u8] = b"\x20\x02\x01\x00";
+use crate::tests::row::{Action, PRESENT, Row, Said, Table, fault_in};
 
 // What is agreed before and after the other member takes over.
 const BEFORE: &[Said] = &[Said::Connect("a")];

@@ -4,7 +4,7 @@
 use crate::tests::courses::{
     COURSES, Course, WAITS, all_hold, begun, is_kept, last_ballot, may_lead,
 };
-use crate::tests::row::{Action, Row, does, named, opened};
+use crate::tests::row::{Action, PRESENT, Row, does, named, opened};
 use std::alloc::Global;
 use world::packet::ClientId;
 use world::{Command, EscapeError, Event, World};
@@ -156,9 +156,6 @@ fn fault_in(alloc: Global, course: &Course) -> Option<(usize, &'static [u8])> {
     }
     None
 }
-
-// CONNACK 0 with session present (MQTT 3.2).
-const PRESENT: &[u8] = b"\x20\x02\x01\x00";
 
 // The primary crashes, and then the other node too.
 const CRASHED: &[Action] = &[Action::Crash(1)];
