@@ -33,14 +33,14 @@ core_of a b e = ap (λ (r : Running). r.core) e
 pub ran_none_open : (port : Port) (core : CoreState) (x : List (Effect Command Output)) → open_at port core ≡ None → Ran (Ends port) core core x x
 ran_none_open port core x e = ran_quietly (Ends port) core core x (none_open e refl)
 
-pub ran_untold : (port : Port) (c : Connection) (a b : CoreState) (x : List (Effect Command Output)) → open_at port a ≡ Some c →
+pub ran_unproposed : (port : Port) (c : Connection) (a b : CoreState) (x : List (Effect Command Output)) → open_at port a ≡ Some c →
     is_proposed c.stage ≡ false → b ≡ changes port closed a → Ran (Ends port) a b x x
-ran_untold port c a b x found other shut = ran_quietly (Ends port) a b x (unproposed c found other (ap quietly shut))
+ran_unproposed port c a b x found other shut = ran_quietly (Ends port) a b x (unproposed c found other (ap quietly shut))
 
-pub ran_told : (port : Port) (c : Connection) (a b r : CoreState) (taken : Bool) (x y : List (Effect Command Output)) →
+pub ran_proposed : (port : Port) (c : Connection) (a b r : CoreState) (taken : Bool) (x y : List (Effect Command Output)) →
     open_at port a ≡ Some c → is_proposed c.stage ≡ true → b ≡ changes port closed a →
     Ran (ProposedBy taken (commands.Lost c.name)) b r x y → Ran (Ends port) a r x y
-ran_told port c a b r taken x y found heard shut ran =
+ran_proposed port c a b r taken x y found heard shut ran =
     ran_as (ProposedBy taken (commands.Lost c.name)) (Ends port) a b r x y
     (λ did runs. proposed c found heard (as_proposes taken (commands.Lost c.name) (changes port closed a) did
     (subst (λ (k : CoreState). ProposedBy taken (commands.Lost c.name) k did) shut runs))) ran

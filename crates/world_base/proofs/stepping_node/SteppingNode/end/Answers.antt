@@ -2,7 +2,7 @@ use Rattle.std.proofs.Common.{sym, ◌∙◌}
 use Rattle.node_connections.specs.Connections.{is_open_at}
 use Rattle.world_base.proofs.Indices.{none_found, found_there}
 use Rattle.world_base.proofs.Closes.{ends_none, ends_proposed, ends_other}
-use Rattle.world_base.proofs.EndsRun.{core_of, ran_none_open, ran_told, ran_untold}
+use Rattle.world_base.proofs.EndsRun.{core_of, ran_none_open, ran_proposed, ran_unproposed}
 use Rattle.world_base.proofs.Idle.{closes_nothing, proposed_then}
 use Rattle.world_base.proofs.stepping_node.SteppingNode.end.Goals as goal
 
@@ -23,7 +23,7 @@ returns-then-proposed-clause-turns c =
 
 pub returns-then-proposed-clause-run : goal.returns-then-proposed-clause-run
 returns-then-proposed-clause-run c =
-    ran_told c.args.port c.index-connection.result.now _ c.close.new.self.core _ c.propose.result _ _
+    ran_proposed c.args.port c.index-connection.result.now _ c.close.new.self.core _ c.propose.result _ _
     (rw (← c.self.view_is) (found_there (is_open_at c.args.port) _ c.index_at.result c.in-Some.index _
     (rw (← c.self.view_is) at c.index_at.ensures) c.in-Some.is c.index-connection.ensures))
     (sym c.is_proposed-proposed.ensures ∙ c.if-proposed.true) (core_of _ _ c.close.ensures) c.propose.ensures.run
@@ -37,7 +37,7 @@ returns-else-proposed-clause-turns c =
 
 pub returns-else-proposed-clause-run : goal.returns-else-proposed-clause-run
 returns-else-proposed-clause-run c =
-    ran_untold c.args.port c.index-connection.result.now _ c.close.new.self.core _
+    ran_unproposed c.args.port c.index-connection.result.now _ c.close.new.self.core _
     (rw (← c.self.view_is) (found_there (is_open_at c.args.port) _ c.index_at.result c.in-Some.index _
     (rw (← c.self.view_is) at c.index_at.ensures) c.in-Some.is c.index-connection.ensures))
     (sym c.is_proposed-proposed.ensures ∙ c.if-proposed.false) (core_of _ _ c.close.ensures)
