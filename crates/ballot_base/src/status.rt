@@ -1,6 +1,6 @@
 // What a replica shows of itself.
 
-ghost use Rattle.std.specs.Prelude.{◌≡◌};
+ghost use Rattle.std.specs.Prelude.{◌≡◌, ◌&&◌, not};
 ghost use Rattle.ballot_base.specs.Replica.{is_active, is_backup, is_fetching, is_installing};
 
 /// What a replica does in the ballot that it joined.
@@ -80,4 +80,13 @@ pub struct Status {
     pub committed: u64,
     /// Whether it stopped because memory ran out.
     pub stopped: bool,
+}
+
+impl Status {
+    /// Says whether it serves clients: it is the active primary of its ballot, and has not stopped.
+    pub fn serves(self) -> bool
+        ensures { result ≡ (is_active self.role && not self.stopped) }
+    {
+        self.role.is_active() && !self.stopped
+    }
 }

@@ -45,5 +45,5 @@ fn higher(found: Option<Shown>, shown: Shown) -> Option<Shown>
 fn serves(shown: Shown) -> bool
     ensures { result ≡ serves shown }
 {
-    shown.status.role.is_active() && !shown.status.stopped
+    shown.status.serves()
 }

@@ -230,10 +230,7 @@ impl World {
         ensures { result ≡ is_serving (node_of self.now.nodes.nodes node) }
     {
         match self.nodes.node(node) {
-            Some(core) => {
-                let status = core.status();
-                status.role.is_active() && !status.stopped
-            }
+            Some(core) => core.status().serves(),
             None => false,
         }
     }

@@ -148,8 +148,7 @@ impl SteppingNode {
     pub fn serves(&self) -> bool
         ensures { result ≡ serves self.now.core }
     {
-        let status = self.replica.status();
-        status.role.is_active() && !status.stopped
+        self.replica.status().serves()
     }
 
     /// Says whether a proposal would be taken: by an active primary whose log has room.
