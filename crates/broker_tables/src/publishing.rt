@@ -136,7 +136,7 @@ fn note_identifier(row: &mut ClientRow, delivery: Delivery) -> Result<(), Halted
     ensures { OnOk result (row.new ≡ received_on delivery row.old) }
 {
     if let Delivery::ExactlyOnce(_, id) = delivery {
-        row.state.inbound(id)?;
+        row.state.receive(id)?;
     }
     Ok(())
 }

@@ -79,7 +79,7 @@ impl Session {
 
     /// Takes the identifier of a QoS 2 PUBLISH. Its DUP flag does not matter: a first delivery may
     /// carry it (MQTT 3.3.1.1).
-    pub fn inbound(&mut self, id: PacketId) -> Result<Arrival, AllocError>
+    pub fn receive(&mut self, id: PacketId) -> Result<Arrival, AllocError>
         ensures again { (result ≡ Ok Again) ↔ (has_id id self.old.received ≡ true) }
         ensures first { result ≡ Ok First
             → self.new ≡ with_received (with_id id self.old.received) self.old }

@@ -63,9 +63,9 @@ fn is_released(alloc: Global, session: &mut Session) -> bool {
 // Says whether an identifier comes for the first time, and then again.
 fn is_received(session: &mut Session) -> bool {
     let id = PacketId::new(7);
-    let is_first = session.inbound(id) == Ok(Arrival::First)
-        || (!session.is_received(id) && session.inbound(id) == Ok(Arrival::First));
-    is_first && session.inbound(id) == Ok(Arrival::Again)
+    let is_first = session.receive(id) == Ok(Arrival::First)
+        || (!session.is_received(id) && session.receive(id) == Ok(Arrival::First));
+    is_first && session.receive(id) == Ok(Arrival::Again)
 }
 
 // Returns the first step that is not so, in words.

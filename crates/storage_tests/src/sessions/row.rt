@@ -175,7 +175,7 @@ fn is_delivered(delivery: Delivery, dup: bool, number: u16) -> bool {
 
 fn inbound(session: &mut Session, number: u16, arrival: Arrival) -> bool {
     match id_of(number) {
-        Some(id) => session.inbound(id) == Ok(arrival),
+        Some(id) => session.receive(id) == Ok(arrival),
         None => false,
     }
 }
