@@ -105,7 +105,7 @@ impl ClientCore {
 
     /// Marks the connection lost: requests without an answer and bytes that were not read are
     /// dropped. What is kept stays; what was written stays until `open`.
-    pub fn lost(&mut self)
+    pub fn lose_connection(&mut self)
         ensures { self.new ≡ gone self.old }
     {
         self.requests.clear();

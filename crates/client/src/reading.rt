@@ -27,7 +27,7 @@ impl ClientCore {
         }
         let read = self.feed_and_read(piece);
         if is_fatal(read) {
-            self.lost();
+            self.lose_connection();
         }
         read
     }

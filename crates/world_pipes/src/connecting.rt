@@ -34,7 +34,7 @@ impl PipedClient {
         self.ways.reserve(1)?;
         self.core.open()?;
         if let Err(error) = way.up.follow(&mut self.core) {
-            self.core.lost();
+            self.core.lose_connection();
             return Err(error);
         }
         self.ways.push_reserved(way);
@@ -48,7 +48,7 @@ impl PipedClient {
         ensures { self.new ≡ taken_back self.old }
     {
         self.ways.pop();
-        self.core.lost();
+        self.core.lose_connection();
         self.holds = false;
     }
 

@@ -44,7 +44,7 @@ fn carry_down_on(
     let newest = ways.len() - 1;
     let read = carry_to_client(core, &mut ways[newest], count);
     if let Err(error) = move_up(core, ways) {
-        core.lost();
+        core.lose_connection();
         return Err(error);
     }
     read

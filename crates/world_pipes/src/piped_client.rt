@@ -172,7 +172,7 @@ impl PipedClient {
         ensures lost { self.new ≡ record self.old { core = gone self.old.core } }
         ensures goes { FollowsLosing self.old self.new }
     {
-        self.core.lost();
+        self.core.lose_connection();
         self.holds = false;
     }
 }

@@ -27,7 +27,7 @@ pub(crate) fn send_up(core: &mut ClientCore, ways: &mut Vec<Way>, holds: &mut bo
     if move_up(core, ways).is_ok() {
         return Sending::Sent;
     }
-    core.lost();
+    core.lose_connection();
     *holds = false;
     Sending::Lost
 }

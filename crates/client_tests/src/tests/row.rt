@@ -148,7 +148,7 @@ pub fn attempt(
     match act {
         Act::Open => open(client),
         Act::Lost => {
-            client.lost();
+            client.lose_connection();
             None
         }
         Act::Disconnect => client.disconnect().err(),
