@@ -11,7 +11,7 @@ use Rattle.world_events.specs.world_pipes.Piped.{Piped}
 use Rattle.world_events.proofs.of_world_pipes.StepsInWorlds.{steps_in_worlds}
 use Rattle.world.specs.declared.connection_slot.ConnectionSlot.{ConnectionSlot}
 use Rattle.world.specs.declared.world.WorldClient.{WorldClient}
-use Rattle.world.specs.SlotsAreValid.{AreHoused, leads, leads_of}
+use Rattle.world.specs.SlotsAreValid.{SlotsAreValid, leads, leads_of}
 use Rattle.world.specs.Inside.Steps.{GoesOn, GoesOnBy}
 use Rattle.world.specs.Inside.Calling.{forgetful}
 use Rattle.world.specs.StandsFor.{Steps, WorldGoes, WorldGoesBy, published_along}
@@ -111,10 +111,10 @@ same_piped old i client piped found same =
 
 -- and connections lead to the same nodes
 pub housed_still : (clients : List WorldClient) (connections : List ConnectionSlot) (i : ℕ) (client : WorldClient) (piped : Piped) → slice_get clients i ≡ Some client →
-    leads piped.ways ≡ leads client.piped.ways → AreHoused (leads_of clients) connections →
-    AreHoused (leads_of (set clients i (record client { piped = piped }))) connections
+    leads piped.ways ≡ leads client.piped.ways → SlotsAreValid (leads_of clients) connections →
+    SlotsAreValid (leads_of (set clients i (record client { piped = piped }))) connections
 housed_still clients connections i client piped found same housed =
-    subst (λ all. AreHoused all connections) (sym (housed_set clients i client (record client { piped = piped }) found same)) housed
+    subst (λ all. SlotsAreValid all connections) (sym (housed_set clients i client (record client { piped = piped }) found same)) housed
 
 -- a client that loses its connection
 pub losing_goes : (old new : Piped) → FollowsLosing old new → FollowsAll old new

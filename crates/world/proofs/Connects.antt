@@ -22,7 +22,7 @@ use Rattle.world_events.specs.world_pipes.declared.way.Way.{Way}
 use Rattle.world_events.specs.world_pipes.Following.{ConnectingFollows}
 use Rattle.world_events.specs.world_pipes.StandsFor.{AreWays}
 use Rattle.world.specs.declared.world.WorldClient.{WorldClient}
-use Rattle.world.specs.SlotsAreValid.{AreHoused, leads, leads_of}
+use Rattle.world.specs.SlotsAreValid.{SlotsAreValid, leads, leads_of}
 use Rattle.world.specs.Inside.Connecting.{ConnectsAt, IsKnown}
 use Rattle.world.specs.StandsFor.{ClientsStand, GoesTo, WorldGoes}
 use Rattle.world.specs.StandsFor.Steps.{rests, goes_on}
@@ -74,7 +74,7 @@ module _ (n bound : ℕ) (port : Port) (beyond : bound < port.0) where
 
 -- ---- the step
 
-pub connects_goes : (i node : ℕ) (old new : WorldState) → AreHoused (leads_of old.clients) old.connections → ConnectsAt i node old new → WorldGoes old new
+pub connects_goes : (i node : ℕ) (old new : WorldState) → SlotsAreValid (leads_of old.clients) old.connections → ConnectsAt i node old new → WorldGoes old new
 connects_goes i node old new housed one nodes config cs m trail s = by node refl
   where
     number : ℕ

@@ -15,7 +15,7 @@ use Rattle.world_events.specs.world_pipes.Piped.{Piped}
 use Rattle.world.specs.declared.connection_slot.ConnectionSlot.{ConnectionSlot}
 use Rattle.world.specs.declared.world.WorldClient.{WorldClient}
 use Rattle.world.specs.Goes.{NodesGoOn}
-use Rattle.world.specs.SlotsAreValid.{AreHoused, leads, leads_of}
+use Rattle.world.specs.SlotsAreValid.{SlotsAreValid, leads, leads_of}
 use Rattle.world.specs.Found.{port_of, with_down, with_less}
 use Rattle.world.specs.Inside.Carrying.{CanTake, CannotTake, CannotTakeOn, TakesUp, TakesUpOnWhere, TakesUpWhere}
 use Rattle.world.specs.Inside.Steps.{GoesOn}
@@ -63,7 +63,7 @@ hands old number place client way is_open new later owned stands puts = by (puts
           same_client old place.client client new later owned (is ∙ same_bytes bytes p.1) ∙ ap (λ (n : NodesState). let w : WorldState = record old { nodes = n } in w) p.0,
         )
 
-pub hands_on : (old : WorldState) (number : ℕ) (place : ConnectionSlot) (client : WorldClient) (new : NodesState) (later : Piped) → AreHoused (leads_of old.clients) old.connections
+pub hands_on : (old : WorldState) (number : ℕ) (place : ConnectionSlot) (client : WorldClient) (new : NodesState) (later : Piped) → SlotsAreValid (leads_of old.clients) old.connections
     → slice_get old.connections (number - 1) ≡ Some place → 0 < number → slice_get old.clients place.client ≡ Some client → NodesGoOn old.nodes new
     → MayPutDown place.at place.node (record { 0 = number }) old.nodes client.piped new later → GoesOn old (put_down place.client client later new old)
 hands_on old number place client new later housed at positive found nodes puts =
@@ -85,7 +85,7 @@ takes_nothing old i client new later found same still = goes_on_rest old (put_do
 
 -- bytes come, or there is no memory for them
 pub takes_on : {E : Type 0} (r : Result Bool E) (old : WorldState) (number count : ℕ) (place : ConnectionSlot) (client : WorldClient) (new : NodesState) (later : Piped)
-    → AreHoused (leads_of old.clients) old.connections → slice_get old.connections (number - 1) ≡ Some place → 0 < number → slice_get old.clients place.client ≡ Some client
+    → SlotsAreValid (leads_of old.clients) old.connections → slice_get old.connections (number - 1) ≡ Some place → 0 < number → slice_get old.clients place.client ≡ Some client
     → NodesGoOn old.nodes new → IfOk r (λ had. TakesUpWhere had place (record { 0 = number }) count old.nodes client.piped new later)
     → OnErr r (new ≡ old.nodes) → OnErr r (later ≡ client.piped) → GoesOn old (put_down place.client client later new old)
 takes_on (Ok true) old number count place client new later housed at positive found nodes took same still =

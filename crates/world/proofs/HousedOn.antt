@@ -6,12 +6,12 @@ use Rattle.escaping_client.proofs.of_lists.Places.{get_pushed, get_set, get_set_
 use Rattle.headline.proofs.of_packet_world.Lists.{same_or_other, set_get}
 use Rattle.headline.specs.world_base.declared.Port.{Port}
 use Rattle.world.specs.declared.connection_slot.ConnectionSlot.{ConnectionSlot}
-use Rattle.world.specs.SlotsAreValid.{AreHoused, LeadsThere}
+use Rattle.world.specs.SlotsAreValid.{SlotsAreValid, LeadsThere}
 
 -- ---- an end is open, or closed
 
-pub housed_mark : (all : List (List (ℕ × Port))) (connections : List ConnectionSlot) (n : ℕ) (old : ConnectionSlot) (up : Bool) → slice_get connections n ≡ Some old → AreHoused all connections
-    → AreHoused all (set connections n (record old { is_open = up }))
+pub housed_mark : (all : List (List (ℕ × Port))) (connections : List ConnectionSlot) (n : ℕ) (old : ConnectionSlot) (up : Bool) → slice_get connections n ≡ Some old → SlotsAreValid all connections
+    → SlotsAreValid all (set connections n (record old { is_open = up }))
 housed_mark all connections n old up at h =
     record {
       known = λ k place e. by k place (set_get connections n k old (record old { is_open = up }) place at e);
@@ -43,8 +43,8 @@ front_or_last (z ∷ xs) x y (suc i) e = by (front_or_last xs x y i e)
 
 -- the client at place i has it after those that it had
 pub housed_more : (all : List (List (ℕ × Port))) (connections : List ConnectionSlot) (i : ℕ) (ways : List (ℕ × Port)) (node number : ℕ) (place : ConnectionSlot)
-    → slice_get all i ≡ Some ways → number ≡ suc (length connections) → place.client ≡ i → place.at ≡ length ways → suc node ≡ place.node → AreHoused all connections
-    → AreHoused (set all i (ways ++ (node, record { 0 = number }) ∷ [])) (connections ++ place ∷ [])
+    → slice_get all i ≡ Some ways → number ≡ suc (length connections) → place.client ≡ i → place.at ≡ length ways → suc node ≡ place.node → SlotsAreValid all connections
+    → SlotsAreValid (set all i (ways ++ (node, record { 0 = number }) ∷ [])) (connections ++ place ∷ [])
 housed_more all connections i ways node number place at counted client last numbered h =
     record {
       known = λ n p e. known n p (front_or_last connections place p n e);

@@ -8,7 +8,7 @@ use Rattle.world_events.specs.world_pipes.declared.way.Way.{Way}
 use Rattle.world_events.specs.world_pipes.Piped.{Piped, new_way, sent_up}
 use Rattle.world.specs.declared.connection_slot.ConnectionSlot.{ConnectionSlot}
 use Rattle.world.specs.declared.world.WorldClient.{WorldClient}
-use Rattle.world.specs.SlotsAreValid.{AreHoused, leads, leads_of}
+use Rattle.world.specs.SlotsAreValid.{SlotsAreValid, leads, leads_of}
 use Rattle.world.proofs.HousedOn.{housed_more}
 
 abbrev lead : Way → ℕ × Port
@@ -17,10 +17,10 @@ lead way = (way.node, way.port)
 -- the new one is after those that the client had
 pub housed_opened : (clients : List WorldClient) (connections : List ConnectionSlot) (i : ℕ) (client : WorldClient) (piped : Piped) (node number : ℕ) (place : ConnectionSlot) (core : Core)
     → slice_get clients i ≡ Some client → piped ≡ sent_up core client.piped.ways (new_way node (record { 0 = number })) → number ≡ suc (length connections) → place.client ≡ i
-    → place.at ≡ length client.piped.ways → suc node ≡ place.node → AreHoused (leads_of clients) connections
-    → AreHoused (leads_of (set clients i (record client { piped = piped }))) (connections ++ place ∷ [])
+    → place.at ≡ length client.piped.ways → suc node ≡ place.node → SlotsAreValid (leads_of clients) connections
+    → SlotsAreValid (leads_of (set clients i (record client { piped = piped }))) (connections ++ place ∷ [])
 housed_opened clients connections i client piped node number place core at is counted client_is last numbered h =
-    subst (λ (all : List (List (ℕ × Port))). AreHoused all (connections ++ place ∷ [])) (sym where_now)
+    subst (λ (all : List (List (ℕ × Port))). SlotsAreValid all (connections ++ place ∷ [])) (sym where_now)
     (housed_more (leads_of clients) connections i (leads client.piped.ways) node number place (get_mapped (λ (c : WorldClient). leads c.piped.ways) clients i client at) counted client_is
     (last ∙ sym (length-map client.piped.ways lead)) numbered h)
   where

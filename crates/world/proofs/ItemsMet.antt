@@ -27,7 +27,7 @@ use Rattle.world.specs.Cannot.{CannotHappen, IsClosed, IsNoPart, down_of, is_hel
 use Rattle.world.specs.Doing.{Does, LosesAtClient, receiver_of}
 use Rattle.world.specs.ClientCalls.{HearsThem}
 use Rattle.world.specs.Happening.{Happens, HappensExactly, HappensLosing, Run}
-use Rattle.world.specs.SlotsAreValid.{AreHoused, leads_of}
+use Rattle.world.specs.SlotsAreValid.{SlotsAreValid, leads_of}
 use Rattle.world.specs.Quiet.{TakesNoMemory}
 use Rattle.world.specs.Inside.Carrying.{CanTake, CannotHear, CannotTakeOn, HearsOn, TakesUpOn}
 use Rattle.world.specs.Inside.Steps.{IsCounted, IsDone, Meets}
@@ -209,7 +209,7 @@ lost_up number place count old mid new at positive up (same, client, owned, t) f
     can (inl closed) = not_closed number old place at positive up t.runs closed
     can (inr few) = no_part count t.way.up t.some t.part (subst (λ (o : Option Way). IsNoPart count (up_of o)) (way_found number old c) few)
 
-pub carries_nothing : (number : ℕ) (place : ConnectionSlot) (count : ℕ) (old : WorldState) → AreHoused (leads_of old.clients) old.connections → slice_get old.connections (number - 1) ≡ Some place → 0 < number
+pub carries_nothing : (number : ℕ) (place : ConnectionSlot) (count : ℕ) (old : WorldState) → SlotsAreValid (leads_of old.clients) old.connections → slice_get old.connections (number - 1) ≡ Some place → 0 < number
     → CannotTakeOn place count old → CannotHappen (events.CarryUp number count) old
 carries_nothing number place count old housed at positive cannot = by (cannot c.client c.owned c.way c.stands)
   where
@@ -225,7 +225,7 @@ carries_nothing number place count old housed at positive cannot = by (cannot c.
 held_there : (number : ℕ) (w : WorldState) (c : Connected number w) → is_held (slot_numbered number w.connections) w.clients ≡ (is_holding c.client.piped && (suc c.slot.at == length c.client.piped.ways))
 held_there number w c = ap (λ (o : Option ConnectionSlot). is_held o w.clients) c.numbered ∙ ap (λ (o : Option WorldClient). is_held_by o c.slot.at) c.owned
 
-pub carries_down : (number : ℕ) (place : ConnectionSlot) (count : ℕ) (had : Bool) (old : WorldState) (client : WorldClient) (piped : Piped) → AreHoused (leads_of old.clients) old.connections
+pub carries_down : (number : ℕ) (place : ConnectionSlot) (count : ℕ) (had : Bool) (old : WorldState) (client : WorldClient) (piped : Piped) → SlotsAreValid (leads_of old.clients) old.connections
     → slice_get old.connections (number - 1) ≡ Some place → 0 < number → slice_get old.clients place.client ≡ Some client → HearsOn had place.at count client.piped piped
     → (CannotHappen (events.CarryDown number count) old → ⊥) × Does had (events.CarryDown number count) old (with_piped place.client client piped old)
     × (had ≡ false → LosesAtClient (events.CarryDown number count) old (with_piped place.client client piped old))
@@ -253,7 +253,7 @@ carries_down number place count had old client piped housed at positive owned he
     can (inl other) = both_ways _ (sym (held_there number old c) ∙ other) hears.held
     can (inr few) = hears.some c.way c.stands (subst (λ (o : Option Way). IsNoPart count (down_of o)) (way_found number old c) few)
 
-pub hears_nothing : (number : ℕ) (place : ConnectionSlot) (count : ℕ) (old : WorldState) (client : WorldClient) → AreHoused (leads_of old.clients) old.connections → slice_get old.connections (number - 1) ≡ Some place
+pub hears_nothing : (number : ℕ) (place : ConnectionSlot) (count : ℕ) (old : WorldState) (client : WorldClient) → SlotsAreValid (leads_of old.clients) old.connections → slice_get old.connections (number - 1) ≡ Some place
     → 0 < number → slice_get old.clients place.client ≡ Some client → CannotHear place.at count client.piped → CannotHappen (events.CarryDown number count) old
 hears_nothing number place count old client housed at positive owned cannot =
     by (subst (λ (k : WorldClient). CannotHear place.at count k.piped) (same_Some client c.client (sym owned ∙ c.owned)) cannot c.way c.stands)
@@ -273,7 +273,7 @@ does_less : (number count : ℕ) (old new : WorldState) → Does true (events.Ca
 does_less number count old new d = (d.0, d.1, hears_less count d.0.client.piped d.1 d.2, d.3)
 
 -- running out of memory is counted
-pub heard_meets : (number : ℕ) (place : ConnectionSlot) (count : ℕ) (had : Bool) (old : WorldState) (client : WorldClient) (piped : Piped) (new : WorldState) → AreHoused (leads_of old.clients) old.connections
+pub heard_meets : (number : ℕ) (place : ConnectionSlot) (count : ℕ) (had : Bool) (old : WorldState) (client : WorldClient) (piped : Piped) (new : WorldState) → SlotsAreValid (leads_of old.clients) old.connections
     → slice_get old.connections (number - 1) ≡ Some place → 0 < number → slice_get old.clients place.client ≡ Some client → HearsOn had place.at count client.piped piped
     → new ≡ (if had then with_piped place.client client piped old else forgetful (with_piped place.client client piped old))
     → IsDone (events.CarryDown number count) old new ⊎ HappensLosing (events.CarryDown number count) old new

@@ -7,7 +7,7 @@ use Rattle.headline.proofs.of_node_group.Placed.{get_mapped}
 use Rattle.world_events.specs.world_pipes.declared.way.Way.{Way}
 use Rattle.world.specs.declared.connection_slot.ConnectionSlot.{ConnectionSlot}
 use Rattle.world.specs.declared.world.WorldClient.{WorldClient}
-use Rattle.world.specs.SlotsAreValid.{AreHoused, LeadsThere, leads, leads_of}
+use Rattle.world.specs.SlotsAreValid.{SlotsAreValid, LeadsThere, leads, leads_of}
 use Rattle.world.proofs.Turned.{mapped_from, set_itself}
 
 abbrev leads_in : WorldClient → List (ℕ × Port)
@@ -24,9 +24,9 @@ housed_set clients i old new at same =
     ∙ set_itself (leads_of clients) i (leads old.piped.ways) (get_mapped leads_in clients i old at)
 
 pub housed_client : (clients : List WorldClient) (connections : List ConnectionSlot) (i : ℕ) (old new : WorldClient) → slice_get clients i ≡ Some old
-    → leads new.piped.ways ≡ leads old.piped.ways → AreHoused (leads_of clients) connections → AreHoused (leads_of (set clients i new)) connections
+    → leads new.piped.ways ≡ leads old.piped.ways → SlotsAreValid (leads_of clients) connections → SlotsAreValid (leads_of (set clients i new)) connections
 housed_client clients connections i old new at same h =
-    subst (λ (all : List (List (ℕ × Port))). AreHoused all connections) (sym (housed_set clients i old new at same)) h
+    subst (λ (all : List (List (ℕ × Port))). SlotsAreValid all connections) (sym (housed_set clients i old new at same)) h
 
 -- a connection changes, and leads to the same node
 pub leads_set : (ways : List Way) (i : ℕ) (old new : Way) → slice_get ways i ≡ Some old → lead new ≡ lead old → leads (set ways i new) ≡ leads ways
@@ -54,7 +54,7 @@ led clients number place client there at =
     }
 
 -- the place of the connection of a number
-pub led_there : (all : List (List (ℕ × Port))) (connections : List ConnectionSlot) (number : ℕ) (place : ConnectionSlot) → AreHoused all connections
+pub led_there : (all : List (List (ℕ × Port))) (connections : List ConnectionSlot) (number : ℕ) (place : ConnectionSlot) → SlotsAreValid all connections
     → slice_get connections (number - 1) ≡ Some place → 0 < number → LeadsThere all number place
 led_there all connections number place h at positive =
     subst (λ (k : ℕ). LeadsThere all k place) (let e : suc (number - 1) ≡ number = omega (arith, positive) in e) (h.known (number - 1) place at)

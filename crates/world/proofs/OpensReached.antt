@@ -16,7 +16,7 @@ use Rattle.world_events.specs.world_pipes.declared.way.Way.{Way}
 use Rattle.world_events.specs.world_pipes.StandsFor.{StandsFor as ClientStands}
 use Rattle.world.specs.declared.world.WorldClient.{WorldClient}
 use Rattle.world.specs.Happening.{new_world_client}
-use Rattle.world.specs.SlotsAreValid.{AreHoused, leads, leads_of}
+use Rattle.world.specs.SlotsAreValid.{SlotsAreValid, leads, leads_of}
 use Rattle.world.specs.StandsFor.{ClientsStand, IsReached, StandsFor, asked_on, identifiers}
 use Rattle.world.specs.World.{WorldState}
 use Rattle.world.proofs.ClientsStand.{client_at}
@@ -49,7 +49,7 @@ made_more made later ids i one id below is stands named new pushed are =
     ))
 
 -- none of them has a connection
-pub housed_none : (clients : List WorldClient) (ids : List Client) → ClientsStand clients (map new_client ids) → AreHoused (leads_of clients) []
+pub housed_none : (clients : List WorldClient) (ids : List Client) → ClientsStand clients (map new_client ids) → SlotsAreValid (leads_of clients) []
 housed_none clients ids all =
     record {
       known = λ n place e. absurd (none-some place e);

@@ -21,7 +21,7 @@ use Rattle.world.specs.declared.world.WorldClient.{WorldClient}
 use Rattle.world.specs.Found.{slot_numbered, port_of, with_down}
 use Rattle.world.specs.Gathering.{AskedWhere, Gathers, GathersAmong, Gives, IsAsked, is_open_at, is_told_open, put_out}
 use Rattle.world.specs.Goes.{NodesGo}
-use Rattle.world.specs.SlotsAreValid.{AreHoused, leads_of}
+use Rattle.world.specs.SlotsAreValid.{SlotsAreValid, leads_of}
 use Rattle.world.specs.Inside.Handing.{MayHandDown, MayPutDown}
 use Rattle.world.specs.StandsFor.{WorldGoes}
 use Rattle.world.specs.World.{WorldState}
@@ -42,7 +42,7 @@ seen_of client = (client.name, client.piped.core)
 pub record Passes (ks : List ℕ) (old new : WorldState) : Type 0 where
   pub nodes : NodesGo old.nodes new.nodes
   pub world : WorldGoes old new
-  pub housed : AreHoused (leads_of new.clients) new.connections
+  pub housed : SlotsAreValid (leads_of new.clients) new.connections
   pub clients : map seen_of new.clients ≡ map seen_of old.clients
   pub many : length new.connections ≡ length old.connections
   pub come : Come old.nodes ks new.nodes
@@ -53,7 +53,7 @@ come_join (comes_to_node k at node message came there going more) two = comes_to
 come_join (comes_to_master k from ballot came more) two = comes_to_master k from ballot came (come_join more two)
 come_join (hands at node port there more) two = hands at node port there (come_join more two)
 
-pub passes_rest : (w : WorldState) → AreHoused (leads_of w.clients) w.connections → Passes [] w w
+pub passes_rest : (w : WorldState) → SlotsAreValid (leads_of w.clients) w.connections → Passes [] w w
 passes_rest w housed =
     record {
       nodes = staying_goes w.nodes w.nodes (λ g s. s);
@@ -105,7 +105,7 @@ at_number zero connections place positive e = absurd (omega (arith, positive))
 at_number (suc n) connections place positive e =
     sym (ap (λ (b : Bool). if b then None else slice_get connections (suc n - 1)) (ne_eqb (suc n) 0 (λ z. cc))) ∙ e
 
-module _ (number : ℕ) (old new : WorldState) (a : IsAsked number old new) (housed : AreHoused (leads_of old.clients) old.connections) (positive : 0 < number) where
+module _ (number : ℕ) (old new : WorldState) (a : IsAsked number old new) (housed : SlotsAreValid (leads_of old.clients) old.connections) (positive : 0 < number) where
   abbrev place : ConnectionSlot
   place = a.c.slot
 
@@ -154,16 +154,16 @@ module _ (number : ℕ) (old new : WorldState) (a : IsAsked number old new) (hou
 
 -- ---- the connections of a node
 
-pub where_passes : (b : Bool) (number : ℕ) (old new : WorldState) → AskedWhere true b number old new → AreHoused (leads_of old.clients) old.connections → 0 < number → Passes [] old new
+pub where_passes : (b : Bool) (number : ℕ) (old new : WorldState) → AskedWhere true b number old new → SlotsAreValid (leads_of old.clients) old.connections → 0 < number → Passes [] old new
 where_passes true number old new a housed positive = asked_passes number old new a housed positive
 where_passes false number old new is housed positive = subst (Passes [] old) (sym is) (passes_rest old housed)
 
-pub among_passes : (count node : ℕ) (old new : WorldState) → GathersAmong true count node old new → AreHoused (leads_of old.clients) old.connections → Passes [] old new
+pub among_passes : (count node : ℕ) (old new : WorldState) → GathersAmong true count node old new → SlotsAreValid (leads_of old.clients) old.connections → Passes [] old new
 among_passes zero node old new is housed = subst (Passes [] old) (sym is) (passes_rest old housed)
 among_passes (suc before) node old new g housed =
     let one = where_passes (is_open_at node (slot_numbered (suc before) old.connections)) (suc before) old g.0 g.1 housed (omega arith) in
     passes_join [] [] old g.0 new one (among_passes before node g.0 new g.2 one.housed)
 
-pub gathers_passes : (node : ℕ) (old new : WorldState) → Gathers true node old new → AreHoused (leads_of old.clients) old.connections → Passes [] old new
+pub gathers_passes : (node : ℕ) (old new : WorldState) → Gathers true node old new → SlotsAreValid (leads_of old.clients) old.connections → Passes [] old new
 gathers_passes zero old new is housed = subst (Passes [] old) (sym is) (passes_rest old housed)
 gathers_passes (suc at) old new g housed = among_passes (length old.connections) (suc at) old new g housed

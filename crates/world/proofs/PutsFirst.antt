@@ -28,7 +28,7 @@ use Rattle.world.specs.Found.{is_named, port_of}
 use Rattle.world.specs.Gathering.{Gathers, is_told_open, put_out}
 use Rattle.world.specs.Goes.{LosesNothing, NodesGo}
 use Rattle.world.specs.Happening.{Run}
-use Rattle.world.specs.SlotsAreValid.{AreHoused, leads_of}
+use Rattle.world.specs.SlotsAreValid.{SlotsAreValid, leads_of}
 use Rattle.world.specs.World.{WorldState}
 use Rattle.world.proofs.DeliversOn.{AtNode, at_node}
 use Rattle.world.proofs.ExactRuns.{first_done}
@@ -65,7 +65,7 @@ master_stays n new (hands at node port there more) = master_stays _ new more
 
 module _ (name : List ℕ) (i at number place : ℕ) (core : Core) (up : List ℕ) (w after : WorldState) (node : CountedCore) (positive : 0 < number)
     (stands : slice_get w.nodes.nodes place ≡ Some node) (puts : PutsOutFirst (port_of number) (spelling session_present) node.core)
-    (gathers : Gathers true (suc place) w after) (housed : AreHoused (leads_of w.clients) w.connections) (s : IsNewest i at number (suc place) core up [] true w)
+    (gathers : Gathers true (suc place) w after) (housed : SlotsAreValid (leads_of w.clients) w.connections) (s : IsNewest i at number (suc place) core up [] true w)
     (first : position (is_named name) w.clients ≡ Some i) where
   passes : Passes [] w after
   passes = gathers_passes (suc place) w after gathers housed

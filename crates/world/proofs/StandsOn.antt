@@ -15,7 +15,7 @@ use Rattle.world.specs.declared.connection_slot.ConnectionSlot.{ConnectionSlot}
 use Rattle.world.specs.declared.world.WorldClient.{WorldClient}
 use Rattle.world.specs.Found.{slot_numbered, port_of, with_down}
 use Rattle.world.specs.Gathering.{AskedWhere, Gathers, GathersAmong, IsAsked, is_open_at, is_told_open, put_out}
-use Rattle.world.specs.SlotsAreValid.{AreHoused, leads_of}
+use Rattle.world.specs.SlotsAreValid.{SlotsAreValid, leads_of}
 use Rattle.world.specs.World.{WorldState}
 use Rattle.world.proofs.LeadsKept.{IsLed, led, led_there}
 use Rattle.world.proofs.PassesOn.{at_number, where_passes}
@@ -98,7 +98,7 @@ module _ (i at number node : ℕ) (core : Core) (up down : List ℕ) (is_open : 
 
   -- ---- another is asked
 
-  pub asked_another : (other : ℕ) → 0 < number → 0 < other → (other ≡ number → ⊥) → AreHoused (leads_of old.clients) old.connections → IsAsked other old new →
+  pub asked_another : (other : ℕ) → 0 < number → 0 < other → (other ≡ number → ⊥) → SlotsAreValid (leads_of old.clients) old.connections → IsAsked other old new →
       IsNewest i at number node core up down is_open new
   asked_another other positive some apart housed a = by (same_or_other i a.c.slot.client)
     where
@@ -177,7 +177,7 @@ module _ (i at number node : ℕ) (core : Core) (up down : List ℕ) (is_open : 
 module _ (i at number node : ℕ) (core : Core) (up : List ℕ) (positive : 0 < number) where
   -- those before it
   pub older_asked : (count to : ℕ) (down : List ℕ) (is_open : Bool) (old new : WorldState) → GathersAmong true count to old new → count < number →
-      AreHoused (leads_of old.clients) old.connections → IsNewest i at number node core up down is_open old → IsNewest i at number node core up down is_open new
+      SlotsAreValid (leads_of old.clients) old.connections → IsNewest i at number node core up down is_open old → IsNewest i at number node core up down is_open new
   older_asked zero to down is_open old new is low housed s = subst (IsNewest i at number node core up down is_open) (sym is) s
   older_asked (suc before) to down is_open old new g low housed s =
       older_asked before to down is_open g.0 new g.2 (omega (arith, low))
@@ -194,7 +194,7 @@ module _ (i at number node : ℕ) (core : Core) (up : List ℕ) (positive : 0 < 
 
   -- all of another node
   pub elsewhere_gathered : (to : ℕ) (down : List ℕ) (is_open : Bool) (old new : WorldState) → (node ≡ to → ⊥) → Gathers true to old new →
-      AreHoused (leads_of old.clients) old.connections → IsNewest i at number node core up down is_open old → IsNewest i at number node core up down is_open new
+      SlotsAreValid (leads_of old.clients) old.connections → IsNewest i at number node core up down is_open old → IsNewest i at number node core up down is_open new
   elsewhere_gathered zero down is_open old new apart is housed s = subst (IsNewest i at number node core up down is_open) (sym is) s
   elsewhere_gathered (suc to) down is_open old new apart g housed s = by number refl (subst (λ (k : ℕ). GathersAmong true k (suc to) old new) s.last g)
     where
@@ -208,11 +208,11 @@ module _ (i at number node : ℕ) (core : Core) (up : List ℕ) (positive : 0 < 
           ap (λ (j : ℕ). is_open_at (suc to) (slot_numbered j old.connections)) e
           ∙ asks (suc to) is_open false down old s (ap (λ (b : Bool). b && is_open) (ne_eqb node (suc to) apart)) in
           let still : h.0 ≡ old = subst (λ (b : Bool). AskedWhere true b (suc k) old h.0) shut h.1 in
-          older_asked k (suc to) down is_open h.0 new h.2 (omega (arith, e)) (subst (λ (w : WorldState). AreHoused (leads_of w.clients) w.connections) (sym still) housed)
+          older_asked k (suc to) down is_open h.0 new h.2 (omega (arith, e)) (subst (λ (w : WorldState). SlotsAreValid (leads_of w.clients) w.connections) (sym still) housed)
           (subst (IsNewest i at number node core up down is_open) (sym still) s)
 
   -- all of its own
-  pub own_gathered : (down : List ℕ) (old new : WorldState) → 0 < node → Gathers true node old new → AreHoused (leads_of old.clients) old.connections →
+  pub own_gathered : (down : List ℕ) (old new : WorldState) → 0 < node → Gathers true node old new → SlotsAreValid (leads_of old.clients) old.connections →
       IsNewest i at number node core up down true old →
       IsNewest i at number node core up (down ++ put_out (port_of number) (node_of old.nodes.nodes node)) (is_told_open (port_of number) (node_of old.nodes.nodes node)) new
   own_gathered down old new some g housed s = by number refl (among node some g)

@@ -8,7 +8,7 @@ use Rattle.std.proofs.lemmas.Option.{slice_get_within}
 use Rattle.world.specs.declared.connection_slot.ConnectionSlot.{ConnectionSlot}
 use Rattle.world.specs.declared.world.WorldClient.{WorldClient}
 use Rattle.world.specs.Found.{Connected, core_at, core_named, core_of, is_named, slot_numbered, way_at, way_in, way_of}
-use Rattle.world.specs.SlotsAreValid.{AreHoused, leads, leads_of}
+use Rattle.world.specs.SlotsAreValid.{SlotsAreValid, leads, leads_of}
 use Rattle.world.specs.World.{WorldState}
 use Rattle.world.proofs.LeadsKept.{led, led_there}
 use Rattle.world.proofs.Turned.{mapped_from}
@@ -19,7 +19,7 @@ pub numbered_at : (number : ℕ) (connections : List ConnectionSlot) (o : Option
 numbered_at zero connections o positive e = absurd (omega (arith, positive))
 numbered_at (suc n) connections o positive e = ap (λ (b : Bool). if b then None else slice_get connections (suc n - 1)) (ne_eqb (suc n) 0 (λ z. cc)) ∙ e
 
-abbrev pub connected : (w : WorldState) (number : ℕ) (place : ConnectionSlot) → AreHoused (leads_of w.clients) w.connections → slice_get w.connections (number - 1) ≡ Some place → 0 < number → Connected number w
+abbrev pub connected : (w : WorldState) (number : ℕ) (place : ConnectionSlot) → SlotsAreValid (leads_of w.clients) w.connections → slice_get w.connections (number - 1) ≡ Some place → 0 < number → Connected number w
 connected w number place housed at positive =
     let there = led_there (leads_of w.clients) w.connections number place housed at positive in
     let client = mapped_from (λ (c : WorldClient). leads c.piped.ways) w.clients place.client there.ways there.client in
@@ -37,7 +37,7 @@ pub way_found : (number : ℕ) (w : WorldState) (c : Connected number w) → way
 way_found number w c = ap (λ (o : Option ConnectionSlot). way_at o w.clients) c.numbered ∙ ap (λ (o : Option WorldClient). way_in o c.slot.at) c.owned ∙ c.stands
 
 -- its places are within the lists
-pub client_within : (clients : List WorldClient) (connections : List ConnectionSlot) (number : ℕ) (place : ConnectionSlot) → AreHoused (leads_of clients) connections → slice_get connections (number - 1) ≡ Some place
+pub client_within : (clients : List WorldClient) (connections : List ConnectionSlot) (number : ℕ) (place : ConnectionSlot) → SlotsAreValid (leads_of clients) connections → slice_get connections (number - 1) ≡ Some place
     → 0 < number → place.client < length clients
 client_within clients connections number place housed at positive =
     let there = led_there (leads_of clients) connections number place housed at positive in
@@ -45,7 +45,7 @@ client_within clients connections number place housed at positive =
     let same = length-map clients (λ (c : WorldClient). leads c.piped.ways) in
     omega (arith, below, same)
 
-pub way_within : (clients : List WorldClient) (connections : List ConnectionSlot) (number : ℕ) (place : ConnectionSlot) (client : WorldClient) → AreHoused (leads_of clients) connections
+pub way_within : (clients : List WorldClient) (connections : List ConnectionSlot) (number : ℕ) (place : ConnectionSlot) (client : WorldClient) → SlotsAreValid (leads_of clients) connections
     → slice_get connections (number - 1) ≡ Some place → 0 < number → slice_get clients place.client ≡ Some client → place.at < length client.piped.ways
 way_within clients connections number place client housed at positive owned =
     let way = led clients number place client (led_there (leads_of clients) connections number place housed at positive) owned in

@@ -24,7 +24,7 @@ pub record LeadsThere (all : List (List (ℕ × Port))) (number : ℕ)
   pub numbered : suc node ≡ slot.node
 
 -- each slot leads to its client's connection, and each port that was used has a slot
-pub record AreHoused (all : List (List (ℕ × Port)))
+pub record SlotsAreValid (all : List (List (ℕ × Port)))
     (connections : List ConnectionSlot) : Type 0 where
   -- connection n + 1 is at index n
   pub known : (n : ℕ) (slot : ConnectionSlot) → slice_get connections n ≡ Some slot →
