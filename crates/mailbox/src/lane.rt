@@ -1,6 +1,6 @@
 // One sender's end of an inbox.
 
-ghost use Rattle.std.specs.Prelude.{◌≡◌, ◌⊎◌, ◌-◌, ◌^◌, ◌++◌, ◌∷◌, [], length, OnOk, OnErr, IfErr};
+ghost use Rattle.std.specs.Prelude.{◌≡◌, ◌⊎◌, ◌-◌, ◌++◌, ◌∷◌, [], length, OnOk, OnErr, IfErr};
 ghost use Rattle.mailbox.specs.Ends.{Sender, WasFull, IsFullByReceipt, IsSpent};
 ghost use Rattle.mailbox.specs.Delivery.{nothing};
 
@@ -96,7 +96,7 @@ impl<T: Drop, J: Naming> Lane<T, J> {
           bounds = record receipt.bounds {
             lane = self.lane;
             sent = length self.sent;
-            most = receipt.bounds.most - (2 ^ 55 - length self.sent);
+            most = receipt.bounds.most - (MAX_SENT - length self.sent);
           };
         } }
     {

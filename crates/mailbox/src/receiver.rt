@@ -1,9 +1,10 @@
 // The receiving end of an inbox.
 
-ghost use Rattle.std.specs.Prelude.{◌≡◌, ◌++◌, ◌∷◌, [], ◌<◌, ◌≤◌, length, take, ◌*◌, ◌^◌, IfSome, IfNone, IfOk, OnOk, All, EachIndex, IsTrue, ◌↔◌, map, slice_index, vec_capacity};
+ghost use Rattle.std.specs.Prelude.{◌≡◌, ◌++◌, ◌∷◌, [], ◌<◌, ◌≤◌, length, take, ◌*◌, IfSome, IfNone, IfOk, OnOk, All, EachIndex, IsTrue, ◌↔◌, map, slice_index, vec_capacity};
 ghost use Rattle.mailbox.specs.Delivery.{items_of, nothing};
 ghost use Rattle.mailbox.specs.Ends.{Taker, Sender, WasEmpty, HasArrived, AreAllLanes, ArrivesWhole, unmet};
 ghost use Rattle.mailbox.specs.Kept.{TakesMore, IsDrained};
+ghost use Rattle.mailbox.specs.declared.lane.TheConstants.{MAX_SENT};
 
 use crate::inbox::MAX_ITEMS;
 use crate::lane::Lane;
@@ -100,13 +101,13 @@ impl<T: Drop, J: Naming> Receiver<T, J> {
     }
 
     /// Returns a receipt of how many items were taken so far, and that each lane sends at most
-    /// 2^55.
+    /// [`crate::MAX_SENT`].
     pub fn receipt(&mut self) -> Receipt<T, J>
         ensures says { result ≡ record {
           inbox = self.old.inbox;
           bounds = record nothing {
             taken = length self.old.taken;
-            most = self.old.lanes * 2 ^ 55;
+            most = self.old.lanes * MAX_SENT;
           };
         } }
         ensures same { self.new ≡ self.old }

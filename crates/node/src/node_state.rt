@@ -1,8 +1,9 @@
 // A node with its inbox.
 
-ghost use Rattle.std.specs.Prelude.{◌≡◌, ◌≤◌, ◌++◌, ◌*◌, ◌^◌, ◌↔◌, [], length, map, slice_index, take, true, false, All, EachIndex, IfOk, IsTrue, OnErr, OnOk};
+ghost use Rattle.std.specs.Prelude.{◌≡◌, ◌≤◌, ◌++◌, ◌*◌, ◌↔◌, [], length, map, slice_index, take, true, false, All, EachIndex, IfOk, IsTrue, OnErr, OnOk};
 ghost use Rattle.mailbox.specs.Delivery.{items_of, nothing};
 ghost use Rattle.mailbox.specs.Ends.{AreAllLanes, ArrivesWhole, HasArrived, WasEmpty, unmet};
+ghost use Rattle.mailbox.specs.declared.lane.TheConstants.{MAX_SENT};
 ghost use Rattle.world_base.specs.Replica.{status_of};
 ghost use Rattle.world_base.specs.lists.Lists.{IsPrefixOf};
 ghost use Rattle.world_base.specs.Stands.{standing_of};
@@ -86,13 +87,13 @@ impl<J: NodeNaming> NodeState<J> {
     }
 
     /// Returns a receipt of how many items it has taken so far, and that each lane sends at most
-    /// 2^55.
+    /// [`mailbox::MAX_SENT`].
     pub fn receipt(&mut self) -> Receipt<Item, J>
         ensures says { result ≡ record {
           inbox = self.old.taker.inbox;
           bounds = record nothing {
             taken = length self.old.taker.taken;
-            most = self.old.taker.lanes * 2 ^ 55;
+            most = self.old.taker.lanes * MAX_SENT;
           };
         } }
         ensures same { self.new ≡ self.old }
