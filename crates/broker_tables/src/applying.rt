@@ -8,8 +8,8 @@ use broker_session::broker_spec::{Command, Output};
 use broker_session::machine::Halted;
 
 impl Tables {
-    /// Applies one command, and appends its outputs. `Halted` says that memory ran out: the tables may
-    /// then be half changed, and are not used again.
+    /// Applies one command, and appends its outputs. `Halted` says that memory ran out: the tables
+    /// may then be half changed, and are not used again.
     pub fn apply(&mut self, command: &Command, out: &mut Vec<Output>) -> Result<(), Halted>
         requires { IsConsistent self.old }
         ensures state { OnOk result (state_in self.new ≡ (stepped self.old command.now).0) }

@@ -15,8 +15,8 @@ use broker_session::packet::{ClientId, Packet};
 use std::alloc::AllocError;
 
 impl Tables {
-    /// Handles a packet that arrived on a connection. On a connection that is no client's current one
-    /// it does nothing.
+    /// Handles a packet that arrived on a connection. On a connection that is no client's current
+    /// one it does nothing.
     pub(crate) fn handle_packet(
         &mut self,
         connection: ConnectionName,

@@ -21,8 +21,8 @@ use broker_session::{grant_all, send_all};
 use std::alloc::{AllocError, Global};
 
 impl Tables {
-    /// Handles a SUBSCRIBE of the client that is served on this connection. Each filter is granted or
-    /// not, SUBACK says which, and what is retained of those that are is sent after it.
+    /// Handles a SUBSCRIBE of the client that is served on this connection. Each filter is granted
+    /// or not, SUBACK says which, and what is retained of those that are is sent after it.
     pub(crate) fn subscribe(
         &mut self,
         connection: ConnectionName,

@@ -39,8 +39,8 @@ pub trait Machine: Drop {
     fn start(ballot: u64) -> Self::Command
         ensures { result ≡ rules.start_of ballot };
 
-    /// Applies one command and appends its outputs to `out`. [`Halted`] comes only if memory ran out:
-    /// `out` is then as before, and the machine is not used again.
+    /// Applies one command and appends its outputs to `out`. [`Halted`] comes only if memory ran
+    /// out: `out` is then as before, and the machine is not used again.
     fn apply(&mut self, command: &Self::Command, out: &mut Vec<Self::Output>) -> Result<(), Halted>
         ensures state { OnOk result (self.new ≡ rules.after self.old command.now) }
         ensures outputs { OnOk result
