@@ -22,7 +22,7 @@ AreInOrder segments =
 
 -- the outputs that left are the machine's answers at segments of a list, each output in a ballot
 -- that was active. No two share a place, and as long as only one ballot was active the places rise
--- as they left. The primary of an earlier ballot may output late what it had not yet output
+-- as they left. The primary of an earlier ballot may output late what it had not yet output.
 pub record LeftInOrder {S C O : Type 0} (rules : Rules S C O) (past : List (Moment S C O))
     (w : World S C O) (xs : List C) : Type 0 where
   pub segments : List Segment

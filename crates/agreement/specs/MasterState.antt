@@ -35,7 +35,7 @@ activating m ballot (Some (waiting, config)) =
     then record m { active = ballot; members = config.members; waiting = None }
     else m
 
--- whether a ballot is active then: it waited, or was active before. Any other was superseded
+-- whether a ballot is active then: it waited, or was active before. Any other was superseded.
 abbrev pub is_granted : MasterState → ℕ → Option (ℕ × Config) → Bool
 is_granted m ballot None = ballot == m.active
 is_granted m ballot (Some (waiting, config)) =
@@ -70,7 +70,7 @@ abbrev pub max_ballot : ℕ
 max_ballot = 2 ^ 32
 
 -- members that no ballot may have are refused, and after the last ballot any configuration; the
--- members are tested first. Which nodes there are the master does not know
+-- members are tested first. Which nodes there are the master does not know.
 abbrev pub refusal : MasterState → Config → Option AssignRefusal
 refusal m config =
     if is_lawful config.members config.primary

@@ -23,8 +23,8 @@ opening_moment rules nodes config =
     record { master = opening_master config; world = opening_world rules nodes config }
 
 -- A node that is no active primary applies places of its log that some node had applied at an
--- earlier moment, and has no output for them. That node had joined no higher ballot then than this
--- one now. A replica that takes over a snapshot in place of these commands does so
+-- earlier moment, and has no output for them. At that moment the other node was in no higher ballot
+-- than this node is in now. To take over a snapshot in place of the commands is such a step.
 pub record Learns {S C O : Type 0} (rules : Rules S C O) (past : List (Moment S C O))
     (a b : Moment S C O) : Type 0 where
   pub node : ℕ
@@ -85,7 +85,7 @@ ToldLength w member ballot held =
 -- node n + 1 has acknowledged a list in a ballot: the primary by holding it as its log there,
 -- another member by a message with its length, from a log of which it is a prefix. While a node
 -- holds its log in one ballot the log only grows, so it had that prefix already when the message
--- was sent
+-- was sent.
 pub data HasTold {S C O : Type 0} (config : Config) (past : List (Moment S C O)) (ballot n : ℕ)
     (xs : List C) : Type 0 where
   -- the primary holds the list as its log

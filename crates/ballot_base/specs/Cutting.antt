@@ -8,7 +8,7 @@ abbrev pub can_cut : {S C : Type 0} → ReplicaState S C → Bool
 can_cut r = not r.stopped && nat_lt r.log.base r.committed
 
 -- the snapshot is the frozen machine, and the places below what is applied are dropped. Nothing is
--- sent
+-- sent.
 abbrev pub cut : {S C O : Type 0} → Rules S C O → ReplicaState S C → ReplicaState S C
 cut rules r =
     record r {

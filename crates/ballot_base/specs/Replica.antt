@@ -10,7 +10,7 @@ use Rattle.ballot_base.specs.declared.status.Status.{Status}
 use Rattle.std.specs.List.{list_any}
 
 -- what one node keeps: its log, and a machine that has applied some places. In a group the machine
--- is the replay of the first `committed` places; a replica outside a group may be sent any log
+-- is the replay of the first `committed` places; a replica outside a group may be sent any log.
 pub record ReplicaState (S C : Type 0) : Type 0 where
   pub id : ℕ
   -- the ballot that it joined, and the one in which its log was last installed; 0 before the first

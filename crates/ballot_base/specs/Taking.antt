@@ -9,7 +9,7 @@ abbrev pub with_places : {S C : Type 0} → ReplicaState S C → Log C → Repli
 with_places r log = record r { log = record r.log { rest = drop (r.log.base - log.base) log.rest } }
 
 -- any other log is taken whole. If its base is above what is applied, the machine of the snapshot
--- is taken, and the places below the base count as applied
+-- is taken, and the places below the base count as applied.
 abbrev pub with_snapshot : {S C : Type 0} → ReplicaState S C → Log C → S → ReplicaState S C
 with_snapshot r log machine =
     record r {

@@ -22,7 +22,7 @@ abbrev pub answers : State → Command → List Output
 answers state command = (step usual_limits wide_window state command).1
 
 -- the rules of the broker's machine: it begins with the wide window, then goes step by step, and
--- is frozen to form 2; `packet_world`, which uses no code, has the same rules under this name
+-- is frozen to form 2. A model that uses no code has the same rules under this name.
 abbrev pub broker_rules : Rules State Command Output
 broker_rules =
     record {

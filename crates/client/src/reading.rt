@@ -15,10 +15,10 @@ impl ClientCore {
     /// Takes the next bytes from the server, in pieces of any size, and handles each whole packet.
     /// `NotActive` comes if there is no connection, and nothing changes, or if the server refused
     /// the connection; `Protocol` for a packet that may not come there; `Malformed` for bytes that
-    /// are no packet; `Memory`. After these the client is as after `lost`, and the effects of
-    /// earlier packets remain. `SessionLost` comes if the server has lost the session: what was
-    /// kept is dropped and the connection stays open; what came after that packet is handled by the
-    /// next call.
+    /// are no packet; `Memory`. After these the client is as after `lose_connection`, and the
+    /// effects of earlier packets remain. `SessionLost` comes if the server has lost the session:
+    /// what was kept is dropped and the connection stays open; what came after that packet is
+    /// handled by the next call.
     pub fn on_bytes(&mut self, piece: &[u8]) -> Result<(), ClientError>
         ensures { OnBytes piece.now self.old.state.stage self.old result self.new }
     {

@@ -47,7 +47,7 @@ impl<T: Drop> Model for Inbox<T> {
 }
 
 impl<T: Drop> Inbox<T> {
-    /// Returns an empty inbox with capacity for 1,024 items.
+    /// Returns an empty inbox with capacity for [`MAX_ITEMS`] items.
     pub fn new(alloc: Global) -> Result<Self, AllocError>
         ensures { IfOk result (λ n. n.slots ≡ max_items) }
     {

@@ -8,7 +8,7 @@ use Rattle.snapshots.specs.Moments.{IsAgreed, Moment, Moments}
 
 -- the past has continued up to a moment in which the nodes agree on the list that is agreed there.
 -- The outputs that left are its answers in order, and what was agreed before is a prefix of it. A
--- log is meant as a whole one, by the record of places, which is a prefix of the agreed list, too
+-- log is meant as a whole one, by the record of places, which is a prefix of the agreed list, too.
 pub record AgreesAfter {S C O : Type 0} (rules : Rules S C O) (config : Config)
     (past : List (Moment S C O)) (a : Moment S C O) : Type 0 where
   pub earlier : List (Moment S C O)

@@ -35,7 +35,7 @@ KeepsTheOrder {S} {C} {O} rules =
 
 -- what a node takes in a step is at once at the end of its log; everything that is taken is taken
 -- by some node; and a proposal that is not taken changes no log. The step is one of a past, since
--- the whole log is given by the record
+-- the whole log is given by the record.
 pub record StandsAtOnce {S C O : Type 0} {rules : Rules S C O} {m : MasterState} {w : World S C O}
     {k : MasterState} {v : World S C O} (step : MayHappen rules m w k v) : Type 0 where
   pub stands : (n : ℕ) (row : ℕ × C) → In row (takes_at n step) →

@@ -42,7 +42,7 @@ pub record AnswersLast {S C O : Type 0} (rules : Rules S C O) (a : Moment S C O)
 
 -- a proposal to the primary at an index, whose replica this is, when others follow: it outputs
 -- nothing. The others are sent the command, and answer; the primary takes all answers except the
--- last, and when that one comes, it answers the command
+-- last, and when that one comes, it answers the command.
 pub record IsHeldByAll {S C O : Type 0} (rules : Rules S C O) (a : Moment S C O) (index ballot : ℕ)
     (r : ReplicaState S C) (log : List C) (c : C) (front : List ℕ) (last : ℕ) : Type 0 where
   pub quiet : outputs (replica_step rules r (Proposes c)).effects ≡ []

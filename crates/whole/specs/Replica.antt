@@ -10,7 +10,7 @@ pub use Rattle.ballot_base.specs.Replica.{is_active, is_backup, is_fetching, is_
 pub use Rattle.ballot_base.specs.Replica.{others, progress_at}
 
 -- what one node keeps: its log, and a machine that has applied some places. In a group the machine
--- is the replay of the first `committed` places
+-- is the replay of the first `committed` places.
 pub record ReplicaState (S C : Type 0) : Type 0 where
   pub id : ℕ
   -- the ballot that it joined, and the one in which its log was last installed; 0 before the first

@@ -1,5 +1,5 @@
 //! The protocol's step on whole logs, as definitions: a model corresponding to the step of
-//! `ballot_base`, for which the laws of `agreement` are proved. No code has these types.
+//! `ballot_base`, on which agreement is proved. No code has these types.
 #![tactic(auto)]
 
 pub use ballot_base::machine;

@@ -1,6 +1,6 @@
 // Memory that is refused. Each test runs with each of its allocations failing in turn: a call
-// answers `Memory` and has changed nothing, or the client is as after `lost`; if the call is made
-// again, all is as it is with memory.
+// answers `Memory` and has changed nothing, or the client is as after `lose_connection`; if the
+// call is made again, all is as it is with memory.
 
 use super::handshakes::taken;
 use super::row::*;
@@ -38,7 +38,7 @@ fn is_back(client: &mut ClientCore, alloc: Global, was_accepted: bool) -> bool {
     opened && accepted && take_written(client, alloc).is_some()
 }
 
-// Says whether a client shows itself as after `lost`, and comes back.
+// Says whether a client shows itself as after `lose_connection`, and comes back.
 fn is_lost(client: &mut ClientCore, alloc: Global, before: Shown) -> bool {
     shown_by(client) == offline(before)
         && give(client, NOTHING) == Some(ClientError::NotActive)
@@ -46,7 +46,7 @@ fn is_lost(client: &mut ClientCore, alloc: Global, before: Shown) -> bool {
 }
 
 // After running out of memory in this act: nothing is written, and nothing has changed, or the
-// client is as after `lost` if bytes were read.
+// client is as after `lose_connection` if bytes were read.
 fn is_left(client: &mut ClientCore, alloc: Global, done: Act<'_>, before: Shown) -> bool {
     if !wrote(client, alloc, NOTHING) {
         return false;

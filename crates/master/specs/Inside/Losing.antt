@@ -42,7 +42,7 @@ TookExactly rules old input new given =
 
 -- a replica took its step, perhaps with losses: without losses if it was whole, or if it sends
 -- nothing, keeps the log and applies nothing. If the count did not change, and is below its
--- greatest number, the step was whole
+-- greatest number, the step was whole.
 pub record TookIn {S C O : Type 0} (rules : Rules S C O) (old : CountedReplica S C)
     (input : Input C)
     (new : CountedReplica S C) (before after : List (Effect C O)) (whole : Bool) : Type 0 where
