@@ -11,5 +11,4 @@ pub use laws::{
     groups_do_each_node_call, names_stay_apart, node_calls_carry_their_bytes, pipes_carry_in_order,
     worlds_carry_in_order,
 };
-pub use node_group::{ballot, packet, world_base};
 pub use node_laws::{nodes_are_orderly, ports_have_pipes};

@@ -15,6 +15,5 @@ mod reading;
 pub use fault::{LineFault, TableFault};
 pub use job::{Escape, Job, Play, Publish, Serve, Subscribe};
 pub use node_table::{ListeningNode, NodeTable};
-pub use packet;
 pub use parsing::line;
 pub use reading::table;

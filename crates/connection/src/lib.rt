@@ -18,7 +18,6 @@ pub use ending::Ending;
 pub use flow::{Flow, write_out};
 pub use hearer::Hearer;
 pub use laws::nothing_is_left_out;
-pub use node_base;
 pub use node_base::{Counted, PIECE_BYTES};
 pub use outflow::Outflow;
 pub use outlet::Outlet;

@@ -4,5 +4,4 @@
 
 mod laws;
 
-pub use client::{machine, packet, session_base, topics};
 pub use laws::connack_serves;

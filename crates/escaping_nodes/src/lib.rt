@@ -8,6 +8,3 @@ pub use laws::{
     connections_open_first, deliveries_are_followed, nodes_are_led_out,
     others_let_the_client_be_answered, sole_member_answers_the_client, welcomed_are_kept,
 };
-pub use ways_out;
-pub use world_nodes;
-pub use world_nodes::master;

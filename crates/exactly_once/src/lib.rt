@@ -5,7 +5,6 @@
 mod handshake_laws;
 mod laws;
 
-pub use client_base::packet;
 pub use handshake_laws::{repeats_were_accepted, runs_are_exact};
 pub use laws::{
     lives_accept_in_each_session, lives_are_exact, stories_accept_in_order, stories_are_exact,

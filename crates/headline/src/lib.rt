@@ -5,6 +5,5 @@
 mod laws;
 mod rows;
 
-pub use byte_world::{ballot, world_base};
 pub use laws::{one_session_is_promised, worlds_are_exact};
 pub use rows::{a_client_is_served, a_publication_is_accepted};

@@ -5,11 +5,11 @@ ghost use Rattle.jobs.specs.Faults.{status_of};
 
 use command_line::TableFault;
 use play::PlayError;
-use play::user_client::UserClientError;
 use server::{Memory, ServeError, THREADS};
 use std::alloc::{AllocError, AllocFailed};
 use std::io::ErrorKind;
 use thiserror::Error;
+use user_client::UserClientError;
 
 /// Why the program ends with another status than 0. Its text is for the user.
 #[derive(Debug, Drop, Error)]

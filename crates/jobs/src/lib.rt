@@ -10,8 +10,6 @@ mod scripts;
 mod serving;
 mod talking;
 
-pub use command_line;
-pub use command_line::packet;
 pub use job_error::JobError;
 pub use performing::{perform, print_fault};
 pub use refusing::refuse;

@@ -8,7 +8,7 @@ ghost use Rattle.jobs.specs.declared.obeying.Order.TheVariants as orders;
 use crate::job_error::JobError;
 use crate::scripts::client_of;
 use command_line::ListeningNode;
-use command_line::packet::ClientId;
+use packet::ClientId;
 use server::{Cluster, Config, Idle, MAX_NODE, Members, Memory, ProposeError, Status};
 use std::alloc::Global;
 use std::io::{BufRead, ErrorKind, Write};

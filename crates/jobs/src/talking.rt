@@ -2,11 +2,11 @@
 
 use crate::job_error::JobError;
 use command_line::{Publish, Subscribe};
-use play::user_client::{Publisher, Servers, Subscriber};
 use std::io::Write;
 use std::net::{Net, TcpStream};
 use std::thread;
 use std::time::{Clock, Duration};
+use user_client::{Publisher, Servers, Subscriber};
 
 /// How long a client waits after a connection that was lost.
 const PAUSE_MILLIS: u64 = 200;

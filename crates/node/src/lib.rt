@@ -15,7 +15,6 @@ mod running;
 pub use cutting::cuts_after;
 pub use intake::Intake;
 pub use laws::{cuts_come_apart, cuts_come_often, open_bytes_are_counted};
-pub use mailbox;
 pub use naming::NodeNaming;
 pub use node_base::{Gate, NoGate, PIECE_BYTES};
 pub use node_state::NodeState;
@@ -25,5 +24,5 @@ pub use report::Report;
 pub use running::{Node, Stated};
 pub use world_base::{
     Body, Command, Config, ConnectionName, Effect, Handed, Item, MAX_NODE, Members, Memory,
-    Message, NodeCore, OpeningError, Output, Piece, Port, ProposeError, Standing, Status, packet,
+    Message, NodeCore, OpeningError, Output, Piece, Port, ProposeError, Standing, Status,
 };

@@ -7,5 +7,3 @@ mod laws;
 
 pub use connection_laws::groups_carry_in_order;
 pub use laws::{groups_are_pasts, groups_keep_the_order, puts_in_the_ballot_of_the_name};
-pub use node_moves::{ballot, world_base};
-pub use packet_world::packet;

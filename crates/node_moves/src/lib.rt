@@ -10,5 +10,3 @@ pub use laws::{
     lossy_names_are_of_the_ballot, lossy_names_keep_their_ballot, names_keep_their_ballot,
     names_stay_apart, node_calls_are_moves, node_calls_hear_at_first, none_is_silent,
 };
-pub use world_base;
-pub use world_base::ballot;

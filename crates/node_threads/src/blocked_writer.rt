@@ -5,7 +5,7 @@ ghost use Rattle.std.specs.Arc.{arc_value};
 ghost use Rattle.streams.specs.WriteTokens.{IsTokenOf};
 
 use crate::shared::Shared;
-use post::node::{Gate, NodeNaming, Standing, Stated};
+use node::{Gate, NodeNaming, Standing, Stated};
 use std::alloc::Global;
 use std::mem;
 use std::sync::{Arc, Wait};

@@ -1,7 +1,7 @@
 // Turns of nodes that a thread of another node does, since it queued something for them.
 
 use crate::served_node::ServedNode;
-use post::node::{Gate, NodeNaming, Stated};
+use node::{Gate, NodeNaming, Stated};
 use std::sync::Wait;
 use std::time::Clock;
 

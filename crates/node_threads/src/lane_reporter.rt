@@ -3,13 +3,13 @@
 ghost use Rattle.std.specs.Prelude.{◌≡◌, ◌≤◌, ◌++◌, ◌∷◌, []};
 
 use crate::served_node::ServedNode;
-use post::mailbox::Lane;
-use post::node::{Gate, Item, NodeNaming, Standing, Stated};
+use connection::{Hearer, PIECE_BYTES};
+use mailbox::Lane;
+use node::{Gate, Item, NodeNaming, Standing, Stated};
 use std::alloc::Global;
 use std::sync::{Arc, Wait};
 use std::time::Clock;
 use streams::Link;
-use streams::connection::{Hearer, PIECE_BYTES};
 
 /// A connection's lane. What is reported to it is what the lane sent.
 #[derive(Drop)]

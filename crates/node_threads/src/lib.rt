@@ -24,7 +24,5 @@ mod writing;
 pub use laws::ports_differ;
 pub use node_context::NodeContexts;
 pub use opened::Opened;
-pub use post;
 pub use served_node::{NodeReport, ServedNode, start_all};
-pub use streams;
 pub use working::THREADS;

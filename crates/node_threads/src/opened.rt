@@ -1,7 +1,7 @@
 // A node that is about to serve.
 
-use post::mailbox::Inbox;
-use post::node::{Item, NodeCore};
+use mailbox::Inbox;
+use node::{Item, NodeCore};
 
 /// A node that is about to serve, with its inbox, by which it receives everything.
 #[derive(Drop)]

@@ -3,8 +3,8 @@
 ghost use Rattle.std.specs.Prelude.{◌≡◌, []};
 ghost use Rattle.node_threads.specs.Serving.{SendsOwn};
 
-use post::mailbox::Lane;
-use post::node::{Item, NodeNaming};
+use mailbox::Lane;
+use node::{Item, NodeNaming};
 use std::marker::Model;
 
 /// The lane by which everything is sent to a node that does not come from its clients, and the

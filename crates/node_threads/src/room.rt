@@ -3,8 +3,8 @@
 ghost use Rattle.std.specs.Prelude.{◌≡◌, ◌≤◌, IfSome};
 
 use crate::shared::Shared;
+use node::{Gate, NodeNaming, PIECE_BYTES, Port, Standing, Stated};
 use post::Entering;
-use post::node::{Gate, NodeNaming, PIECE_BYTES, Port, Standing, Stated};
 use std::sync::Wait;
 use std::thread;
 use std::time::{Clock, Duration};

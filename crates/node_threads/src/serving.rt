@@ -7,13 +7,13 @@ ghost use Rattle.node_threads.specs.Serving.{EndsBy, ReportsOne, SendsRow, Sends
 use crate::lane_reporter::LaneReporter;
 use crate::served_node::ServedNode;
 use crate::shared::Shared;
-use post::mailbox::Lane;
-use post::node::{Gate, Item, NodeNaming, Port, Stated};
+use connection::{Counted, report_connection};
+use mailbox::Lane;
+use node::{Gate, Item, NodeNaming, Port, Stated};
 use std::alloc::Global;
 use std::net::TcpStream;
 use std::sync::{Arc, Wait};
 use std::time::Clock;
-use streams::connection::{Counted, report_connection};
 use streams::{Closed, Link, forget};
 
 /// How many connections a lane serves, each at a port of its own.

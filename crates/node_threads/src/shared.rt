@@ -6,8 +6,8 @@ ghost use Rattle.post.specs.node.Running.{AreItsLanes, ReportsOn};
 ghost use Rattle.post.specs.Queued.{EachOpensAs};
 
 use crate::node_context::NodeContext;
-use post::mailbox::Lane;
-use post::node::{Config, Gate, Item, Memory, Node, NodeNaming, NodeState, Report, Stated};
+use mailbox::Lane;
+use node::{Config, Gate, Item, Memory, Node, NodeNaming, NodeState, Report, Stated};
 use std::alloc::Global;
 use std::sync::{Mutex, Wait};
 use std::thread::Parker;

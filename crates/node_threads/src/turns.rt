@@ -7,9 +7,9 @@ ghost use Rattle.post.specs.Queued.{EachOpens};
 ghost use Rattle.node_threads.specs.Turns.{Turns};
 
 use crate::shared::Shared;
+use mailbox::Lane;
+use node::{Gate, Item, NodeNaming, NodeState, Permit, Stated};
 use post::Given;
-use post::mailbox::Lane;
-use post::node::{Gate, Item, NodeNaming, NodeState, Permit, Stated};
 use std::alloc::Global;
 use std::sync::{Arc, Wait};
 use std::time::Clock;

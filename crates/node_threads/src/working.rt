@@ -4,8 +4,8 @@ ghost use Rattle.std.specs.Prelude.{◌≡◌, ℕ, ◌<◌, None, length, slice
 ghost use Rattle.node_threads.specs.Working.{Returns};
 
 use crate::served_node::ServedNode;
-use post::mailbox::Lane;
-use post::node::{Gate, Item, NodeNaming, Stated};
+use mailbox::Lane;
+use node::{Gate, Item, NodeNaming, Stated};
 use std::marker::Model;
 use std::sync::Wait;
 use std::thread;

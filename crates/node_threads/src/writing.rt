@@ -5,10 +5,10 @@ ghost use Rattle.std.specs.Arc.{arc_value};
 ghost use Rattle.streams.specs.WriteTokens.{HasWholeStream, IsTokenOf};
 
 use crate::shared::Shared;
-use post::node::{Gate, Handed, Memory, NodeNaming, Stated};
+use connection::{Flow, Outlet};
+use node::{Gate, Handed, Memory, NodeNaming, Stated};
 use std::alloc::Global;
 use std::sync::{Arc, Wait};
-use streams::connection::{Flow, Outlet};
 use streams::{Link, PortTap, WriteToken};
 
 // The node under its lock, which queued bytes for its connections.

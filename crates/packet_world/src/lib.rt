@@ -5,7 +5,6 @@
 mod laws;
 mod rows;
 
-pub use exactly_once::packet;
 pub use laws::{
     agreed_keeps_the_order, given_is_put_out, groups_put_out, groups_serve, worlds_are_exact,
     worlds_are_served,

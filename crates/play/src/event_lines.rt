@@ -4,7 +4,7 @@ ghost use Rattle.std.specs.Prelude.{◌≡◌, ◌++◌, ◌∷◌, [], OnOk, co
 ghost use Rattle.std.specs.Fmt.{decimal};
 ghost use Rattle.play.specs.Ways.{event_line, members_text, more_members, one_field, two_fields};
 
-use script::packet::ClientId;
+use packet::ClientId;
 use std::alloc::{AllocError, Global};
 use world::{Config, Event};
 

@@ -9,8 +9,8 @@ ghost use Rattle.play.specs.Events.{asked_in, assign_of, count_of, is_small, nod
 ghost use Rattle.play.specs.Inside.{IsCallOf};
 
 use crate::error::PlayError;
-use script::ballot_base::{Config, Members};
-use script::packet::ClientId;
+use ballot_base::{Config, Members};
+use packet::ClientId;
 use script::{Amount, Numbers, ScriptLine};
 use std::alloc::Global;
 use world::{Event, World};

@@ -9,7 +9,7 @@ use crate::error::PlayError;
 use crate::event_lines::write_event;
 use crate::played_world::PlayedWorld;
 use crate::playing::play_all;
-use script::packet::ClientId;
+use packet::ClientId;
 use script::{Script, read};
 use std::alloc::Global;
 use world::Event;

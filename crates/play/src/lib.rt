@@ -13,7 +13,4 @@ mod writing;
 pub use error::PlayError;
 pub use leading_out::escape;
 pub use playing::play;
-pub use script;
-pub use script::{packet, session_base, topics};
-pub use user_client;
 pub use writing::{write_accepted, write_done, write_end, write_idle};

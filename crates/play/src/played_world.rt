@@ -11,7 +11,7 @@ ghost use Rattle.play.specs.Transcripts.{accepted_in, accepted_lines, lines_afte
 use crate::error::PlayError;
 use crate::events::event_of;
 use crate::{write_accepted, write_done, write_end, write_idle};
-use script::packet::ClientId;
+use packet::ClientId;
 use script::{Opening, ScriptLine};
 use std::alloc::Global;
 use world::{Accepted, Idle, World};

@@ -3,9 +3,9 @@
 ghost use Rattle.std.specs.Prelude.{◌≡◌, ◌++◌, OnOk};
 ghost use Rattle.play.specs.Lines.{accepted_line, done_line, end_line, idle_line};
 
-use script::packet::ClientId;
+use client::Accepted;
+use packet::ClientId;
 use std::alloc::{AllocError, Global};
-use user_client::client::Accepted;
 use user_client::{print_line, print_text};
 
 /// Appends the line of an event that could not happen: `7 idle`.

@@ -20,8 +20,6 @@ pub use carrier::{Carrier, Given, carry_all};
 pub use cluster::Cluster;
 pub use laws::{later_commits_suffice, later_counts_suffice};
 pub use master::Idle;
-pub use node;
-pub use node::{mailbox, packet};
 pub use order_error::OrderError;
 pub use outgoing::Outgoing;
 pub use peer::{Entering, Peer};

@@ -1,8 +1,8 @@
 // A world of three nodes and four clients, and what happens in it, event by event.
 
 use anyhow::{Result, bail, ensure};
+use packet::ClientId;
 use std::alloc::Global;
-use world::packet::ClientId;
 use world::{Config, Event, Members, World};
 
 /// The clients.

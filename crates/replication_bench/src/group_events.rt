@@ -5,9 +5,9 @@ ghost use Rattle.std.specs.Prelude.{◌<◌};
 use crate::groups::{agreed_at_last, opened, proposal};
 use anyhow::{Result, ensure};
 use bench_base::time_since;
+use machine::{Tally, TallyCommand};
+use master::{Event, Group};
 use std::time::CpuClock;
-use world::machine::{Tally, TallyCommand};
-use world::master::{Event, Group};
 
 /// Prints the time of an event at three numbers of events, with and without the length of the
 /// agreed list asked after each.

@@ -4,9 +4,9 @@
 use crate::groups::{agreed_at_last, config_of, opened, proposal};
 use anyhow::{Result, ensure};
 use bench_base::{print_memory, time_since};
+use machine::Tally;
+use master::{Event, Group};
 use std::time::{CpuClock, Duration};
-use world::machine::Tally;
-use world::master::{Event, Group};
 
 /// How many messages a change from the sole member 1 to the members 2 and 3 takes: NewBallot, Join,
 /// State, Install, Installed, Activate, Activated, Append, Held, Commit.

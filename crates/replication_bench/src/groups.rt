@@ -1,10 +1,10 @@
 // Groups of machines that add numbers.
 
 use anyhow::{Result, bail};
+use ballot::{Config, Members};
+use machine::{Tally, TallyCommand};
+use master::{Event, Group};
 use std::alloc::Global;
-use world::ballot::{Config, Members};
-use world::machine::{Tally, TallyCommand};
-use world::master::{Event, Group};
 
 /// Returns a group of three nodes in ballot 1, with these members and node 1 as primary.
 pub fn opened(alloc: Global, members: &[u8]) -> Result<Group<Tally>> {

@@ -2,10 +2,10 @@
 
 use crate::course::{Course, comes_down, connects, does, goes_up, happens, named};
 use anyhow::Result;
+use packet::{Payload, QoS};
+use session_base::Publication;
 use std::alloc::Global;
-use world::packet::{Payload, QoS};
-use world::session_base::Publication;
-use world::topics::{Filter, TopicName};
+use topics::{Filter, TopicName};
 use world::{Event, World};
 
 /// How many bytes a publication carries.

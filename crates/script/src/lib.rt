@@ -13,12 +13,9 @@ mod reading;
 mod script_line;
 mod values;
 
-pub use ballot_base;
 pub use error::ScriptFault;
 pub use laws::{no_script_is_refused, one_meaning_a_line};
 pub use numbers::Numbers;
 pub use opening::Opening;
 pub use reading::{Script, read};
 pub use script_line::{Amount, ScriptLine};
-pub use session_base;
-pub use session_base::{packet, topics};

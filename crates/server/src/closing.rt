@@ -3,12 +3,12 @@
 ghost use Rattle.std.specs.Prelude.{◌≡◌, ◌≤◌, [], length, map, vec_capacity};
 
 use crate::outcome::Outcome;
+use node::{Gate, NodeNaming, NodeState, Stated};
 use node_threads::ServedNode;
-use node_threads::post::node::{Gate, NodeNaming, NodeState, Stated};
-use node_threads::streams::Closed;
 use std::net::{Net, TcpStream};
 use std::sync::Wait;
 use std::time::Clock;
+use streams::Closed;
 
 /// Closes the listeners of all nodes. Returns the witnesses, in the order of the nodes; there is
 /// room for them.

@@ -10,10 +10,10 @@ mod serve_error;
 mod starting;
 
 pub use listening::{serve_gated, serve_while};
-pub use node_threads::post::node::{
+pub use node::{
     Config, Gate, MAX_NODE, Members, Memory, NoGate, OpeningError, ProposeError, Status,
 };
-pub use node_threads::post::{Cluster, Idle, OrderError, packet};
-pub use node_threads::streams::{Listener, MAX_CONNECTIONS};
 pub use node_threads::{NodeReport, THREADS};
+pub use post::{Cluster, Idle, OrderError};
 pub use serve_error::ServeError;
+pub use streams::{Listener, MAX_CONNECTIONS};

@@ -10,10 +10,9 @@ use crate::opening::open_all;
 use crate::outcome::Outcome;
 use crate::serve_error::ServeError;
 use crate::starting::can_start;
-use node_threads::post::Cluster;
-use node_threads::post::node::{Config, Gate, NoGate, NodeNaming, NodeState, OpeningError, Stated};
-use node_threads::streams::{Closed, Listener};
+use node::{Config, Gate, NoGate, NodeNaming, NodeState, OpeningError, Stated};
 use node_threads::{NodeContexts, NodeReport, Opened, ServedNode, THREADS, start_all};
+use post::Cluster;
 use std::alloc::Global;
 use std::marker::Brand;
 use std::net::{Net, TcpStream};
@@ -21,6 +20,7 @@ use std::sync::Wait;
 use std::thread;
 use std::thread::Threads;
 use std::time::{Clock, Instant};
+use streams::{Closed, Listener};
 
 /// Serves the clients of several nodes, each at its listener, while `attend` runs with these nodes,
 /// and returns what that returned; then all connections are ended. The nodes open in ballot 1 of

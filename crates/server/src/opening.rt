@@ -4,8 +4,8 @@ ghost use Rattle.std.specs.Prelude.{◌≡◌, ◌≤◌, IfOk, length};
 ghost use Rattle.node_threads.specs.Named.{AreNamed};
 ghost use Rattle.server.specs.Opening.{first_in, inbox_among};
 
-use node_threads::post::mailbox::Inbox;
-use node_threads::post::node::{Config, MAX_NODE, NodeCore, OpeningError};
+use mailbox::Inbox;
+use node::{Config, MAX_NODE, NodeCore, OpeningError};
 use node_threads::{NodeContexts, Opened};
 use std::alloc::Global;
 

@@ -1,8 +1,8 @@
 // What the nodes reported at their ends.
 
 use crate::serve_error::ServeError;
+use node::Memory;
 use node_threads::NodeReport;
-use node_threads::post::node::Memory;
 use std::alloc::{AllocError, Global};
 
 /// What the nodes reported at their ends.

@@ -2,7 +2,7 @@
 
 ghost use Rattle.std.specs.Prelude.{◌≡◌};
 
-use node_threads::post::node::{Memory, OpeningError};
+use node::{Memory, OpeningError};
 use std::error::Error;
 use std::fmt;
 

@@ -1,7 +1,7 @@
 // Clients over sockets, and the bytes of their packets.
 
 use anyhow::{Result, ensure};
-use server::packet::QoS;
+use packet::QoS;
 use std::io::{Read, Write};
 use std::net::{Net, SocketAddr, TcpStream};
 use std::time::Duration;

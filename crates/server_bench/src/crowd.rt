@@ -4,7 +4,7 @@ use crate::host::Host;
 use crate::load::Load;
 use crate::traffic::measure;
 use anyhow::Result;
-use server::packet::QoS;
+use packet::QoS;
 
 /// Prints a line for QoS 0 and one for QoS 1. A publication is done if all ten took it in.
 pub fn run<R: Host>(rt: &R) -> Result<()> {

@@ -1,6 +1,6 @@
 // What publishers and subscribers do.
 
-use server::packet::QoS;
+use packet::QoS;
 use std::time::Duration;
 
 /// How far a publisher may be ahead of its subscribers: a queue holds 4,096.

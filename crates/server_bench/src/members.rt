@@ -4,7 +4,7 @@ use crate::host::Host;
 use crate::load::Load;
 use crate::traffic::measure;
 use anyhow::Result;
-use server::packet::QoS;
+use packet::QoS;
 
 /// QoS and window of each measurement.
 const LOADS: [(QoS, u64); 5] = [

@@ -4,7 +4,7 @@ use crate::host::Host;
 use crate::load::Load;
 use crate::traffic::measure;
 use anyhow::Result;
-use server::packet::QoS;
+use packet::QoS;
 
 /// Prints a line for each QoS: what all four do together.
 pub fn run<R: Host>(rt: &R) -> Result<()> {

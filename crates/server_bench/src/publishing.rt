@@ -5,7 +5,7 @@ use crate::group::{Group, Subscriber};
 use crate::handshakes::Handshakes;
 use crate::load::Load;
 use anyhow::{Result, ensure};
-use server::packet::QoS;
+use packet::QoS;
 use std::alloc::Global;
 use std::thread;
 use std::time::{Clock, Duration, Instant};

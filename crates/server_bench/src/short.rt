@@ -4,7 +4,7 @@ use crate::host::Host;
 use crate::load::Load;
 use crate::traffic::outcome_of;
 use anyhow::Result;
-use server::packet::QoS;
+use packet::QoS;
 use std::time::Duration;
 
 /// Prints how many of 100 publications at QoS 2 a subscriber of one node took in.

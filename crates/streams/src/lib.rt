@@ -16,7 +16,6 @@ mod write_slot;
 mod write_token;
 
 pub use closing::Closed;
-pub use connection;
 pub use forgetting::forget;
 pub use idle_lanes::IdleLanes;
 pub use laws::taps_count_all;

@@ -11,8 +11,6 @@ mod subscriber;
 mod user_client_error;
 mod visiting;
 
-pub use client;
-pub use client::{client_base, packet, topics};
 pub use printing::{print_line, print_text};
 pub use publisher::Publisher;
 pub use servers::Servers;

@@ -6,7 +6,7 @@ mod standard_error;
 
 ghost use Rattle.std.specs.Prelude.{◌≡◌, ◌≢◌};
 
-use jobs::command_line::line;
+use command_line::line;
 use jobs::{JobError, perform, print_fault, refuse};
 use standard_error::StandardError;
 use std::io::ErrorKind;

@@ -17,13 +17,13 @@ ghost use Rattle.world.specs.Inside.Steps.{GoesAsked, GoesOn, Meets};
 
 use crate::connection_slot::ConnectionSlot;
 use crate::world::World;
-use escaping_client::packet::{ClientId, QoS};
-use escaping_client::session_base::Publication;
-use escaping_client::topics::Filter;
-use escaping_nodes::world_nodes::{Idle, Nodes};
-use headline::world_base::Port;
+use packet::{ClientId, QoS};
+use session_base::Publication;
+use topics::Filter;
+use world_base::Port;
 use world_events::Event;
-use world_events::world_pipes::{ClientError, PipedClient, Sending};
+use world_nodes::{Idle, Nodes};
+use world_pipes::{ClientError, PipedClient, Sending};
 
 impl World {
     /// Opens a connection of a client to a node. `Idle` comes if there is no such client, if it has

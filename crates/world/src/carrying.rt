@@ -11,11 +11,11 @@ ghost use Rattle.world.specs.Inside.Calling.{forgetful};
 
 use crate::connection_slot::ConnectionSlot;
 use crate::world::World;
-use escaping_nodes::world_nodes::{Idle, Nodes};
-use headline::world_base::{Piece, Port};
 use std::alloc::Global;
+use world_base::{Piece, Port};
 use world_events::Event;
-use world_events::world_pipes::{ClientError, PipedClient};
+use world_nodes::{Idle, Nodes};
+use world_pipes::{ClientError, PipedClient};
 
 impl World {
     /// Carries `count` bytes from the front of a connection to its node. `Idle` comes if the end at

@@ -10,10 +10,10 @@ ghost use Rattle.world.specs.Inside.Steps.{GoesOn};
 
 use crate::connection_slot::ConnectionSlot;
 use crate::world::World;
-use escaping_nodes::world_nodes::{Idle, Nodes};
-use headline::world_base::{Handed, Port};
 use std::alloc::Global;
-use world_events::world_pipes::PipedClient;
+use world_base::{Handed, Port};
+use world_nodes::{Idle, Nodes};
+use world_pipes::PipedClient;
 
 impl World {
     /// Carries down what a node queued, on each connection whose end there is open. The master,

@@ -8,10 +8,10 @@ ghost use Rattle.world.specs.Quiet.{IsQuietAt, TakesNoMemory};
 
 use crate::connection_slot::ConnectionSlot;
 use crate::world::World;
-use escaping_client::packet::ClientId;
-use escaping_nodes::world_nodes::Idle;
-use headline::world_base::{Config, Item, Port};
+use packet::ClientId;
+use world_base::{Config, Item, Port};
 use world_events::Event;
+use world_nodes::Idle;
 
 impl World {
     /// Delivers the message of a number. `Idle` comes if no such message was sent, and if its

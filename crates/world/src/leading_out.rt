@@ -13,11 +13,11 @@ ghost use Rattle.world.specs.Escaping.{CanEscape, LeadsOut, configuration_of, he
 ghost use Rattle.world.specs.Inside.Escaping.{IsFetchedFrom, escaping_events};
 
 use crate::world::World;
-use escaping_client::packet::ClientId;
-use escaping_nodes::ways_out::ways_are_short;
-use headline::ballot::{MAX_MEMBERS, MAX_PLACES};
-use headline::world_base::{Config, Members, Memory};
+use ballot::{MAX_MEMBERS, MAX_PLACES};
+use packet::ClientId;
 use std::alloc::Global;
+use ways_out::ways_are_short;
+use world_base::{Config, Members, Memory};
 use world_events::{EscapeError, Event, push_answers, push_client, push_group};
 
 /// More messages than any memory holds.

@@ -11,15 +11,12 @@ mod leading_out;
 mod reading;
 mod world;
 
-pub use escaping_client::{machine, packet, session_base, topics};
-pub use escaping_nodes::master;
-pub use escaping_nodes::world_nodes::Idle;
-pub use headline::ballot;
-pub use headline::world_base::{
+pub use laws::{an_open_past_the_last_changes_nothing, uncounted_is_exact};
+pub use world::World;
+pub use world_base::{
     Command, Config, ConnectionName, Effect, Item, Members, Memory, Message, NodeCore,
     OpeningError, Port, Status,
 };
-pub use laws::{an_open_past_the_last_changes_nothing, uncounted_is_exact};
-pub use world::World;
-pub use world_events::world_pipes::{Accepted, ClientCore};
-pub use world_events::{EscapeError, Event, world_pipes};
+pub use world_events::{EscapeError, Event};
+pub use world_nodes::Idle;
+pub use world_pipes::{Accepted, ClientCore};

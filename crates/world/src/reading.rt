@@ -13,9 +13,9 @@ ghost use Rattle.world.specs.StandsFor.{IsReached, connections_at};
 
 use crate::connection_slot::ConnectionSlot;
 use crate::world::{World, WorldClient};
-use escaping_client::packet::ClientId;
-use headline::world_base::Command;
-use world_events::world_pipes::ClientCore;
+use packet::ClientId;
+use world_base::Command;
+use world_pipes::ClientCore;
 
 impl WorldClient {
     /// Says whether it has this identifier.

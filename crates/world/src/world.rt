@@ -16,13 +16,13 @@ ghost use Rattle.world.specs.Quiet.{TakesNoMemory};
 ghost use Rattle.world.specs.StandsFor.{ClientsStand, IsReached, KeepsReached, WorldGoesBy, asked_on, identifiers};
 
 use crate::connection_slot::ConnectionSlot;
-use escaping_client::packet::ClientId;
-use escaping_nodes::world_nodes::{Idle, Nodes};
-use headline::world_base::{Config, Memory, OpeningError};
+use packet::ClientId;
 use std::alloc::Global;
 use std::marker::Model;
+use world_base::{Config, Memory, OpeningError};
 use world_events::Event;
-use world_events::world_pipes::PipedClient;
+use world_nodes::{Idle, Nodes};
+use world_pipes::PipedClient;
 
 /// A client of a world, with its identifier.
 #[derive(Drop)]

@@ -6,7 +6,7 @@ ghost use Rattle.world_events.specs.Refusals.{escape_number};
 use std::alloc::{AllocError, AllocFailed};
 use std::error::Error;
 use std::fmt;
-use world_pipes::world_base::Memory;
+use world_base::Memory;
 
 /// Why no way out of a world is returned.
 #[derive(Clone, Copy, Debug, PartialEq, Eq)]

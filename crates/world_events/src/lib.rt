@@ -8,4 +8,3 @@ mod scheduling;
 pub use escape_error::EscapeError;
 pub use event::Event;
 pub use scheduling::{push_answers, push_client, push_group};
-pub use world_pipes;

@@ -7,11 +7,11 @@ ghost use Rattle.world_events.specs.declared.event.Event.TheVariants as events;
 ghost use Rattle.world_events.specs.EscapeEvents.{answer_events, client_events, leaving};
 
 use crate::event::Event;
+use packet::ClientId;
 use std::alloc::Global;
 use ways_out::{answers, way_out};
+use world_base::{Config, Memory};
 use world_pipes::PipedClient;
-use world_pipes::packet::ClientId;
-use world_pipes::world_base::{Config, Memory};
 
 /// Appends an Assign, and the deliveries that lead its ballot to the start. `sent` messages were
 /// sent before, and the member at `index` of this many `members` is asked for its log.

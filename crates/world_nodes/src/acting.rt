@@ -17,10 +17,8 @@ ghost use Rattle.world_nodes.specs.Inside.{IsPassedOver, RunsAt, WasSent};
 
 use crate::nodes::Nodes;
 use crate::turning::{cut_back, pass_over, step_node};
-use byte_world::world_base::{
-    Body, BrokerMachine, Command, Config, Item, Members, Memory, Message,
-};
 use master::{Idle, answer_of, config_of, counted, record, send};
+use world_base::{Body, BrokerMachine, Command, Config, Item, Members, Memory, Message};
 
 impl Nodes {
     /// Lets a node that runs take an item. `Idle` comes if it is unknown or has stopped.

@@ -7,7 +7,7 @@ ghost use Rattle.world_nodes.specs.Agreed.{AgreeOn, AgreeOnSoMany};
 ghost use Rattle.world_nodes.specs.Inside.{held_at, replicas_of};
 
 use crate::nodes::Nodes;
-use byte_world::world_base::Command;
+use world_base::Command;
 
 impl Nodes {
     /// Returns the agreed list, the longest that is chosen in a ballot that was active, in two

@@ -8,10 +8,10 @@ ghost use Rattle.world_nodes.specs.Asking.{first_connection, is_present, is_welc
 ghost use Rattle.world_nodes.specs.Running.{node_of};
 
 use crate::nodes::Nodes;
-use byte_world::packet::{ClientId, Connack, Packet};
-use byte_world::world_base::{BrokerMachine, Command, Config, ConnectionName, Memory, Output};
 use master::ballot::Machine;
+use packet::{ClientId, Connack, Packet};
 use std::alloc::Global;
+use world_base::{BrokerMachine, Command, Config, ConnectionName, Memory, Output};
 
 impl Nodes {
     /// Says whether the master gives the next ballot to a configuration when [`Nodes::assign`] asks

@@ -4,9 +4,9 @@ ghost use Rattle.std.specs.Prelude.{ℕ, ◌≡◌, ◌≤◌, ◌<◌, ◌-◌,
 ghost use Rattle.master.specs.lists.Lists.{In};
 ghost use Rattle.master.specs.Inside.{HasCounted, least_but_one};
 
-use byte_world::world_base::{Command, Memory, Message};
 use master::{Told, follow_ballot};
 use std::alloc::Global;
+use world_base::{Command, Memory, Message};
 
 /// What was acknowledged in the active ballot, and in the one that waits. Its calls take no memory,
 /// except `new`.

@@ -9,6 +9,5 @@ mod keeping;
 mod nodes;
 mod turning;
 
-pub use master;
 pub use master::Idle;
 pub use nodes::Nodes;

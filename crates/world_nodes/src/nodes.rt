@@ -15,13 +15,13 @@ ghost use Rattle.world_nodes.specs.HandingOver.{HandsIn};
 ghost use Rattle.world_nodes.specs.GroupSteps.{ActsOrRests, ComesOrRests, MasterGoesOrRests};
 
 use crate::counters::Counters;
-use byte_world::packet::ClientId;
-use byte_world::world_base::{
-    BrokerMachine, Command, Config, Handed, Item, Message, NodeCore, OpeningError, Piece, Port,
-};
 use master::{Idle, Master, asks_for, can_open, copy_of};
+use packet::ClientId;
 use std::alloc::Global;
 use std::marker::Model;
+use world_base::{
+    BrokerMachine, Command, Config, Handed, Item, Message, NodeCore, OpeningError, Piece, Port,
+};
 
 /// Nodes with the connections of their clients, their master, and all messages that they ever sent:
 /// any may come late, again or never. Nodes are numbered from 1, messages from 0 in the order of

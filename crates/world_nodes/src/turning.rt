@@ -5,8 +5,8 @@ ghost use Rattle.byte_world.specs.world_base.Losses.{DoesNothing};
 ghost use Rattle.world_nodes.specs.Inside.{TookItem};
 
 use crate::keeping::keep_all;
-use byte_world::world_base::{Command, Item, Message, NodeCore};
 use std::alloc::Global;
+use world_base::{Command, Item, Message, NodeCore};
 
 /// Lets a node take an item; its messages are put after those that were sent. Returns whether
 /// memory sufficed.

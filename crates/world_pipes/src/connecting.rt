@@ -8,8 +8,8 @@ ghost use Rattle.world_pipes.specs.Piped.{Connects, TakesLeave, is_holding, take
 use crate::piped_client::PipedClient;
 use crate::sending::{Sending, send_up};
 use crate::way::Way;
-use byte_world::world_base::Port;
 use client::ClientError;
+use world_base::Port;
 
 impl PipedClient {
     /// Opens a connection to the node at this index, which is to know it by this port: CONNECT is

@@ -11,9 +11,8 @@ mod piped_client;
 mod sending;
 mod way;
 
-pub use byte_world::world_base;
-pub use byte_world::world_base::Port;
-pub use client::{Accepted, ClientCore, ClientError, packet, session_base, topics};
+pub use client::{Accepted, ClientCore, ClientError};
 pub use laws::clients_step_in_worlds;
 pub use piped_client::PipedClient;
 pub use sending::Sending;
+pub use world_base::Port;

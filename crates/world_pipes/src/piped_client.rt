@@ -9,11 +9,11 @@ ghost use Rattle.world_pipes.specs.Piped.{is_holding, new_piped};
 ghost use Rattle.world_pipes.specs.StandsFor.{StandsFor};
 
 use crate::way::Way;
-use byte_world::world_base::Port;
 use client::ClientCore;
 use client::packet::ClientId;
 use std::alloc::Global;
 use std::marker::Model;
+use world_base::Port;
 
 /// A client with all its connections, the oldest first, and the bytes in transit on each. It holds
 /// at most the newest one; what is in transit to nodes on the others still comes up, and the client

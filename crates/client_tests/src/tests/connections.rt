@@ -1,11 +1,11 @@
 // The beginning and the end of connections, and bytes in pieces of any size.
 
 use super::row::*;
+use client::ClientError;
+use client::ClientError::{NotActive, Protocol};
 use std::alloc::{AllocError, Global};
 use std::test::*;
-use user_client::client::ClientError;
-use user_client::client::ClientError::{NotActive, Protocol};
-use user_client::topics::MalformedKind;
+use topics::MalformedKind;
 
 // Returns a PUBLISH, and after it these bytes.
 fn after_publish(alloc: Global, bytes: &[u8]) -> Result<Vec<u8>, AllocError> {

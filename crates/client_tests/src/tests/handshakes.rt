@@ -1,9 +1,9 @@
 // The handshakes of a client, as tables of bytes.
 
 use super::row::*;
+use client::{Accepted, ClientCore};
+use packet::QoS;
 use std::test::*;
-use user_client::client::{Accepted, ClientCore};
-use user_client::packet::QoS;
 
 const SPEAKS: &[Row<'static>] = &[
     (Act::Open, None, CONNECT, 0, 0),

@@ -4,10 +4,10 @@
 
 use super::handshakes::taken;
 use super::row::*;
+use client::{ClientCore, ClientError};
+use packet::QoS;
 use std::alloc::Global;
 use std::test::*;
-use user_client::client::{ClientCore, ClientError};
-use user_client::packet::QoS;
 
 // What others may see of a client, apart from its bytes: how many are kept and were accepted,
 // whether it is connected, and whether the server had its session.

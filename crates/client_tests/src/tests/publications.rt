@@ -1,10 +1,10 @@
 // Publications that a client keeps.
 
 use super::row::*;
+use client::{ClientCore, ClientError};
+use packet::QoS;
 use std::alloc::Global;
 use std::test::*;
-use user_client::client::{ClientCore, ClientError};
-use user_client::packet::QoS;
 
 /// PUBLISH of `y` at QoS 2 with identifier 2, its PUBREC, PUBREL and PUBCOMP.
 const SECOND: &[u8] = &[0x34, 0x08, 0x00, 0x03, 0x74, 0x2F, 0x31, 0x00, 0x02, 0x79];

@@ -1,10 +1,10 @@
 // Publishers over servers in memory.
 
 use super::servers::*;
+use packet::QoS;
 use std::alloc::Global;
 use std::cell::RefCell;
 use std::test::Fail;
-use user_client::packet::QoS;
 use user_client::{Publisher, UserClientError};
 
 fn publish(alloc: Global, qos: QoS, servers: &mut Scripted<'_>) -> Result<(), UserClientError> {

@@ -1,9 +1,9 @@
 // Rows: what is done with a client, and the result of it.
 
+use client::{ClientCore, ClientError};
+use packet::{ClientId, Payload, QoS};
 use std::alloc::Global;
-use user_client::client::{ClientCore, ClientError};
-use user_client::packet::{ClientId, Payload, QoS};
-use user_client::topics::{Filter, TopicName};
+use topics::{Filter, TopicName};
 
 /// What is done with a client.
 #[derive(Clone, Copy)]

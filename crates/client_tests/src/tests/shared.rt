@@ -1,9 +1,9 @@
 // What the parts of a client share: refusals and requests.
 
+use client_base::{ClientError, Request, Stage};
+use packet::PacketId;
 use std::test::Fail;
-use user_client::client_base::{ClientError, Request, Stage};
-use user_client::packet::PacketId;
-use user_client::topics::MalformedKind;
+use topics::MalformedKind;
 
 // Each refusal has its number in the table of refusals.
 #[test]

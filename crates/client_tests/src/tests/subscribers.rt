@@ -1,10 +1,10 @@
 // Subscribers over servers in memory.
 
 use super::servers::*;
+use packet::QoS;
 use std::alloc::Global;
 use std::cell::RefCell;
 use std::test::Fail;
-use user_client::packet::QoS;
 use user_client::{Subscriber, UserClientError, print_text};
 
 fn subscribe(

@@ -4,12 +4,12 @@
 ghost use Rattle.std.specs.Prelude.{◌≡◌};
 
 use super::fakes::{Sink, Source};
-use connection::node_base::Counted;
 use connection::{
     Ending, Flow, Hearer, Outflow, Outlet, Tap, Unwritten, report_connection, write_out,
 };
-use node::mailbox::{Inbox, Lane, Naming, Receiver};
+use mailbox::{Inbox, Lane, Naming, Receiver};
 use node::{Config, Handed, Item, Members, Memory, NodeCore, Piece, Port};
+use node_base::Counted;
 use std::alloc::Global;
 use std::io::ErrorKind;
 use std::marker::Brand;

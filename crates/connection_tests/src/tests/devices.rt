@@ -1,7 +1,7 @@
 // Devices that fail: what is counted of them, and what is written or was read around a fault.
 
 use super::fakes::{Sink, Source};
-use connection::node_base::{Counted, PIECE_BYTES, ReadOutcome, Written};
+use node_base::{Counted, PIECE_BYTES, ReadOutcome, Written};
 use std::alloc::Global;
 use std::io::ErrorKind;
 use std::test::Fail;

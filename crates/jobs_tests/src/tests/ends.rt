@@ -1,7 +1,7 @@
 // How each job ends: its exit status, and what it writes.
 
 use crate::tests::hand::{does, serves, text_of};
-use jobs::command_line::LineFault;
+use command_line::LineFault;
 use jobs::{JobError, print_fault, refuse};
 use std::alloc::Global;
 use std::net::{Net, TcpListener, TcpStream};

@@ -2,9 +2,9 @@
 
 use super::hand::text_of;
 use super::orders::{Given, first_missed};
-use jobs::command_line::Subscribe;
-use jobs::packet::QoS;
+use command_line::Subscribe;
 use jobs::{JobError, subscribe};
+use packet::QoS;
 use std::io::{PipeWriter, Write};
 use std::net::{Net, TcpStream};
 use std::thread;

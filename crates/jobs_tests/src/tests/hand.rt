@@ -1,6 +1,6 @@
 // Doing a job by the words of a command line.
 
-use jobs::command_line::line;
+use command_line::line;
 use jobs::{perform, print_fault, refuse, serve_table};
 use std::io::BufRead;
 use std::net::{Net, TcpListener, TcpStream};

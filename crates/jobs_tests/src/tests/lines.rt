@@ -2,8 +2,8 @@
 
 use clap::Error;
 use clap::error::ErrorKind;
-use jobs::command_line::{Job, LineFault, Play, Publish, Subscribe, line};
-use jobs::packet::QoS;
+use command_line::{Job, LineFault, Play, Publish, Subscribe, line};
+use packet::QoS;
 use std::alloc::Global;
 
 const PUB: [&str; 12] = [

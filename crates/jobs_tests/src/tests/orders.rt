@@ -2,9 +2,9 @@
 
 use super::expels::talks;
 use super::hand::text_of;
-use jobs::command_line::{Publish, Subscribe};
-use jobs::packet::QoS;
+use command_line::{Publish, Subscribe};
 use jobs::{publish, serve_table, subscribe};
+use packet::QoS;
 use std::alloc::{AllocError, Global};
 use std::io::{BufReader, PipeReader, PipeWriter, Write};
 use std::net::{Net, TcpListener, TcpStream};

@@ -1,6 +1,6 @@
 // Tables of nodes.
 
-use jobs::command_line::{NodeTable, TableFault, table};
+use command_line::{NodeTable, TableFault, table};
 use std::alloc::{AllocError, Global};
 
 const NODE_1: &str = "[[node]]\nid = 1\nlisten = \"h:1\"\n";

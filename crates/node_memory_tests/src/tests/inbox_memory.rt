@@ -3,7 +3,7 @@
 
 ghost use Rattle.std.specs.Prelude.{◌≡◌};
 
-use node::mailbox::{Inbox, Lane, MAX_ITEMS, Naming, Receiver};
+use mailbox::{Inbox, Lane, MAX_ITEMS, Naming, Receiver};
 use std::alloc::Global;
 use std::marker::Brand;
 use std::sync::Wait;

@@ -3,7 +3,7 @@
 
 ghost use Rattle.std.specs.Prelude.{◌≡◌};
 
-use node::mailbox::{Inbox, Lane};
+use mailbox::{Inbox, Lane};
 use node::{Config, Handed, Item, Members, NodeCore, NodeNaming, NodeState, Piece, Port, Report};
 use std::alloc::Global;
 use std::marker::Brand;

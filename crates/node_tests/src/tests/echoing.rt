@@ -2,7 +2,7 @@
 
 ghost use Rattle.std.specs.Prelude.{◌≡◌, []};
 
-use node::mailbox::{Inbox, Lane, Naming, Receiver};
+use mailbox::{Inbox, Lane, Naming, Receiver};
 use std::marker::Brand;
 use std::sync::Wait;
 use std::test::Fail;

@@ -3,7 +3,7 @@
 ghost use Rattle.std.specs.Prelude.{◌≡◌};
 
 use super::nodes::{Start, fresh_two, sends};
-use node::mailbox::Lane;
+use mailbox::Lane;
 use node::{Gate, Item, Node, NodeNaming, NodeState, Report, Stated};
 use std::alloc::Global;
 use std::marker::Brand;

@@ -3,7 +3,7 @@
 ghost use Rattle.std.specs.Prelude.{◌≡◌};
 
 use super::nodes::{Start, fresh_two, met, sends, takes};
-use node::mailbox::Lane;
+use mailbox::Lane;
 use node::{Item, NodeNaming, NodeState};
 use std::alloc::Global;
 use std::marker::Brand;

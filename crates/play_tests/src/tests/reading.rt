@@ -1,9 +1,9 @@
 // The result of a text: whether it is a script, and what its lines say.
 
 use crate::tests::worlds::World;
-use play::packet::{ClientId, Payload};
-use play::script::{Amount, Numbers, Opening, Script, ScriptFault, ScriptLine, read};
-use play::session_base::Publication;
+use packet::{ClientId, Payload};
+use script::{Amount, Numbers, Opening, Script, ScriptFault, ScriptLine, read};
+use session_base::Publication;
 use std::alloc::{AllocError, Global};
 
 /// The result of a text.

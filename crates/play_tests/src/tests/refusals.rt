@@ -3,7 +3,7 @@
 use crate::tests::hand::outcome_of;
 use crate::tests::reading::bad_line;
 use play::PlayError;
-use play::script::ScriptFault;
+use script::ScriptFault;
 use std::alloc::{AllocError, Global};
 use std::test::Fail;
 

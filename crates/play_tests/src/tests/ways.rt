@@ -4,7 +4,7 @@ use crate::tests::hand::{text_of, transcript_of};
 use crate::tests::scripts::{
     ANSWER_WAITS_FOR_THE_BACKUP, CLIENT_IS_EXPELLED, PRIMARY_CRASHES, SNAPSHOT_TRAVELS,
 };
-use play::packet::ClientId;
+use packet::ClientId;
 use play::{PlayError, escape, play};
 use std::alloc::Global;
 use std::str;

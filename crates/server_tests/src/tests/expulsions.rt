@@ -2,7 +2,7 @@
 
 use super::nodes::fault_in;
 use super::row::{Missed, Row, Table, unless};
-use server::packet::ClientId;
+use packet::ClientId;
 use server::{Cluster, Listener};
 use server_clients::{
     Heard, Pair, SUBSCRIBE, SUBSCRIBED, is_answered, is_closed, is_delivered, is_silent, join,

@@ -1,9 +1,9 @@
 // Rows of what happens in a world, and of what is seen of it.
 
+use packet::{ClientId, Payload, QoS};
+use session_base::Publication;
 use std::alloc::Global;
-use world::packet::{ClientId, Payload, QoS};
-use world::session_base::Publication;
-use world::topics::{Filter, TopicName};
+use topics::{Filter, TopicName};
 use world::{Command, Config, Event, Members, Memory, World};
 
 // The packets that several tables have, as MQTT 3.1.1 spells them.

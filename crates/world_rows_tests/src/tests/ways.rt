@@ -5,8 +5,8 @@ use crate::tests::courses::{
     COURSES, Course, WAITS, all_hold, begun, is_kept, last_ballot, may_lead,
 };
 use crate::tests::row::{Action, PRESENT, Row, does, named, opened};
+use packet::ClientId;
 use std::alloc::Global;
-use world::packet::ClientId;
 use world::{Command, EscapeError, Event, World};
 
 // Lists of members: the rising ones of nodes 1 to 3, and some that no ballot may have.

@@ -1,10 +1,10 @@
 // How a long run of events by a fixed rule continues.
 
 use crate::tests::opening::{config_of, named};
+use packet::{ClientId, Payload, QoS};
+use session_base::Publication;
 use std::alloc::Global;
-use world::packet::{ClientId, Payload, QoS};
-use world::session_base::Publication;
-use world::topics::{Filter, TopicName};
+use topics::{Filter, TopicName};
 use world::{Event, World};
 
 /// The clients of the run.

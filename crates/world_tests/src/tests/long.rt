@@ -2,8 +2,8 @@
 
 use crate::tests::course::{CLIENTS, Course, goes_on, primary_crashes};
 use crate::tests::opening::{named, opened_for};
+use packet::QoS;
 use std::alloc::Global;
-use world::packet::QoS;
 use world::{Accepted, World};
 
 const EVENTS: u32 = 20_000;

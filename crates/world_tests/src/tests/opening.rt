@@ -1,7 +1,7 @@
 // Worlds that open, and names in them.
 
+use packet::ClientId;
 use std::alloc::Global;
-use world::packet::ClientId;
 use world::{Config, Members, Memory, World};
 
 /// Returns a world of `nodes` nodes and clients `a` and `b`. These are the members of ballot 1, and

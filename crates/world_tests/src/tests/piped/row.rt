@@ -1,10 +1,10 @@
 // Rows of what a client with its pipes does, and what is seen of it. The server's part is played by
 // hand.
 
+use packet::{ClientId, Payload, QoS};
 use std::alloc::Global;
-use world::packet::{ClientId, Payload, QoS};
-use world::topics::{Filter, TopicName};
-use world::world_pipes::{ClientError, PipedClient, Port, Sending};
+use topics::{Filter, TopicName};
+use world_pipes::{ClientError, PipedClient, Port, Sending};
 
 /// What a client does, or what is seen of it.
 #[derive(Clone, Copy)]
