@@ -13,7 +13,7 @@ ghost use Rattle.agreement.specs.Laws.{
   TakenStandAtOnce,
 };
 
-use whole::machine::Machine;
+use machine::Machine;
 
 /// States that at each moment of a group there is an agreed list: the longest that is chosen in a
 /// ballot that was active.

@@ -9,4 +9,3 @@ pub use laws::{
     machines_replay, nodes_agree, one_node_takes_a_ballot, one_primary_a_ballot,
     taken_stand_at_once,
 };
-pub use whole::machine;

@@ -3,7 +3,7 @@
 ghost use Rattle.std.specs.Prelude.{◌≡◌};
 ghost use Rattle.ballot.specs.Refusals.{opening_number, propose_number};
 
-use ballot_base::machine::Memory;
+use machine::Memory;
 use std::alloc::{AllocError, AllocFailed};
 use std::error::Error;
 use std::fmt;

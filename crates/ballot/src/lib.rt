@@ -5,10 +5,10 @@
 mod error;
 mod replica;
 
-pub use ballot_base::machine::{Halted, Machine, Memory, ThawFault};
 pub use ballot_base::{
     Body, Config, Effect, Log, MASTER, MAX_MEMBERS, MAX_NODE, Members, Message, Role, Status,
-    copy_log, machine,
+    copy_log,
 };
 pub use error::{OpeningError, ProposeError};
+pub use machine::{Halted, Machine, Memory, ThawFault};
 pub use replica::{MAX_PLACES, Replica};

@@ -12,11 +12,11 @@ ghost use Rattle.ballot_base.specs.Replica.{is_active, opening, status_of};
 ghost use Rattle.ballot_base.specs.Serving.{added, commit_at, max_places, proposed};
 
 use crate::error::{OpeningError, ProposeError};
-use ballot_base::machine::{Halted, Machine};
 use ballot_base::{
     Config, Effect, Log, MAX_NODE, Members, Progress, Role, Status, apply_places, counted,
     least_held, progress_of_others, send_appends, send_commits,
 };
+use machine::{Halted, Machine};
 use std::alloc::Global;
 use std::marker::Model;
 

@@ -18,7 +18,6 @@ pub use config::{Config, MAX_MEMBERS, MAX_NODE, Members};
 pub use copying::copy_log;
 pub use following::{forget, least_held, least_raised, others_of, progress_of_others, raise};
 pub use log::Log;
-pub use machine;
 pub use message::{Body, Effect, Message};
 pub use sending::{
     MASTER, send, send_after, send_appends, send_commits, send_installs, send_joins, send_state,

@@ -2,11 +2,11 @@
 
 use anyhow::{Result, ensure};
 use bench_base::nanos_each;
-use cutter::packet::{ClientId, QoS};
-use cutter::topics::{Filter, TopicName};
+use packet::{ClientId, QoS};
 use std::alloc::Global;
 use std::time::CpuClock;
 use subs::{ListIndex, SubIndex};
+use topics::{Filter, TopicName};
 
 const FILTERS: u32 = 64;
 

@@ -2,9 +2,9 @@
 
 use anyhow::{Result, ensure};
 use bench_base::nanos_each;
-use cutter::topics::{Filter, TopicName, matches};
 use std::alloc::{AllocError, Global};
 use std::time::CpuClock;
+use topics::{Filter, TopicName, matches};
 
 const ROUNDS: u32 = 62_500;
 

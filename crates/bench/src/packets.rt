@@ -5,7 +5,7 @@ ghost use Rattle.cutter.specs.packet.Spelling.{IsListed};
 use crate::publications::{encode_all, publication};
 use anyhow::{Result, bail};
 use bench_base::nanos_each;
-use cutter::packet::{Packet, Step, decode};
+use packet::{Packet, Step, decode};
 use std::alloc::Global;
 use std::time::CpuClock;
 

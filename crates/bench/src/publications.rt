@@ -3,9 +3,9 @@
 ghost use Rattle.cutter.specs.packet.Spelling.{IsListed};
 
 use anyhow::Result;
-use cutter::packet::{Delivery, Packet, Payload, Publish, encode};
-use cutter::topics::TopicName;
+use packet::{Delivery, Packet, Payload, Publish, encode};
 use std::alloc::Global;
+use topics::TopicName;
 
 /// Appends this many equal packets at QoS 0, whose topic has 13 bytes.
 pub fn append(alloc: Global, count: u32, payload_len: usize, out: &mut Vec<u8>) -> Result<()> {

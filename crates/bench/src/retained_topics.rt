@@ -2,11 +2,11 @@
 
 use anyhow::{Result, ensure};
 use bench_base::nanos_each;
-use cutter::packet::{Payload, QoS};
-use cutter::topics::{Filter, TopicName};
+use packet::{Payload, QoS};
 use retained::RetainedStore;
 use std::alloc::Global;
 use std::time::CpuClock;
+use topics::{Filter, TopicName};
 
 /// How often one topic is found by its name.
 const ROUNDS: u32 = 1_000;

@@ -3,11 +3,11 @@
 
 use anyhow::{Result, ensure};
 use bench_base::{nanos_each, print_memory};
-use cutter::packet::{ClientId, QoS};
-use cutter::topics::{Filter, TopicName};
+use packet::{ClientId, QoS};
 use std::alloc::Global;
 use std::time::CpuClock;
 use subs::{ListIndex, SubIndex, TreeIndex};
+use topics::{Filter, TopicName};
 
 const FILTERS: u32 = 64;
 

@@ -3,11 +3,11 @@
 
 use anyhow::Result;
 use bench_base::nanos_each;
-use cutter::packet::{Delivery, Packet, Payload, QoS};
-use cutter::topics::TopicName;
+use packet::{Delivery, Packet, Payload, QoS};
 use session::Session;
-use session::session_base::Publication;
+use session_base::Publication;
 use std::time::CpuClock;
+use topics::TopicName;
 
 /// How many entries go through each window.
 const ENTRIES: u32 = 128_000;

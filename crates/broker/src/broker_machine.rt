@@ -3,13 +3,13 @@
 use crate::freezing::freeze_tables;
 use crate::thawing::thawed_tables;
 use broker_form::thawed_is_in_range;
+use broker_spec::{Command, Output};
 use broker_tables::Tables;
-use broker_tables::broker_spec::{Command, Output};
-use broker_tables::machine::{Halted, Machine, Memory, ThawFault};
-use packet::packet_base::Stop;
-use packet::topics::MalformedKind;
+use machine::{Halted, Machine, Memory, ThawFault};
+use packet_base::Stop;
 use std::alloc::Global;
 use std::marker::Model;
+use topics::MalformedKind;
 
 /// A broker after some list of commands. Its value in contracts is its state: the window, the
 /// sessions by client, and what is retained.

@@ -10,14 +10,14 @@ ghost use Rattle.broker_form.specs.Writing.{row_bytes, wide_number};
 ghost use Rattle.broker_tables.specs.Tables.{state_in};
 ghost use Rattle.broker.specs.Inside.{AreRows, ArePayloads};
 
-use broker_tables::broker_spec::ConnectionName;
-use broker_tables::retained::{RetainedPublication, RetainedStore};
+use broker_spec::ConnectionName;
 use broker_tables::{ClientRow, Tables};
 use packet::ClientId;
-use packet::topics::TopicName;
+use retained::{RetainedPublication, RetainedStore};
 use session_base::{write_number, write_payload, write_text};
 use std::alloc::AllocError;
 use std::collections::BTreeMap;
+use topics::TopicName;
 
 /// The number of the form.
 const FORM: u8 = 2;

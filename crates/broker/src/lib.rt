@@ -10,7 +10,5 @@ mod rows;
 mod thawing;
 
 pub use broker_machine::BrokerMachine;
-pub use broker_tables::broker_spec::{Command, ConnectionName, Output, SizedPacket, Unspellable};
-pub use broker_tables::{broker_spec, machine};
+pub use broker_spec::{Command, ConnectionName, Output, SizedPacket, Unspellable};
 pub use laws::broker_stands_for;
-pub use packet;

@@ -8,15 +8,15 @@ ghost use Rattle.session_base.specs.Counted.{check_form};
 ghost use Rattle.broker_form.specs.Form.{client_at, connection_at, head_at, name_at, retainable};
 ghost use Rattle.broker_form.specs.Form.{retained_at, row_at, size_at, wide_number_at};
 
+use broker_spec::{ConnectionName, Window};
 use broker_tables::ClientRow;
-use broker_tables::broker_spec::{ConnectionName, Window};
-use broker_tables::retained::RetainedPublication;
-use broker_tables::session::Session;
-use packet::packet_base::{OUT_OF_MEMORY, Reader, Stop};
-use packet::topics::{MalformedKind, TopicName};
 use packet::{ClientId, MAX_BODY, Payload};
+use packet_base::{OUT_OF_MEMORY, Reader, Stop};
+use retained::RetainedPublication;
+use session::Session;
 use session_base::{Publication, body_length, check_form, read_flag, read_long_number, read_qos};
 use std::alloc::Global;
+use topics::{MalformedKind, TopicName};
 
 // ---- the window
 

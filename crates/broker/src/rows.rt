@@ -12,10 +12,10 @@ ghost use Rattle.broker_tables.specs.Tables.{owners_at};
 ghost use Rattle.broker.specs.Inside.{AreOwned};
 
 use crate::reading::read_row;
-use broker_tables::broker_spec::{ConnectionName, Window};
+use broker_spec::{ConnectionName, Window};
 use broker_tables::{ClientRow, MAX_SESSIONS};
 use packet::ClientId;
-use packet::packet_base::{OUT_OF_MEMORY, Reader, Stop};
+use packet_base::{OUT_OF_MEMORY, Reader, Stop};
 use session_base::check_form;
 use std::alloc::{AllocError, Global};
 use std::collections::BTreeMap;

@@ -18,17 +18,17 @@ ghost use Rattle.broker.specs.Inside.{AreOwned, state_read, all_held, last_held}
 use crate::reading::{read_head, read_topic};
 use crate::rows::Rows;
 use broker_form::thawed_is_in_range;
-use broker_tables::broker_spec::Window;
-use broker_tables::retained::{MAX_TOPICS, RetainedPublication, RetainedStore};
-use broker_tables::session::Session;
-use broker_tables::subs::{ListIndex, SubIndex, TreeIndex};
+use broker_spec::Window;
 use broker_tables::{ClientRow, Tables};
-use packet::packet_base::{OUT_OF_MEMORY, Reader, Stop};
-use packet::topics::{Filter, TopicName};
 use packet::{ClientId, QoS};
+use packet_base::{OUT_OF_MEMORY, Reader, Stop};
+use retained::{MAX_TOPICS, RetainedPublication, RetainedStore};
+use session::Session;
 use session_base::check_form;
 use std::alloc::{AllocError, Global};
 use std::collections::BTreeMap;
+use subs::{ListIndex, SubIndex, TreeIndex};
+use topics::{Filter, TopicName};
 
 /// Returns the tables of the broker that these bytes are frozen from. Bytes that are not of the
 /// form stop the reading.

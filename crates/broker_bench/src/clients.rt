@@ -1,16 +1,16 @@
 // A broker with its clients, each of which answers at once what it gets.
 
 use anyhow::{Result, anyhow};
-use std::alloc::Global;
-use std::collections::VecDeque;
-use world_base::broker::BrokerMachine;
-use world_base::broker_spec::{Command, ConnectionName, Output, SizedPacket};
-use world_base::machine::Machine;
-use world_base::packet::{
+use broker::BrokerMachine;
+use broker_spec::{Command, ConnectionName, Output, SizedPacket};
+use machine::Machine;
+use packet::{
     ClientId, Delivery, Packet, PacketId, PacketList, Payload, Publish, QoS, Subscribe,
     Subscription,
 };
-use world_base::topics::{Filter, TopicName};
+use std::alloc::Global;
+use std::collections::VecDeque;
+use topics::{Filter, TopicName};
 
 /// How many bytes a publication carries.
 const PAYLOAD: [u8; 64] = [7; 64];

@@ -2,9 +2,9 @@
 
 use crate::clients::Clients;
 use anyhow::Result;
+use packet::{QoS, Subscription};
 use std::alloc::Global;
-use world_base::packet::{QoS, Subscription};
-use world_base::topics::Filter;
+use topics::Filter;
 
 /// How many filters a session has: as many as it may.
 pub const FILTERS: u32 = 64;

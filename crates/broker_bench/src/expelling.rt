@@ -4,9 +4,9 @@ use crate::clients::Clients;
 use crate::crowd::{self, Filters};
 use anyhow::Result;
 use bench_base::nanos_each;
+use packet::QoS;
 use std::time::CpuClock;
-use world_base::packet::QoS;
-use world_base::topics::TopicName;
+use topics::TopicName;
 
 /// How many other sessions there are. One more is the publisher's.
 const BESIDE: u32 = 4_094;

@@ -4,12 +4,12 @@ use crate::clients::Clients;
 use crate::crowd::{self, Filters};
 use anyhow::Result;
 use bench_base::nanos_each;
+use broker::BrokerMachine;
+use machine::Machine;
+use packet::QoS;
 use std::alloc::Global;
 use std::time::CpuClock;
-use world_base::broker::BrokerMachine;
-use world_base::machine::Machine;
-use world_base::packet::QoS;
-use world_base::topics::TopicName;
+use topics::TopicName;
 
 /// How many sessions there are besides the publisher's: at most one less than a broker has.
 const SESSIONS: [u32; 4] = [0, 100, 1_000, 4_095];

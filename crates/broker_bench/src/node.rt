@@ -3,11 +3,11 @@
 
 use crate::traffic::{Part, Traffic, connect, packets_of, subscribe};
 use anyhow::{Result, anyhow, ensure};
+use ballot::{Config, Members};
 use bench_base::nanos_each;
+use packet::QoS;
 use std::alloc::Global;
 use std::time::CpuClock;
-use world_base::ballot::{Config, Members};
-use world_base::packet::QoS;
 use world_base::{Item, NodeCore, Piece, Port};
 
 /// How many publications a figure rests on.

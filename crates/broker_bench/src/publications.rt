@@ -4,10 +4,10 @@ use crate::clients::Clients;
 use crate::crowd::{self, Filters};
 use anyhow::Result;
 use bench_base::nanos_each;
+use packet::QoS;
 use std::alloc::Global;
 use std::time::CpuClock;
-use world_base::packet::QoS;
-use world_base::topics::TopicName;
+use topics::TopicName;
 
 const ROUNDS: u32 = 100_000;
 

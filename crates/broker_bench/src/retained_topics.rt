@@ -3,9 +3,9 @@
 use crate::clients::Clients;
 use anyhow::Result;
 use bench_base::nanos_each;
+use packet::QoS;
 use std::time::CpuClock;
-use world_base::packet::QoS;
-use world_base::topics::TopicName;
+use topics::TopicName;
 
 const TOPICS: u32 = 10_000;
 

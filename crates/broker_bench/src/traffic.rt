@@ -1,8 +1,8 @@
 // The bytes of clients that publish to each other.
 
 use anyhow::Result;
+use packet::QoS;
 use std::alloc::Global;
-use world_base::packet::QoS;
 
 /// How many bytes a publication carries.
 const PAYLOAD: [u8; 64] = [7; 64];

@@ -5,9 +5,6 @@
 
 mod laws;
 
-pub use broker_rows;
-pub use broker_rows::subs;
-pub use broker_spec::retained;
 pub use laws::{
     answers_can_be_spelled, frozen_is_thawed, lists_are_in_range, rows_are_frozen,
     states_stay_in_range, thawed_is_frozen, thawed_is_in_range,

@@ -11,8 +11,6 @@ mod packet_laws;
 mod publish_laws;
 mod rows;
 
-pub use broker_spec;
-pub use broker_spec::retained;
 pub use connect_laws::{connect_steps, full_connect_steps, insertion_writes, start_steps};
 pub use copy_laws::{copies_in_parts, subscribes_in_turn};
 pub use expel_laws::expel_steps;
@@ -33,4 +31,3 @@ pub use publish_laws::{
     taken_publication_steps,
 };
 pub use rows::{maps_of_three_clients, one_publication_for_three_clients};
-pub use subs;

@@ -4,10 +4,10 @@ ghost use Rattle.std.specs.Prelude.{◌≡◌, ◌++◌, false, Some, OnOk};
 ghost use Rattle.broker_rows.specs.broker_base.SessionStep.{kept_anew, kept_resumed};
 ghost use Rattle.broker_session.specs.OneSession.{sent_to_resumed};
 
-use broker_rows::broker_spec::{ConnectionName, Window};
+use broker_spec::{ConnectionName, Window};
 use machine::Halted;
+use packet::Packet;
 use session::Session;
-use session::packet::Packet;
 use std::alloc::Global;
 use std::marker::Model;
 

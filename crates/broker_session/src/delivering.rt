@@ -17,11 +17,11 @@ ghost use Rattle.broker_session.specs.OneSession.{lowered};
 
 use crate::client_row::ClientRow;
 use crate::sending::send_all;
-use broker_rows::broker_spec::{Output, Window};
+use broker_spec::{Output, Window};
 use machine::Halted;
-use session::packet::{Delivery, Packet, Publish, QoS};
-use session::session_base::Publication;
+use packet::{Delivery, Packet, Publish, QoS};
 use session::{MAX_ENTRIES, Session};
+use session_base::Publication;
 use std::alloc::AllocError;
 
 /// Returns what a PUBLISH carries.

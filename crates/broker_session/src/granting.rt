@@ -7,10 +7,10 @@ ghost use Rattle.broker_rows.specs.CopyLaws.{is_granted_in, subscribed_by, sent_
 ghost use Rattle.broker_rows.specs.CopyLaws.{granted_in_turn, subscribed_in_turn, sent_in_turn};
 
 use crate::retained_copies::{copies_for, put_copies, queued};
-use broker_rows::broker_spec::Window;
-use broker_rows::retained::RetainedStore;
+use broker_spec::Window;
 use machine::Halted;
-use session::packet::{Packet, Subscription};
+use packet::{Packet, Subscription};
+use retained::RetainedStore;
 use session::{MAX_SUBSCRIPTIONS, Session};
 
 /// Takes the filters one by one: each is granted or not, and what is retained of it is put into the

@@ -4,10 +4,10 @@ ghost use Rattle.std.specs.Prelude.{◌≡◌, ◌++◌, OnOk, true};
 ghost use Rattle.broker_rows.specs.PacketLaws.{handled_state};
 ghost use Rattle.broker_session.specs.OneSession.{is_handshake, handshake_sends};
 
-use broker_rows::broker_spec::Window;
+use broker_spec::Window;
 use machine::Halted;
+use packet::Packet;
 use session::Session;
-use session::packet::Packet;
 
 /// Says whether a packet is a step of a handshake.
 pub fn is_handshake(packet: &Packet) -> bool

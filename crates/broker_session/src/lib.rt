@@ -9,12 +9,8 @@ mod handshakes;
 mod retained_copies;
 mod sending;
 
-pub use broker_rows::{broker_spec, retained, subs};
 pub use client_row::ClientRow;
 pub use delivering::{deliver, lower, publication_of};
 pub use granting::grant_all;
 pub use handshakes::{do_handshake, is_handshake};
-pub use machine;
 pub use sending::send_all;
-pub use session;
-pub use session::{packet, session_base, topics};

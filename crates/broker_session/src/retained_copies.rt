@@ -8,14 +8,14 @@ ghost use Rattle.session.specs.session_base.Session.{with_queue};
 ghost use Rattle.broker_rows.specs.broker_spec.Entries.{copies_for, queued, retained_copy};
 
 use crate::delivering::{lower, put_copy};
-use broker_rows::broker_spec::Window;
-use broker_rows::retained::{RetainedPublication, RetainedStore};
+use broker_spec::Window;
 use machine::Halted;
-use session::packet::{Packet, QoS, Subscription};
-use session::session_base::Publication;
-use session::topics::TopicName;
+use packet::{Packet, QoS, Subscription};
+use retained::{RetainedPublication, RetainedStore};
 use session::{MAX_ENTRIES, Session};
+use session_base::Publication;
 use std::alloc::{AllocError, Global};
+use topics::TopicName;
 
 // Returns a copy of a retained publication, with RETAIN 1, at the lower of its QoS and the one that
 // is asked for.

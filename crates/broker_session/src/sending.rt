@@ -3,9 +3,9 @@
 ghost use Rattle.std.specs.Prelude.{◌≡◌, ◌++◌, OnOk, map};
 ghost use Rattle.broker_rows.specs.broker_spec.declared.command.Output.TheVariants as outputs;
 
-use broker_rows::broker_spec::{ConnectionName, Output};
+use broker_spec::{ConnectionName, Output};
 use machine::Halted;
-use session::packet::Packet;
+use packet::Packet;
 
 /// Appends the sending of packets on a connection, in order.
 pub fn send_all(

@@ -5,7 +5,7 @@ ghost use Rattle.broker_spec.specs.Logged.{IsBrokerCommand};
 
 use crate::connection_name::ConnectionName;
 use crate::sized_packet::SizedPacket;
-use retained::packet::{ClientId, Packet};
+use packet::{ClientId, Packet};
 use std::alloc::AllocError;
 
 /// A command of the broker's log.

@@ -19,8 +19,6 @@ pub use laws::{
     packet_of_nobody_is_nothing, publication_enters, repeat_is_unreleased, starts_where_it_may,
     taken_publish_adds_one,
 };
-pub use retained;
-pub use retained::{packet, topics};
 pub use rows::{
     a_full_queue_keeps_the_order, a_repeat_before_pubrel, a_second_connection_takes_over,
     an_expelled_session_is_gone, connect_is_answered, entries_have_their_places,
@@ -30,6 +28,5 @@ pub use rows::{
     retained_at_subscribe, sessions_begin_and_end, subscribe_is_granted,
     two_filters_one_publication, window_of_64,
 };
-pub use session_base;
 pub use sized_packet::{SizedPacket, Unspellable};
 pub use window::Window;

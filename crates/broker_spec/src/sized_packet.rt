@@ -4,7 +4,7 @@ ghost use Rattle.std.specs.Prelude.{◌≡◌, ◌↔◌, IfOk, IsOk, IsErrOf};
 ghost use Rattle.retained.specs.packet.Spelling.{Fits, IsListed, IsTooLarge};
 ghost use Rattle.broker_spec.specs.Sized.{IsSized, unspellable_number};
 
-use retained::packet::Packet;
+use packet::Packet;
 use std::alloc::AllocError;
 use std::error::Error;
 use std::fmt;

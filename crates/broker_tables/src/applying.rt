@@ -4,8 +4,8 @@ ghost use Rattle.std.specs.Prelude.{◌≡◌, ◌++◌, OnOk};
 ghost use Rattle.broker_tables.specs.Tables.{IsConsistent, IsTied, state_in, stepped};
 
 use crate::tables::Tables;
-use broker_session::broker_spec::{Command, Output};
-use broker_session::machine::Halted;
+use broker_spec::{Command, Output};
+use machine::Halted;
 
 impl Tables {
     /// Applies one command, and appends its outputs. `Halted` says that memory ran out: the tables

@@ -21,12 +21,12 @@ ghost use Rattle.broker_session.specs.OneSession.{sent_to_resumed};
 
 use crate::limits::MAX_SESSIONS;
 use crate::tables::Tables;
-use broker_session::broker_spec::{ConnectionName, Output};
-use broker_session::machine::Halted;
-use broker_session::packet::{ClientId, Connack, Packet, RefusalCode};
-use broker_session::subs::SubIndex;
 use broker_session::{ClientRow, send_all};
+use broker_spec::{ConnectionName, Output};
+use machine::Halted;
+use packet::{ClientId, Connack, Packet, RefusalCode};
 use std::collections::BTreeMap;
+use subs::SubIndex;
 
 /// What a Connect does on a connection that is no client's current one.
 #[derive(Clone, Copy, Debug, PartialEq, Eq)]

@@ -7,10 +7,10 @@ ghost use Rattle.broker_tables.specs.Tables.{IsConsistent, IsTied, state_in, ste
 
 use crate::connecting::release;
 use crate::tables::Tables;
-use broker_session::broker_spec::{ConnectionName, Output};
-use broker_session::machine::Halted;
-use broker_session::packet::ClientId;
-use broker_session::subs::SubIndex;
+use broker_spec::{ConnectionName, Output};
+use machine::Halted;
+use packet::ClientId;
+use subs::SubIndex;
 
 impl Tables {
     /// Ends a client's session, with its subscriptions, its received identifiers and its entries,

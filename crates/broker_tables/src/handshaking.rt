@@ -8,10 +8,10 @@ ghost use Rattle.broker_session.specs.OneSession.{is_handshake};
 ghost use Rattle.broker_tables.specs.Tables.{IsConsistent, IsTied, state_in, stepped};
 
 use crate::tables::Tables;
-use broker_session::broker_spec::{ConnectionName, Output};
-use broker_session::machine::Halted;
-use broker_session::packet::{ClientId, Packet};
 use broker_session::{do_handshake, send_all};
+use broker_spec::{ConnectionName, Output};
+use machine::Halted;
+use packet::{ClientId, Packet};
 
 impl Tables {
     /// Takes a step of a handshake of the client that is served on this connection.

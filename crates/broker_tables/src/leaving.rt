@@ -7,9 +7,9 @@ ghost use Rattle.broker_session.specs.broker_spec.declared.command.Output.TheVar
 ghost use Rattle.broker_tables.specs.Tables.{IsConsistent, IsTied, state_in, stepped};
 
 use crate::tables::Tables;
-use broker_session::broker_spec::{ConnectionName, Output};
-use broker_session::machine::Halted;
-use broker_session::subs::SubIndex;
+use broker_spec::{ConnectionName, Output};
+use machine::Halted;
+use subs::SubIndex;
 
 impl Tables {
     /// Ends a connection: its client is no longer served, and a clean session ends with it,

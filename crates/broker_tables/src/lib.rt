@@ -14,6 +14,6 @@ mod subscribing;
 mod tables;
 mod unsubscribing;
 
-pub use broker_session::{ClientRow, broker_spec, machine, retained, session, subs};
+pub use broker_session::ClientRow;
 pub use limits::MAX_SESSIONS;
 pub use tables::Tables;

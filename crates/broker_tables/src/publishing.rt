@@ -18,16 +18,16 @@ ghost use Rattle.broker_session.specs.broker_rows.Published.{copy_answered, deli
 ghost use Rattle.broker_session.specs.broker_rows.Published.{granted_rows, received_on};
 
 use crate::tables::Tables;
-use broker_session::broker_spec::{ConnectionName, Output, Window};
-use broker_session::machine::Halted;
-use broker_session::packet::{ClientId, Delivery, Packet, Publish, QoS};
-use broker_session::retained::{RetainedPublication, RetainedStore};
-use broker_session::session_base::Publication;
-use broker_session::subs::SubIndex;
-use broker_session::topics::TopicName;
 use broker_session::{ClientRow, deliver, lower, publication_of};
+use broker_spec::{ConnectionName, Output, Window};
+use machine::Halted;
+use packet::{ClientId, Delivery, Packet, Publish, QoS};
+use retained::{RetainedPublication, RetainedStore};
+use session_base::Publication;
 use std::alloc::AllocError;
 use std::collections::BTreeMap;
+use subs::SubIndex;
+use topics::TopicName;
 
 impl Tables {
     /// Handles a PUBLISH of the client that is served on this connection. A repeat is answered once

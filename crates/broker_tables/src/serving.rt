@@ -8,10 +8,10 @@ ghost use Rattle.broker_tables.specs.Inside.{ends_connection};
 ghost use Rattle.broker_tables.specs.Tables.{IsConsistent, IsTied, state_in, stepped};
 
 use crate::tables::Tables;
-use broker_session::broker_spec::{ConnectionName, Output};
 use broker_session::is_handshake;
-use broker_session::machine::Halted;
-use broker_session::packet::{ClientId, Packet};
+use broker_spec::{ConnectionName, Output};
+use machine::Halted;
+use packet::{ClientId, Packet};
 use std::alloc::AllocError;
 
 impl Tables {

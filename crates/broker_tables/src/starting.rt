@@ -10,10 +10,10 @@ ghost use Rattle.broker_tables.specs.Tables.{IsConsistent, IsTied, state_in, ste
 
 use crate::tables::Tables;
 use broker_session::ClientRow;
-use broker_session::broker_spec::Window;
-use broker_session::packet::ClientId;
-use broker_session::subs::{SubIndex, TreeIndex};
+use broker_spec::Window;
+use packet::ClientId;
 use std::collections::BTreeMap;
+use subs::{SubIndex, TreeIndex};
 
 impl Tables {
     /// Handles a Start: no client is served any more, the clean sessions end, and the window is the

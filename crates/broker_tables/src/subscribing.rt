@@ -11,14 +11,12 @@ ghost use Rattle.broker_session.specs.broker_rows.Owners.{owners_in};
 ghost use Rattle.broker_tables.specs.Tables.{IsConsistent, IsTied, state_in, stepped};
 
 use crate::tables::Tables;
-use broker_session::broker_spec::{ConnectionName, Output};
-use broker_session::machine::Halted;
-use broker_session::packet::{
-    ClientId, Packet, PacketList, Suback, SubackCode, Subscribe, Subscription,
-};
-use broker_session::subs::{SubIndex, TreeIndex};
 use broker_session::{grant_all, send_all};
+use broker_spec::{ConnectionName, Output};
+use machine::Halted;
+use packet::{ClientId, Packet, PacketList, Suback, SubackCode, Subscribe, Subscription};
 use std::alloc::{AllocError, Global};
+use subs::{SubIndex, TreeIndex};
 
 impl Tables {
     /// Handles a SUBSCRIBE of the client that is served on this connection. Each filter is granted

@@ -6,12 +6,12 @@ ghost use Rattle.broker_session.specs.broker_spec.Window.{wide_window};
 ghost use Rattle.broker_tables.specs.Tables.{IsTied, state_in};
 
 use broker_session::ClientRow;
-use broker_session::broker_spec::{ConnectionName, Window};
-use broker_session::packet::ClientId;
-use broker_session::retained::RetainedStore;
-use broker_session::subs::{SubIndex, TreeIndex};
+use broker_spec::{ConnectionName, Window};
+use packet::ClientId;
+use retained::RetainedStore;
 use std::alloc::Global;
 use std::collections::BTreeMap;
+use subs::{SubIndex, TreeIndex};
 
 /// The sessions by client, and the retained publications. The map of connections and the index of
 /// subscriptions contain nothing new: they find a row without a walk over all.

@@ -11,12 +11,12 @@ ghost use Rattle.broker_session.specs.broker_rows.Owners.{owners_in};
 ghost use Rattle.broker_tables.specs.Tables.{IsConsistent, IsTied, state_in, stepped};
 
 use crate::tables::Tables;
-use broker_session::broker_spec::{ConnectionName, Output};
-use broker_session::machine::Halted;
-use broker_session::packet::{ClientId, Packet, Unsubscribe};
-use broker_session::session::Session;
-use broker_session::subs::{SubIndex, TreeIndex};
-use broker_session::topics::Filter;
+use broker_spec::{ConnectionName, Output};
+use machine::Halted;
+use packet::{ClientId, Packet, Unsubscribe};
+use session::Session;
+use subs::{SubIndex, TreeIndex};
+use topics::Filter;
 
 impl Tables {
     /// Handles an UNSUBSCRIBE of the client that is served on this connection.

@@ -1,9 +1,9 @@
 // Rows: what comes to a broker, and what it sends then.
 
 use broker::BrokerMachine;
-use broker::broker_spec::{Command, ConnectionName, Output, SizedPacket};
-use broker::machine::Machine;
-use broker::packet::{ClientId, Packet, Step, decode, encode};
+use broker_spec::{Command, ConnectionName, Output, SizedPacket};
+use machine::Machine;
+use packet::{ClientId, Packet, Step, decode, encode};
 use std::alloc::Global;
 
 /// What comes to a broker. Connections are those of ballot 1, by their number.

@@ -5,7 +5,7 @@ use crate::tests::forms::{Form, Step, is_built};
 use crate::tests::queues::{Part, other_part};
 use crate::tests::{forms, windows};
 use broker::BrokerMachine;
-use broker::machine::Machine;
+use machine::Machine;
 use std::alloc::Global;
 
 /// The broker with which a run begins.

@@ -10,9 +10,9 @@ ghost use Rattle.client.specs.Inside.Ids.{RequestId};
 use crate::client_core::ClientCore;
 use crate::writing::write;
 use client_base::{ClientError, Request, Stage};
-use cutter::packet::{Packet, PacketId, PacketList, QoS, Subscribe, Subscription, Unsubscribe};
-use cutter::topics::Filter;
+use packet::{Packet, PacketId, PacketList, QoS, Subscribe, Subscription, Unsubscribe};
 use std::alloc::Global;
+use topics::Filter;
 
 impl ClientCore {
     /// Subscribes to a filter, at most at this QoS. `NotActive` comes exactly if the client is

@@ -5,7 +5,7 @@ ghost use Rattle.client.specs.Core.{new_core, gone};
 
 use client_base::{Accepted, KeptPublication, Request, Stage};
 use cutter::Cutter;
-use cutter::packet::{ClientId, PacketId};
+use packet::{ClientId, PacketId};
 use std::alloc::Global;
 use std::marker::Model;
 

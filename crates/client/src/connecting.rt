@@ -12,7 +12,7 @@ use crate::client_core::ClientCore;
 use crate::writing::{write, write_connect, write_publishes, write_pubrels};
 use client_base::{ClientError, Stage};
 use cutter::Cutter;
-use cutter::packet::Packet;
+use packet::Packet;
 
 impl ClientCore {
     /// Opens a connection: writes CONNECT, and nothing else until the server has accepted the

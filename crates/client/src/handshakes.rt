@@ -15,7 +15,7 @@ use crate::identifiers::{
 };
 use crate::writing::{write_puback, write_pubcomp, write_pubrec, write_pubrel};
 use client_base::{Accepted, ClientError};
-use cutter::packet::{Delivery, PacketId, Publish};
+use packet::{Delivery, PacketId, Publish};
 
 impl ClientCore {
     /// Handles PUBLISH: it is accepted each time at QoS 0 and 1, and at QoS 2 once while its

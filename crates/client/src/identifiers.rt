@@ -10,9 +10,9 @@ ghost use Rattle.client_base.specs.session_base.Identifiers.{without_id};
 ghost use Rattle.client_base.specs.Publishing.{next_id, has_free_id};
 
 use crate::client_core::ClientCore;
-use client_base::session_base::fill_takes_what_waits;
 use client_base::{KeptPublication, Request};
-use cutter::packet::{PacketId, QoS};
+use packet::{PacketId, QoS};
+use session_base::fill_takes_what_waits;
 
 impl ClientCore {
     /// Returns the least identifier that no publication and no request has; none if all 65,535 are

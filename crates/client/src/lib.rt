@@ -14,7 +14,5 @@ mod reading;
 mod refusing;
 mod writing;
 
-pub use client_base;
-pub use client_base::{Accepted, ClientError, KeptPublication, Request, Stage, session_base};
+pub use client_base::{Accepted, ClientError, KeptPublication, Request, Stage};
 pub use client_core::ClientCore;
-pub use cutter::{machine, packet, topics};

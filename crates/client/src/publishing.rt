@@ -14,11 +14,11 @@ ghost use Rattle.client.specs.Inside.Handling.{keeping, sending};
 
 use crate::client_core::ClientCore;
 use crate::writing::{publish_again, write, write_publish};
-use client_base::session_base::Publication;
 use client_base::{ClientError, KeptPublication, Stage};
-use cutter::packet::{Delivery, Packet, PacketId, Payload, Publish, QoS};
-use cutter::topics::TopicName;
+use packet::{Delivery, Packet, PacketId, Payload, Publish, QoS};
+use session_base::Publication;
 use std::alloc::AllocError;
+use topics::TopicName;
 
 /// The most publications that are kept.
 const MAX_KEPT: usize = 64;

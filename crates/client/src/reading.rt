@@ -9,7 +9,7 @@ ghost use Rattle.client.specs.Inside.Handling.{cut_cause, is_fatal};
 use crate::client_core::ClientCore;
 use client_base::{ClientError, Stage};
 use cutter::CutError;
-use cutter::packet::{Connack, DecodeFault, Packet};
+use packet::{Connack, DecodeFault, Packet};
 
 impl ClientCore {
     /// Takes the next bytes from the server, in pieces of any size, and handles each whole packet.

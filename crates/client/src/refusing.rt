@@ -8,8 +8,8 @@ ghost use Rattle.client_base.specs.Publishing.{is_over_limit, publish_refusal};
 ghost use Rattle.client_base.specs.Steps.{request_refusal};
 
 use crate::client_core::ClientCore;
-use client_base::session_base::Publication;
-use cutter::packet::{MAX_BODY, QoS};
+use packet::{MAX_BODY, QoS};
+use session_base::Publication;
 
 impl ClientCore {
     /// Says whether [`ClientCore::publish`] refuses a publication for another cause than `Memory`.

@@ -6,9 +6,9 @@ ghost use Rattle.cutter.specs.packet.declared.packet.Packet.TheVariants as packe
 ghost use Rattle.client_base.specs.State.{publish_kept};
 ghost use Rattle.client.specs.Core.{AppendsAll};
 
-use client_base::session_base::delivery;
 use client_base::{ClientError, KeptPublication};
-use cutter::packet::{ClientId, Connect, Packet, PacketId, Publish, encode};
+use packet::{ClientId, Connect, Packet, PacketId, Publish, encode};
+use session_base::delivery;
 use std::alloc::AllocError;
 
 /// Appends a packet to what is written. The callers ensure that it is not over the size limit.

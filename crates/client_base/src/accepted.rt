@@ -1,7 +1,7 @@
 // A publication that a client accepted.
 
-use session_base::packet::{Payload, QoS};
-use session_base::topics::TopicName;
+use packet::{Payload, QoS};
+use topics::TopicName;
 
 /// A publication that a client accepted (MQTT 4.3), with the number of the session in which it did.
 #[derive(Clone, Debug, PartialEq, Eq, Drop)]

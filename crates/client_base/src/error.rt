@@ -3,10 +3,10 @@
 ghost use Rattle.std.specs.Prelude.{◌≡◌};
 ghost use Rattle.client_base.specs.Refusals.{client_number};
 
-use session_base::topics::MalformedKind;
 use std::alloc::{AllocError, AllocFailed};
 use std::error::Error;
 use std::fmt;
+use topics::MalformedKind;
 
 /// Why a call of a client is refused, or ends its connection.
 #[derive(Clone, Copy, Debug, PartialEq, Eq)]

@@ -1,7 +1,7 @@
 // A publication that a client would send again.
 
+use packet::PacketId;
 use session_base::Publication;
-use session_base::packet::PacketId;
 
 /// A publication at QoS 1 or 2 that a client keeps until its handshake has come far enough. That is
 /// at QoS 1 to its PUBACK, at QoS 2 to its PUBREC (MQTT 4.3.2, 4.3.3).

@@ -17,6 +17,4 @@ pub use laws::{
     publishing_order_is_kept,
 };
 pub use request::Request;
-pub use session_base;
-pub use session_base::packet;
 pub use stage::Stage;

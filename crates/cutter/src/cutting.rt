@@ -6,10 +6,10 @@ ghost use Rattle.cutter.specs.Stream.{Takes};
 
 use crate::error::CutError;
 use bytes::{Buf, BytesMut};
-use packet::topics::MalformedKind;
 use packet::{DecodeFault, Packet, Step, decode};
 use std::alloc::Global;
 use std::marker::Model;
+use topics::MalformedKind;
 
 /// The bytes of a stream that came and are not taken yet. How the stream is cut into pieces makes
 /// no difference to the packets that are taken.

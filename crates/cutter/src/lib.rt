@@ -11,8 +11,5 @@ pub use cutting::Cutter;
 pub use error::CutError;
 pub use holding::Piece;
 pub use laws::{every_stream_is_cut, no_packet_is_left, one_cut, packets_of_the_stream};
-pub use machine;
 pub use machine::Memory;
-pub use packet;
-pub use packet::{packet_base, topics};
 pub use pipe_laws::pipes_are_in_order;

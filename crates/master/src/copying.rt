@@ -3,8 +3,8 @@
 ghost use Rattle.std.specs.Prelude.{◌≡◌, true, IfOk, IsOk};
 ghost use Rattle.master.specs.Copying.{has_numbers_alone};
 
-use ballot::machine::{Machine, Memory};
 use ballot::{Body, Config, Members, Message, copy_log};
+use machine::{Machine, Memory};
 use std::alloc::Global;
 
 /// Returns a copy of a message. The only error is that memory ran out; a message that has only

@@ -25,8 +25,8 @@ use crate::inputs::{Taken, counted, part, step_replica};
 use crate::master::Master;
 use crate::opening::can_open;
 use crate::told::Told;
-use ballot::machine::Machine;
 use ballot::{Config, Effect, Message, OpeningError, Replica};
+use machine::Machine;
 use std::alloc::Global;
 use std::marker::Model;
 

@@ -7,8 +7,8 @@ ghost use Rattle.std.specs.Bool.{OnTrue, OnFalse};
 ghost use Rattle.snapshots.specs.World.{messages};
 ghost use Rattle.master.specs.Inside.Losing.{Parted, TookIn, input_of, is_message};
 
-use ballot::machine::Machine;
 use ballot::{Effect, Message, Replica};
+use machine::Machine;
 
 /// An input of a node.
 #[derive(Drop)]

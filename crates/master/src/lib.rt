@@ -14,8 +14,6 @@ mod sending;
 mod told;
 
 pub use activation::Activation;
-pub use ballot;
-pub use ballot::machine;
 pub use copying::{config_of, copy_of};
 pub use error::AssignError;
 pub use event::{Event, Idle};

@@ -3,7 +3,7 @@
 ghost use Rattle.std.specs.Prelude.{◌≡◌, ◌≤◌, ◌-◌, ◌++◌, length, take, drop, OnOk, OnErr};
 ghost use Rattle.ballot.specs.lists.Lists.{IsPrefixOf};
 
-use ballot::machine::{Machine, Memory};
+use machine::{Machine, Memory};
 use std::alloc::Global;
 
 /// Adds to the record the places of a log below `committed` that are not yet there. The log is kept

@@ -5,8 +5,8 @@ ghost use Rattle.master.specs.ToldLengths.{told_in};
 ghost use Rattle.ballot.specs.lists.Lists.{In};
 ghost use Rattle.master.specs.Inside.{HasCounted, least_but_one, next_least};
 
-use ballot::machine::Memory;
 use ballot::{Body, MAX_NODE, Message};
+use machine::Memory;
 use std::alloc::Global;
 use std::marker::Model;
 use std::mem::swap;

@@ -4,7 +4,7 @@ ghost use Rattle.std.specs.Prelude.{◌≡◌, ◌+◌, ◌*◌, ℕ, length, ma
 ghost use Rattle.node.specs.Growth.{bytes_of_body, bytes_of_command, bytes_of_packet, command_bytes};
 ghost use Rattle.node.specs.Growth.{counted, grown, max_small};
 
-use world_base::packet::{Packet, Subscribe, Unsubscribe};
+use packet::{Packet, Subscribe, Unsubscribe};
 use world_base::{Body, Command, Item};
 
 /// Up to this size a log is not cut because of it.

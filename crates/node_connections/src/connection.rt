@@ -14,8 +14,8 @@ use crate::port::Port;
 use crate::standing::Standing;
 use crate::unread::Unread;
 use broker_spec::ConnectionName;
-use cutter::packet::{Connack, Packet, RefusalCode};
 use cutter::{Memory, Piece};
+use packet::{Connack, Packet, RefusalCode};
 use std::alloc::Global;
 
 /// How many bytes may wait to be handed over on one connection: more than a client can be sent

@@ -1,6 +1,6 @@
 // What is at the front of a connection's bytes.
 
-use cutter::packet::{Packet, RefusalCode};
+use packet::{Packet, RefusalCode};
 
 /// What is at the front of a connection's bytes.
 #[derive(Drop)]

@@ -10,9 +10,8 @@ mod port;
 mod standing;
 mod unread;
 
-pub use broker_spec;
 pub use connection::{Connection, ConnectionStage};
-pub use cutter::{Memory, Piece, packet, topics};
+pub use cutter::{Memory, Piece};
 pub use front::Front;
 pub use handed::Handed;
 pub use listing::{close_each, has_port, keep_listed, lowest_silent, push, push_idle};

@@ -4,8 +4,8 @@ ghost use Rattle.std.specs.Prelude.{◌≡◌, ◌++◌, [], length, OnErr, OnOk
 ghost use Rattle.node_connections.specs.Inside.{Reads};
 
 use crate::front::Front;
-use cutter::packet::DecodeFault;
 use cutter::{CutError, Cutter, Memory, Piece};
+use packet::DecodeFault;
 use std::alloc::Global;
 use std::marker::Model;
 

@@ -4,10 +4,10 @@ ghost use Rattle.std.specs.Prelude.{◌≡◌, None, Some, IfOk, OnOk, IfErr, Is
 ghost use Rattle.packet.specs.ClientId.{client_fault, has_client_length, is_client};
 ghost use Rattle.packet_base.specs.topics.Text.{RefusesBy};
 
-use packet_base::topics::{MalformedKind, Text};
 use std::alloc::{AllocError, Global};
 use std::fmt;
 use std::marker::Model;
+use topics::{MalformedKind, Text};
 
 /// The most bytes of a Client Identifier.
 const MAX_BYTES: usize = 64;

@@ -4,8 +4,8 @@ ghost use Rattle.std.specs.Prelude.{◌≡◌, ◌+◌, ◌≤◌, ◌++◌, len
 ghost use Rattle.packet_base.specs.Outcome.{Gives, TakesNoMemory};
 ghost use Rattle.packet.specs.Connack.{connack, connack_of, answer_of};
 
-use packet_base::topics::MalformedKind;
 use packet_base::{Reader, RefusalCode, Stop, put_byte};
+use topics::MalformedKind;
 
 /// The answer to a CONNECT (MQTT 3.2).
 #[derive(Clone, Copy, Debug, PartialEq, Eq)]

@@ -6,9 +6,9 @@ ghost use Rattle.packet_base.specs.Outcome.{Gives, IsOutOfMemory};
 ghost use Rattle.packet.specs.Connect.{connect, connect_of, FitsConnect};
 
 use crate::client_id::{ClientId, has_client_length};
-use packet_base::topics::MalformedKind;
 use packet_base::{Reader, RefusalCode, Stop, put_byte, put_bytes, put_number, put_text};
 use std::alloc::Global;
+use topics::MalformedKind;
 
 /// What each CONNECT begins with: the text `MQTT` (MQTT 3.1.2.1).
 const PROTOCOL: [u8; 6] = [0x00, 0x04, 0x4D, 0x51, 0x54, 0x54];

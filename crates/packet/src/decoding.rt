@@ -7,9 +7,9 @@ ghost use Rattle.packet.specs.Verdict.{ReadsWhatIsSpelled, MayNeedMemory};
 
 use crate::error::DecodeFault;
 use crate::packet::{MAX_BODY, Packet};
-use packet_base::topics::MalformedKind;
 use packet_base::{Header, Reader, Stop, take_length};
 use std::alloc::Global;
+use topics::MalformedKind;
 
 /// What is at the front of a slice.
 #[derive(Debug, PartialEq, Eq, Drop)]

@@ -4,10 +4,10 @@ ghost use Rattle.std.specs.Prelude.{◌≡◌};
 ghost use Rattle.packet.specs.Refusals.{decode_number, encode_number};
 
 use packet_base::RefusalCode;
-use packet_base::topics::MalformedKind;
 use std::alloc::AllocError;
 use std::error::Error;
 use std::fmt;
+use topics::MalformedKind;
 
 /// Why no packet is read from the front of a slice.
 #[derive(Clone, Copy, Debug, PartialEq, Eq)]

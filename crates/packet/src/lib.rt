@@ -31,8 +31,7 @@ pub use laws::{
     faults_stay, fronts_are_unfinished, no_spelling_begins_another, one_spelling, spelling_spells,
 };
 pub use packet::{MAX_BODY, Packet};
-pub use packet_base;
-pub use packet_base::{PacketId, PacketList, RefusalCode, topics};
+pub use packet_base::{PacketId, PacketList, RefusalCode};
 pub use payload::Payload;
 pub use publish::Publish;
 pub use qos::QoS;

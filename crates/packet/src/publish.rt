@@ -17,9 +17,9 @@ ghost use Rattle.packet.specs.Publish.{publish, publish_of, FitsPublish};
 
 use crate::delivery::Delivery;
 use crate::payload::Payload;
-use packet_base::topics::TopicName;
 use packet_base::{DeliveryFlags, Reader, Stop, put_bytes, put_text};
 use std::alloc::Global;
+use topics::TopicName;
 
 /// A publication sent to the server or to a subscriber (MQTT 3.3).
 #[derive(Clone, Debug, PartialEq, Eq, Drop)]

@@ -4,7 +4,7 @@ ghost use Rattle.std.specs.Prelude.{◌≡◌};
 ghost use Rattle.packet.specs.QoS.{qos_number, qos_of};
 
 use packet_base::Stop;
-use packet_base::topics::MalformedKind;
+use topics::MalformedKind;
 
 /// Quality of Service: how reliably a publication is delivered (MQTT 4.3). The three are ordered by
 /// their numbers.

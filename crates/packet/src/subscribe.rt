@@ -22,9 +22,9 @@ ghost use Rattle.packet.specs.Subscribe.{
 };
 
 use crate::qos::QoS;
-use packet_base::topics::Filter;
 use packet_base::{ListItem, PacketId, PacketList, Reader, Stop, put_byte, put_number, put_text};
 use std::alloc::{AllocError, Global};
+use topics::Filter;
 
 /// A filter that a client subscribes to, and the greatest QoS at which it is to be sent
 /// publications (MQTT 3.8.3).

@@ -15,9 +15,9 @@ ghost use Rattle.packet_base.specs.Outcome.{Gives, IsOutOfMemory};
 ghost use Rattle.packet_base.specs.Lists.{begins_list};
 ghost use Rattle.packet.specs.Unsubscribe.{unsubscribe, unsubscribe_of, FitsUnsubscribe};
 
-use packet_base::topics::Filter;
 use packet_base::{PacketId, PacketList, Reader, Stop, put_number};
 use std::alloc::Global;
+use topics::Filter;
 
 /// A client unsubscribes (MQTT 3.10). The list is not empty in a packet that was read, and must not
 /// be empty in one that is written.

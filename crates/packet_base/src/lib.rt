@@ -20,5 +20,4 @@ pub use reader::Reader;
 pub use refusal_code::RefusalCode;
 pub use remaining_length::{length_size, put_length, take_length};
 pub use stop::{OUT_OF_MEMORY, Stop};
-pub use topics;
 pub use writing::{put_byte, put_bytes, put_number, put_text};

@@ -6,7 +6,7 @@ ghost use Rattle.packet_world.specs.Groups.{GroupsServe};
 ghost use Rattle.packet_world.specs.PutOut.{GivenIsPutOut, GroupsPutOut};
 ghost use Rattle.packet_world.specs.Served.{WorldsAreServed};
 
-use snapshots::machine::Machine;
+use machine::Machine;
 
 /// States that, whatever clients, nodes and the network between them do, connections carry packets
 /// in order. The publications of each client that is in step are published once. What it accepts in

@@ -14,7 +14,7 @@ ghost use Rattle.post.specs.Mastering.{MayGet, answer_to, body_of, master_after,
 use crate::cluster::Cluster;
 use crate::order_error::OrderError;
 use crate::outbox::Outbox;
-use master::ballot::MASTER;
+use ballot::MASTER;
 use master::{Activation, AssignError, Master};
 use node::{Body, Command, Config, Members, Message};
 use std::alloc::Global;

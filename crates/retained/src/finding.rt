@@ -21,10 +21,10 @@ ghost use Rattle.retained.specs.Retained.{matching_entries};
 ghost use Rattle.retained.specs.Inside.{IsFront, StandsBefore, IsAround, HoldsMatches};
 
 use crate::retained_publication::RetainedPublication;
-use packet::topics::{Filter, TopicName, has_no_wildcard, matches};
 use std::alloc::{AllocError, Global};
 use std::collections::BTreeMap;
 use std::ops::Bound;
+use topics::{Filter, TopicName, has_no_wildcard, matches};
 
 /// Appends the matching topics: a filter without wildcards is looked up, and any other is matched
 /// with the topics that begin as it does. If memory runs out, some of them may be there.

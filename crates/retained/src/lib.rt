@@ -10,7 +10,5 @@ mod retained_store;
 
 pub use error::RetainedError;
 pub use laws::{last_is_retained, stays_in_bounds};
-pub use packet;
-pub use packet::topics;
 pub use retained_publication::RetainedPublication;
 pub use retained_store::{MAX_TOPICS, RetainedStore};

@@ -11,12 +11,12 @@ ghost use Rattle.retained.specs.Retained.{without_topic, is_full_for, is_refused
 use crate::error::RetainedError;
 use crate::finding::append_matching;
 use crate::retained_publication::RetainedPublication;
-use packet::topics::{Filter, TopicName, matches};
 use packet::{Payload, QoS};
 use std::alloc::{AllocError, Global};
 use std::collections::BTreeMap;
 use std::collections::btree_map::Iter;
 use std::marker::Model;
+use topics::{Filter, TopicName, matches};
 
 /// The most topics of which a publication is retained.
 pub const MAX_TOPICS: usize = 16_384;

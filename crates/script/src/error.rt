@@ -1,9 +1,9 @@
 // Why a text is no script.
 
-use session_base::topics::MalformedKind;
 use std::alloc::{AllocError, AllocFailed};
 use std::error::Error;
 use std::fmt;
+use topics::MalformedKind;
 
 /// Why a text was not read as a script.
 #[derive(Clone, Copy, Debug, PartialEq, Eq)]

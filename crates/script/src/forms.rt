@@ -8,8 +8,8 @@ ghost use Rattle.script.specs.Inside.LineReading.{one, only, publication_of, pub
 use crate::error::FieldFault;
 use crate::script_line::ScriptLine;
 use crate::values::{amount, client, filter, number, numbers, payload, qos, retain, topic};
+use packet::ClientId;
 use session_base::Publication;
-use session_base::packet::ClientId;
 use std::alloc::Global;
 
 // Returns the number of a line that has one more field.

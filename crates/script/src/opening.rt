@@ -9,7 +9,7 @@ ghost use Rattle.script.specs.Inside.Worlds.{is_small, values_of, world_of};
 use crate::error::FieldFault;
 use crate::values::{clients, number, numbers};
 use ballot_base::{Config, Members};
-use session_base::packet::ClientId;
+use packet::ClientId;
 use std::alloc::Global;
 
 /// The world at the beginning.

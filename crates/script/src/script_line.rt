@@ -1,9 +1,9 @@
 // What a line of a script says.
 
 use crate::numbers::Numbers;
+use packet::{ClientId, QoS};
 use session_base::Publication;
-use session_base::packet::{ClientId, QoS};
-use session_base::topics::Filter;
+use topics::Filter;
 
 /// How many bytes are carried.
 #[derive(Clone, Copy, Debug, PartialEq, Eq)]

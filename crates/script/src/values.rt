@@ -8,9 +8,9 @@ use crate::fields::parts_of;
 use crate::numbers::Numbers;
 use crate::script_line::Amount;
 use hex::FromHexError;
-use session_base::packet::{ClientId, Payload, QoS};
-use session_base::topics::{Filter, TopicName};
+use packet::{ClientId, Payload, QoS};
 use std::alloc::Global;
+use topics::{Filter, TopicName};
 
 /// Reads a decimal number without a sign, below 2^64. `Form` says that the text is none.
 pub(crate) fn number(text: &str) -> Result<u64, FieldFault>

@@ -13,7 +13,7 @@ use crate::received::Received;
 use crate::session::{MAX_ENTRIES, MAX_SUBSCRIPTIONS, Session};
 use crate::session_queue::SessionQueue;
 use crate::subscriptions::Subscriptions;
-use session_base::packet::PacketId;
+use packet::PacketId;
 use session_base::{
     Awaits, Publication, write_flight, write_granted_filter, write_number, write_publication,
 };

@@ -15,5 +15,3 @@ mod thawing;
 pub use arrival::Arrival;
 pub use error::EnqueueError;
 pub use session::{MAX_ENTRIES, MAX_SUBSCRIPTIONS, Session};
-pub use session_base;
-pub use session_base::{packet, packet_base, topics};

@@ -4,7 +4,7 @@ ghost use Rattle.std.specs.Prelude.{◌≡◌, [], OnOk, OnErr};
 ghost use Rattle.session_base.specs.lists.Lists.{has_id};
 ghost use Rattle.session_base.specs.Identifiers.{with_id, without_id};
 
-use session_base::packet::PacketId;
+use packet::PacketId;
 use std::alloc::{AllocError, Global};
 use std::collections::BTreeSet;
 use std::marker::Model;

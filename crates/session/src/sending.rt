@@ -6,7 +6,7 @@ ghost use Rattle.session_base.specs.Publication.{publish_of};
 ghost use Rattle.session_base.specs.Queue.{is_puback, is_pubrec, is_pubcomp, awaited};
 ghost use Rattle.session_base.specs.Sending.{sent_anew};
 
-use session_base::packet::{Packet, PacketId, Publish, QoS};
+use packet::{Packet, PacketId, Publish, QoS};
 use session_base::{Awaits, Publication, delivery};
 use std::alloc::AllocError;
 

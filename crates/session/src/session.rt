@@ -19,11 +19,11 @@ use crate::received::Received;
 use crate::session_queue::SessionQueue;
 use crate::subscriptions::Subscriptions;
 use indexmap::IndexMap;
-use session_base::packet::{Packet, PacketId, QoS};
-use session_base::topics::{Filter, TopicName};
+use packet::{Packet, PacketId, QoS};
 use session_base::{Publication, resend_keeps_the_order};
 use std::alloc::{AllocError, Global};
 use std::marker::Model;
+use topics::{Filter, TopicName};
 
 /// The most entries that a session holds, including those in flight.
 pub const MAX_ENTRIES: usize = 4096;

@@ -17,7 +17,7 @@ use crate::sending::{
     awaits_of, packet_anew, send_publish, waits_for_puback, waits_for_pubcomp, waits_for_pubrec,
 };
 use indexmap::IndexMap;
-use session_base::packet::{Packet, PacketId};
+use packet::{Packet, PacketId};
 use session_base::{Awaits, Publication, fill_takes_what_waits, resend_keeps_the_order};
 use std::alloc::{AllocError, AllocFailed, Global};
 use std::collections::VecDeque;

@@ -6,10 +6,10 @@ ghost use Rattle.session_base.specs.Subscriptions.{without_filter, granted_qos};
 ghost use Rattle.session_base.specs.Publication.{greater_qos};
 
 use indexmap::IndexMap;
-use session_base::packet::QoS;
-use session_base::topics::{Filter, TopicName, matches};
+use packet::QoS;
 use std::alloc::{AllocError, Global};
 use std::marker::Model;
+use topics::{Filter, TopicName, matches};
 
 /// Filters, each with the QoS that was granted last, in the order of their first granting.
 #[derive(Drop)]

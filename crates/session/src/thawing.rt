@@ -18,14 +18,14 @@ use crate::session::{MAX_ENTRIES, MAX_SUBSCRIPTIONS, Session};
 use crate::session_queue::{SessionQueue, put_last};
 use crate::subscriptions::Subscriptions;
 use indexmap::IndexMap;
-use session_base::packet::{PacketId, QoS};
-use session_base::packet_base::{OUT_OF_MEMORY, Reader, Stop};
-use session_base::topics::Filter;
+use packet::{PacketId, QoS};
+use packet_base::{OUT_OF_MEMORY, Reader, Stop};
 use session_base::{
     Awaits, Publication, check_form, read_flight, read_granted_filter, read_waiting,
 };
 use std::alloc::Global;
 use std::collections::VecDeque;
+use topics::Filter;
 
 impl Subscriptions {
     /// Reads as many filters as their count says, none of them twice.

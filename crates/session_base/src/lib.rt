@@ -15,9 +15,6 @@ pub use laws::{
     answers_fit_the_qos, answers_keep_identifiers_apart, fill_takes_what_waits, fills_join,
     other_answers_change_nothing, resend_keeps_the_order, sessions_keep_their_form,
 };
-pub use packet;
-pub use packet_base;
-pub use packet_base::topics;
 pub use publication::{Publication, delivery};
 pub use reading::{
     body_length, check_form, read_flag, read_flight, read_granted_filter, read_long_number,

@@ -4,7 +4,7 @@ ghost use Rattle.std.specs.Prelude.{◌≡◌};
 ghost use Rattle.session_base.specs.Publication.{delivery_at};
 
 use packet::{Delivery, PacketId, Payload, QoS};
-use packet_base::topics::TopicName;
+use topics::TopicName;
 
 /// A publication, MQTT's Application Message, as a session's queue holds it.
 #[derive(Clone, Debug, PartialEq, Eq, Drop)]

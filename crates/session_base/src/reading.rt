@@ -11,9 +11,9 @@ ghost use Rattle.session_base.specs.Form.{awaits_at, flight_at};
 
 use crate::{Awaits, Publication};
 use packet::{MAX_BODY, PacketId, Payload, QoS};
-use packet_base::topics::{Filter, MalformedKind};
 use packet_base::{OUT_OF_MEMORY, Reader, Stop};
 use std::alloc::Global;
+use topics::{Filter, MalformedKind};
 
 /// Checks a form: the error, `Shape`, comes if the test does not hold.
 pub fn check_form(test: bool) -> Result<(), Stop>

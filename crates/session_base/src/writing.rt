@@ -7,8 +7,8 @@ ghost use Rattle.session_base.specs.Form.{HasLength, IsWritable};
 
 use crate::{Awaits, Publication};
 use packet::{PacketId, QoS};
-use packet_base::topics::Filter;
 use std::alloc::AllocError;
+use topics::Filter;
 
 /// Appends a number of two bytes, the high one first. If memory runs out a part may be there, as
 /// with each of these.

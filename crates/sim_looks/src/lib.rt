@@ -10,6 +10,5 @@ mod seen;
 mod sessions;
 mod watching;
 
-pub use broker_spec::{packet, session_base, topics};
 pub use making::{made_by, payload_of};
 pub use watching::{Broken, Watch};

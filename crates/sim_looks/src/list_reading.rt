@@ -3,10 +3,10 @@
 use crate::making::made_by;
 use crate::matching::is_match;
 use crate::sessions::{Entry, Session};
-use broker_spec::packet::{ClientId, Delivery, Packet, Payload, Publish, QoS, Subscribe};
-use broker_spec::topics::{Filter, TopicName};
 use broker_spec::{Command, ConnectionName};
+use packet::{ClientId, Delivery, Packet, Payload, Publish, QoS, Subscribe};
 use std::alloc::Global;
+use topics::{Filter, TopicName};
 
 // The last publication with RETAIN of a topic.
 #[derive(Drop)]

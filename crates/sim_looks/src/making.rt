@@ -1,6 +1,6 @@
 // What the publications of a run carry.
 
-use broker_spec::packet::Payload;
+use packet::Payload;
 
 /// Returns the bytes of a publication that say which client made it, by its index, and its number.
 pub fn payload_of(index: u8, serial: u64) -> [u8; 3] {

@@ -4,8 +4,8 @@ use crate::list_reading::ListReading;
 use crate::making::made_by;
 use crate::sessions::Entry;
 use crate::watching::Broken;
-use broker_spec::packet::{ClientId, QoS};
 use client::{Accepted, ClientCore};
+use packet::{ClientId, QoS};
 use std::alloc::Global;
 
 /// What was seen of one client.

@@ -2,9 +2,9 @@
 
 use crate::matching::is_match;
 use broker_spec::ConnectionName;
-use broker_spec::packet::{ClientId, PacketId, Payload, QoS};
-use broker_spec::topics::{Filter, TopicName};
+use packet::{ClientId, PacketId, Payload, QoS};
 use std::alloc::Global;
+use topics::{Filter, TopicName};
 
 /// A publication that a session has to send at QoS 2.
 #[derive(Drop)]

@@ -3,8 +3,8 @@
 use crate::list_reading::ListReading;
 use crate::seen::Seen;
 use broker_spec::Command;
-use broker_spec::packet::ClientId;
 use client::ClientCore;
+use packet::ClientId;
 use std::alloc::Global;
 use std::fmt;
 

@@ -18,7 +18,7 @@ ghost use Rattle.snapshots.specs.Orders.{
   TakenStandAtOnce,
 };
 
-use agreement::machine::Machine;
+use machine::Machine;
 
 /// States that at each moment of a group there is an agreed list: the longest that is chosen in a
 /// ballot that was active. Logs are taken as whole ones: what a node has cut is in the record of

@@ -4,7 +4,6 @@
 
 mod laws;
 
-pub use agreement::machine;
 pub use laws::{
     agreed_grows, answers_at_the_next_places, answers_while_it_leads, has_agreed, keeps_the_order,
     logs_are_cut_right, machines_replay, nodes_agree, one_node_takes_a_ballot,

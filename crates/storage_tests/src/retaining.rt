@@ -5,8 +5,8 @@ mod row;
 
 use crate::retaining::row::Row::{Finds, Has, IsFull, Put};
 use crate::retaining::row::{Row, is_right, put};
-use broker_form::retained::{RetainedError, RetainedStore};
-use session::packet::QoS;
+use packet::QoS;
+use retained::{RetainedError, RetainedStore};
 use std::alloc::Global;
 use std::test::Fail;
 

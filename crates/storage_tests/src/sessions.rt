@@ -9,8 +9,8 @@ use crate::sessions::row::Row::{
 };
 use crate::sessions::row::Sent::{Again, New};
 use crate::sessions::row::{Fault, Row, Sent, first_fault, granted, is_received};
-use session::packet::QoS;
-use session::packet_base::Reader;
+use packet::QoS;
+use packet_base::Reader;
 use session::{Arrival, EnqueueError, MAX_ENTRIES, Session};
 use std::alloc::Global;
 use std::test::Fail;

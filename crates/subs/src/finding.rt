@@ -15,9 +15,9 @@ use crate::node_id::NodeId;
 use crate::nodes::Nodes;
 use crate::rows::Rows;
 use crate::slots::child;
+use packet::{ClientId, QoS};
 use std::alloc::AllocError;
 use std::collections::BTreeMap;
-use subs_base::packet::{ClientId, QoS};
 use topics::split_level;
 
 // The clients that were found, with the QoS of each.

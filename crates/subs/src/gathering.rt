@@ -14,9 +14,9 @@ ghost use Rattle.subs.specs.Shown.{content_in, IsSound};
 use crate::group::Group;
 use crate::nodes::Nodes;
 use indexmap::IndexMap;
+use packet::{ClientId, QoS};
 use std::alloc::{AllocError, Global};
 use std::collections::BTreeMap;
-use subs_base::packet::{ClientId, QoS};
 use topics::Filter;
 
 /// Each filter with its clients, in the order in which they came.

@@ -5,9 +5,9 @@ ghost use Rattle.subs.specs.Gathered.{told, row_in};
 ghost use Rattle.subs.specs.Rows.{row_at};
 
 use crate::rows::Rows;
+use packet::{ClientId, QoS};
 use std::alloc::{AllocError, Global};
 use std::collections::BTreeMap;
-use subs_base::packet::{ClientId, QoS};
 
 /// The rows of one filter in the order in which they came. A single one takes no memory of its own.
 #[derive(Drop)]

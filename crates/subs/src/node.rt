@@ -9,9 +9,9 @@ ghost use Rattle.subs.specs.Changes.{SetsRow, SetsSide, SetsChild};
 
 use crate::node_id::NodeId;
 use crate::rows::Rows;
+use packet::{ClientId, QoS};
 use std::alloc::{AllocError, Global};
 use std::collections::BTreeMap;
-use subs_base::packet::{ClientId, QoS};
 
 /// The subscriptions of the filters that end with the same levels, and the nodes of the next
 /// levels.

@@ -13,9 +13,9 @@ use crate::node::Node;
 use crate::node_id::NodeId;
 use crate::rows::Rows;
 use crate::slots::{Slot, add_node, child, clear_at, put_at, set_at};
+use packet::{ClientId, QoS};
 use slab::Slab;
 use std::alloc::{AllocError, Global};
-use subs_base::packet::{ClientId, QoS};
 use topics::split_level;
 
 /// Nodes in a vector. The numbers of removed nodes are used again.

@@ -7,9 +7,9 @@ ghost use Rattle.std.specs.BTreeMap.{Updates, get};
 ghost use Rattle.subs.specs.declared.rows.Rows.TheVariants.{One};
 ghost use Rattle.subs.specs.Rows.{listed, row_at, SetsAt};
 
+use packet::{ClientId, QoS};
 use std::alloc::{AllocError, Global};
 use std::collections::BTreeMap;
-use subs_base::packet::{ClientId, QoS};
 
 /// The clients of one filter, with the QoS of their subscriptions. A single client takes no memory
 /// of its own: most filters have one.

@@ -9,9 +9,9 @@ ghost use Rattle.subs.specs.Rows.{row_at};
 use crate::node::Node;
 use crate::node_id::NodeId;
 use crate::rows::Rows;
+use packet::{ClientId, QoS};
 use slab::Slab;
 use std::alloc::{AllocError, Global};
-use subs_base::packet::{ClientId, QoS};
 
 /// Where the rows of a filter are: at a node, or at `#` beside it.
 #[derive(Clone, Copy, Debug)]

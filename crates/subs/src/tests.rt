@@ -1,9 +1,9 @@
 // The number of nodes, about which there is no clause.
 
 use crate::tree_index::TreeIndex;
+use packet::{ClientId, QoS};
 use std::alloc::Global;
 use std::test::*;
-use subs_base::packet::{ClientId, QoS};
 use subs_base::{ListIndex, SubIndex};
 use topics::Filter;
 

@@ -11,10 +11,10 @@ ghost use Rattle.subs.specs.Shown.{content_in, IsSound};
 
 use crate::gathering::{gather, nodes_of};
 use crate::nodes::Nodes;
+use packet::{ClientId, QoS};
 use std::alloc::{AllocError, Global};
 use std::collections::BTreeMap;
 use std::marker::Model;
-use subs_base::packet::{ClientId, QoS};
 use subs_base::{ListIndex, SubIndex};
 use topics::{Filter, TopicName};
 

@@ -8,5 +8,4 @@ mod sub_index;
 
 pub use laws::grants_one_list;
 pub use list_index::ListIndex;
-pub use packet;
 pub use sub_index::SubIndex;

@@ -30,11 +30,11 @@ ghost use Rattle.subs_base.specs.ListIndex.{content_of, at};
 ghost use Rattle.subs_base.specs.Inside.{listed, greater, greatest_from, rows_of, AreOrdered};
 
 use crate::sub_index::SubIndex;
-use packet::topics::{Filter, TopicName, matches};
 use packet::{ClientId, QoS};
 use std::alloc::{AllocError, Global};
 use std::collections::BTreeMap;
 use std::marker::Model;
+use topics::{Filter, TopicName, matches};
 
 /// An index that looks at every filter of every client for each publication.
 #[derive(Debug)]

@@ -10,9 +10,9 @@ ghost use Rattle.subs_base.specs.Content.{
 };
 ghost use Rattle.subs_base.specs.Granted.{AppendsGranted, IsWanted};
 
-use packet::topics::{Filter, TopicName};
 use packet::{ClientId, QoS};
 use std::alloc::{AllocError, Global};
+use topics::{Filter, TopicName};
 
 /// The subscriptions of all clients, each pair of client and filter once.
 pub trait SubIndex: Drop {

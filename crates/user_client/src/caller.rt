@@ -10,11 +10,11 @@ ghost use Rattle.user_client.specs.Refusals.{IsRefusedFor};
 ghost use Rattle.user_client.specs.Tracing.{IsAsked, IsFirst, Trace, new_called};
 
 use crate::user_client_error::UserClientError;
-use client::packet::{ClientId, Payload, QoS};
-use client::topics::{Filter, TopicName};
 use client::{Accepted, ClientCore, ClientError};
+use packet::{ClientId, Payload, QoS};
 use std::alloc::Global;
 use std::marker::Model;
+use topics::{Filter, TopicName};
 
 /// The result of bytes that a server sent.
 #[derive(Clone, Copy, Debug, PartialEq, Eq)]

@@ -6,9 +6,9 @@ ghost use Rattle.client.specs.topics.Text.{filter_fault, topic_fault};
 ghost use Rattle.user_client.specs.Refusals.{IsRefusedBy};
 
 use crate::user_client_error::UserClientError;
-use client::packet::ClientId;
-use client::topics::{Filter, TopicName};
+use packet::ClientId;
 use std::alloc::Global;
+use topics::{Filter, TopicName};
 
 /// Returns the Client Identifier of a text, or how the text is refused.
 pub(crate) fn checked_id(alloc: Global, text: &str) -> Result<ClientId, UserClientError>

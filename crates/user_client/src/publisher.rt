@@ -18,12 +18,12 @@ use crate::servers::Servers;
 use crate::user_client_error::UserClientError;
 use crate::visiting::{disconnect, exchange, next_stream, send};
 use client::ClientError;
-use client::packet::{ClientId, Delivery, Packet, Payload, Publish, QoS};
-use client::topics::TopicName;
 use node_base::{Counted, PIECE_BYTES};
+use packet::{ClientId, Delivery, Packet, Payload, Publish, QoS};
 use std::alloc::Global;
 use std::io::{Read, Write};
 use std::marker::Model;
+use topics::TopicName;
 
 /// A client that publishes once.
 #[derive(Drop)]

@@ -16,12 +16,12 @@ use crate::servers::Servers;
 use crate::user_client_error::UserClientError;
 use crate::visiting::{disconnect, exchange, next_stream};
 use client::Accepted;
-use client::packet::QoS;
-use client::topics::Filter;
 use node_base::{Counted, PIECE_BYTES};
+use packet::QoS;
 use std::alloc::Global;
 use std::io::{Read, Write};
 use std::marker::Model;
+use topics::Filter;
 
 /// A client that prints what is published.
 #[derive(Drop)]

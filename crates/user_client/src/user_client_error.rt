@@ -3,8 +3,8 @@
 ghost use Rattle.std.specs.Prelude.{◌≡◌};
 
 use client::ClientError;
-use client::topics::MalformedKind;
 use std::alloc::{AllocError, AllocFailed};
+use topics::MalformedKind;
 
 /// Why a client did not do what it was asked for.
 #[derive(Clone, Copy, Debug, PartialEq, Eq)]

@@ -2,7 +2,7 @@
 
 use crate::draw::Draw;
 use crate::saying::{published, subscribed, unsubscribed};
-use sim_looks::packet::ClientId;
+use packet::ClientId;
 use std::alloc::Global;
 use world::{Config, Event, Members, World};
 

@@ -1,7 +1,7 @@
 // Events as lines of a script, which `vbroker play` reads.
 
-use sim_looks::packet::ClientId;
-use sim_looks::session_base::Publication;
+use packet::ClientId;
+use session_base::Publication;
 use std::alloc::{AllocError, Global};
 use world::{Config, Event};
 

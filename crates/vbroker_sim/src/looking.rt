@@ -1,6 +1,6 @@
 // What is looked at after each event.
 
-use sim_looks::packet::{ClientId, QoS};
+use packet::{ClientId, QoS};
 use sim_looks::{Broken, Watch, made_by};
 use world::{Event, World};
 

@@ -1,6 +1,6 @@
 // The worlds in which runs begin.
 
-use sim_looks::packet::ClientId;
+use packet::ClientId;
 use std::alloc::{AllocError, Global};
 use world::{Config, Members, World};
 

@@ -4,7 +4,7 @@ use crate::course::Course;
 use crate::looking::{ends, looks, notes};
 use crate::opening::Opening;
 use crate::options::Options;
-use sim_looks::packet::ClientId;
+use packet::ClientId;
 use sim_looks::{Broken, Watch};
 use std::alloc::Global;
 use world::{Event, World};

@@ -1,11 +1,11 @@
 // What a client says to its broker.
 
 use crate::draw::Draw;
-use sim_looks::packet::{ClientId, Payload, QoS};
+use packet::{ClientId, Payload, QoS};
+use session_base::Publication;
 use sim_looks::payload_of;
-use sim_looks::session_base::Publication;
-use sim_looks::topics::{Filter, TopicName};
 use std::alloc::Global;
+use topics::{Filter, TopicName};
 use world::Event;
 
 /// The topics of a run.

@@ -4,7 +4,7 @@
 ghost use Rattle.ways_out.specs.Answering.{CutGroupsAnswer};
 ghost use Rattle.ways_out.specs.CutLaws.{CutGroupsHaveWaysOut};
 
-use snapshots::machine::Machine;
+use machine::Machine;
 
 /// States that a group whose nodes cut their logs can always be led on: the messages of `way_out`
 /// lead to the next ballot. This needs that the members of a new configuration run, and one member

@@ -3,7 +3,7 @@
 ghost use Rattle.ways_out.specs.Laws.{HasWayOut};
 ghost use Rattle.ways_out.specs.AnswerLaws.{CommandsAreAnswered, WhatAllHoldIsAgreed};
 
-use snapshots::machine::Machine;
+use machine::Machine;
 
 /// States that a group can always be led on: the messages of a list lead to the next ballot. This
 /// needs that the members of a new configuration run, and one member of the active one, and that a

@@ -13,7 +13,7 @@ ghost use Rattle.world_base.specs.Turns.{handled_all, drives, has_room, heard, p
 
 use crate::stepping_node::SteppingNode;
 use ballot::{Effect, Message};
-use node_connections::broker_spec::{Command, Output};
+use broker_spec::{Command, Output};
 
 impl SteppingNode {
     /// Proposes a command and does its effects at once. Returns whether it was taken.

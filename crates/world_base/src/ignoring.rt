@@ -7,7 +7,7 @@ ghost use Rattle.world_base.specs.Losses.{DoesNothing, IsIgnored, ReadsNone};
 use crate::item::Item;
 use crate::stepping_node::SteppingNode;
 use ballot::Message;
-use node_connections::broker_spec::Command;
+use broker_spec::Command;
 
 impl SteppingNode {
     /// Says whether an item does nothing.

@@ -1,9 +1,9 @@
 // The items that a node takes.
 
 use ballot::Message;
-use node_connections::broker_spec::Command;
-use node_connections::packet::ClientId;
+use broker_spec::Command;
 use node_connections::{Piece, Port};
+use packet::ClientId;
 
 /// What a node takes in one step. Times are in milliseconds, from a moment that the node's caller
 /// chooses.

@@ -11,17 +11,12 @@ mod node_core;
 mod stepping_node;
 mod taking;
 
-pub use ballot;
 pub use ballot::{
     Body, Config, Effect, MAX_NODE, Members, Memory, Message, OpeningError, ProposeError, Status,
-    machine,
 };
-pub use broker;
 pub use broker::BrokerMachine;
+pub use broker_spec::{Command, ConnectionName, Output};
 pub use item::Item;
 pub use laws::{a_gap_is_closed, proposals_are_steps};
-pub use node_connections::broker_spec::{Command, ConnectionName, Output};
-pub use node_connections::{
-    Connection, ConnectionStage, Handed, Piece, Port, Standing, broker_spec, packet, topics,
-};
+pub use node_connections::{Connection, ConnectionStage, Handed, Piece, Port, Standing};
 pub use node_core::NodeCore;

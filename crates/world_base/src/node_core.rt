@@ -19,7 +19,7 @@ ghost use Rattle.world_base.specs.Losses.{DoesNothing, Stepped};
 use crate::item::Item;
 use crate::stepping_node::SteppingNode;
 use ballot::{Config, Effect, MAX_NODE, Memory, Message, OpeningError, Status};
-use node_connections::broker_spec::{Command, Output};
+use broker_spec::{Command, Output};
 use node_connections::{Handed, Port, Standing};
 use std::alloc::Global;
 use std::marker::Model;

@@ -18,11 +18,11 @@ ghost use Rattle.world_base.specs.Turns.{changes_named, has_room};
 
 use ballot::{Config, MAX_NODE, MAX_PLACES, OpeningError, Replica, Status};
 use broker::BrokerMachine;
-use node_connections::broker_spec::{Command, ConnectionName};
-use node_connections::packet::{Packet, RefusalCode};
+use broker_spec::{Command, ConnectionName};
 use node_connections::{
     Connection, Piece, Port, close_each, has_port, keep_listed, lowest_silent, push,
 };
+use packet::{Packet, RefusalCode};
 use std::alloc::Global;
 use std::marker::Model;
 

@@ -21,9 +21,9 @@ ghost use Rattle.world_base.specs.Turns.{proposes, quiet};
 use crate::item::Item;
 use crate::stepping_node::SteppingNode;
 use ballot::{Effect, Message};
-use node_connections::broker_spec::{Command, ConnectionName, Output, SizedPacket};
-use node_connections::packet::{ClientId, Connect, Packet};
+use broker_spec::{Command, ConnectionName, Output, SizedPacket};
 use node_connections::{ConnectionStage, Front, Piece, Port};
+use packet::{ClientId, Connect, Packet};
 
 impl SteppingNode {
     /// Takes an item, and reports each connection that fails in it to the broker. Whether memory

@@ -8,7 +8,7 @@ ghost use Rattle.world_nodes.specs.Asking.{first_connection, is_present, is_welc
 ghost use Rattle.world_nodes.specs.Running.{node_of};
 
 use crate::nodes::Nodes;
-use master::ballot::Machine;
+use ballot::Machine;
 use packet::{ClientId, Connack, Packet};
 use std::alloc::Global;
 use world_base::{BrokerMachine, Command, Config, ConnectionName, Memory, Output};

@@ -9,8 +9,8 @@ ghost use Rattle.world_pipes.specs.Piped.{Calls};
 use crate::piped_client::PipedClient;
 use crate::sending::{Sending, send_up};
 use client::ClientError;
-use client::packet::{Payload, QoS};
-use client::topics::{Filter, TopicName};
+use packet::{Payload, QoS};
+use topics::{Filter, TopicName};
 
 impl PipedClient {
     /// Publishes, as `ClientCore::publish`; a refusal leaves everything as it was.

@@ -10,7 +10,7 @@ ghost use Rattle.world_pipes.specs.StandsFor.{StandsFor};
 
 use crate::way::Way;
 use client::ClientCore;
-use client::packet::ClientId;
+use packet::ClientId;
 use std::alloc::Global;
 use std::marker::Model;
 use world_base::Port;

@@ -14,11 +14,11 @@ ghost use Rattle.ballot_base.specs.Applying.{applied_to};
 ghost use Rattle.ballot_base.specs.lists.Lists.{IsPrefixOf};
 
 use super::{MAX_PLACES, Replica};
-use ballot_base::machine::{Halted, Machine, Memory};
 use ballot_base::{
     Body, Effect, Progress, Role, apply_dropping, counted, least_held, progress_of_others,
     send_appends,
 };
+use machine::{Halted, Machine, Memory};
 use std::mem;
 
 impl<M: Machine> Replica<M> {

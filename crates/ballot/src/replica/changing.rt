@@ -12,8 +12,8 @@ ghost use Rattle.ballot_base.specs.Taking.{taken, with_snapshot};
 ghost use Rattle.ballot_base.specs.Unread.{is_unread};
 
 use super::Replica;
-use ballot_base::machine::Machine;
 use ballot_base::{Body, Effect, Log, Members, Role, counted, others_of, send_joins, send_state};
+use machine::Machine;
 
 impl<M: Machine> Replica<M> {
     /// Handles NewBallot: a new primary asks the earlier ballot's members for their logs.

@@ -6,7 +6,7 @@ ghost use Rattle.ballot_base.specs.Losses.{one_more};
 
 use super::Replica;
 use ballot_base::counted;
-use ballot_base::machine::Machine;
+use machine::Machine;
 
 impl<M: Machine> Replica<M> {
     /// Says whether there is something to cut: the replica runs, and has applied places since it

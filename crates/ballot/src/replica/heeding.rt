@@ -10,8 +10,8 @@ ghost use Rattle.ballot_base.specs.Sending.{nothing_done};
 ghost use Rattle.ballot_base.specs.Serving.{least, raised};
 
 use super::Replica;
-use ballot_base::machine::Machine;
 use ballot_base::{Body, Message, Progress, Role, least_raised};
+use machine::Machine;
 
 impl<M: Machine> Replica<M> {
     /// Says whether a message would have an effect: change the replica, send something, or bring a

@@ -7,8 +7,8 @@ ghost use Rattle.ballot_base.specs.Activating.{on_installed, on_superseded};
 ghost use Rattle.ballot_base.specs.Replica.{is_installing};
 
 use super::Replica;
-use ballot_base::machine::Machine;
 use ballot_base::{Body, Effect, MASTER, Role, forget};
+use machine::Machine;
 
 impl<M: Machine> Replica<M> {
     /// Handles Installed: a member no longer lacks the log. With the last one the master may

@@ -10,10 +10,10 @@ ghost use Rattle.ballot_base.specs.Protocol.Input.{Receives};
 ghost use Rattle.ballot_base.specs.Serving.{follows, leads, on_append, on_commit, on_held};
 
 use super::Replica;
-use ballot_base::machine::{Halted, Machine};
 use ballot_base::{
     Body, Effect, Message, append_next, apply_dropping, counted, least_raised, raise, send,
 };
+use machine::{Halted, Machine};
 
 impl<M: Machine> Replica<M> {
     /// Takes a message of another node. A message for whose effect on the log there is no memory is

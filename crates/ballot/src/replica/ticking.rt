@@ -10,11 +10,11 @@ ghost use Rattle.ballot_base.specs.Sending.{message_to_followed};
 ghost use Rattle.ballot_base.specs.Changing.{installs};
 
 use super::Replica;
-use ballot_base::machine::Machine;
 use ballot_base::{
     Body, Effect, MASTER, Message, Role, counted, send, send_after, send_commits, send_installs,
     send_joins,
 };
+use machine::Machine;
 
 impl<M: Machine> Replica<M> {
     /// Repeats what others may have missed: a new primary what it waits for, an active one what the

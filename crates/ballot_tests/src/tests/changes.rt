@@ -3,8 +3,8 @@
 use super::pairs::*;
 use super::replicas::{shows, takes};
 use super::stories::{Change, first_false, first_fault_of_two};
-use master::ballot::machine::TallyCommand;
-use master::ballot::{Body, Role};
+use ballot::{Body, Role};
+use machine::TallyCommand;
 use std::alloc::Global;
 
 /// Finds the first step that goes otherwise: node 2, given ballot 2, fetches and installs the log.

@@ -2,8 +2,8 @@
 
 use super::replicas::*;
 use super::stories::{Run, first_false, first_fault};
-use master::ballot::machine::{Tally, TallyCommand};
-use master::ballot::{Body, Effect, ProposeError, Replica, Role};
+use ballot::{Body, Effect, ProposeError, Replica, Role};
+use machine::{Tally, TallyCommand};
 
 // Says whether a replica takes these commands.
 fn take(

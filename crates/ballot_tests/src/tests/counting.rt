@@ -1,7 +1,7 @@
 // The machine that counts, as worked examples: no clause says that its calls succeed while there is
 // memory.
 
-use master::ballot::machine::{Machine, Tally, TallyCommand};
+use machine::{Machine, Tally, TallyCommand};
 use std::alloc::Global;
 use std::test::*;
 

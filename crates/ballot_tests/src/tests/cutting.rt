@@ -3,8 +3,8 @@
 use super::pairs::*;
 use super::replicas::*;
 use super::stories::{Change, Run, first_false, first_fault, first_fault_of_two};
-use master::ballot::machine::{Tally, TallyCommand};
-use master::ballot::{Body, Effect, Log, Replica, Role};
+use ballot::{Body, Effect, Log, Replica, Role};
+use machine::{Tally, TallyCommand};
 use std::alloc::Global;
 
 // The total 5, frozen.

@@ -4,8 +4,8 @@
 // counted.
 
 use super::replicas::{appends, gives, logs, made, shows};
-use master::ballot::machine::{Machine, Tally, TallyCommand, ThawFault};
-use master::ballot::{Effect, ProposeError, Replica, Role};
+use ballot::{Effect, ProposeError, Replica, Role};
+use machine::{Machine, Tally, TallyCommand, ThawFault};
 use std::alloc::Global;
 use std::test::*;
 

@@ -1,8 +1,8 @@
 // Two nodes, and what came out of them.
 
 use super::replicas::{hears, made};
-use master::ballot::machine::{Memory, Tally, TallyCommand};
-use master::ballot::{Body, Effect, Members, Message, OpeningError, Replica};
+use ballot::{Body, Effect, Members, Message, OpeningError, Replica};
+use machine::{Memory, Tally, TallyCommand};
 use std::alloc::Global;
 
 /// Nodes 1 and 2, and what their calls handed out.

@@ -1,7 +1,7 @@
 // Replicas of counting machines, and small questions that are asked of them.
 
-use master::ballot::machine::{Memory, Tally, TallyCommand};
-use master::ballot::{Body, Config, Effect, Members, Message, OpeningError, Replica, Role};
+use ballot::{Body, Config, Effect, Members, Message, OpeningError, Replica, Role};
+use machine::{Memory, Tally, TallyCommand};
 use std::alloc::Global;
 
 /// Returns a configuration with these members and this primary.

@@ -3,8 +3,8 @@
 use super::pairs::{Pair, open};
 use super::replicas::{made, shows};
 use super::{changes, commands, cutting};
-use master::ballot::machine::{Tally, TallyCommand};
-use master::ballot::{Effect, Replica, Role, Status};
+use ballot::{Effect, Replica, Role, Status};
+use machine::{Tally, TallyCommand};
 use std::alloc::Global;
 
 /// What a replica is to go through.

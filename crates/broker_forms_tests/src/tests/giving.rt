@@ -1,9 +1,9 @@
 // What comes to a broker, and what its bytes must be.
 
 use broker::BrokerMachine;
-use broker::broker_spec::{Command, ConnectionName, Output, SizedPacket};
-use broker::machine::Machine;
-use broker::packet::{ClientId, Packet, Step, decode};
+use broker_spec::{Command, ConnectionName, Output, SizedPacket};
+use machine::Machine;
+use packet::{ClientId, Packet, Step, decode};
 use std::alloc::Global;
 
 /// Client `a`, whose session is not clean, on connection 1 of ballot 1.

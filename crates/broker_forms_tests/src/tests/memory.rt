@@ -4,7 +4,7 @@
 
 use super::giving::{Event, ONE_ENTRY, ONE_SESSION, is_frozen, is_given};
 use broker::BrokerMachine;
-use broker::machine::{Machine, ThawFault};
+use machine::{Machine, ThawFault};
 use std::alloc::Global;
 use std::test::*;
 

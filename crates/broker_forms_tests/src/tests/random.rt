@@ -2,7 +2,7 @@
 
 use super::giving::{Event, has_bytes, is_given};
 use broker::BrokerMachine;
-use broker::machine::Machine;
+use machine::Machine;
 use std::alloc::Global;
 use std::test::*;
 

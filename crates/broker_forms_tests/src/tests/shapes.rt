@@ -2,7 +2,7 @@
 
 use super::giving::ONE_ENTRY;
 use broker::BrokerMachine;
-use broker::machine::{Machine, ThawFault};
+use machine::{Machine, ThawFault};
 use std::alloc::Global;
 use std::test::*;
 

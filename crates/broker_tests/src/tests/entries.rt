@@ -1,9 +1,9 @@
 // Entries in flight: their copies.
 
-use session::packet::{Payload, QoS};
-use session::session_base::*;
-use session::topics::TopicName;
+use packet::{Payload, QoS};
+use session_base::*;
 use std::alloc::Global;
+use topics::TopicName;
 
 fn publication(alloc: Global, payload: &str) -> Option<Publication> {
     let topic = TopicName::new(alloc, "t/1").ok()?;

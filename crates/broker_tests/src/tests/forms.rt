@@ -5,7 +5,7 @@ use super::handshakes::{PUBLISH, SUBSCRIBE};
 use crate::row::{Answer, CLOSED, Event, NOTHING, Row, came_instead};
 use crate::story::{Fault, Run, Start, first_fault};
 use broker::BrokerMachine;
-use broker::machine::Machine;
+use machine::Machine;
 use std::alloc::Global;
 use std::test::*;
 

@@ -20,8 +20,8 @@ use crate::inputs::{Taken, counted};
 use crate::recording::record;
 use crate::sending::{answer_of, asks_for, send};
 use crate::told::follow_ballot;
-use ballot::machine::{Machine, Memory};
 use ballot::{Body, Config, MAX_PLACES, Members};
+use machine::{Machine, Memory};
 
 impl<M: Machine> Group<M> {
     /// Lets an active primary take a command; [`Idle`] comes for any other node and for a full log.

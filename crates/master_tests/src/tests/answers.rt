@@ -1,7 +1,7 @@
 use super::groups::*;
 use super::stories::{Run, first_fault};
-use master::ballot::{Body, Message};
-use master::machine::{Tally, TallyCommand};
+use ballot::{Body, Message};
+use machine::{Tally, TallyCommand};
 use master::{Event, Group};
 
 // Says whether a message is the command that node 1 appends at node 2.

@@ -1,7 +1,7 @@
 // Groups of counting machines, and small questions that are asked of them.
 
-use master::ballot::{Config, Effect, Members, OpeningError};
-use master::machine::{Memory, Tally, TallyCommand};
+use ballot::{Config, Effect, Members, OpeningError};
+use machine::{Memory, Tally, TallyCommand};
 use master::{Event, Group};
 use std::alloc::Global;
 

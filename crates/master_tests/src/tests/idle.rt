@@ -1,7 +1,7 @@
 use super::groups::*;
 use super::stories::{Run, first_fault};
-use master::ballot::{Config, OpeningError};
-use master::machine::{Tally, TallyCommand};
+use ballot::{Config, OpeningError};
+use machine::{Tally, TallyCommand};
 use master::{Event, Group, Idle};
 use std::alloc::Global;
 

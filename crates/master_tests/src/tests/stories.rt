@@ -2,8 +2,8 @@
 
 use super::groups::{counts, group};
 use super::{answers, changes, cutting, idle, memory, takeovers};
+use machine::Tally;
 use master::Group;
-use master::machine::Tally;
 use std::alloc::Global;
 
 /// What a group is to go through.

@@ -1,7 +1,7 @@
 use super::groups::*;
 use super::stories::{Run, first_fault};
-use master::ballot::Effect;
-use master::machine::{Tally, TallyCommand};
+use ballot::Effect;
+use machine::{Tally, TallyCommand};
 use master::{Event, Group};
 use std::alloc::Global;
 

@@ -1,8 +1,8 @@
 // Two groups with the same events, except that one of them cuts its logs: nothing else differs.
 
 use super::groups::{agrees, config, counts, first_false, group};
-use master::ballot::{Body, Effect};
-use master::machine::{Tally, TallyCommand};
+use ballot::{Body, Effect};
+use machine::{Tally, TallyCommand};
 use master::{Event, Group};
 use std::alloc::Global;
 

@@ -1,8 +1,8 @@
 // What `decode` answers to bytes.
 
-use cutter::packet::*;
-use cutter::topics::MalformedKind;
+use packet::*;
 use std::alloc::Global;
+use topics::MalformedKind;
 
 /// What bytes are.
 #[derive(Clone, Copy, Debug, PartialEq, Eq)]

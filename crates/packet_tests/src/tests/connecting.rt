@@ -2,10 +2,10 @@
 
 use super::answers::*;
 use super::spelling::{Made, other_spelling};
-use cutter::packet::*;
-use cutter::topics::MalformedKind;
+use packet::*;
 use std::alloc::Global;
 use std::test::*;
+use topics::MalformedKind;
 
 /// CONNECT of client `a` with keep alive 60 (MQTT 3.1).
 const CONNECT: [u8; 15] = [

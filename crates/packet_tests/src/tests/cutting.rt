@@ -1,10 +1,10 @@
 // A stream that comes in pieces (MQTT 2.2, 4.8).
 
 use super::spelling::write;
-use cutter::packet::DecodeFault;
-use cutter::topics::MalformedKind;
 use cutter::{CutError, Cutter};
+use packet::DecodeFault;
 use std::alloc::Global;
+use topics::MalformedKind;
 
 /// CONNECT of client `a`, PUBLISH of `x` at QoS 2 on `t/1`, PINGREQ (MQTT 3.1, 3.3, 3.12).
 pub const STREAM: [u8; 27] = [

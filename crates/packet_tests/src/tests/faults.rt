@@ -1,8 +1,8 @@
 // What `decode` answers to bytes that are no packet, or less than one.
 
 use super::answers::*;
-use cutter::topics::MalformedKind;
 use std::test::*;
+use topics::MalformedKind;
 
 /// CONNECT of client `a` with keep alive 60, except the last letter of the protocol's name.
 const OTHER_PROTOCOL: &[u8] = &[

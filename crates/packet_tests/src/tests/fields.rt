@@ -1,6 +1,6 @@
 // Fields that several packets share.
 
-use cutter::packet_base::{PacketId, RefusalCode, length_size, put_length, take_length};
+use packet_base::{PacketId, RefusalCode, length_size, put_length, take_length};
 use std::alloc::Global;
 use std::test::Fail;
 

@@ -1,7 +1,7 @@
 // SUBSCRIBE, SUBACK and UNSUBSCRIBE.
 
 use super::spelling::{Made, other_spelling};
-use cutter::packet::*;
+use packet::*;
 use std::alloc::Global;
 use std::test::*;
 

@@ -3,8 +3,8 @@
 
 use super::cutting::STREAM;
 use super::spelling::write;
-use cutter::packet::*;
 use cutter::{CutError, Cutter};
+use packet::*;
 use std::alloc::Global;
 use std::test::*;
 

@@ -1,7 +1,7 @@
 // PUBLISH and its answers.
 
 use super::spelling::*;
-use cutter::packet::*;
+use packet::*;
 use std::alloc::Global;
 use std::test::*;
 

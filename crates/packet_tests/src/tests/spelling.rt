@@ -1,9 +1,9 @@
 // Packets, and the bytes that spell them.
 
 use super::answers::{Answer, answer_to};
-use cutter::packet::*;
-use cutter::topics::{Filter, TopicName};
+use packet::*;
 use std::alloc::Global;
+use topics::{Filter, TopicName};
 
 /// A packet to make.
 #[derive(Clone, Copy)]

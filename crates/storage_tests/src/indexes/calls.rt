@@ -1,9 +1,9 @@
 // Rows: calls of an index, each with what it is to answer.
 
-use broker_form::subs::SubIndex;
-use session::packet::{ClientId, QoS};
-use session::topics::{Filter, TopicName};
+use packet::{ClientId, QoS};
 use std::alloc::Global;
+use subs::SubIndex;
+use topics::{Filter, TopicName};
 
 /// What a client is granted.
 pub(crate) type Grant<'a> = (&'a str, QoS);

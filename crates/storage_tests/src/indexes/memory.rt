@@ -3,12 +3,12 @@
 // made again.
 
 use crate::indexes::calls::{Grant, are_wanted};
-use broker_form::subs::{ListIndex, SubIndex, TreeIndex};
-use session::packet::QoS::{AtLeastOnce, AtMostOnce, ExactlyOnce};
-use session::packet::{ClientId, QoS};
-use session::topics::{Filter, TopicName};
+use packet::QoS::{AtLeastOnce, AtMostOnce, ExactlyOnce};
+use packet::{ClientId, QoS};
 use std::alloc::Global;
 use std::test::*;
+use subs::{ListIndex, SubIndex, TreeIndex};
+use topics::{Filter, TopicName};
 
 /// What is set in turn: a new client, levels that are new or exist, `#`, `+`, and another QoS.
 const SUBSCRIPTIONS: [(&str, &str, QoS); 6] = [

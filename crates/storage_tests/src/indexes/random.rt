@@ -1,10 +1,10 @@
 // A long list of calls by a fixed rule, of both indexes.
 
-use broker_form::subs::{ListIndex, SubIndex, TreeIndex};
-use session::packet::{ClientId, QoS};
-use session::topics::{Filter, TopicName};
+use packet::{ClientId, QoS};
 use std::alloc::Global;
 use std::test::*;
+use subs::{ListIndex, SubIndex, TreeIndex};
+use topics::{Filter, TopicName};
 
 /// How many calls.
 const CALLS: u32 = 20_000;

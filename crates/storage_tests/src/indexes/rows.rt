@@ -2,9 +2,9 @@
 
 use crate::indexes::calls::Call::{self, Clear, DropClient, Granted, Set};
 use crate::indexes::calls::first_fault;
-use broker_form::subs::{ListIndex, SubIndex, TreeIndex};
-use session::packet::QoS::{AtLeastOnce, AtMostOnce, ExactlyOnce};
+use packet::QoS::{AtLeastOnce, AtMostOnce, ExactlyOnce};
 use std::alloc::Global;
+use subs::{ListIndex, SubIndex, TreeIndex};
 
 const PLUS_32: &str = "+/+/+/+/+/+/+/+/+/+/+/+/+/+/+/+/+/+/+/+/+/+/+/+/+/+/+/+/+/+/+/+";
 

@@ -4,10 +4,10 @@
 
 use crate::indexes::memory::filter_of;
 use crate::retaining::row::put;
-use broker_form::retained::{RetainedError, RetainedStore};
-use session::packet::QoS;
-use session::topics::Filter;
+use packet::QoS;
+use retained::{RetainedError, RetainedStore};
 use std::alloc::Global;
+use topics::Filter;
 
 // Puts a publication, again if memory was refused: whether as many topics are kept then as
 // expected, and as many as before in between.

@@ -1,9 +1,9 @@
 // Rows: what is done to a store, and what is to come of it.
 
-use broker_form::retained::{RetainedError, RetainedStore};
-use session::packet::{Payload, QoS};
-use session::topics::{Filter, TopicName};
+use packet::{Payload, QoS};
+use retained::{RetainedError, RetainedStore};
 use std::alloc::Global;
+use topics::{Filter, TopicName};
 
 /// What is done to a store.
 #[derive(Clone, Copy)]

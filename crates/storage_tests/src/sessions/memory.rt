@@ -4,9 +4,9 @@
 
 use crate::sessions::row::Sent::{Again, New, Pubrel};
 use crate::sessions::row::{Sent, are_sent, publication};
-use session::packet::{Packet, PacketId, QoS};
-use session::session_base::Publication;
+use packet::{Packet, PacketId, QoS};
 use session::{Arrival, EnqueueError, Session};
+use session_base::Publication;
 use std::alloc::Global;
 
 // One allocation fails at most, so the second try finds memory.

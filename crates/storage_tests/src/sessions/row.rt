@@ -1,10 +1,10 @@
 // Rows: what is done to a session, and what is to come of it.
 
-use session::packet::{Delivery, Packet, PacketId, Payload, QoS};
-use session::session_base::Publication;
-use session::topics::{Filter, TopicName};
+use packet::{Delivery, Packet, PacketId, Payload, QoS};
 use session::{Arrival, EnqueueError, Session};
+use session_base::Publication;
 use std::alloc::Global;
+use topics::{Filter, TopicName};
 
 /// How many entries may be in flight at once.
 const WINDOW: usize = 16;

@@ -3,8 +3,8 @@
 use super::handling::{
     ACCEPTED, Effects, PRESENT, bring, first_false, give, hands_over, node_of, take, tell,
 };
+use ballot::Log;
 use std::alloc::Global;
-use world_base::ballot::Log;
 use world_base::{Body, Command, Effect, Item, Members, NodeCore, Port};
 
 // CONNECT of client `a` with keep alive 0 and CleanSession 0 (MQTT 3.1).
