@@ -64,7 +64,7 @@ commit_gives {S = S} {C = C} {O = O} rules r held machine log progress start mid
 
 -- a command that was sent, put into the log and committed is added
 pub add_done : {S C O : Type 0} (rules : Rules S C O) (old grown after new : CountedReplica S C) (command : C)
-    (log : Log C) (progress progress' : List Progress) (long held : ℕ) (sent told whole : Bool)
+    (log : Log C) (progress progress' : List Progress) (long held : ℕ) (sent told : Bool)
     (start mid later : List (Effect C O)) →
     Sends start mid (message_to_followed O old.state.id (Append old.state.joined (places old.state.log) command) progress) sent →
     progress ≡ old.state.progress →
@@ -73,11 +73,10 @@ pub add_done : {S C O : Type 0} (rules : Rules S C O) (old grown after new : Cou
     long ≡ places log → progress' ≡ old.state.progress → held ≡ least long progress' →
     after ≡ record { state = (commit_at rules grown.state held).state; losses = grown.losses } →
     Sends mid later (commit_at rules grown.state held).effects told →
-    whole ≡ (sent && told) →
-    new ≡ record { state = after.state; losses = cond whole after.losses (one_more after.losses) } →
+    new.state ≡ after.state → new.losses ≡ cond (sent && told) after.losses (one_more after.losses) →
     Done old (added rules old.state command) new start later
-add_done {S = S} {C = C} {O = O} rules old grown after new command log progress progress' long held sent told whole start mid later
-    appends m l p0 n0 m' h0 a commits w n =
+add_done {S = S} {C = C} {O = O} rules old grown after new command log progress progress' long held sent told start mid later
+    appends m l p0 n0 m' h0 a commits kept n =
     let p : grown ≡ record { state = record old.state { log = pushed old.state.log command }; losses = old.losses } =
     p0 ∙ ap (λ xs. let z : CountedReplica S C = record { state = record old.state { log = xs }; losses = old.losses } in z) l in
     let h : held ≡ least (places (pushed old.state.log command)) old.state.progress =
@@ -91,7 +90,7 @@ add_done {S = S} {C = C} {O = O} rules old grown after new command log progress 
     (subst (λ xs. Sends start mid (message_to_followed O old.state.id (Append old.state.joined (places old.state.log) command) xs) sent) m appends)
     (subst (λ (z : Outcome S C O). Sends mid later z.effects told) same commits) in
     let state : new.state ≡ o.state =
-    ap (λ (z : CountedReplica S C). z.state) n ∙ ap (λ (z : CountedReplica S C). z.state) a
+    kept ∙ ap (λ (z : CountedReplica S C). z.state) a
     ∙ ap (λ (z : Outcome S C O). z.state) same in
     let losses : after.losses ≡ old.losses =
     ap (λ (z : CountedReplica S C). z.losses) a ∙ ap (λ (z : CountedReplica S C). z.losses) p in
@@ -102,8 +101,7 @@ add_done {S = S} {C = C} {O = O} rules old grown after new command log progress 
       state = state;
       thinned = all.thinned;
       counted = by_whole (sent && told) (λ e. all.exact e)
-          (ap (λ (z : CountedReplica S C). z.losses) n ∙ ap (λ b. cond b after.losses (one_more after.losses)) w
-          ∙ ap (λ k. cond (sent && told) k (one_more k)) losses);
+          (n ∙ ap (λ k. cond (sent && told) k (one_more k)) losses);
     })
   where
     by_whole : {X : Type 0} {xs ys : X} {k n : ℕ} (whole : Bool) → (whole ≡ true → xs ≡ ys) →

@@ -1,7 +1,7 @@
 // One replica.
 
 ghost use Rattle.std.specs.Prelude.{◌≡◌, ◌≤◌, ◌<◌, ◌↔◌, ◌⊎◌, true, false, IfOk, OnOk, OnErr};
-ghost use Rattle.std.specs.Prelude.{IsErrOf, MatchResult, if◌then◌else◌};
+ghost use Rattle.std.specs.Prelude.{IsErrOf, MatchResult};
 ghost use Rattle.ballot_base.specs.Sends.{Sends};
 ghost use Rattle.ballot.specs.Inside.{Lacks};
 ghost use Rattle.ballot_base.specs.lists.Lists.{IsPrefixOf};
@@ -281,13 +281,13 @@ impl<M: Machine> Replica<M> {
         let held = least_held(self.log.places(), &self.progress);
         match self.commit_at(held, out) {
             Ok(commits_sent) => {
-                self.count(sent && commits_sent);
+                self.losses = counted(self.losses, sent & commits_sent);
                 Ok(())
             }
             Err(_) => {
                 self.log.pop();
                 out.truncate(before);
-                self.count(false);
+                self.losses = counted(self.losses, false);
                 Err(ProposeError::Halted)
             }
         }
@@ -331,17 +331,6 @@ impl<M: Machine> Replica<M> {
                 self.stopped = true;
                 Err(halted)
             }
-        }
-    }
-
-    // Counts a call as a loss unless it was whole.
-    fn count(&mut self, whole: bool)
-        ensures { self.new ≡ record self.old {
-          losses = if whole then self.old.losses else one_more self.old.losses;
-        } }
-    {
-        if !whole {
-            self.losses = self.losses.saturating_add(1);
         }
     }
 }

@@ -1,9 +1,8 @@
-use Rattle.std.proofs.Common.{◌≡◌, ◌≤◌, ◌&&◌, refl, rules, arith}
+use Rattle.std.proofs.Common.{◌≤◌, refl, arith}
 use Rattle.ballot_base.specs.Serving.{least}
 use Rattle.ballot_base.proofs.StepRows.{least-le}
 use Rattle.ballot.proofs.Committed.{add_done}
 use Rattle.ballot.proofs.replica.Replica.add.Goals as goal
-use Rattle.ballot.proofs.replica.Replica.add.Goals.{then-sent, else-sent}
 
 pub commit_at-requires-clause-within : goal.commit_at-requires-clause-within
 commit_at-requires-clause-within g c =
@@ -11,15 +10,13 @@ commit_at-requires-clause-within g c =
     (let below : least c.places.result c.deref-2.result.now ≤ c.places.result = least-le _ c.deref-2.result.now in
     omega (arith, below, c.places.ensures))
 
-pub returns-after-sent-clause-outcome : goal.returns-after-sent-clause-outcome
-returns-after-sent-clause-outcome g c =
+pub returns-in-Ok-commit_at-clause-outcome : goal.returns-in-Ok-commit_at-clause-outcome
+returns-in-Ok-commit_at-clause-outcome g c =
     let steps = g.M.Machine.rules in
-    let whole : c.if-sent.count ≡ (c.send_appends-sent.result && c.in-Ok-commit_at.commits_sent) =
-    elim c.if-sent.branch [ then-sent w ↦ search rules | else-sent w ↦ search rules ] in
     rw (← c.self.view_is)
-    (add_done steps _ _ c.commit_at.new.self c.count.new.self c.args.command c.push.new.self
+    (add_done steps _ _ c.commit_at.new.self _ c.args.command c.push.new.self
     c.deref.result.now c.deref-2.result.now c.places.result c.least_held-held.result
-    c.send_appends-sent.result c.in-Ok-commit_at.commits_sent c.if-sent.count _ _ _
+    c.send_appends-sent.result c.in-Ok-commit_at.commits_sent _ _ _
     (rw c.places-place.ensures at c.send_appends-sent.ensures)
     c.deref.ensures.value
     c.in-Ok.ensures.ok
@@ -29,5 +26,5 @@ returns-after-sent-clause-outcome g c =
     c.least_held-held.ensures
     c.in-Ok-commit_at.ensures.state
     c.in-Ok-commit_at.ensures.effects
-    whole
-    c.count.ensures)
+    (rw (← c.self-2.view_is) refl)
+    (rw (← c.self-2.view_is) c.counted-self-inside-in-Ok-commit_at.ensures))
