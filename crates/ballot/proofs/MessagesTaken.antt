@@ -17,7 +17,7 @@ use Rattle.ballot_base.proofs.AppliesInOrder.{part_none}
 use Rattle.ballot_base.proofs.StepRows.{commit_at-goes}
 use Rattle.ballot_base.proofs.MessageRows.{commit_at-raised, progress_raised, on_append-takes, on_held-raises, on_commit-takes}
 use Rattle.ballot_base.specs.Sends.{Sends}
-use Rattle.ballot.specs.Inside.{Heard, Went}
+use Rattle.ballot.specs.Inside.{Heard, Says, Went}
 use Rattle.ballot_base.specs.lists.Lists.{IsPrefixOf}
 
 -- such a step is one with losses that was counted
@@ -112,17 +112,26 @@ longer log other c e f =
     let n : places log ≡ places (pushed log c) = ap places (sym f ∙ e) in omega (arith, n, places_pushed log c)
 
 -- Append that is answered
-pub append_taken : {S C : Type 0} (O : Type 0) {rules : Rules S C O} (old new : CountedReplica S C) (from ballot place : ℕ) (command : C) (log : Log C)
-    (long : ℕ) (before later : List (Effect C O)) (sent : Bool) →
+pub append_taken : {S C : Type 0} (O : Type 0) {rules : Rules S C O} (old mid new : CountedReplica S C) (from ballot place : ℕ) (command : C) (log : Log C)
+    (long : ℕ) (before later : List (Effect C O)) →
     follows old.state ballot ≡ true → place ≤ places old.state.log → log ≡ extended place command old.state.log →
-    long ≡ places log → Sends before later (message_to O old.state.id (Held ballot long) from ∷ []) sent →
-    new.state ≡ record old.state { log = log } → new.losses ≡ cond sent old.losses (one_more old.losses) →
+    long ≡ places log →
+    mid ≡ record old { state = record old.state { log = log } } →
+    Says mid (message_to O mid.state.id (Held ballot long) from ∷ []) new before later →
     Went rules old (on_append O old.state from ballot place command) new before later
-append_taken {S = S} {C = C} O {rules = rules} old new from ballot place command log long before later sent follower within e n sends state losses =
+append_taken {S = S} {C = C} O {rules = rules} old mid new from ballot place command log long before later follower within e n m said =
     let row = on_append-takes O old.state from ballot place command follower within in
+    let named : mid.state.id ≡ old.state.id = ap (λ (z : CountedReplica S C). z.state.id) m in
+    let sends : Sends before later (message_to O old.state.id (Held ballot long) from ∷ []) said.whole =
+    subst (λ k. Sends before later (message_to O k (Held ballot long) from ∷ []) said.whole) named said.sends in
+    let state : new.state ≡ record old.state { log = log } =
+    ap (λ (z : CountedReplica S C). z.state) said.counted ∙ ap (λ (z : CountedReplica S C). z.state) m in
+    let losses : new.losses ≡ cond said.whole old.losses (one_more old.losses) =
+    ap (λ (z : CountedReplica S C). z.losses) said.counted
+    ∙ ap (λ (z : CountedReplica S C). cond said.whole z.losses (one_more z.losses)) m in
     subst (λ (o : Outcome S C O). Went rules old o new before later) (sym row)
-    (went_sent old _ new before later sent
-    (subst (λ k. Sends before later (message_to O old.state.id (Held ballot k) from ∷ []) sent) (n ∙ ap places e) sends)
+    (went_sent old _ new before later said.whole
+    (subst (λ k. Sends before later (message_to O old.state.id (Held ballot k) from ∷ []) said.whole) (n ∙ ap places e) sends)
     (state ∙ ap (λ xs. let r : ReplicaState S C = record old.state { log = xs } in r) e) losses)
 
 -- Append whose command found no memory

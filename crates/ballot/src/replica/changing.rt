@@ -139,9 +139,9 @@ impl<M: Machine> Replica<M> {
             self.joined = ballot;
             self.held_in = ballot;
             self.role = Role::Backup;
-            self.say(from, Body::Installed(ballot, held), out);
+            self.send_counted(from, Body::Installed(ballot, held), out);
         } else if self.holds(ballot) {
-            self.say(from, Body::Installed(ballot, held), out);
+            self.send_counted(from, Body::Installed(ballot, held), out);
         }
     }
 

@@ -30,7 +30,7 @@ impl<M: Machine> Replica<M> {
         if !self.lacking.is_empty() {
             return;
         }
-        self.say(MASTER, Body::Activate(self.joined), out);
+        self.send_counted(MASTER, Body::Activate(self.joined), out);
     }
 
     /// Handles Superseded: the replica gives the ballot up, and waits for a later one.

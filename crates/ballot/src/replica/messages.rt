@@ -112,19 +112,11 @@ impl<M: Machine> Replica<M> {
             return;
         }
         let body = Body::Held(ballot, self.log.places());
-        let sent = send(
-            out,
-            from,
-            Message {
-                from: self.id,
-                body,
-            },
-        );
-        self.losses = counted(self.losses, sent);
+        self.send_counted(from, body, out);
     }
 
     /// Sends one message, and counts it if it was lost.
-    pub(super) fn say(
+    pub(super) fn send_counted(
         &mut self,
         receiver: u8,
         body: Body<M::Command>,

@@ -34,12 +34,12 @@ impl<M: Machine> Replica<M> {
         if self.stopped {
             return;
         }
-        let whole = self.say_again(out);
+        let whole = self.send_repeats(out);
         self.losses = counted(self.losses, whole);
     }
 
     // Sends what a tick repeats, by the role.
-    fn say_again(&self, out: &mut Vec<Effect<M::Command, M::Output>>) -> bool
+    fn send_repeats(&self, out: &mut Vec<Effect<M::Command, M::Output>>) -> bool
         ensures { Sends out.old.items out.new.items
             (ticked M.Output self.now.state self.now.state.role).effects result }
     {

@@ -1,5 +1,6 @@
-use Rattle.std.proofs.Common.{◌≤◌, ◌<◌, refl, sym, ◌∙◌, arith}
+use Rattle.std.proofs.Common.{◌≤◌, ◌<◌, ap, refl, sym, ◌∙◌, arith}
 use Rattle.ballot_base.specs.Logs.{places}
+use Rattle.ballot_base.specs.Replica.{CountedReplica}
 use Rattle.ballot_base.proofs.MessageRows.{on_append-elsewhere, on_append-gap}
 use Rattle.ballot.proofs.MessagesTaken.{went_same, append_taken, append_lost}
 use Rattle.ballot.proofs.replica.Replica.on_append.Goals as goal
@@ -28,12 +29,13 @@ pub returns-clause-went : goal.returns-clause-went
 returns-clause-went g c =
     let within : c.args.place ≤ places c.args.self.now.state.log =
     rw (← c.self.view_is) (omega (arith, c.places.ensures, c.if-place-places.false)) in
-    append_taken _ c.args.self.now _ c.args.from c.args.ballot c.args.place c.args.command c.append_next.new.log
-    c.places-2.result _ _ c.send-sent.result
+    append_taken _ c.args.self.now _ c.send_counted.new.self c.args.from c.args.ballot c.args.place c.args.command c.append_next.new.log
+    c.places-2.result _ _
     (sym c.follows.ensures ∙ c.if-not-follows.false)
     within
     (rw (← c.self.view_is) c.if-not-append_next.ensures.taken)
     c.places-2.ensures
-    (rw (← c.self.view_is) c.send-sent.ensures)
-    (rw (← c.self.view_is) refl)
-    (rw (← c.self.view_is) c.counted-self-inside-2.ensures)
+    (ap (λ (z : CountedReplica _ _). let y : CountedReplica _ _ = record z {
+      state = record z.state { log = c.append_next.new.log };
+    } in y) c.self.view_is)
+    c.send_counted.ensures

@@ -12,13 +12,13 @@ use Rattle.ballot.proofs.replica.Replica.on_install.Goals as goal
 pub returns-then-lacks-clause-went : goal.returns-then-lacks-clause-went
 returns-then-lacks-clause-went g c =
     let steps = g.M.Machine.rules in
-    install_taken {rules = steps} c.args.self.now c.take.new.self _ c.say.new.self c.args.from c.args.ballot c.places-held.result c.args.log _ _ _
+    install_taken {rules = steps} c.args.self.now c.take.new.self _ c.send_counted.new.self c.args.from c.args.ballot c.places-held.result c.args.log _ _ _
     (sym c.lacks.ensures ∙ c.if-lacks.true) c.places-held.ensures c.if-not-take.ensures.took.0 c.if-not-take.ensures.took.1
     (taken-id steps c.args.self.now.state c.take.new.self.state c.args.log c.if-not-take.ensures.took.0)
     (ap (λ (z : CountedReplica _ _). let y : CountedReplica _ _ = record z {
       state = record z.state { joined = c.args.ballot; held_in = c.args.ballot; role = Backup };
     } in y) c.self.view_is)
-    c.say.ensures
+    c.send_counted.ensures
 
 pub returns-then-not-take-clause-went : goal.returns-then-not-take-clause-went
 returns-then-not-take-clause-went g c =
@@ -33,7 +33,7 @@ pub returns-then-holds-clause-went : goal.returns-then-holds-clause-went
 returns-then-holds-clause-went g c =
     let steps = g.M.Machine.rules in
     install_answered {rules = steps} c.args.self.now _ c.args.from c.args.ballot c.places-held.result c.args.log _ _ _
-    (sym c.lacks.ensures ∙ c.if-lacks.false) (sym c.holds.ensures ∙ c.if-holds.true) c.places-held.ensures c.say-then-holds.ensures
+    (sym c.lacks.ensures ∙ c.if-lacks.false) (sym c.holds.ensures ∙ c.if-holds.true) c.places-held.ensures c.send_counted-then-holds.ensures
 
 pub returns-clause-went : goal.returns-clause-went
 returns-clause-went g c =

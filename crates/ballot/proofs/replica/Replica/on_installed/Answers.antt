@@ -20,8 +20,8 @@ returns-then-not-is_empty-clause-went g c =
 pub returns-clause-went : goal.returns-clause-went
 returns-clause-went g c =
     rw (← c.self.view_is)
-    (installed_last _ _ _ _ c.args.from c.args.ballot c.say.inside.joined c.forget.new.members.items _ _
+    (installed_last _ _ _ _ c.args.from c.args.ballot c.send_counted.inside.joined c.forget.new.members.items _ _
     (rw (← c.self.view_is) at (sym c.waits_for_answer.ensures ∙ c.if-not-waits_for_answer.false))
     c.forget.ensures
     (empty_is _ _ c.is_empty.ensures c.forget.new.members.ok.0 c.if-not-is_empty.false)
-    (ap (λ (z : CountedReplica _ _). z.state.joined) c.say.view_is) refl c.say-2.ensures)
+    (ap (λ (z : CountedReplica _ _). z.state.joined) c.send_counted.view_is) refl c.send_counted-2.ensures)

@@ -6,5 +6,5 @@ use Rattle.ballot.proofs.replica.Replica.tick.Goals as goal
 pub returns-clause-step : goal.returns-clause-step
 returns-clause-step g c =
     let steps = g.M.Machine.rules in
-    λ running. went_stepped (tick_taken steps c.args.self.now _ _ _ c.say_again-whole.result c.say_again-whole.ensures
+    λ running. went_stepped (tick_taken steps c.args.self.now _ _ _ c.send_repeats-whole.result c.send_repeats-whole.ensures
     (rw (← c.self.view_is) refl) (rw (← c.self.view_is) c.counted-self-inside.ensures))

@@ -1,7 +1,7 @@
 use Rattle.std.proofs.Common.{ap, sym, ◌∙◌}
 use Rattle.ballot_base.specs.Replica.{CountedReplica}
 use Rattle.ballot.proofs.TicksTaken.{told_ticks, silent_ticks}
-use Rattle.ballot.proofs.replica.Replica.say_again.Goals as goal
+use Rattle.ballot.proofs.replica.Replica.send_repeats.Goals as goal
 
 pub returns-in-Backup : goal.returns-in-Backup
 returns-in-Backup g c =
