@@ -186,7 +186,7 @@ impl Connection {
         ensures ok { OnOk result (self.new ≡ holding piece.now self.old) }
         ensures err { OnErr result (self.new ≡ self.old) }
     {
-        self.unread.add(piece)
+        self.unread.hold(piece)
     }
 
     /// Reads the next packet, which is whole at this time. Anything except a packet or less than

@@ -46,8 +46,8 @@ impl Unread {
         }
     }
 
-    /// Adds bytes that came. If memory runs out nothing changes.
-    pub fn add(&mut self, piece: &Piece) -> Result<(), Memory>
+    /// Holds bytes that came. If memory runs out nothing changes.
+    pub fn hold(&mut self, piece: &Piece) -> Result<(), Memory>
         ensures ok { OnOk result (self.new ≡ self.old ++ piece.now) }
         ensures err { OnErr result (self.new ≡ self.old) }
     {

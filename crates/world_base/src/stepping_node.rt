@@ -240,7 +240,7 @@ impl SteppingNode {
 
     /// Appends bytes that arrived to those of the open connection of a port. Returns whether there
     /// was memory.
-    pub fn add(&mut self, port: Port, piece: &Piece) -> bool
+    pub fn hold_at(&mut self, port: Port, piece: &Piece) -> bool
         ensures ok { result ≡ true →
             self.new ≡ record self.old { core = changes port (holding piece.now) self.old.core } }
         ensures same { result ≡ false → self.new ≡ self.old }

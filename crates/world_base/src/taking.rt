@@ -124,7 +124,7 @@ impl SteppingNode {
         ensures run { Ran
             (Holds port piece) self.old.core self.new.core effects.old.items effects.new.items }
     {
-        if !self.add(port, &piece) {
+        if !self.hold_at(port, &piece) {
             self.out_of_memory = true;
             self.end(port, effects);
         }

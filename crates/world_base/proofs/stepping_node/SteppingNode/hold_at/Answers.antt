@@ -1,7 +1,7 @@
 use Rattle.std.proofs.Common.{sym, ◌∙◌}
 use Rattle.node_connections.specs.Connections.{holding}
 use Rattle.world_base.proofs.Changes.{ok_holds, changed_there, changed_nowhere}
-use Rattle.world_base.proofs.stepping_node.SteppingNode.add.Goals as goal
+use Rattle.world_base.proofs.stepping_node.SteppingNode.hold_at.Goals as goal
 
 pub returns-in-Some-clause-ok : goal.returns-in-Some-clause-ok
 returns-in-Some-clause-ok c = λ whole.
