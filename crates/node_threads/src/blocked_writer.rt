@@ -17,10 +17,10 @@ use streams::{Blocked, Closed, Link, WriteToken};
 const CLOSED_LOOK_MILLIS: u64 = 200;
 
 /// How long it sleeps at first before it tries sockets again that were full, in milliseconds.
-const FIRST_MILLIS: u64 = 1;
+const FIRST_PAUSE_MILLIS: u64 = 1;
 
 /// How long it sleeps at most before it tries them again, in milliseconds.
-const MAX_MILLIS: u64 = 16;
+const MAX_PAUSE_MILLIS: u64 = 16;
 
 impl<'a, J: NodeNaming, S: Stated<J>, G: Gate> Shared<'a, J, S, G> {
     /// Goes on with connections whose sockets were full until it sees the listener closed. Returns
@@ -29,7 +29,7 @@ impl<'a, J: NodeNaming, S: Stated<J>, G: Gate> Shared<'a, J, S, G> {
     pub(crate) fn write_blocked<R: Wait>(&self, rt: &R) -> Closed
         ensures { result ≡ self.now.context.listener.now.number }
     {
-        let mut pause = FIRST_MILLIS;
+        let mut pause = FIRST_PAUSE_MILLIS;
         for _ in rt.forever() {
             if let Some(closed) = self.context.listener.closed(rt) {
                 return closed;
@@ -117,8 +117,8 @@ impl<'a, J: NodeNaming, S: Stated<J>, G: Gate> Shared<'a, J, S, G> {
 // are still blocked.
 fn next_pause(pause: u64, tried: usize, left: usize) -> u64 {
     if left == 0 || left < tried {
-        FIRST_MILLIS
+        FIRST_PAUSE_MILLIS
     } else {
-        pause.saturating_mul(2).min(MAX_MILLIS)
+        pause.saturating_mul(2).min(MAX_PAUSE_MILLIS)
     }
 }

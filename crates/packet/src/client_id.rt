@@ -10,7 +10,7 @@ use std::marker::Model;
 use topics::{MalformedKind, Text};
 
 /// The most bytes of a Client Identifier.
-const MAX_BYTES: usize = 64;
+const MAX_CLIENT_BYTES: usize = 64;
 
 /// A Client Identifier of 1 to 64 bytes (MQTT 3.1.3.1). It is compared and ordered by its bytes,
 /// which are its value in contracts.
@@ -75,7 +75,7 @@ impl ClientId {
 pub(crate) fn has_client_length(text: &str) -> bool
     ensures { result ≡ has_client_length text.now }
 {
-    !text.is_empty() && text.len() <= MAX_BYTES
+    !text.is_empty() && text.len() <= MAX_CLIENT_BYTES
 }
 
 impl Clone for ClientId {

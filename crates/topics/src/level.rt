@@ -4,7 +4,7 @@ ghost use Rattle.std.specs.Prelude.{◌≡◌, ◌∷◌, ◌||◌, codes, bytes
 ghost use Rattle.topics.specs.Text.{levels, levels_of, has_length, has_no_wildcard, is_last};
 
 /// The most bytes of a topic or a filter (MQTT 4.7.3).
-const MAX_BYTES: usize = 65_535;
+const MAX_TEXT_BYTES: usize = 65_535;
 
 /// Returns a text's first level, which may be empty (MQTT 4.7.1.1), and what follows its `/`, if
 /// one is there. Takes no memory; its time grows with the bytes of the level.
@@ -35,7 +35,7 @@ pub(crate) fn is_last(rest: Option<&[u8]>) -> bool
 pub(crate) fn has_length(text: &[u8]) -> bool
     ensures { result ≡ has_length text.now }
 {
-    !text.is_empty() && text.len() <= MAX_BYTES
+    !text.is_empty() && text.len() <= MAX_TEXT_BYTES
 }
 
 /// Says whether neither `+` nor `#` is in a text (MQTT 4.7.1).
