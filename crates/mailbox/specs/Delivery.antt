@@ -3,6 +3,7 @@
 use Rattle.std.specs.Prelude.{◌≡◌, ◌==◌, ℕ, ◌+◌, ◌*◌, ◌^◌, ◌<◌, ◌≤◌, true, false, List, [], ◌∷◌, ◌++◌, length, if◌then◌else◌}
 use mathlib.Core.Option.{some}
 use lib.ListN.{get_elem?}
+use Rattle.mailbox.specs.declared.lane.TheConstants.{MAX_SENT}
 use Rattle.mailbox.specs.declared.view.Bounds.{Bounds}
 use Rattle.mailbox.specs.declared.view.View.{View}
 
@@ -47,9 +48,9 @@ receiver_view lanes taken may all bounds = record {
   bounds = bounds;
 }
 
--- what a receiver shows once it has made all its lanes, each of which may send 2^55 items
+-- what a receiver shows once it has made all its lanes, each of which may send `MAX_SENT` items
 abbrev pub taker_view : {T : Type 0} → ℕ → List (ℕ × T) → Bounds → View T
-taker_view lanes taken bounds = receiver_view lanes taken 0 (lanes * 2 ^ 55) bounds
+taker_view lanes taken bounds = receiver_view lanes taken 0 (lanes * MAX_SENT) bounds
 
 -- how many items may still be sent
 abbrev pub rights : {T : Type 0} → List (View T) → ℕ
@@ -88,7 +89,7 @@ pub record FitsRule {T : Type 0} (items : List (ℕ × T)) (views : List (View T
   pub taken : List (ℕ × T)
   pub most : ℕ
   pub whole : (lane : ℕ) → items_of lane (taken ++ items) ≡ sent lane
-  pub few : (lane : ℕ) → length (sent lane) ≤ 2 ^ 55
+  pub few : (lane : ℕ) → length (sent lane) ≤ MAX_SENT
   pub unmade : (lane : ℕ) → made ≤ lane → sent lane ≡ []
   pub within : length taken + length items + rights views ≤ most
   pub finite : most ≤ 2 ^ 64

@@ -1,18 +1,18 @@
 -- What the two ends of an inbox show: its lanes, which send, and its receiver, which takes.
 use Rattle.std.specs.Prelude.{◌≡◌, ℕ, zero, suc, ◌+◌, ◌-◌, ◌≤◌, List, [], ◌∷◌, ◌++◌, length, map, take, slice_index}
 use Rattle.crossbeam_queue.specs.Fifo.{Held}
-use Rattle.mailbox.specs.declared.inbox.TheConstants.{MAX_ITEMS}
+use Rattle.mailbox.specs.declared.inbox.TheConstants.{MAX_ITEMS, MAX_LANES}
 use Rattle.mailbox.specs.declared.lane.TheConstants.{MAX_SENT}
 use Rattle.mailbox.specs.declared.view.Bounds.{Bounds}
 use Rattle.mailbox.specs.Delivery.{items_of, lane_view, taker_view, Knew}
 
 -- how many items an inbox holds at most
 abbrev pub max_items : ℕ
-max_items = 1024
+max_items = MAX_ITEMS
 
 -- how many lanes an inbox has at most
 abbrev pub max_lanes : ℕ
-max_lanes = 64
+max_lanes = MAX_LANES
 
 -- a lane: the number of its inbox, its own, and how many of its items it knows to be taken
 pub record Sender (T : Type 0) : Type 0 where

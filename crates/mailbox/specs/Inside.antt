@@ -1,5 +1,6 @@
 -- What each use of a pass does to what is known.
 use Rattle.std.specs.Prelude.{◌≡◌, ℕ, ◌+◌, ◌-◌, ◌^◌, ◌<◌, ◌≤◌, false, List, [], ◌∷◌, ◌++◌, length}
+use Rattle.mailbox.specs.declared.lane.TheConstants.{MAX_SENT}
 use Rattle.mailbox.specs.declared.view.View.{View}
 use Rattle.mailbox.specs.Delivery.{items_of, lane_view, nothing, receiver_view}
 
@@ -28,15 +29,15 @@ module _ {T : Type 0} where
   Took v x w =
       (w ≡ record v { taken = v.taken ++ x ∷ [] })
       × (x.0 < v.lanes)
-      × (length (items_of x.0 v.taken) < 2 ^ 55)
+      × (length (items_of x.0 v.taken) < MAX_SENT)
 
   -- the receiver makes a lane
   abbrev pub dealing : View T → View T
-  dealing v = record v { lanes = v.lanes + 1; may = v.may - 2 ^ 55 }
+  dealing v = record v { lanes = v.lanes + 1; may = v.may - MAX_SENT }
 
   -- the lane that it makes
   abbrev pub dealt : View T → View T
-  dealt v = lane_view v.lanes [] 0 (2 ^ 55) nothing
+  dealt v = lane_view v.lanes [] 0 MAX_SENT nothing
 
   -- the receiver makes no more lanes
   abbrev pub sealed : View T → View T

@@ -3,6 +3,7 @@ use Rattle.std.specs.Prelude.{◌≡◌, ℕ, ◌-◌, ◌*◌, ◌^◌, ◌<◌
 use Rattle.atomic_table.specs.Seated.{TableId}
 use Rattle.crossbeam_queue.specs.Passes.{Pass, view}
 use Rattle.mailbox.specs.declared.inbox.TheConstants.{MAX_ITEMS}
+use Rattle.mailbox.specs.declared.lane.TheConstants.{MAX_SENT}
 use Rattle.mailbox.specs.declared.view.View.{View}
 use Rattle.mailbox.specs.Delivery.{items_of, lane_view, nothing, receiver_view, taker_view}
 use Rattle.mailbox.specs.Ends.{Sender, Taker, max_lanes}
@@ -19,8 +20,8 @@ pub record LaneKept {T : Type 0}
   pub role :
       view pass
       ≡ lane_view lane (view pass).sent (view pass).met
-      (2 ^ 55 - length (view pass).sent) (view pass).bounds
-  pub few : length (view pass).sent ≤ 2 ^ 55
+      (MAX_SENT - length (view pass).sent) (view pass).bounds
+  pub few : length (view pass).sent ≤ MAX_SENT
   pub counted : count ≡ length (view pass).sent
 
 -- what a receiver keeps: its pass knows what it shows, and how many items of each lane it took
@@ -53,7 +54,7 @@ pub record DealerKept {T : Type 0}
   pub has_room : room ≡ MAX_ITEMS
   pub role :
       view pass
-      ≡ receiver_view (length counts) [] (2 ^ 64 - length counts * 2 ^ 55) (2 ^ 64) nothing
+      ≡ receiver_view (length counts) [] (2 ^ 64 - length counts * MAX_SENT) (2 ^ 64) nothing
   pub few : length counts ≤ max_lanes
   pub counted : (lane : ℕ) → slice_index counts lane ≡ 0
 
