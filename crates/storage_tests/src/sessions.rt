@@ -4,7 +4,7 @@ mod memory;
 mod row;
 
 use crate::sessions::row::Row::{
-    Enqueue, Fill, Granted, Inbound, IsFull, Puback, Pubcomp, Pubrec, Received, Resend, Room,
+    Enqueue, Fill, Granted, IsFull, Puback, Pubcomp, Publish, Pubrec, Received, Resend, Room,
     Subscribe, Unsubscribe,
 };
 use crate::sessions::row::Sent::{Again, New};
@@ -82,13 +82,13 @@ const RELEASED_COME_FIRST: &[Row<'static>] = &[
 
 // An identifier is new until it came, and again after PUBREL (MQTT 4.3.3).
 const NEW_AFTER_PUBREL: &[Row<'static>] = &[
-    Inbound(1, Arrival::First),
-    Inbound(2, Arrival::First),
-    Inbound(1, Arrival::Again),
+    Publish(1, Arrival::First),
+    Publish(2, Arrival::First),
+    Publish(1, Arrival::Again),
     Row::Pubrel(1),
     Received(2, true),
     Received(1, false),
-    Inbound(1, Arrival::First),
+    Publish(1, Arrival::First),
 ];
 
 // Two filters match at the greater QoS, and an identical one is replaced (MQTT 3.3.5, 3.8.4).

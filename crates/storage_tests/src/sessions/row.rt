@@ -38,7 +38,7 @@ pub(crate) enum Row<'a> {
     Pubrec(u16, &'a [Sent]),
     Pubcomp(u16),
     /// A PUBLISH at QoS 2 comes with an identifier.
-    Inbound(u16, Arrival),
+    Publish(u16, Arrival),
     Pubrel(u16),
     /// Whether an identifier is one of those that were received.
     Received(u16, bool),
@@ -83,7 +83,7 @@ fn is_right(alloc: Global, session: &mut Session, row: Row<'_>) -> bool {
         Row::Puback(number) => id_of(number).map(|id| session.on_puback(id)).is_some(),
         Row::Pubrec(number, wanted) => pubrec(alloc, session, number, wanted),
         Row::Pubcomp(number) => id_of(number).map(|id| session.on_pubcomp(id)).is_some(),
-        Row::Inbound(number, arrival) => inbound(session, number, arrival),
+        Row::Publish(number, arrival) => receives(session, number, arrival),
         Row::Pubrel(number) => id_of(number).map(|id| session.on_pubrel(id)).is_some(),
         Row::Received(number, is) => is_received(session, number) == is,
         Row::Subscribe(text, qos, count) => subscribe(alloc, session, text, qos, count),
@@ -173,7 +173,7 @@ fn is_delivered(delivery: Delivery, dup: bool, number: u16) -> bool {
     }
 }
 
-fn inbound(session: &mut Session, number: u16, arrival: Arrival) -> bool {
+fn receives(session: &mut Session, number: u16, arrival: Arrival) -> bool {
     match id_of(number) {
         Some(id) => session.receive(id) == Ok(arrival),
         None => false,
