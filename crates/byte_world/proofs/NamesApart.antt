@@ -29,10 +29,10 @@ use Rattle.node_group.proofs.of_node_moves.Views.{some_none}
 use Rattle.byte_world.specs.Apart.{HasName, NamesStayApart}
 use Rattle.node_group.specs.Group.{Group, after_turn, moment_of, opening_cores, with_record}
 use Rattle.node_group.specs.Putting.{recorded_in as recorded_exactly}
-use Rattle.node_group.specs.Goes.{GroupStep, GroupTrace, groups_of, keeping, put_in_step}
+use Rattle.node_group.specs.Steps.{GroupStep, GroupTrace, groups_of, keeping, put_in_step}
 use Rattle.node_group.specs.Losing.{WereSent, all_given, put_in_move, put_in_run, recorded_by, recorded_in}
-use Rattle.node_group.specs.Goes.GroupStep.{node_acts, node_loses, master_assigns as assigns, master_hears as hears_master, assigns_unheard, answers_unheard}
-use Rattle.node_group.specs.Goes.GroupTrace.{opened, then_went}
+use Rattle.node_group.specs.Steps.GroupStep.{node_acts, node_loses, master_assigns as assigns, master_hears as hears_master, assigns_unheard, answers_unheard}
+use Rattle.node_group.specs.Steps.GroupTrace.{opened, then_went}
 use Rattle.node_group.proofs.GroupsArePasts.{goes_on as step_goes_on, groups_are_pasts}
 use Rattle.node_group.proofs.LosingNone.{frozen_losing, losing_none, same_given, same_put, same_recorded, sent_losing}
 use Rattle.node_group.proofs.LossesHappen.{losses_happen}

@@ -23,11 +23,11 @@ use Rattle.node_group.specs.Group.{Group, after_turn, replica_of, with_record}
 use Rattle.node_group.specs.Putting.{recorded_by, recorded_in}
 use Rattle.node_group.specs.snapshots.World.{recorded}
 use Rattle.node_group.specs.broker_spec.declared.command.Command.{Command}
-use Rattle.node_group.specs.Goes.{AllWasSent, WasSent, all_given}
-use Rattle.node_group.specs.Goes.GroupStep.{node_acts}
+use Rattle.node_group.specs.Steps.{AllWasSent, WasSent, all_given}
+use Rattle.node_group.specs.Steps.GroupStep.{node_acts}
 use Rattle.node_group.specs.Streams.{bytes_named, handed_in_run, handed_on}
 use Rattle.byte_world.specs.NodeCalls.{NodeCallWasSent, NodeCallsCarryTheirBytes, GroupsDoEachNodeCall, recorded_after}
-use Rattle.byte_world.specs.Goes.{coming_with, going_with}
+use Rattle.byte_world.specs.Steps.{coming_with, going_with}
 
 -- ---- what a part is for one connection
 

@@ -25,8 +25,8 @@ use Rattle.node_group.specs.node_moves.LossyRuns.{IsRunOn, LossyRuns, came_with}
 use Rattle.node_group.specs.node_moves.LossyRuns.LossyRuns.{rests, goes_on}
 use Rattle.node_group.proofs.of_node_moves.LossyReads.{losses_read_in_order}
 use Rattle.node_group.specs.Group.{Group}
-use Rattle.node_group.specs.Goes.{GroupStep, GroupTrace}
-use Rattle.node_group.specs.Goes.GroupStep.{node_acts, node_loses, master_assigns, master_hears, assigns_unheard, answers_unheard}
+use Rattle.node_group.specs.Steps.{GroupStep, GroupTrace}
+use Rattle.node_group.specs.Steps.GroupStep.{node_acts, node_loses, master_assigns, master_hears, assigns_unheard, answers_unheard}
 use Rattle.node_group.proofs.LosingNone.{losing_none}
 use Rattle.node_group.proofs.NamesInGroups.{all_well, each_got}
 use Rattle.node_group.proofs.Placed.{get_of_set}
@@ -34,7 +34,7 @@ use Rattle.node_group.specs.Streams.{comes_up, goes_down}
 use Rattle.node_group.proofs.CarriedInOrder.{assigned_nodes}
 use Rattle.node_group.proofs.Given.{stays_given}
 use Rattle.node_group.proofs.States.{set_back}
-use Rattle.byte_world.specs.Goes.{IsFaithful, coming_with, node_call_of, going_with, is_apart}
+use Rattle.byte_world.specs.Steps.{IsFaithful, coming_with, node_call_of, going_with, is_apart}
 use Rattle.byte_world.proofs.PortsKept.{IsNew, IsOfOld, each_was, each_was_or_new, is_still}
 use Rattle.byte_world.proofs.PortsLosing.{each_new_losing, each_was_losing}
 

@@ -1,7 +1,7 @@
 -- Each port that a node lists has its pipe, and each node's names are in order.
 use Rattle.node_group.proofs.NamesInGroups.{IsWell, all_well, each_got}
 use Rattle.byte_world.specs.AtNodes.{NodesAreOrderly, PortsHavePipes}
-use Rattle.byte_world.specs.Carried.{went_of}
+use Rattle.byte_world.specs.Carried.{trace_of}
 use Rattle.byte_world.proofs.PipesInOrder.{reached_holds}
 
 pub ports_have_pipes : PortsHavePipes
@@ -9,4 +9,4 @@ ports_have_pipes nodes config cs w trail n core d at i = (reached_holds w trail)
 
 pub nodes_are_orderly : NodesAreOrderly
 nodes_are_orderly nodes config cs w trail n core at =
-    (each_got IsWell w.group.nodes n core (all_well nodes config w.group (went_of trail)).0 at).orderly
+    (each_got IsWell w.group.nodes n core (all_well nodes config w.group (trace_of trail)).0 at).orderly

@@ -15,10 +15,10 @@ use Rattle.node_group.specs.exactly_once.StoryCommands.{is_packet_of}
 use Rattle.node_group.proofs.of_exactly_once.Takes.{same_name_self}
 use Rattle.node_group.specs.packet.declared.packet.Packet.{Packet}
 use Rattle.node_group.specs.node_moves.Ends.{commands_of}
-use Rattle.node_group.specs.Goes.{GroupTrace}
+use Rattle.node_group.specs.Steps.{GroupTrace}
 use Rattle.node_group.specs.Order.{packets_of as packets_in_list}
 use Rattle.node_group.proofs.CarriedInOrder.{CarriedSo, IsAgreedSo, carried_so, carries_each}
-use Rattle.byte_world.specs.Carried.{went_of}
+use Rattle.byte_world.specs.Carried.{trace_of}
 use Rattle.byte_world.specs.Kept.{NoConnectIsClean, NoneIsClean}
 use Rattle.byte_world.specs.World.{World, packets_of}
 use Rattle.byte_world.proofs.BeginsKept.{AllBeginKept, BeginsKept, all_begin_kept}
@@ -97,5 +97,5 @@ module _ {nodes : ℕ} {config : Config} (w : World) (went : GroupTrace nodes co
 
 pub no_connect_is_clean : NoConnectIsClean
 no_connect_is_clean nodes config cs w trail =
-    let so = carried_so (went_of trail) in
-    record { of = so.of; none = λ agreed is. none_clean w (went_of trail) (reached_holds w trail) (all_begin_kept w trail) so agreed is }
+    let so = carried_so (trace_of trail) in
+    record { of = so.of; none = λ agreed is. none_clean w (trace_of trail) (reached_holds w trail) (all_begin_kept w trail) so agreed is }

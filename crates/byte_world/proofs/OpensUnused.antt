@@ -13,10 +13,10 @@ use Rattle.node_group.specs.world_base.declared.Port.{Port}
 use Rattle.node_group.specs.world_base.Core.{CoreState}
 use Rattle.node_group.specs.node_moves.Moves.{NodeCall}
 use Rattle.node_group.specs.node_moves.Moves.NodeCall.{takes}
-use Rattle.node_group.specs.Goes.{GroupTrace}
-use Rattle.node_group.specs.Goes.GroupTrace.{then_went}
+use Rattle.node_group.specs.Steps.{GroupTrace}
+use Rattle.node_group.specs.Steps.GroupTrace.{then_went}
 use Rattle.node_group.specs.Streams.{comes_up, goes_down}
-use Rattle.byte_world.specs.Goes.{Does, node_call_of}
+use Rattle.byte_world.specs.Steps.{Does, node_call_of}
 use Rattle.byte_world.specs.World.{ClientPipes, HasPipe, Pipe, World, is_used, leads_to}
 use Rattle.byte_world.proofs.NodesGoOn.{IsOpened, carries_with}
 use Rattle.byte_world.proofs.PipesHold.{PipeHolds, apart_on}

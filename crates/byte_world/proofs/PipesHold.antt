@@ -28,11 +28,11 @@ use Rattle.node_group.specs.node_moves.Puts.{spelled}
 use Rattle.node_group.proofs.of_node_moves.Kept.{left_true, live}
 use Rattle.node_group.proofs.of_node_moves.Views.{found_each, found_passes, some_none}
 use Rattle.node_group.specs.Group.{Group}
-use Rattle.node_group.specs.Goes.{GroupStep, GroupTrace, groups_of}
-use Rattle.node_group.specs.Goes.GroupTrace.{then_went}
+use Rattle.node_group.specs.Steps.{GroupStep, GroupTrace, groups_of}
+use Rattle.node_group.specs.Steps.GroupTrace.{then_went}
 use Rattle.node_group.specs.Streams.{bytes_named, came_up, comes_up, goes_down, went_down}
 use Rattle.byte_world.specs.Apart.{HasName}
-use Rattle.byte_world.specs.Goes.{coming_with, node_call_of, going_with}
+use Rattle.byte_world.specs.Steps.{coming_with, node_call_of, going_with}
 use Rattle.byte_world.specs.World.{Pipe, packets_of}
 use Rattle.byte_world.proofs.NodesGoOn.{CarriesWith, IsOpened, StoodAs, of_each, stands_as, stood_as}
 use Rattle.byte_world.proofs.OnTheWay.{IsHandled, piece_up, written_up}

@@ -8,17 +8,17 @@ use Rattle.node_group.specs.exactly_once.Sides.{Connection}
 use Rattle.node_group.specs.world_base.declared.Connection.{Connection as NodesEnd}
 use Rattle.node_group.specs.world_base.Core.{CoreState}
 use Rattle.node_group.specs.Group.{opening_cores}
-use Rattle.node_group.specs.Goes.{GroupTrace}
-use Rattle.node_group.specs.Goes.GroupTrace.{opened}
+use Rattle.node_group.specs.Steps.{GroupTrace}
+use Rattle.node_group.specs.Steps.GroupTrace.{opened}
 use Rattle.node_group.proofs.NamesInGroups.{each_got}
 use Rattle.node_group.specs.broker_spec.Connection.{ConnectionName}
 use Rattle.node_group.specs.Carried.{answers_to}
 use Rattle.node_group.specs.Streams.{came_up, went_down}
 use Rattle.node_group.proofs.CarriedInOrder.{CarriedSo, IsAgreedSo, carried_so, carries_each, no_connections}
-use Rattle.byte_world.specs.Carried.{went_of, went_on}
-use Rattle.byte_world.specs.Goes.{Reached, WorldStep}
-use Rattle.byte_world.specs.Goes.Reached.{begins, goes_on}
-use Rattle.byte_world.specs.Goes.WorldStep.{goes_on as group_goes, calls, connects, is_turned_away, comes_up, goes_down, arrives, handles}
+use Rattle.byte_world.specs.Carried.{trace_of, went_on}
+use Rattle.byte_world.specs.Steps.{Reached, WorldStep}
+use Rattle.byte_world.specs.Steps.Reached.{begins, goes_on}
+use Rattle.byte_world.specs.Steps.WorldStep.{goes_on as group_goes, calls, connects, is_turned_away, comes_up, goes_down, arrives, handles}
 use Rattle.byte_world.specs.InPipes.{IsInOrder, PipesCarryInOrder}
 use Rattle.byte_world.specs.World.{ClientPipes, HasPipe, Pipe, World, new_client, opening, packets_of}
 use Rattle.byte_world.proofs.WorldsHold.{Holds, arrives_holds, client_holds, set_at}
@@ -73,9 +73,9 @@ step_holds v w went h (arrives i j c κ p piece rest has is) =
 step_holds v w went h (handles i c κ others p pipes packet left at first piped is_open cut spelled) =
     handles_hold v went i c κ others p pipes packet left at first piped cut spelled h
 
-pub reached_holds : {nodes : ℕ} {config : Config} {cs : List Client} (w : World) (trail : Reached nodes config cs w) → Holds w (went_of trail)
+pub reached_holds : {nodes : ℕ} {config : Config} {cs : List Client} (w : World) (trail : Reached nodes config cs w) → Holds w (trace_of trail)
 reached_holds {nodes = nodes} {config = config} {cs = cs} w (begins can) = opens_hold nodes config cs (opened can) (λ x. (refl, refl))
-reached_holds w (goes_on {v = v} before step) = step_holds v w (went_of before) (reached_holds v before) step
+reached_holds w (goes_on {v = v} before step) = step_holds v w (trace_of before) (reached_holds v before) step
 
 -- ---- the law
 
@@ -96,5 +96,5 @@ in_order w went holds so agreed is i c j κ p has =
 
 pub pipes_carry_in_order : PipesCarryInOrder
 pipes_carry_in_order nodes config cs w trail =
-    let so = carried_so (went_of trail) in
-    record { of = so.of; each = in_order w (went_of trail) (reached_holds w trail) so }
+    let so = carried_so (trace_of trail) in
+    record { of = so.of; each = in_order w (trace_of trail) (reached_holds w trail) so }

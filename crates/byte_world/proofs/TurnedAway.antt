@@ -12,9 +12,9 @@ use Rattle.node_group.specs.world_base.Core.{CoreState}
 use Rattle.node_group.specs.world_base.Connections.{is_at}
 use Rattle.node_group.specs.world_base.Handing.{listed_at}
 use Rattle.node_group.specs.node_moves.Moves.NodeCall.{takes}
-use Rattle.node_group.specs.Goes.{GroupTrace}
-use Rattle.node_group.specs.Goes.GroupTrace.{then_went}
-use Rattle.byte_world.specs.Goes.{Does, node_call_of}
+use Rattle.node_group.specs.Steps.{GroupTrace}
+use Rattle.node_group.specs.Steps.GroupTrace.{then_went}
+use Rattle.byte_world.specs.Steps.{Does, node_call_of}
 use Rattle.byte_world.specs.World.{HasPipe, World, is_used}
 use Rattle.byte_world.proofs.NodesGoOn.{IsOpened, of_each, stood_as}
 use Rattle.byte_world.proofs.PipesHold.{is_the_port, none_found}

@@ -16,7 +16,7 @@ use Rattle.node_group.specs.world_base.declared.Port.{Port}
 use Rattle.node_group.specs.world_base.Core.{CoreState}
 use Rattle.node_group.specs.node_moves.Puts.{spelled}
 use Rattle.node_group.specs.Group.{Group}
-use Rattle.node_group.specs.Goes.{GroupTrace}
+use Rattle.node_group.specs.Steps.{GroupTrace}
 use Rattle.node_group.specs.Streams.{came_up, went_down}
 use Rattle.byte_world.specs.World.{ClientPipes, HasPipe, Pipe, World, packets_of, with_client, with_pipe}
 pub use Rattle.byte_world.specs.AtNodes.{Leads}

@@ -18,7 +18,7 @@ use Rattle.node_group.specs.lists.Lists.{Each, In}
 use Rattle.node_group.proofs.of_lists.Places.{get_set_other}
 use Rattle.node_group.proofs.of_packet_world.Lists.{same_or_other, set_get}
 use Rattle.node_group.specs.world_base.declared.Port.{Port}
-use Rattle.node_group.specs.packet_world.Goes.{is_call}
+use Rattle.node_group.specs.packet_world.Steps.{is_call}
 use Rattle.node_group.specs.exactly_once.Sides.{Connection, Side}
 use Rattle.node_group.specs.exactly_once.Story.{StoryStep, Story}
 use Rattle.node_group.specs.exactly_once.Story.StoryStep.{takes as takes_next, others_take, receives, opens_anew, loses, disconnects, publishes_one, subscribes, unsubscribes}
@@ -31,10 +31,10 @@ use Rattle.node_group.specs.node_moves.Moves.{NodeCall}
 use Rattle.node_group.specs.node_moves.Moves.NodeCall.{takes, gives}
 use Rattle.node_group.specs.node_moves.Puts.{spelled}
 use Rattle.node_group.specs.Group.{Group}
-use Rattle.node_group.specs.Goes.{GroupStep, GroupTrace}
-use Rattle.node_group.specs.Goes.GroupTrace.{then_went}
+use Rattle.node_group.specs.Steps.{GroupStep, GroupTrace}
+use Rattle.node_group.specs.Steps.GroupTrace.{then_went}
 use Rattle.node_group.specs.Streams.{comes_up, goes_down, went_down}
-use Rattle.byte_world.specs.Goes.{Does, node_call_of, is_apart}
+use Rattle.byte_world.specs.Steps.{Does, node_call_of, is_apart}
 use Rattle.byte_world.specs.ClientSteps.{CanBeSpelled, after_packet}
 use Rattle.byte_world.specs.World.{ClientPipes, HasPipe, Pipe, World, after_writing, newly_written, packets_of, sent_up, with_client, with_pipe}
 use Rattle.byte_world.proofs.NodesGoOn.{IsOpened, carries_with, is_quiet, stood_as}

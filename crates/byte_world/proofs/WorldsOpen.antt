@@ -26,11 +26,11 @@ use Rattle.node_group.specs.node_moves.Moves.NodeCall.{takes}
 use Rattle.node_group.specs.node_moves.Puts.{spelled}
 use Rattle.node_group.proofs.of_node_moves.Kept.{named}
 use Rattle.node_group.proofs.of_node_moves.NamesInOrder.{next_precedes, not_both}
-use Rattle.node_group.specs.Goes.{GroupTrace}
-use Rattle.node_group.specs.Goes.GroupTrace.{then_went}
+use Rattle.node_group.specs.Steps.{GroupTrace}
+use Rattle.node_group.specs.Steps.GroupTrace.{then_went}
 use Rattle.node_group.proofs.NamesInGroups.{all_well, each_got}
 use Rattle.byte_world.specs.Apart.{HasName}
-use Rattle.byte_world.specs.Goes.{Does, node_call_of}
+use Rattle.byte_world.specs.Steps.{Does, node_call_of}
 use Rattle.byte_world.specs.ClientSteps.{after_connecting}
 use Rattle.byte_world.specs.World.{ClientPipes, HasPipe, Pipe, World, is_used, packets_of, with_client}
 use Rattle.byte_world.proofs.NamesApart.{names_stay_apart}

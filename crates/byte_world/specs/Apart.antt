@@ -7,7 +7,7 @@ use Rattle.node_group.specs.world_base.declared.Connection.{Connection}
 use Rattle.node_group.specs.world_base.Core.{CoreState}
 use Rattle.node_group.specs.node_moves.Closed.{listed_named}
 use Rattle.node_group.specs.Group.{Group}
-use Rattle.node_group.specs.Goes.{GroupTrace, groups_of}
+use Rattle.node_group.specs.Steps.{GroupTrace, groups_of}
 
 -- a node has a connection of this name, open or with bytes to hand over
 pub record HasName (x : ConnectionName) (g : Group) (n : ℕ) : Type 0 where

@@ -10,7 +10,7 @@ use Rattle.node_group.specs.world_base.declared.Port.{Port}
 use Rattle.node_group.specs.world_base.Core.{CoreState}
 use Rattle.node_group.specs.node_moves.Ends.{IsOrderly}
 use Rattle.byte_world.specs.World.{ClientPipes, HasPipe, Pipe, World}
-use Rattle.byte_world.specs.Goes.{Reached}
+use Rattle.byte_world.specs.Steps.{Reached}
 
 -- a pipe leads to this port of the node
 pub record Leads (w : World) (n : ℕ) (port : Port) : Type 0 where

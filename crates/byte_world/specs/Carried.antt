@@ -2,13 +2,13 @@
 use Rattle.std.specs.Prelude.{ℕ, List}
 use Rattle.node_group.specs.ballot.Config.{Config}
 use Rattle.node_group.specs.broker_spec.Place.{Client}
-use Rattle.node_group.specs.Goes.{GroupTrace}
-use Rattle.node_group.specs.Goes.GroupTrace.{opened, then_went}
+use Rattle.node_group.specs.Steps.{GroupTrace}
+use Rattle.node_group.specs.Steps.GroupTrace.{opened, then_went}
 use Rattle.node_group.specs.Carried.{Carries}
 use Rattle.byte_world.specs.World.{World}
-use Rattle.byte_world.specs.Goes.{Reached, WorldStep}
-use Rattle.byte_world.specs.Goes.Reached.{begins, goes_on}
-use Rattle.byte_world.specs.Goes.WorldStep.{goes_on as group_goes, calls, connects, is_turned_away, comes_up, goes_down, arrives, handles}
+use Rattle.byte_world.specs.Steps.{Reached, WorldStep}
+use Rattle.byte_world.specs.Steps.Reached.{begins, goes_on}
+use Rattle.byte_world.specs.Steps.WorldStep.{goes_on as group_goes, calls, connects, is_turned_away, comes_up, goes_down, arrives, handles}
 
 -- if a step of a world has a step of its group, the group does that step
 abbrev pub went_on : {nodes : ℕ} {config : Config} {v w : World} → GroupTrace nodes config v.group →
@@ -24,14 +24,14 @@ went_on went (arrives i j c κ p piece rest pipe is) = went
 went_on went (handles i c κ others p pipes packet left at first piped is_open takes spelled) = went
 
 -- the steps of the group of a world on this way to it
-abbrev pub went_of : {nodes : ℕ} {config : Config} {cs : List Client} {w : World} →
+abbrev pub trace_of : {nodes : ℕ} {config : Config} {cs : List Client} {w : World} →
     Reached nodes config cs w → GroupTrace nodes config w.group
-went_of (begins can) = opened can
-went_of (goes_on before step) = went_on (went_of before) step
+trace_of (begins can) = opened can
+trace_of (goes_on before step) = went_on (trace_of before) step
 
 -- on each way to a world, each connection carries its packets in order in the steps of the world's
 -- group
 abbrev pub WorldsCarryInOrder : Type 0
 WorldsCarryInOrder =
     (nodes : ℕ) (config : Config) (cs : List Client) (w : World)
-    (trail : Reached nodes config cs w) → Carries (went_of trail)
+    (trail : Reached nodes config cs w) → Carries (trace_of trail)

@@ -12,13 +12,13 @@ use Rattle.node_group.specs.snapshots.Moments.{IsAgreed}
 use Rattle.node_group.specs.node_moves.Ends.{commands_of}
 use Rattle.node_group.specs.node_moves.Puts.{spelled}
 use Rattle.node_group.specs.Group.{moment_of}
-use Rattle.node_group.specs.Goes.{all_put, groups_of}
+use Rattle.node_group.specs.Steps.{all_put, groups_of}
 use Rattle.node_group.specs.Order.{packets_of as packets_in_list}
 use Rattle.node_group.specs.Pasts.{HasPast}
 use Rattle.node_group.specs.Carried.{answers_to}
-use Rattle.byte_world.specs.Carried.{went_of}
+use Rattle.byte_world.specs.Carried.{trace_of}
 use Rattle.byte_world.specs.World.{ClientPipes, HasPipe, Pipe, World, packets_of}
-use Rattle.byte_world.specs.Goes.{Reached}
+use Rattle.byte_world.specs.Steps.{Reached}
 
 -- A connection's commands in the list are a prefix of the packets that its client wrote, in order.
 -- The packets that its client handled, spelled, with the bytes that came to it after them and those
@@ -35,7 +35,7 @@ pub record IsInOrder (agreed : List Command) (κ : Connection) (p : Pipe) : Type
 -- the group's steps on the way to the world
 pub record PipesAreInOrder {nodes : ℕ} {config : Config} {cs : List Client} {w : World}
     (trail : Reached nodes config cs w) : Type 0 where
-  pub of : HasPast config w.group (groups_of (went_of trail)) (all_put (went_of trail))
+  pub of : HasPast config w.group (groups_of (trace_of trail)) (all_put (trace_of trail))
   pub each : (agreed : List Command) → IsAgreed config (moment_of w.group ∷ of.earlier) agreed →
       (i : ℕ) (c : ClientPipes) (j : ℕ) (κ : Connection) (p : Pipe) →
       HasPipe w i c j κ p → IsInOrder agreed κ p

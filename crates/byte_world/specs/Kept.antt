@@ -11,10 +11,10 @@ use Rattle.node_group.specs.broker_spec.Past.{session_of}
 use Rattle.node_group.specs.broker_spec.Place.{Client}
 use Rattle.node_group.specs.snapshots.Moments.{IsAgreed}
 use Rattle.node_group.specs.Group.{moment_of}
-use Rattle.node_group.specs.Goes.{all_put, groups_of}
+use Rattle.node_group.specs.Steps.{all_put, groups_of}
 use Rattle.node_group.specs.Pasts.{HasPast}
-use Rattle.byte_world.specs.Carried.{went_of}
-use Rattle.byte_world.specs.Goes.{Reached}
+use Rattle.byte_world.specs.Carried.{trace_of}
+use Rattle.byte_world.specs.Steps.{Reached}
 use Rattle.byte_world.specs.World.{World}
 
 -- none of these commands is a Connect that asks for a clean session
@@ -27,7 +27,7 @@ NoneIsClean list =
 -- asks for a clean session
 pub record AsksForNoneClean {nodes : ℕ} {config : Config} {cs : List Client} {w : World}
     (trail : Reached nodes config cs w) : Type 0 where
-  pub of : HasPast config w.group (groups_of (went_of trail)) (all_put (went_of trail))
+  pub of : HasPast config w.group (groups_of (trace_of trail)) (all_put (trace_of trail))
   pub none : (agreed : List Command) → IsAgreed config (moment_of w.group ∷ of.earlier) agreed →
       NoneIsClean agreed
 

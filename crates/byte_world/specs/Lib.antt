@@ -1,7 +1,7 @@
 pub mod World
 pub mod Carrying
 pub mod ClientSteps
-pub mod Goes
+pub mod Steps
 pub mod Carried
 pub mod Published
 pub mod Accepted

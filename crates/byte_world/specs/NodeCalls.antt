@@ -11,10 +11,10 @@ use Rattle.node_group.specs.node_moves.Hearing.{HearsAtFirst}
 use Rattle.node_group.specs.node_moves.Moves.{NodeCall, Runs, done}
 use Rattle.node_group.specs.node_moves.Moves.NodeCall.{takes}
 use Rattle.node_group.specs.Group.{Group, after_turn, replica_of, with_record}
-use Rattle.node_group.specs.Goes.{AllWasSent}
+use Rattle.node_group.specs.Steps.{AllWasSent}
 use Rattle.node_group.specs.Putting.{recorded_in}
 use Rattle.node_group.specs.snapshots.World.{recorded}
-use Rattle.byte_world.specs.Goes.{CarriesItsBytes, Does}
+use Rattle.byte_world.specs.Steps.{CarriesItsBytes, Does}
 
 -- what a node takes from others was sent to it, and the bytes to which it cuts its log thaw to its
 -- machine

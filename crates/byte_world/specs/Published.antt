@@ -6,9 +6,9 @@ use Rattle.node_group.specs.session_base.declared.publication.Publication.{Publi
 use Rattle.node_group.specs.exactly_once.Story.{Story, StoryStep}
 use Rattle.node_group.specs.exactly_once.Story.StoryStep.{takes, others_take, receives, opens_anew, loses, disconnects, publishes_one, subscribes, unsubscribes}
 use Rattle.byte_world.specs.World.{World}
-use Rattle.byte_world.specs.Goes.{Reached, WorldStep}
-use Rattle.byte_world.specs.Goes.Reached.{begins, goes_on}
-use Rattle.byte_world.specs.Goes.WorldStep.{goes_on as group_goes, calls, connects, is_turned_away, comes_up, goes_down, arrives, handles}
+use Rattle.byte_world.specs.Steps.{Reached, WorldStep}
+use Rattle.byte_world.specs.Steps.Reached.{begins, goes_on}
+use Rattle.byte_world.specs.Steps.WorldStep.{goes_on as group_goes, calls, connects, is_turned_away, comes_up, goes_down, arrives, handles}
 
 -- what a client publishes with a call
 abbrev pub published_by : {limits : Limits} {s t : Story} → StoryStep limits s t → List Publication

@@ -48,7 +48,7 @@ use Rattle.escaping.proofs.AnswerAwaited.{asked_awaits_answer, handing_keeps_it_
 use Rattle.escaping.proofs.AnswerPutOut.{answer_is_put_out}
 use Rattle.escaping.proofs.ComesBack.{kept_sessions_are_welcomed}
 use Rattle.escaping.proofs.ConnectProposed.{connect_is_proposed}
-use Rattle.world_nodes.specs.Goes.{after_node_call}
+use Rattle.world_nodes.specs.ExactSteps.{after_node_call}
 use Rattle.world_nodes.specs.Nodes.{NodesState, cores_of}
 use Rattle.ways_out.specs.CutDeliveries.{Delivered, after_outcome}
 use Rattle.ways_out.specs.Deliveries.{AreApart, NodeIs, numbers_from}

@@ -14,7 +14,7 @@ use Rattle.ways_out.specs.snapshots.Whole.{whole}
 use Rattle.escaping.specs.world_base.Core.{CountedCore, rules}
 use Rattle.ways_out.proofs.of_snapshots.PastsKept.{StandsFor, past_stands}
 use Rattle.ways_out.proofs.of_snapshots.Views.{get_whole}
-use Rattle.world_nodes.specs.Goes.{after_giving}
+use Rattle.world_nodes.specs.ExactSteps.{after_giving}
 use Rattle.world_nodes.specs.Nodes.{NodesState}
 use Rattle.ways_out.specs.Deliveries.{way_out}
 use Rattle.ways_out.specs.Laws.{CanBeLed, StartsGiveNothing}

@@ -32,7 +32,7 @@ use Rattle.escaping.specs.world_base.Step.{node_step}
 use Rattle.world_nodes.proofs.of_node_group.Placed.{get_mapped, set_mapped, set_same}
 use Rattle.escaping.proofs.of_node_moves.ReplicaLeads.{StaysOr, step_stays}
 use Rattle.escaping.proofs.of_node_moves.Views.{each_filtered, each_kept}
-use Rattle.world_nodes.specs.Goes.{after_answer, after_node_call}
+use Rattle.world_nodes.specs.ExactSteps.{after_answer, after_node_call}
 use Rattle.world_nodes.specs.Nodes.{NodesState, cores_of}
 use Rattle.ways_out.specs.CutDeliveries.{Delivered, after_activate, after_outcome}
 use Rattle.ways_out.specs.CutDeliveries.Delivered.{all_came, to_master, to_node}

@@ -28,7 +28,7 @@ use Rattle.escaping.specs.world_base.Turns.{quiet}
 use Rattle.escaping.proofs.of_node_moves.LossesTold.{each_loss_is_told}
 use Rattle.escaping.proofs.AnswerAwaited.{first_awaits_connect, handing_keeps_the_connect}
 use Rattle.escaping.proofs.FirstOpened.{first_is_opened}
-use Rattle.world_nodes.specs.Goes.{after_node_call}
+use Rattle.world_nodes.specs.ExactSteps.{after_node_call}
 use Rattle.world_nodes.specs.Nodes.{NodesState, cores_of}
 use Rattle.ways_out.specs.Following.{Serves}
 use Rattle.escaping_nodes.specs.Coming.{AreCalm, Come, IsSeen}

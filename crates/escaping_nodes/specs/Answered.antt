@@ -28,7 +28,7 @@ use Rattle.escaping.specs.world_base.declared.item.Item.TheVariants.{Bytes, Peer
 use Rattle.escaping.specs.world_base.declared.Port.{Port}
 use Rattle.escaping.specs.world_base.Core.{CountedCore, rules}
 use Rattle.escaping.specs.world_base.Step.{node_step}
-use Rattle.world_nodes.specs.Goes.{after_node_call}
+use Rattle.world_nodes.specs.ExactSteps.{after_node_call}
 use Rattle.world_nodes.specs.Nodes.{NodesState}
 use Rattle.ways_out.specs.Deliveries.{AreApart, NodeIs, numbers_from}
 use Rattle.ways_out.specs.Following.{Follows, Serves}

@@ -12,7 +12,7 @@ use Rattle.ways_out.specs.snapshots.Moments.{Moment}
 use Rattle.escaping.specs.world_base.declared.item.Item.TheVariants.{Peer}
 use Rattle.escaping.specs.world_base.declared.Port.{Port}
 use Rattle.escaping.specs.world_base.Core.{CountedCore, rules}
-use Rattle.world_nodes.specs.Goes.{after_answer, after_node_call}
+use Rattle.world_nodes.specs.ExactSteps.{after_answer, after_node_call}
 use Rattle.world_nodes.specs.Nodes.{NodesState, cores_of}
 use Rattle.ways_out.specs.CutDeliveries.{Delivered}
 use Rattle.escaping.specs.Delivery.{IsCalm}

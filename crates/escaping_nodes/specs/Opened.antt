@@ -18,7 +18,7 @@ use Rattle.escaping.specs.world_base.declared.Port.{Port}
 use Rattle.escaping.specs.world_base.Connections.{is_at, is_open_named}
 use Rattle.escaping.specs.world_base.Core.{CountedCore}
 use Rattle.world_nodes.specs.Asking.{welcomes_back}
-use Rattle.world_nodes.specs.Goes.{after_node_call}
+use Rattle.world_nodes.specs.ExactSteps.{after_node_call}
 use Rattle.world_nodes.specs.Nodes.{NodesState}
 use Rattle.ways_out.specs.Following.{Serves}
 use Rattle.escaping_nodes.specs.Coming.{AreCalm, Come, IsSeen}

@@ -6,14 +6,14 @@ use Rattle.byte_world.specs.lists.Lists.{Each}
 use Rattle.byte_world.specs.agreement.World.{can_open}
 use Rattle.byte_world.specs.packet_world.World.{AreApart, ClientEnds, opening as opening_beside, story_of as story_beside}
 use Rattle.byte_world.specs.packet_world.World as model
-use Rattle.byte_world.specs.packet_world.Goes.Reached.{begins as begins_beside}
+use Rattle.byte_world.specs.packet_world.Steps.Reached.{begins as begins_beside}
 use Rattle.byte_world.proofs.of_packet_world.Lists.{each_by}
-use Rattle.byte_world.specs.node_group.Goes.{GroupTrace}
-use Rattle.byte_world.specs.node_group.Goes.GroupTrace.{opened}
-use Rattle.byte_world.specs.Carried.{went_of, went_on}
-use Rattle.byte_world.specs.Goes.{Reached, WorldStep}
-use Rattle.byte_world.specs.Goes.Reached.{begins, goes_on}
-use Rattle.byte_world.specs.Goes.WorldStep.{goes_on as group_goes, calls, connects, is_turned_away, comes_up, goes_down, arrives, handles}
+use Rattle.byte_world.specs.node_group.Steps.{GroupTrace}
+use Rattle.byte_world.specs.node_group.Steps.GroupTrace.{opened}
+use Rattle.byte_world.specs.Carried.{trace_of, went_on}
+use Rattle.byte_world.specs.Steps.{Reached, WorldStep}
+use Rattle.byte_world.specs.Steps.Reached.{begins, goes_on}
+use Rattle.byte_world.specs.Steps.WorldStep.{goes_on as group_goes, calls, connects, is_turned_away, comes_up, goes_down, arrives, handles}
 use Rattle.byte_world.specs.World.{World, new_client, opening}
 use Rattle.byte_world.proofs.PipesInOrder.{opens_hold, step_holds}
 use Rattle.byte_world.proofs.WorldsHold.{Holds}
@@ -69,7 +69,7 @@ step_goes apart v w went s (arrives i j c κ p piece rest has is) holds =
 step_goes apart v w went s (handles i c κ others p pipes packet left at first piped is_open cut spelled) holds =
     handles_so v went i c κ others p pipes packet left s at first piped is_open cut holds
 
-pub goes_beside : {nodes : ℕ} {config : Config} {cs : List Client} → AreApart cs → (w : World) (trail : Reached nodes config cs w) → GoesBeside nodes config cs w (went_of trail)
+pub goes_beside : {nodes : ℕ} {config : Config} {cs : List Client} → AreApart cs → (w : World) (trail : Reached nodes config cs w) → GoesBeside nodes config cs w (trace_of trail)
 goes_beside {nodes = nodes} {config = config} {cs = cs} apart w (begins can) = opens_so nodes config cs apart can
 goes_beside apart w (goes_on {v = v} before step) =
-    let s = goes_beside apart v before in step_goes apart v w (went_of before) s step (step_holds v w (went_of before) s.holds step)
+    let s = goes_beside apart v before in step_goes apart v w (trace_of before) s step (step_holds v w (trace_of before) s.holds step)

@@ -11,9 +11,9 @@ use Rattle.byte_world.proofs.of_lists.Places.{get_set}
 use Rattle.byte_world.specs.exactly_once.Sends.{put_to}
 use Rattle.byte_world.specs.exactly_once.Sides.{Connection}
 use Rattle.byte_world.specs.packet_world.World.{AreApart, ClientEnds, End, World, with_client}
-use Rattle.byte_world.specs.packet_world.Goes.{HasPipe, Reached}
-use Rattle.byte_world.specs.packet_world.Goes.Goes.{reads}
-use Rattle.byte_world.specs.packet_world.Goes.Reached.{goes_on}
+use Rattle.byte_world.specs.packet_world.Steps.{HasPipe, Reached}
+use Rattle.byte_world.specs.packet_world.Steps.Goes.{reads}
+use Rattle.byte_world.specs.packet_world.Steps.Reached.{goes_on}
 use Rattle.byte_world.specs.packet_world.PutOut.{broker_rules, end_given}
 use Rattle.byte_world.proofs.of_packet_world.Ends.{pipe_at}
 use Rattle.byte_world.proofs.of_packet_world.Holds.{HasPipes}

@@ -11,7 +11,7 @@ use Rattle.byte_world.specs.exactly_once.Sides.{Connection}
 use Rattle.byte_world.specs.exactly_once.StoryCommands.{is_packet_of}
 use Rattle.byte_world.specs.packet_world.World.{AreApart, ClientEnds, End, World}
 use Rattle.byte_world.specs.packet_world.Exact.{commands_from}
-use Rattle.byte_world.specs.packet_world.Goes.{HasPipe, Reached, is_of_connection}
+use Rattle.byte_world.specs.packet_world.Steps.{HasPipe, Reached, is_of_connection}
 use Rattle.byte_world.specs.packet_world.Served.{IsOfPipe, IsServed, untaken}
 use Rattle.byte_world.proofs.of_packet_world.Answers.{of_name}
 use Rattle.byte_world.proofs.of_packet_world.Lists.{each_by, each_get}

@@ -10,7 +10,7 @@ use Rattle.byte_world.specs.client_base.declared.request.Request.TheVariants as 
 use Rattle.byte_world.specs.exactly_once.Sides.{Connection}
 use Rattle.byte_world.specs.exactly_once.Story.{StoryStep, Story}
 use Rattle.byte_world.specs.exactly_once.Story.StoryStep.{takes, others_take, receives, opens_anew, loses, disconnects, publishes_one, subscribes, unsubscribes}
-use Rattle.byte_world.specs.packet_world.Goes.{is_call}
+use Rattle.byte_world.specs.packet_world.Steps.{is_call}
 use Rattle.headline.proofs.Untaken.{AreSameUntaken, untaken_connection}
 
 -- ---- what is written on the newest connection

@@ -20,9 +20,9 @@ use Rattle.byte_world.specs.exactly_once.Story.{StoryStep, Story}
 use Rattle.byte_world.specs.exactly_once.StoryCommands.{any_named}
 use Rattle.byte_world.proofs.of_exactly_once.publishing.Grown.{handled_grows}
 use Rattle.byte_world.specs.packet_world.World.{AreApart, ClientEnds, End, IsFresh, World, new_end, story_of, with_client}
-use Rattle.byte_world.specs.packet_world.Goes.{Reached, after_opening, is_call}
-use Rattle.byte_world.specs.packet_world.Goes.Goes.{calls, handles, opens}
-use Rattle.byte_world.specs.packet_world.Goes.Reached.{goes_on}
+use Rattle.byte_world.specs.packet_world.Steps.{Reached, after_opening, is_call}
+use Rattle.byte_world.specs.packet_world.Steps.Goes.{calls, handles, opens}
+use Rattle.byte_world.specs.packet_world.Steps.Reached.{goes_on}
 use Rattle.byte_world.proofs.of_packet_world.Ends.{pipe_at}
 use Rattle.byte_world.proofs.of_packet_world.Holds.{HasPipes}
 use Rattle.byte_world.proofs.of_packet_world.Lists.{each_get, each_set}

@@ -24,18 +24,18 @@ use Rattle.byte_world.specs.exactly_once.Sides.{Connection, Side}
 use Rattle.byte_world.specs.exactly_once.Story.{StoryStep, Story}
 use Rattle.byte_world.specs.exactly_once.StoryCommands.{any_named, is_packet_of}
 use Rattle.byte_world.specs.packet_world.World.{AreApart}
-use Rattle.byte_world.specs.packet_world.Goes.{is_call, is_of_connection}
+use Rattle.byte_world.specs.packet_world.Steps.{is_call, is_of_connection}
 use Rattle.byte_world.proofs.of_packet_world.Lists.{each_by, each_get, each_set, same_or_other, stands_within, there_is}
 use Rattle.byte_world.specs.node_moves.Moves.NodeCall.{takes}
 use Rattle.byte_world.specs.node_moves.Puts.{spelled}
 use Rattle.byte_world.specs.node_group.Group.{Group}
-use Rattle.byte_world.specs.node_group.Goes.{GroupTrace}
-use Rattle.byte_world.specs.node_group.Goes.GroupTrace.{then_went}
+use Rattle.byte_world.specs.node_group.Steps.{GroupTrace}
+use Rattle.byte_world.specs.node_group.Steps.GroupTrace.{then_went}
 use Rattle.byte_world.proofs.of_node_group.Placed.{get_mapped, set_mapped}
 use Rattle.byte_world.specs.node_group.Carried.{answers_to}
 use Rattle.byte_world.specs.world_base.declared.item.Item.TheVariants.{Opened}
 use Rattle.byte_world.specs.world_base.declared.Port.{Port}
-use Rattle.byte_world.specs.Goes.{Does}
+use Rattle.byte_world.specs.Steps.{Does}
 use Rattle.byte_world.specs.ClientSteps.{after_connecting, after_packet, story_alone}
 use Rattle.byte_world.specs.World.{ClientPipes, HasPipe, Pipe, World, after_writing, newly_written, packets_of, sent_up, with_client}
 use Rattle.byte_world.proofs.WorldsHold.{Holds}

@@ -11,7 +11,7 @@ use Rattle.byte_world.specs.broker_spec.declared.command.Command.{Command}
 use Rattle.byte_world.specs.broker_spec.declared.command.Command.TheVariants as commands
 use Rattle.byte_world.specs.broker_spec.Connection.{ConnectionName, IsConnectionName}
 use Rattle.byte_world.specs.exactly_once.StoryCommands.{command_of, is_packet_of}
-use Rattle.byte_world.specs.packet_world.Goes.{is_of_connection}
+use Rattle.byte_world.specs.packet_world.Steps.{is_of_connection}
 use Rattle.byte_world.specs.node_moves.Ends.{commands_of}
 use Rattle.byte_world.specs.node_group.Order.{packets_of}
 use Rattle.headline.proofs.Fitting.{IsFitting}

@@ -13,8 +13,8 @@ use Rattle.byte_world.proofs.of_packet_world.Lists.{each_get, each_set}
 use Rattle.byte_world.proofs.of_packet_world.TakenOn.{map_set}
 use Rattle.byte_world.specs.world_base.Core.{rules}
 use Rattle.byte_world.specs.node_group.Group.{Group, moment_of}
-use Rattle.byte_world.specs.node_group.Goes.{GroupStep, GroupTrace}
-use Rattle.byte_world.specs.node_group.Goes.GroupTrace.{then_went}
+use Rattle.byte_world.specs.node_group.Steps.{GroupStep, GroupTrace}
+use Rattle.byte_world.specs.node_group.Steps.GroupTrace.{then_went}
 use Rattle.byte_world.specs.World.{ClientPipes, Pipe, World, with_client, with_pipe}
 use Rattle.byte_world.proofs.WorldsHold.{Holds}
 use Rattle.headline.proofs.Beside.{Beside, grows_beside}

@@ -11,7 +11,7 @@ use Rattle.byte_world.specs.packet_world.World.{AreApart, ClientEnds, story_of}
 use Rattle.byte_world.proofs.of_packet_world.Holds.{IsTold}
 use Rattle.byte_world.proofs.of_packet_world.Lists.{each_get}
 use Rattle.byte_world.proofs.of_packet_world.WorldsExact.{reached_holds}
-use Rattle.byte_world.specs.node_group.Goes.{GroupTrace}
+use Rattle.byte_world.specs.node_group.Steps.{GroupTrace}
 use Rattle.byte_world.specs.World.{ClientPipes, World}
 use Rattle.byte_world.proofs.of_node_group.CarriedInOrder.{IsAgreedSo}
 use Rattle.byte_world.proofs.of_node_group.Placed.{get_mapped}

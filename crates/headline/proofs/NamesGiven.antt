@@ -26,9 +26,9 @@ use Rattle.byte_world.proofs.of_node_moves.EachKept.{IsKept, each_repeated, each
 use Rattle.byte_world.proofs.of_node_moves.Kept.{named, put_out_name}
 use Rattle.byte_world.proofs.of_node_moves.Views.{found_each, found_passes}
 use Rattle.byte_world.specs.node_group.Group.{Group, opening_cores}
-use Rattle.byte_world.specs.node_group.Goes.{GroupStep, GroupTrace, groups_of}
-use Rattle.byte_world.specs.node_group.Goes.GroupStep.{node_acts, node_loses, master_assigns, master_hears, assigns_unheard, answers_unheard}
-use Rattle.byte_world.specs.node_group.Goes.GroupTrace.{opened, then_went}
+use Rattle.byte_world.specs.node_group.Steps.{GroupStep, GroupTrace, groups_of}
+use Rattle.byte_world.specs.node_group.Steps.GroupStep.{node_acts, node_loses, master_assigns, master_hears, assigns_unheard, answers_unheard}
+use Rattle.byte_world.specs.node_group.Steps.GroupTrace.{opened, then_went}
 use Rattle.byte_world.proofs.of_node_group.NamesInGroups.{each_got}
 use Rattle.byte_world.proofs.of_node_group.CarriedInOrder.{assigned_nodes, no_connections}
 use Rattle.byte_world.specs.Apart.{HasName}

@@ -21,15 +21,15 @@ use Rattle.byte_world.specs.exactly_once.Story.{StoryStep, Story}
 use Rattle.byte_world.specs.exactly_once.Story.StoryStep.{takes, others_take, receives, opens_anew, loses, disconnects, publishes_one, subscribes, unsubscribes}
 use Rattle.byte_world.proofs.of_exactly_once.carrying.Handles.{handles as handles_kept}
 use Rattle.byte_world.specs.packet_world.World.{AreApart}
-use Rattle.byte_world.specs.packet_world.Goes.{is_call}
+use Rattle.byte_world.specs.packet_world.Steps.{is_call}
 use Rattle.byte_world.proofs.of_packet_world.Lists.{each_by, each_get, set_get}
 use Rattle.byte_world.specs.world_base.Core.{rules}
 use Rattle.byte_world.specs.node_group.Group.{moment_of}
-use Rattle.byte_world.specs.node_group.Goes.{GroupTrace}
-use Rattle.byte_world.specs.Carried.{went_of}
-use Rattle.byte_world.specs.Goes.{Reached, WorldStep}
-use Rattle.byte_world.specs.Goes.Reached.{begins, goes_on}
-use Rattle.byte_world.specs.Goes.WorldStep.{goes_on as group_goes, calls, connects, is_turned_away, comes_up, goes_down, arrives, handles}
+use Rattle.byte_world.specs.node_group.Steps.{GroupTrace}
+use Rattle.byte_world.specs.Carried.{trace_of}
+use Rattle.byte_world.specs.Steps.{Reached, WorldStep}
+use Rattle.byte_world.specs.Steps.Reached.{begins, goes_on}
+use Rattle.byte_world.specs.Steps.WorldStep.{goes_on as group_goes, calls, connects, is_turned_away, comes_up, goes_down, arrives, handles}
 use Rattle.byte_world.specs.Published.{from_client, published_by, published_in, published_of, published_on}
 use Rattle.byte_world.specs.World.{ClientPipes, World, new_client}
 use Rattle.headline.proofs.GoesBeside.{GoesBeside}
@@ -151,4 +151,4 @@ pub own_published : {nodes : ℕ} {config : Config} {cs : List Client} → AreAp
     → slice_get w.clients i ≡ Some c → publications_of (all_own c.keeper) ≡ published_of i (published_on trail)
 own_published {cs = cs} apart w (begins can) i c at = none_published cs i c at
 own_published apart w (goes_on {v = v} before step) i c at =
-    step_says apart v w (went_of before) (goes_beside apart v before) (published_on before) (own_published apart v before) step i c at
+    step_says apart v w (trace_of before) (goes_beside apart v before) (published_on before) (own_published apart v before) step i c at

@@ -13,7 +13,7 @@ use Rattle.byte_world.specs.client_base.Keeper.{Keeper}
 use Rattle.byte_world.specs.exactly_once.Rows.{writer}
 use Rattle.byte_world.specs.exactly_once.Sides.{Connection, Side}
 use Rattle.byte_world.specs.exactly_once.Story.{StoryStep, Story}
-use Rattle.byte_world.specs.packet_world.Goes.{is_call}
+use Rattle.byte_world.specs.packet_world.Steps.{is_call}
 use Rattle.byte_world.specs.world_base.declared.item.Item.TheVariants.{Bytes}
 use Rattle.byte_world.specs.world_base.declared.Port.{Port}
 use Rattle.byte_world.specs.world_base.Core.{CoreState}
@@ -22,15 +22,15 @@ use Rattle.byte_world.specs.node_moves.Moves.NodeCall.{takes, gives}
 use Rattle.byte_world.specs.node_moves.Puts.{spelled}
 use Rattle.byte_world.specs.node_group.Group.{Group, after_turn, with_record}
 use Rattle.byte_world.specs.node_group.Putting.{recorded_in}
-use Rattle.byte_world.specs.node_group.Goes.{all_given}
-use Rattle.byte_world.specs.node_group.Goes.GroupStep.{node_acts}
+use Rattle.byte_world.specs.node_group.Steps.{all_given}
+use Rattle.byte_world.specs.node_group.Steps.GroupStep.{node_acts}
 use Rattle.byte_world.proofs.of_node_group.Placed.{get_of_set}
 use Rattle.byte_world.specs.node_group.Streams.{goes_down}
 use Rattle.byte_world.specs.NodeCalls.{NodeCallWasSent}
-use Rattle.byte_world.specs.Goes.{Does, Reached, going_with}
+use Rattle.byte_world.specs.Steps.{Does, Reached, going_with}
 use Rattle.byte_world.specs.ClientSteps.{CanBeSpelled, story_alone}
-use Rattle.byte_world.specs.Goes.Reached.{goes_on}
-use Rattle.byte_world.specs.Goes.WorldStep.{calls, comes_up, goes_down as step_down, arrives, handles}
+use Rattle.byte_world.specs.Steps.Reached.{goes_on}
+use Rattle.byte_world.specs.Steps.WorldStep.{calls, comes_up, goes_down as step_down, arrives, handles}
 use Rattle.byte_world.specs.World.{ClientPipes, Pipe, World, after_writing, newly_written}
 use Rattle.byte_world.proofs.NodeCallsCarry.{node_calls_carry_their_bytes}
 use Rattle.headline.specs.Rows.{one_node}

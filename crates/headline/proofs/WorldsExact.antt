@@ -20,9 +20,9 @@ use Rattle.byte_world.proofs.of_packet_world.Lists.{each_by, each_get}
 use Rattle.byte_world.proofs.of_packet_world.WorldsExact.{worlds_are_exact as worlds_beside_are_exact}
 use Rattle.byte_world.specs.world_base.Core.{rules}
 use Rattle.byte_world.specs.node_group.Group.{moment_of}
-use Rattle.byte_world.specs.node_group.Goes.{GroupTrace}
+use Rattle.byte_world.specs.node_group.Steps.{GroupTrace}
 use Rattle.byte_world.proofs.of_node_group.Placed.{get_mapped}
-use Rattle.byte_world.specs.Carried.{went_of}
+use Rattle.byte_world.specs.Carried.{trace_of}
 use Rattle.byte_world.specs.Published.{published_of, published_on}
 use Rattle.byte_world.specs.World.{ClientPipes, World}
 use Rattle.byte_world.proofs.PipesInOrder.{in_order}
@@ -106,6 +106,6 @@ worlds_are_exact nodes config cs w apart trail =
       of = s.so.of;
       agreed = list.0;
       is_agreed = list.1;
-      exact = λ agreed is. exact_by apart w (went_of trail) s agreed is;
-      promises = λ agreed is i c state at shown. promised apart w (went_of trail) s agreed is (published_of i (published_on trail)) i c state at (own_published apart w trail i c at) shown;
+      exact = λ agreed is. exact_by apart w (trace_of trail) s agreed is;
+      promises = λ agreed is i c state at shown. promised apart w (trace_of trail) s agreed is (published_of i (published_on trail)) i c state at (own_published apart w trail i c at) shown;
     }

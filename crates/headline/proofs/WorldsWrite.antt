@@ -13,11 +13,11 @@ use Rattle.byte_world.specs.exactly_once.Sides.{Connection}
 use Rattle.byte_world.specs.exactly_once.StoryCommands.{command_of, is_packet_of}
 use Rattle.byte_world.proofs.of_exactly_once.Takes.{same_name_self}
 use Rattle.byte_world.specs.packet_world.Exact.{commands_from}
-use Rattle.byte_world.specs.packet_world.Goes.{is_of_connection}
+use Rattle.byte_world.specs.packet_world.Steps.{is_of_connection}
 use Rattle.byte_world.proofs.of_packet_world.Answers.{of_name}
 use Rattle.byte_world.proofs.of_packet_world.Lists.{each_get, stands_within, there_is}
 use Rattle.byte_world.specs.node_moves.Ends.{commands_of}
-use Rattle.byte_world.specs.node_group.Goes.{GroupTrace}
+use Rattle.byte_world.specs.node_group.Steps.{GroupTrace}
 use Rattle.byte_world.specs.node_group.Order.{packets_of as packets_in_list}
 use Rattle.byte_world.proofs.of_node_group.Placed.{get_mapped}
 use Rattle.byte_world.specs.World.{ClientPipes, HasPipe, Pipe, World, packets_of}

@@ -19,13 +19,13 @@ use Rattle.byte_world.specs.exactly_once.Story.{Story}
 use Rattle.byte_world.specs.snapshots.Moments.{IsAgreed}
 use Rattle.byte_world.specs.packet_world.World.{AreApart}
 use Rattle.byte_world.specs.node_group.Group.{moment_of}
-use Rattle.byte_world.specs.node_group.Goes.{all_put, groups_of}
+use Rattle.byte_world.specs.node_group.Steps.{all_put, groups_of}
 use Rattle.byte_world.specs.node_group.Pasts.{HasPast}
 use Rattle.byte_world.specs.World.{ClientPipes, HasPipe, Pipe, World}
-use Rattle.byte_world.specs.Carried.{went_of}
+use Rattle.byte_world.specs.Carried.{trace_of}
 use Rattle.byte_world.specs.Accepted.{accepted_once}
 use Rattle.byte_world.specs.Published.{published_of, published_on}
-use Rattle.byte_world.specs.Goes.{Reached}
+use Rattle.byte_world.specs.Steps.{Reached}
 use Rattle.byte_world.specs.InPipes.{IsInOrder}
 use Rattle.headline.specs.Promise.{Promise}
 
@@ -65,7 +65,7 @@ pub record IsExactBy (agreed : List Command) (w : World) : Type 0 where
 -- which the nodes agree at its end, and the world is exact by that list.
 pub record IsExact {nodes : ℕ} {config : Config} {cs : List Client} {w : World}
     (trail : Reached nodes config cs w) : Type 0 where
-  pub of : HasPast config w.group (groups_of (went_of trail)) (all_put (went_of trail))
+  pub of : HasPast config w.group (groups_of (trace_of trail)) (all_put (trace_of trail))
   pub agreed : List Command
   pub is_agreed : IsAgreed config (moment_of w.group ∷ of.earlier) agreed
   pub exact : (list : List Command) → IsAgreed config (moment_of w.group ∷ of.earlier) list →

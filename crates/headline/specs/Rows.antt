@@ -12,7 +12,7 @@ use Rattle.byte_world.specs.session_base.Publication.{publish_of}
 use Rattle.byte_world.specs.exactly_once.Acceptance.{accepted_on}
 use Rattle.byte_world.specs.exactly_once.Rows.{asks_for_news, first_name, news, writer}
 use Rattle.byte_world.specs.world_base.Core.{CoreState}
-use Rattle.byte_world.specs.Goes.{Reached}
+use Rattle.byte_world.specs.Steps.{Reached}
 use Rattle.byte_world.specs.World.{ClientPipes, World}
 
 -- a group of one node

@@ -27,9 +27,9 @@ use Rattle.node_moves.specs.LossyRuns.{bytes_on as bytes_losing}
 use Rattle.node_moves.proofs.Kept.{named}
 use Rattle.node_moves.proofs.ProposesInOrder.{commands_join, front_of}
 use Rattle.node_group.specs.Group.{Group, after_turn, moment_of, opening_cores, opening_group, with_master, with_record}
-use Rattle.node_group.specs.Goes.{GroupStep, GroupTrace, all_put, after_assign, groups_of, put_in_run, put_in_step}
-use Rattle.node_group.specs.Goes.GroupStep.{node_acts, node_loses, master_assigns, master_hears, assigns_unheard, answers_unheard}
-use Rattle.node_group.specs.Goes.GroupTrace.{opened, then_went}
+use Rattle.node_group.specs.Steps.{GroupStep, GroupTrace, all_put, after_assign, groups_of, put_in_run, put_in_step}
+use Rattle.node_group.specs.Steps.GroupStep.{node_acts, node_loses, master_assigns, master_hears, assigns_unheard, answers_unheard}
+use Rattle.node_group.specs.Steps.GroupTrace.{opened, then_went}
 use Rattle.node_group.specs.Losing.{WereSent}
 use Rattle.node_group.specs.Losing.{all_given as given_losing, put_in_run as put_losing}
 use Rattle.node_group.specs.Putting.{recorded_in}

@@ -29,7 +29,7 @@ use Rattle.node_moves.proofs.NamesInOrder.{not_both}
 use Rattle.node_moves.proofs.ReadsInOrder.{found_given, found_open}
 use Rattle.node_moves.proofs.Views.{some_none}
 use Rattle.packet_world.proofs.of_broker_spec.ConnectionNames.{same_name}
-use Rattle.node_group.specs.Goes.{commands_put as exactly_put}
+use Rattle.node_group.specs.Steps.{commands_put as exactly_put}
 use Rattle.node_group.specs.Losing.{commands_put}
 use Rattle.node_group.specs.Order.{packets_of}
 

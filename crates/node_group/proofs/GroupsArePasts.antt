@@ -14,9 +14,9 @@ use Rattle.packet_world.specs.snapshots.Steps.MayHappen.{master_assigns, master_
 use Rattle.packet_world.specs.snapshots.World.{World}
 use Rattle.node_moves.specs.world_base.Core.{rules}
 use Rattle.node_group.specs.Group.{Group, after_turn, moment_of, opening_group, with_master, with_record}
-use Rattle.node_group.specs.Goes.{GroupStep, all_given, all_put, after_assign, groups_of, put_in_step}
-use Rattle.node_group.specs.Goes.GroupStep.{node_acts, node_loses, master_assigns as assigns, master_hears as hears_master, assigns_unheard, answers_unheard}
-use Rattle.node_group.specs.Goes.GroupTrace.{opened, then_went}
+use Rattle.node_group.specs.Steps.{GroupStep, all_given, all_put, after_assign, groups_of, put_in_step}
+use Rattle.node_group.specs.Steps.GroupStep.{node_acts, node_loses, master_assigns as assigns, master_hears as hears_master, assigns_unheard, answers_unheard}
+use Rattle.node_group.specs.Steps.GroupTrace.{opened, then_went}
 use Rattle.node_group.specs.Losing.{WereSent}
 use Rattle.node_group.specs.Losing.{all_given as given_losing, put_in_run as put_losing}
 use Rattle.node_group.specs.Putting.{recorded_in}

@@ -16,7 +16,7 @@ use Rattle.node_moves.specs.Moves.Moves.{hears, cuts_log}
 use Rattle.node_moves.specs.Moves.Runs.{rests, goes_on}
 use Rattle.node_moves.specs.Puts.{given_in}
 use Rattle.node_group.specs.Group.{Group}
-use Rattle.node_group.specs.Goes.{AllWasSent, WasSent, all_given, put_in_move, put_in_run}
+use Rattle.node_group.specs.Steps.{AllWasSent, WasSent, all_given, put_in_move, put_in_run}
 use Rattle.node_group.specs.Losing.{WereSent}
 use Rattle.node_group.specs.Losing.{all_given as given_losing, put_in_run as put_losing, recorded_in as recorded_losing}
 use Rattle.node_group.specs.Putting.{recorded_by, recorded_in}

@@ -28,7 +28,7 @@ use Rattle.node_moves.specs.LossyMoves.LossyMoves.{exactly, hears_losing, first_
 use Rattle.node_moves.specs.Moves.{is_proposal}
 use Rattle.node_moves.proofs.LossyOutputs.{delivers_replica}
 use Rattle.node_group.specs.Group.{Group, after_turn, moment_of, replica_of, with_record}
-use Rattle.node_group.specs.Goes.{InputWasSent, keeping}
+use Rattle.node_group.specs.Steps.{InputWasSent, keeping}
 use Rattle.node_group.specs.Losing.{WereSent, put_in_move, recorded_by}
 use Rattle.node_group.proofs.LosingNone.{sent_by}
 use Rattle.node_group.proofs.MovesHappen.{Once, changed_state, heard_as_running, heard_as_stopped, may_take, moves_happen, no_step, none_put, one_step, one_stop, quietly, room_is, state_of}

@@ -62,7 +62,7 @@ use Rattle.packet_world.specs.snapshots.World.{recorded}
 use Rattle.std.specs.Prelude.{not}
 use Rattle.std.proofs.lemmas.Bool.{and_parts, ltb-true}
 use Rattle.node_group.specs.Group.{Group, after_turn, moment_of, replica_of, with_record}
-use Rattle.node_group.specs.Goes.{InputWasSent, WasSent, keeping, put_in_move}
+use Rattle.node_group.specs.Steps.{InputWasSent, WasSent, keeping, put_in_move}
 use Rattle.node_group.specs.Pasts.{packets_in}
 use Rattle.node_group.specs.Putting.{recorded_by}
 use Rattle.node_group.proofs.Packets.{AreTaken, HasRoomFor, none_taken, packets_join, proposal_taken}

@@ -37,7 +37,7 @@ use Rattle.node_moves.proofs.LossyReads.{losses_read_in_order}
 use Rattle.node_moves.proofs.LossyShuts.{sent_in}
 use Rattle.node_moves.proofs.ProposesInOrder.{commands_join}
 use Rattle.node_group.specs.Group.{Group, after_turn, moment_of, replica_of, with_record}
-use Rattle.node_group.specs.Goes.{keeping}
+use Rattle.node_group.specs.Steps.{keeping}
 use Rattle.node_group.specs.Losing.{commands_put, put_in_move, recorded_by}
 use Rattle.node_group.specs.Order.{packets_of}
 use Rattle.node_group.proofs.MovesHappen.{Once}

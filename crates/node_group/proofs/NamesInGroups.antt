@@ -27,9 +27,9 @@ use Rattle.node_moves.proofs.Shut.{all}
 use Rattle.node_moves.proofs.Views.{each_filtered, found_each, view}
 use Rattle.node_group.specs.Ballots.{IsInItsBallot, PutsInTheBallotOfTheName}
 use Rattle.node_group.specs.Group.{Group, opening_cores, with_master}
-use Rattle.node_group.specs.Goes.{GroupStep, GroupTrace, all_put, after_assign, put_in_step}
-use Rattle.node_group.specs.Goes.GroupStep.{node_acts, node_loses, master_assigns as assigns, master_hears as hears_master, assigns_unheard, answers_unheard}
-use Rattle.node_group.specs.Goes.GroupTrace.{opened, then_went}
+use Rattle.node_group.specs.Steps.{GroupStep, GroupTrace, all_put, after_assign, put_in_step}
+use Rattle.node_group.specs.Steps.GroupStep.{node_acts, node_loses, master_assigns as assigns, master_hears as hears_master, assigns_unheard, answers_unheard}
+use Rattle.node_group.specs.Steps.GroupTrace.{opened, then_went}
 use Rattle.node_group.proofs.LosingNone.{first_still, losing_none, same_put}
 use Rattle.node_group.proofs.PutsInBallot.{runs_well}
 

@@ -22,7 +22,7 @@ use Rattle.packet_world.proofs.of_agreement.Orders.NamesInLists.{filter_prefix}
 use Rattle.node_moves.specs.world_base.Core.{rules}
 use Rattle.node_group.specs.Ballots.{IsInItsBallot}
 use Rattle.node_group.specs.Group.{Group, moment_of, replica_of}
-use Rattle.node_group.specs.Goes.{all_put, groups_of}
+use Rattle.node_group.specs.Steps.{all_put, groups_of}
 use Rattle.node_group.specs.Order.{GroupsKeepTheOrder, packets_of}
 use Rattle.node_group.specs.Pasts.{HasPast, packets_in}
 use Rattle.node_group.proofs.GroupsArePasts.{groups_are_pasts}

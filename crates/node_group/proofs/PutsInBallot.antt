@@ -30,7 +30,7 @@ use Rattle.node_moves.proofs.LossyReads.{losses_read_in_order}
 use Rattle.node_group.specs.Ballots.{IsInItsBallot}
 use Rattle.node_group.specs.Group.{replica_of}
 use Rattle.node_group.specs.Losing.{put_in_move, put_in_run}
-use Rattle.node_group.specs.Goes.{put_in_move as exactly_put}
+use Rattle.node_group.specs.Steps.{put_in_move as exactly_put}
 use Rattle.node_group.proofs.MovesHappen.{serves_as}
 use Rattle.node_group.proofs.Replicas.{changes_keep, room_serves}
 

@@ -18,7 +18,7 @@ use Rattle.node_moves.specs.LossyRuns.{AllFreeze, LossyRuns, all_inputs}
 use Rattle.node_moves.specs.LossyRuns.LossyRuns.{rests, goes_on}
 use Rattle.node_moves.specs.Moves.{and_then}
 use Rattle.node_group.specs.Group.{Group, after_turn, moment_of, with_record}
-use Rattle.node_group.specs.Goes.{InputWasSent, keeping}
+use Rattle.node_group.specs.Steps.{InputWasSent, keeping}
 use Rattle.node_group.specs.Losing.{WereSent, all_given, put_in_move, put_in_run, recorded_by, recorded_in}
 use Rattle.node_group.proofs.LossesHappen.{losses_happen}
 use Rattle.node_group.proofs.MovesHappen.{Further, quietly}

@@ -30,7 +30,7 @@ use Rattle.node_moves.proofs.LossyReads.{losses_read_in_order}
 use Rattle.node_moves.proofs.OpenAfter.{open_if}
 use Rattle.node_group.specs.Ballots.{IsInItsBallot}
 use Rattle.node_group.specs.Group.{Group, after_turn, moment_of, replica_of, with_record}
-use Rattle.node_group.specs.Goes.{keeping}
+use Rattle.node_group.specs.Steps.{keeping}
 use Rattle.node_group.specs.Losing.{WereSent, all_given, put_in_move, put_in_run, recorded_by, recorded_in}
 use Rattle.node_group.specs.Order.{packets_of}
 use Rattle.node_group.specs.Pasts.{packets_in}

@@ -6,7 +6,7 @@ use Rattle.packet_world.specs.broker_spec.declared.command.Command.{Command}
 use Rattle.packet_world.specs.broker_spec.Connection.{ConnectionName}
 use Rattle.packet_world.specs.exactly_once.StoryCommands.{is_packet_of}
 use Rattle.node_group.specs.Group.{Group}
-use Rattle.node_group.specs.Goes.{GroupTrace, all_put}
+use Rattle.node_group.specs.Steps.{GroupTrace, all_put}
 
 -- a packet of a connection, its CONNECT too, with the ballot that the connection's name has
 abbrev pub IsInItsBallot : ℕ × Command → Type 0

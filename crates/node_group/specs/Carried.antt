@@ -13,7 +13,7 @@ use Rattle.packet_world.specs.snapshots.Moments.{IsAgreed}
 use Rattle.node_moves.specs.Ends.{commands_of}
 use Rattle.node_moves.specs.Puts.{spelled}
 use Rattle.node_group.specs.Group.{Group, moment_of}
-use Rattle.node_group.specs.Goes.{GroupTrace, all_put, groups_of}
+use Rattle.node_group.specs.Steps.{GroupTrace, all_put, groups_of}
 use Rattle.node_group.specs.Order.{packets_of}
 use Rattle.node_group.specs.Pasts.{HasPast}
 use Rattle.node_group.specs.Streams.{came_up, went_down}

@@ -1,7 +1,7 @@
 pub mod Group
 pub mod Putting
 pub mod Losing
-pub mod Goes
+pub mod Steps
 pub mod Pasts
 pub mod Ballots
 pub mod Order

@@ -10,7 +10,7 @@ use Rattle.packet_world.specs.snapshots.Whole.{whole_log}
 use Rattle.packet_world.specs.agreement.Proposals.{commands_of}
 use Rattle.node_moves.specs.world_base.Core.{CoreState}
 use Rattle.node_group.specs.Group.{Group, moment_of, replica_of}
-use Rattle.node_group.specs.Goes.{GroupTrace, all_put, groups_of}
+use Rattle.node_group.specs.Steps.{GroupTrace, all_put, groups_of}
 use Rattle.node_group.specs.Pasts.{HasPast}
 
 -- the packets of a connection among commands

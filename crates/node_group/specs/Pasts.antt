@@ -11,7 +11,7 @@ use Rattle.packet_world.specs.snapshots.Moments.{Moment, Moments}
 use Rattle.packet_world.specs.snapshots.Proposals.{proposals_of, taken_of}
 use Rattle.node_moves.specs.world_base.Core.{rules}
 use Rattle.node_group.specs.Group.{Group, moment_of}
-use Rattle.node_group.specs.Goes.{GroupTrace, all_put, groups_of}
+use Rattle.node_group.specs.Steps.{GroupTrace, all_put, groups_of}
 
 -- the packets of a connection among commands, each with a ballot
 abbrev pub packets_in : ConnectionName → List (ℕ × Command) → List (ℕ × Command)

@@ -27,7 +27,7 @@ use Rattle.exactly_once.proofs.of_broker_base.ClientsInOrder.{same_is, same_self
 use Rattle.exactly_once.proofs.publishing.Last.{none_named, each_there, is_named}
 use Rattle.exactly_once.proofs.publishing.kept.KeepsNames.{counted_named}
 use Rattle.packet_world.specs.World.{End, ClientEnds, World, story_of, IsFresh}
-use Rattle.packet_world.specs.Goes.{is_of_connection, HasPipe}
+use Rattle.packet_world.specs.Steps.{is_of_connection, HasPipe}
 use Rattle.packet_world.proofs.Lists.{each_get, each_by, set_get}
 use Rattle.packet_world.proofs.Answers.{past_push}
 use Rattle.packet_world.proofs.EndsAgreed.{others_agreed, one_agreed, command_is_of}

@@ -18,7 +18,7 @@ use Rattle.exactly_once.specs.Lives.Lived.{goes_on}
 use Rattle.exactly_once.specs.Story.StoryStep.{takes, others_take, receives, opens_anew, loses, disconnects, publishes_one, subscribes, unsubscribes}
 use Rattle.exactly_once.proofs.keeping.KeepsShape.{same_story}
 use Rattle.packet_world.specs.World.{End, ClientEnds, World, story_of, with_client}
-use Rattle.packet_world.specs.Goes.{is_call}
+use Rattle.packet_world.specs.Steps.{is_call}
 use Rattle.packet_world.proofs.Lists.{each_get}
 use Rattle.packet_world.proofs.Ends.{PipesHold, first_written}
 use Rattle.packet_world.proofs.Holds.{IsTold, HasPipes, Holds, keeps_party}

@@ -16,7 +16,7 @@ use Rattle.exactly_once.specs.Sends.{sends_to, put_to}
 use Rattle.exactly_once.specs.Sides.{Connection}
 use Rattle.exactly_once.specs.StoryCommands.{command_of}
 use Rattle.packet_world.specs.World.{End}
-use Rattle.packet_world.specs.Goes.{shown}
+use Rattle.packet_world.specs.Steps.{shown}
 use Rattle.packet_world.specs.Exact.{commands_from, PipeInOrder, PipesInOrder}
 use Rattle.packet_world.proofs.Lists.{take_next, stands_within}
 use Rattle.packet_world.proofs.Answers.{of_name, put_front, put_push}

@@ -18,7 +18,7 @@ use Rattle.snapshots.proofs.Orders.{taken_at_in}
 use Rattle.exactly_once.specs.Sides.{Connection}
 use Rattle.exactly_once.specs.StoryCommands.{is_packet_of}
 use Rattle.packet_world.specs.World.{End}
-use Rattle.packet_world.specs.Goes.{is_of_connection}
+use Rattle.packet_world.specs.Steps.{is_of_connection}
 use Rattle.packet_world.specs.Exact.{commands_from}
 use Rattle.packet_world.specs.Served.{IsOfPipe}
 use Rattle.packet_world.specs.Groups.{GroupsServe, ReadsAt}

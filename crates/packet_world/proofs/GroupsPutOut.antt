@@ -6,7 +6,7 @@ use Rattle.snapshots.specs.agreement.World.{outputs}
 use Rattle.snapshots.proofs.Orders.{answers_while_it_leads}
 use Rattle.exactly_once.specs.broker_spec.declared.command.Output.{Output}
 use Rattle.packet_world.specs.World.{with_client}
-use Rattle.packet_world.specs.Goes.{Reached}
+use Rattle.packet_world.specs.Steps.{Reached}
 use Rattle.packet_world.specs.PutOut.{GroupsPutOut, broker_rules, end_given}
 use Rattle.packet_world.proofs.PutOut.{given_is_put_out}
 

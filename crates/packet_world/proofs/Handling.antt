@@ -20,7 +20,7 @@ use Rattle.exactly_once.specs.Story.StoryStep.{receives, opens_anew}
 use Rattle.exactly_once.proofs.keeping.KeepsShape.{same_story}
 use Rattle.exactly_once.proofs.publishing.Grown.{handled_grows}
 use Rattle.packet_world.specs.World.{End, ClientEnds, World, new_end, story_of, IsFresh, with_client}
-use Rattle.packet_world.specs.Goes.{after_packet, after_opening}
+use Rattle.packet_world.specs.Steps.{after_packet, after_opening}
 use Rattle.packet_world.proofs.Lists.{each_get, stands_within}
 use Rattle.packet_world.proofs.Answers.{counted_in, nothing_put, put_front}
 use Rattle.packet_world.proofs.Ends.{PipeHolds, PipesHold, more_written}

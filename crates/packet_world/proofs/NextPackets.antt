@@ -7,7 +7,7 @@ use Rattle.exactly_once.specs.client_base.Keeper.{Written}
 use Rattle.exactly_once.specs.Sides.{Connection}
 use Rattle.exactly_once.specs.StoryCommands.{is_packet_of, command_of}
 use Rattle.packet_world.specs.World.{End, ClientEnds, World}
-use Rattle.packet_world.specs.Goes.{HasPipe}
+use Rattle.packet_world.specs.Steps.{HasPipe}
 use Rattle.packet_world.specs.Exact.{commands_from}
 use Rattle.packet_world.specs.Served.{IsServed}
 use Rattle.packet_world.proofs.Lists.{each_get}

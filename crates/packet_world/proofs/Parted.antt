@@ -9,7 +9,7 @@ use Rattle.snapshots.specs.lists.Lists.{Each}
 use Rattle.snapshots.proofs.of_lists.Tests.{none_or}
 use Rattle.exactly_once.specs.StoryCommands.{any_named}
 use Rattle.packet_world.specs.World.{ClientEnds, new_client, AreApart, IsFresh}
-use Rattle.packet_world.specs.Goes.{after_opening}
+use Rattle.packet_world.specs.Steps.{after_opening}
 use Rattle.packet_world.proofs.Lists.{set_get, each_get}
 
 -- whether a client has a connection of this name

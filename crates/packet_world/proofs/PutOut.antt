@@ -18,9 +18,9 @@ use Rattle.snapshots.proofs.of_lists.Places.{get_set}
 use Rattle.exactly_once.specs.Sends.{sends_to}
 use Rattle.exactly_once.proofs.Deliveries.{sends_append}
 use Rattle.packet_world.specs.World.{End, ClientEnds, World, with_client}
-use Rattle.packet_world.specs.Goes.{Reached, shown}
-use Rattle.packet_world.specs.Goes.Goes.{answers}
-use Rattle.packet_world.specs.Goes.Reached.{goes_on}
+use Rattle.packet_world.specs.Steps.{Reached, shown}
+use Rattle.packet_world.specs.Steps.Goes.{answers}
+use Rattle.packet_world.specs.Steps.Reached.{goes_on}
 use Rattle.packet_world.specs.PutOut.{GivenIsPutOut, answered, broker_rules, end_given}
 use Rattle.packet_world.proofs.BrokerRules.{gives_answers}
 

@@ -14,9 +14,9 @@ use Rattle.exactly_once.specs.client_base.Keeper.{Written}
 use Rattle.exactly_once.specs.Sides.{Connection}
 use Rattle.exactly_once.specs.StoryCommands.{is_packet_of, counted_at, command_of}
 use Rattle.packet_world.specs.World.{End, ClientEnds, World, AreApart}
-use Rattle.packet_world.specs.Goes.{HasPipe, Reached, is_of_connection}
-use Rattle.packet_world.specs.Goes.Goes.{agrees, agrees_else}
-use Rattle.packet_world.specs.Goes.Reached.{goes_on}
+use Rattle.packet_world.specs.Steps.{HasPipe, Reached, is_of_connection}
+use Rattle.packet_world.specs.Steps.Goes.{agrees, agrees_else}
+use Rattle.packet_world.specs.Steps.Reached.{goes_on}
 use Rattle.packet_world.specs.Exact.{commands_from}
 use Rattle.packet_world.specs.Served.{IsOfPipe, IsServed, untaken, ComesTo, WorldsAreServed}
 use Rattle.packet_world.proofs.Lists.{set_get, same_or_other}

@@ -8,9 +8,9 @@ use Rattle.snapshots.proofs.of_lists.OfEach.{each_then}
 use Rattle.exactly_once.specs.Sides.{Connection}
 use Rattle.exactly_once.proofs.sessions.LivesExact.{lives_exact}
 use Rattle.packet_world.specs.World.{End, ClientEnds, World, AreApart, story_of, with_client}
-use Rattle.packet_world.specs.Goes.{Goes, Reached, HasPipe}
-use Rattle.packet_world.specs.Goes.Goes.{calls, opens, handles, reads, answers, closes, agrees, agrees_else}
-use Rattle.packet_world.specs.Goes.Reached.{begins, goes_on}
+use Rattle.packet_world.specs.Steps.{Goes, Reached, HasPipe}
+use Rattle.packet_world.specs.Steps.Goes.{calls, opens, handles, reads, answers, closes, agrees, agrees_else}
+use Rattle.packet_world.specs.Steps.Reached.{begins, goes_on}
 use Rattle.packet_world.specs.Exact.{PipesInOrder, WorldsAreExact, IsExactInStep}
 use Rattle.packet_world.proofs.Lists.{each_get}
 use Rattle.packet_world.proofs.Ends.{PipeHolds, pipe_at, pipes_in_order, end_set, more_read, more_shown, end_closed}

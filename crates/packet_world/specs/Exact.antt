@@ -13,7 +13,7 @@ use Rattle.exactly_once.specs.StoryCommands.{command_of, is_packet_of}
 use Rattle.exactly_once.specs.InStep.{IsInStep}
 use Rattle.exactly_once.specs.Lives.{ExactlyOnceOverSessions}
 use Rattle.packet_world.specs.World.{End, ClientEnds, World, story_of, AreApart}
-use Rattle.packet_world.specs.Goes.{Reached}
+use Rattle.packet_world.specs.Steps.{Reached}
 
 -- the commands that a connection's written packets become
 abbrev pub commands_from : ConnectionName → ℕ → List Written → List Command

@@ -15,7 +15,7 @@ use Rattle.snapshots.specs.Proposals.{taken_at, taken_of}
 use Rattle.exactly_once.specs.Sides.{Connection}
 use Rattle.exactly_once.specs.StoryCommands.{is_packet_of}
 use Rattle.packet_world.specs.World.{End, ClientEnds, World}
-use Rattle.packet_world.specs.Goes.{HasPipe, is_of_connection}
+use Rattle.packet_world.specs.Steps.{HasPipe, is_of_connection}
 use Rattle.packet_world.specs.Exact.{commands_from}
 use Rattle.packet_world.specs.Served.{IsOfPipe, IsServed}
 

@@ -1,5 +1,5 @@
 pub mod World
-pub mod Goes
+pub mod Steps
 pub mod Exact
 pub mod Served
 pub mod Agreed

@@ -21,7 +21,7 @@ use Rattle.broker_form.specs.Writing.{frozen}
 use Rattle.exactly_once.specs.Sends.{sends_to}
 use Rattle.exactly_once.specs.Sides.{Connection}
 use Rattle.packet_world.specs.World.{End, ClientEnds, World, with_client}
-use Rattle.packet_world.specs.Goes.{HasPipe, Reached}
+use Rattle.packet_world.specs.Steps.{HasPipe, Reached}
 
 -- the broker's machine, with the wide window, frozen to form 2: the rules of `broker`, whose code
 -- no model uses

@@ -5,7 +5,7 @@ use Rattle.exactly_once.specs.session_base.declared.publication.Publication.{Pub
 use Rattle.exactly_once.specs.Acceptance.{accepted_on}
 use Rattle.exactly_once.specs.Rows.{writer, news, commands_there}
 use Rattle.packet_world.specs.World.{ClientEnds, World}
-use Rattle.packet_world.specs.Goes.{Reached}
+use Rattle.packet_world.specs.Steps.{Reached}
 
 -- what a client accepted at QoS 2, on all of its connections
 abbrev pub accepted_by : ClientEnds → List Publication

@@ -7,7 +7,7 @@ use Rattle.snapshots.specs.lists.Lists.{In, IsPrefixOf}
 use Rattle.exactly_once.specs.Sides.{Connection}
 use Rattle.exactly_once.specs.StoryCommands.{is_packet_of}
 use Rattle.packet_world.specs.World.{End, ClientEnds, World, AreApart}
-use Rattle.packet_world.specs.Goes.{HasPipe, Reached, is_of_connection}
+use Rattle.packet_world.specs.Steps.{HasPipe, Reached, is_of_connection}
 use Rattle.packet_world.specs.Exact.{commands_from}
 
 -- a command is of a connection that is there

@@ -10,8 +10,8 @@ use Rattle.world.specs.world_events.declared.event.Event.{Event}
 use Rattle.world.specs.declared.world.WorldClient.{WorldClient}
 use Rattle.world.specs.Found.{core_at, is_named}
 use Rattle.world.specs.Asking.{IsAsked}
-use Rattle.world.specs.Goes.{StaysReached, WorldGoesOn}
-use Rattle.world.specs.Goes.Goes.{rests}
+use Rattle.world.specs.Trace.{StaysReached, WorldGoesOn}
+use Rattle.world.specs.Trace.Goes.{rests}
 use Rattle.world.specs.Happening.{Happens, new_world_client}
 use Rattle.world.specs.StandsFor.{KeepsReached, WorldGoesBy, asked_on}
 use Rattle.world.specs.master.declared.event.Idle.{Idle}

@@ -8,7 +8,7 @@ use Rattle.script.specs.Scripts.{IsScript, lines_of}
 use Rattle.script.specs.declared.script_line.ScriptLine.{ScriptLine}
 use Rattle.script.specs.declared.reading.Script.{Script}
 use Rattle.play.specs.Lines.{end_line}
-use Rattle.world.specs.Goes.{AreReached}
+use Rattle.world.specs.Trace.{AreReached}
 use Rattle.world.specs.StandsFor.{IsReached, asked_on}
 use Rattle.world.specs.World.{WorldState}
 use Rattle.play.specs.Transcripts.{Played, Plays, Step}

@@ -10,7 +10,7 @@ use Rattle.world.specs.world_events.declared.event.Event.{Event}
 use Rattle.world.specs.world_events.declared.escape_error.EscapeError.{EscapeError}
 use Rattle.world.specs.world_events.declared.escape_error.EscapeError.TheVariants as escapes
 use Rattle.world.specs.Escaping.{CanEscape, LeadsOut}
-use Rattle.world.specs.Goes.{AreReached}
+use Rattle.world.specs.Trace.{AreReached}
 use Rattle.world.specs.StandsFor.{IsReached, asked_on}
 use Rattle.world.specs.World.{WorldState}
 use Rattle.play.specs.declared.error.PlayError.{PlayError}

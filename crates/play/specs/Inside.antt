@@ -5,7 +5,7 @@ use Rattle.script.specs.session_base.declared.publication.Publication.{Publicati
 use Rattle.script.specs.declared.script_line.ScriptLine.{ScriptLine}
 use Rattle.play.specs.Lines.{end_line}
 use Rattle.world.specs.world_events.declared.event.Event.{Event}
-use Rattle.world.specs.Goes.{StaysReached, WorldGoesOn}
+use Rattle.world.specs.Trace.{StaysReached, WorldGoesOn}
 use Rattle.world.specs.StandsFor.{KeepsReached}
 use Rattle.world.specs.World.{WorldState}
 use Rattle.world.specs.world_nodes.Agreed.{AgreeOnSoMany}

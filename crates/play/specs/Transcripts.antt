@@ -11,7 +11,7 @@ use Rattle.script.specs.declared.reading.Script.{Script}
 use Rattle.play.specs.Lines.{accepted_line, done_line, end_line, idle_line}
 use Rattle.world.specs.world_events.declared.event.Event.{Event}
 use Rattle.world.specs.Found.{core_named}
-use Rattle.world.specs.Goes.{AreReached, StaysReached, WorldGoesOn}
+use Rattle.world.specs.Trace.{AreReached, StaysReached, WorldGoesOn}
 use Rattle.world.specs.Happening.{Happens}
 use Rattle.world.specs.Asking.{IsAsked}
 use Rattle.world.specs.StandsFor.{IsReached, KeepsReached, asked_on}

@@ -6,7 +6,7 @@ use Rattle.script.specs.declared.reading.Script.{Script}
 use Rattle.world.specs.world_events.declared.event.Event.{Event}
 use Rattle.world.specs.world_events.declared.event.Event.TheVariants as events
 use Rattle.world.specs.Escaping.{CanEscape, LeadsOut}
-use Rattle.world.specs.Goes.{AreReached}
+use Rattle.world.specs.Trace.{AreReached}
 use Rattle.world.specs.StandsFor.{IsReached}
 use Rattle.world.specs.World.{WorldState}
 use Rattle.play.specs.Transcripts.{Played}

@@ -3,7 +3,7 @@
 ghost use Rattle.std.specs.Prelude.{◌≡◌, ◌<◌, ◌++◌, ℕ, false, [], map, IfOk, OnOk, OnErr, IsErrOf};
 ghost use Rattle.world.specs.agreement.World.{can_open};
 ghost use Rattle.world.specs.packet_world.World.{AreApart};
-ghost use Rattle.world.specs.Goes.{AreReached};
+ghost use Rattle.world.specs.Trace.{AreReached};
 ghost use Rattle.world.specs.StandsFor.{IsReached, asked_on};
 ghost use Rattle.play.specs.Inside.{Appends, AreWritten, Comes, Ends, Written, lines_unwritten, names_of, new_recipient, written_at};
 ghost use Rattle.play.specs.Transcripts.{accepted_in, accepted_lines, lines_after};

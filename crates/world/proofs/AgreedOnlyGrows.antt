@@ -11,8 +11,8 @@ use Rattle.headline.specs.broker_spec.declared.command.Output.{Output}
 use Rattle.headline.specs.broker_base.State.{State}
 use Rattle.headline.specs.world_base.Core.{rules}
 use Rattle.headline.specs.node_group.Group.{Group, moment_of}
-use Rattle.headline.specs.node_group.Goes.{GroupTrace, all_put, groups_of, put_in_step}
-use Rattle.headline.specs.node_group.Goes.GroupTrace.{then_went}
+use Rattle.headline.specs.node_group.Steps.{GroupTrace, all_put, groups_of, put_in_step}
+use Rattle.headline.specs.node_group.Steps.GroupTrace.{then_went}
 use Rattle.headline.specs.node_group.Order.{KeepsOrder}
 use Rattle.headline.specs.node_group.Pasts.{HasPast, packets_in}
 use Rattle.headline.proofs.of_node_group.GroupsArePasts.{goes_on as past_goes_on, seen_still}
@@ -20,8 +20,8 @@ use Rattle.headline.proofs.of_node_group.NamesInGroups.{puts_in_the_ballot_of_th
 use Rattle.headline.proofs.of_node_group.Ordered.{groups_keep_the_order, in_agreed}
 use Rattle.headline.proofs.of_node_group.Packets.{packets_join}
 use Rattle.escaping_nodes.specs.world_nodes.Nodes.{NodesState}
-use Rattle.world.specs.Goes.{AgreedGrows, Goes, NodesGo}
-use Rattle.world.specs.Goes.Goes.{rests, goes_on}
+use Rattle.world.specs.Trace.{AgreedGrows, Goes, NodesGo}
+use Rattle.world.specs.Trace.Goes.{rests, goes_on}
 use Rattle.world.proofs.OneAgreed.{one_agreed}
 
 -- A group that continued from another: its past continues from the past of that one.

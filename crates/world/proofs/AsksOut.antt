@@ -25,13 +25,13 @@ use Rattle.escaping_client.specs.packet.declared.packet.Packet.TheVariants as pa
 use Rattle.escaping_client.specs.packet.Verdict.{verdict}
 use Rattle.headline.specs.world_base.Core.{rules}
 use Rattle.headline.specs.world_base.declared.item.Item.TheVariants.{Bytes}
-use Rattle.escaping_nodes.specs.world_nodes.Goes.{after_node_call}
+use Rattle.escaping_nodes.specs.world_nodes.ExactSteps.{after_node_call}
 use Rattle.escaping_nodes.specs.world_nodes.Nodes.{NodesState}
 use Rattle.world_events.specs.declared.event.Event.{Event}
 use Rattle.world_events.specs.declared.event.Event.TheVariants as events
 use Rattle.world.specs.Found.{is_named, port_of}
 use Rattle.world.specs.Gathering.{Gathers}
-use Rattle.world.specs.Goes.{LosesNothing}
+use Rattle.world.specs.Trace.{LosesNothing}
 use Rattle.world.specs.Happening.{Run}
 use Rattle.world.specs.SlotsAreValid.{SlotsAreValid, leads_of}
 use Rattle.world.specs.World.{WorldState}

@@ -8,7 +8,7 @@ use Rattle.escaping_nodes.specs.master.declared.event.Idle.{Idle}
 use Rattle.world_events.specs.world_pipes.declared.sending.Sending.{Sending}
 use Rattle.world_events.specs.world_pipes.declared.sending.Sending.TheVariants as sendings
 use Rattle.world_events.specs.world_pipes.Following.{CallingFollows, FollowsAll}
-use Rattle.world_events.specs.world_pipes.Goes.{ClientGoes}
+use Rattle.world_events.specs.world_pipes.Steps.{ClientGoes}
 use Rattle.world_events.specs.world_pipes.Piped.{Piped}
 use Rattle.world_events.specs.world_pipes.StandsFor.{StandsFor}
 use Rattle.world_events.proofs.of_world_pipes.CallingFollows.{calling_goes}

@@ -6,7 +6,7 @@ use Rattle.headline.specs.byte_world.World.{ClientPipes, World, with_client}
 use Rattle.headline.specs.byte_world.Published.{from_client}
 use Rattle.escaping_client.specs.session_base.declared.publication.Publication.{Publication}
 use Rattle.world_events.specs.world_pipes.Following.{FollowsAll, FollowsBy, FollowsLosing, after_losing}
-use Rattle.world_events.specs.world_pipes.Goes.{ClientGoes, published_along as published_with, published_with as published_with_one}
+use Rattle.world_events.specs.world_pipes.Steps.{ClientGoes, published_along as published_with, published_with as published_with_one}
 use Rattle.world_events.specs.world_pipes.Piped.{Piped}
 use Rattle.world_events.proofs.of_world_pipes.StepsInWorlds.{steps_in_worlds}
 use Rattle.world.specs.declared.connection_slot.ConnectionSlot.{ConnectionSlot}

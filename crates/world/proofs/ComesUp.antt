@@ -6,8 +6,8 @@ use Rattle.headline.specs.world_base.declared.item.Item.TheVariants.{Bytes}
 use Rattle.headline.specs.world_base.declared.Port.{Port}
 use Rattle.headline.specs.node_moves.Moves.NodeCall.{takes}
 use Rattle.headline.specs.byte_world.World.{HasPipe, Pipe, World, with_client, with_pipe}
-use Rattle.headline.specs.byte_world.Goes.WorldStep.{comes_up}
-use Rattle.escaping_nodes.specs.world_nodes.Goes.{Acts}
+use Rattle.headline.specs.byte_world.Steps.WorldStep.{comes_up}
+use Rattle.escaping_nodes.specs.world_nodes.ExactSteps.{Acts}
 use Rattle.escaping_nodes.specs.world_nodes.Nodes.{NodesState}
 use Rattle.world_events.specs.world_pipes.declared.way.Way.{Way}
 use Rattle.world_events.specs.world_pipes.Piped.{Piped}

@@ -22,7 +22,7 @@ use Rattle.world.specs.declared.connection_slot.ConnectionSlot.{ConnectionSlot}
 use Rattle.world.specs.declared.world.WorldClient.{WorldClient}
 use Rattle.world.specs.Doing.{Does}
 use Rattle.world.specs.Found.{core_named, is_named, with_piped}
-use Rattle.world.specs.Goes.{LosesNothing}
+use Rattle.world.specs.Trace.{LosesNothing}
 use Rattle.world.specs.Happening.{Run}
 use Rattle.world.specs.World.{WorldState}
 use Rattle.world.proofs.ConnectSpelled.{connack_long, connack_read}

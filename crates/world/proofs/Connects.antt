@@ -14,8 +14,8 @@ use Rattle.headline.specs.node_moves.Moves.NodeCall.{takes}
 use Rattle.headline.proofs.of_node_group.Placed.{get_mapped}
 use Rattle.headline.specs.byte_world.World.{ClientPipes, Pipe, World, is_used, leads_to, with_client}
 use Rattle.headline.specs.byte_world.ClientSteps.{after_connecting}
-use Rattle.headline.specs.byte_world.Goes.WorldStep.{connects}
-use Rattle.escaping_nodes.specs.world_nodes.Goes.{Acts}
+use Rattle.headline.specs.byte_world.Steps.WorldStep.{connects}
+use Rattle.escaping_nodes.specs.world_nodes.ExactSteps.{Acts}
 use Rattle.escaping_nodes.specs.world_nodes.Running.{node_of}
 use Rattle.escaping_nodes.specs.world_nodes.Nodes.{NodesState, StandsFor as NodesStand}
 use Rattle.world_events.specs.world_pipes.declared.way.Way.{Way}

@@ -6,7 +6,7 @@ use Rattle.escaping_client.specs.client_base.declared.error.ClientError.TheVaria
 use Rattle.escaping_nodes.specs.master.declared.event.Idle.{Idle}
 use Rattle.world_events.specs.world_pipes.declared.sending.Sending.{Sending}
 use Rattle.world_events.specs.world_pipes.declared.sending.Sending.TheVariants as sendings
-use Rattle.world.specs.Goes.{CountsOnce}
+use Rattle.world.specs.Trace.{CountsOnce}
 use Rattle.world.specs.Inside.Calling.{Counts, forgetful}
 use Rattle.world.specs.Inside.Steps.{IsCounted}
 use Rattle.world.specs.World.{WorldState}

@@ -21,7 +21,7 @@ use Rattle.escaping_client.specs.lists.Lists.{In}
 use Rattle.escaping_client.proofs.of_lists.Members.{in_at}
 use Rattle.headline.specs.world_base.Core.{CoreState, CountedCore, rules}
 use Rattle.headline.specs.world_base.declared.item.Item.TheVariants.{Peer}
-use Rattle.escaping_nodes.specs.world_nodes.Goes.{Comes, ComesToNobody, TakesExactly, after_answer, after_node_call}
+use Rattle.escaping_nodes.specs.world_nodes.ExactSteps.{Comes, ComesToNobody, TakesExactly, after_answer, after_node_call}
 use Rattle.escaping_nodes.specs.world_nodes.Running.{running, unless_stopped}
 use Rattle.escaping_nodes.specs.world_nodes.Nodes.{NodesState, cores_of}
 use Rattle.escaping_nodes.proofs.of_world_nodes.Acts.{acts}
@@ -30,7 +30,7 @@ use Rattle.world_events.specs.declared.event.Event.TheVariants as events
 use Rattle.world.specs.Cannot.{CannotHappen}
 use Rattle.world.specs.Doing.{Does, receiver_of}
 use Rattle.world.specs.Gathering.{Gathers}
-use Rattle.world.specs.Goes.{LosesNothing}
+use Rattle.world.specs.Trace.{LosesNothing}
 use Rattle.world.specs.Happening.{Run}
 use Rattle.world.specs.SlotsAreValid.{SlotsAreValid, leads_of}
 use Rattle.world.specs.World.{WorldState}

@@ -4,7 +4,7 @@ use Rattle.escaping_nodes.specs.master.declared.event.Idle.{Idle}
 use Rattle.world_events.specs.declared.event.Event.{Event}
 use Rattle.world.specs.Cannot.{CannotHappen}
 use Rattle.world.specs.Doing.{Does}
-use Rattle.world.specs.Goes.{LosesNothing}
+use Rattle.world.specs.Trace.{LosesNothing}
 use Rattle.world.specs.Happening.{Happens, Run}
 use Rattle.world.specs.World.{WorldState}
 use Rattle.world.proofs.Joined.{worlds_split}

@@ -17,12 +17,12 @@ use Rattle.headline.proofs.of_node_moves.Views.{found_passes}
 use Rattle.headline.specs.node_group.Streams.{bytes_named}
 use Rattle.headline.specs.node_group.Streams.{goes_down as goes_down_in}
 use Rattle.headline.specs.byte_world.World.{HasPipe, Pipe, World, with_client, with_pipe}
-use Rattle.headline.specs.byte_world.Goes.{Reached}
-use Rattle.headline.specs.byte_world.Goes.WorldStep.{goes_down}
+use Rattle.headline.specs.byte_world.Steps.{Reached}
+use Rattle.headline.specs.byte_world.Steps.WorldStep.{goes_down}
 use Rattle.headline.proofs.of_byte_world.NodesGoOn.{carries_with}
 use Rattle.headline.proofs.of_byte_world.PipesHold.{found_in}
 use Rattle.headline.proofs.of_byte_world.PipesInOrder.{reached_holds}
-use Rattle.escaping_nodes.specs.world_nodes.Goes.{Acts, HandsOver}
+use Rattle.escaping_nodes.specs.world_nodes.ExactSteps.{Acts, HandsOver}
 use Rattle.escaping_nodes.specs.world_nodes.Nodes.{NodesState}
 use Rattle.world_events.specs.world_pipes.declared.way.Way.{Way}
 use Rattle.world_events.specs.world_pipes.Piped.{Piped}

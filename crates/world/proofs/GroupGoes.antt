@@ -13,14 +13,14 @@ use Rattle.headline.specs.node_moves.Moves.{NodeCall}
 use Rattle.headline.specs.node_moves.Moves.NodeCall.{takes}
 use Rattle.headline.specs.node_group.Group.{Group}
 use Rattle.headline.specs.byte_world.World.{World}
-use Rattle.headline.specs.byte_world.Goes.{is_apart}
-use Rattle.headline.specs.byte_world.Goes.WorldStep.{goes_on as group_goes}
+use Rattle.headline.specs.byte_world.Steps.{is_apart}
+use Rattle.headline.specs.byte_world.Steps.WorldStep.{goes_on as group_goes}
 use Rattle.escaping_nodes.specs.world_nodes.Nodes.{NodesState, StandsFor as NodesStand}
-use Rattle.escaping_nodes.specs.world_nodes.Goes.{Acts, GoesBy}
+use Rattle.escaping_nodes.specs.world_nodes.ExactSteps.{Acts, GoesBy}
 use Rattle.escaping_nodes.specs.world_nodes.Steps.{forgetful}
 use Rattle.escaping_nodes.specs.world_nodes.GroupSteps.{ActsOrRests, ComesOrRests, MasterGoesOrRests, MasterHears}
-use Rattle.world.specs.Goes.{NodesGo, NodesGoOn}
-use Rattle.world.specs.Goes.Goes.{rests as stands_still, goes_on as then_goes}
+use Rattle.world.specs.Trace.{NodesGo, NodesGoOn}
+use Rattle.world.specs.Trace.Goes.{rests as stands_still, goes_on as then_goes}
 use Rattle.world.specs.Inside.Steps.{GoesOn, NodesStay}
 use Rattle.world.specs.StandsFor.{WorldGoes}
 use Rattle.world.specs.StandsFor.Steps.{rests, goes_on}

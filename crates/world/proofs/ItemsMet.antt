@@ -11,7 +11,7 @@ use Rattle.headline.specs.ballot.Losses.{one_more}
 use Rattle.escaping_nodes.specs.master.declared.event.Idle.{Idle}
 use Rattle.headline.specs.world_base.declared.item.Item.{Item}
 use Rattle.headline.specs.world_base.declared.item.Item.TheVariants.{Bytes, Crash, Ended, Expel, Tick}
-use Rattle.escaping_nodes.specs.world_nodes.Goes.{Comes, ComesToNobody, CutsExactly, TakesExactly}
+use Rattle.escaping_nodes.specs.world_nodes.ExactSteps.{Comes, ComesToNobody, CutsExactly, TakesExactly}
 use Rattle.escaping_nodes.specs.world_nodes.Running.{cutting, proposing, running}
 use Rattle.escaping_nodes.specs.world_nodes.Nodes.{NodesState}
 use Rattle.escaping_nodes.specs.world_nodes.Steps.{ComesIn, CutsIn, ExpelsIn, GivesIn, LosesNothing as NodesLoseNothing, TakesIn}

@@ -8,11 +8,11 @@ use Rattle.headline.proofs.WorldsExact.{worlds_are_exact}
 use Rattle.headline.specs.packet_world.World.{AreApart}
 use Rattle.escaping_client.specs.session_base.declared.publication.Publication.{Publication}
 use Rattle.headline.specs.byte_world.World.{World}
-use Rattle.headline.specs.byte_world.Goes.{Reached}
-use Rattle.headline.specs.byte_world.Goes.Reached.{goes_on as reached_more}
+use Rattle.headline.specs.byte_world.Steps.{Reached}
+use Rattle.headline.specs.byte_world.Steps.Reached.{goes_on as reached_more}
 use Rattle.headline.specs.byte_world.Published.{published_in, published_on}
 use Rattle.escaping_nodes.specs.world_nodes.Nodes.{NodesState, StandsFor as NodesStand}
-use Rattle.world.specs.Goes.{LosesNothing, WorldGoesOn}
+use Rattle.world.specs.Trace.{LosesNothing, WorldGoesOn}
 use Rattle.world.specs.Inside.Steps.{GoesOn, GoesOnBy}
 use Rattle.world.specs.declared.world.WorldClient.{WorldClient}
 use Rattle.world.specs.StandsFor.{ClientsStand, GoesTo, IsReached, KeepsReached, StandsFor, Steps, WorldGoes, WorldGoesBy, asked_on, published_along}

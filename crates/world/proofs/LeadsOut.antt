@@ -16,7 +16,7 @@ use Rattle.escaping_nodes.specs.Opened.{CanOpen}
 use Rattle.escaping_nodes.specs.ways_out.Deliveries.{asked_and_answered}
 use Rattle.headline.specs.node_group.Group.{Group, moment_of}
 use Rattle.headline.specs.snapshots.Moments.{Moment, Moments}
-use Rattle.headline.specs.byte_world.Carried.{went_of}
+use Rattle.headline.specs.byte_world.Carried.{trace_of}
 use Rattle.escaping_client.specs.lists.Lists.{IsPrefixOf}
 use Rattle.escaping_client.specs.packet.declared.packet.Packet.TheVariants as packets
 use Rattle.headline.specs.world_base.Core.{rules}
@@ -30,7 +30,7 @@ use Rattle.world.specs.declared.connection_slot.ConnectionSlot.{ConnectionSlot}
 use Rattle.world.specs.Opening.{next_number}
 use Rattle.world.specs.Escaping.{CanEscape, HasEscaped, LeadsOut}
 use Rattle.world.specs.Found.{port_of}
-use Rattle.world.specs.Goes.{AreReached, LosesNothing, NodesGo}
+use Rattle.world.specs.Trace.{AreReached, LosesNothing, NodesGo}
 use Rattle.world.specs.Happening.{Run}
 use Rattle.world.specs.SlotsAreValid.{SlotsAreValid, leads_of}
 use Rattle.world_events.specs.EscapeEvents.{answer_events, client_events, leaving}
@@ -162,7 +162,7 @@ module _ (name : Client) (w : WorldState) (housed : SlotsAreValid (leads_of w.cl
 
       agreed : NodesGo w.nodes new.nodes → (before after : List Command) → AgreeOn w.nodes before → AgreeOn new.nodes after → IsPrefixOf before after
       agreed go before after x y =
-          let reached : AreReached nodes config w.nodes = are_reached nodes config g w.nodes (went_of r.trail) r.stands.nodes in
+          let reached : AreReached nodes config w.nodes = are_reached nodes config g w.nodes (trace_of r.trail) r.stands.nodes in
           let grown = agreed_grows w.nodes new.nodes go nodes config reached in
           subst (λ (xs : List Command). IsPrefixOf xs after) (sym (reached_agree w.nodes before x nodes config reached))
           (subst (λ (ys : List Command). IsPrefixOf reached.list ys) (sym (reached_agree new.nodes after y nodes config grown.0)) grown.1)

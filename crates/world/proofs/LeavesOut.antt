@@ -12,7 +12,7 @@ use Rattle.world.specs.declared.world.WorldClient.{WorldClient}
 use Rattle.world.specs.Cannot.{HoldsNone}
 use Rattle.world.specs.Doing.{Does}
 use Rattle.world.specs.Found.{core_named, with_piped}
-use Rattle.world.specs.Goes.{LosesNothing}
+use Rattle.world.specs.Trace.{LosesNothing}
 use Rattle.world.specs.Happening.{Run}
 use Rattle.world.specs.SlotsAreValid.{SlotsAreValid, leads, leads_of}
 use Rattle.world_events.specs.EscapeEvents.{leaving}

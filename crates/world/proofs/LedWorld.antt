@@ -21,13 +21,13 @@ use Rattle.headline.specs.node_group.Group.{Group, moment_of}
 use Rattle.headline.specs.snapshots.Moments.{Moment, Moments}
 use Rattle.headline.specs.world_base.Core.{rules}
 use Rattle.escaping_nodes.specs.world_nodes.Asking.{log_of}
-use Rattle.escaping_nodes.specs.world_nodes.Goes.{after_giving}
+use Rattle.escaping_nodes.specs.world_nodes.ExactSteps.{after_giving}
 use Rattle.escaping_nodes.specs.world_nodes.Nodes.{NodesState, StandsFor as NodesStand}
 use Rattle.escaping_nodes.proofs.of_world_nodes.MasterActs.{gives_exactly}
 use Rattle.world_events.specs.declared.event.Event.{Event}
 use Rattle.world_events.specs.declared.event.Event.TheVariants as events
 use Rattle.world.specs.Escaping.{CanEscape, configuration_of}
-use Rattle.world.specs.Goes.{LosesNothing, NodesGo}
+use Rattle.world.specs.Trace.{LosesNothing, NodesGo}
 use Rattle.world.specs.Happening.{Run}
 use Rattle.world.specs.SlotsAreValid.{SlotsAreValid, leads_of}
 use Rattle.world.specs.StandsFor.{WorldGoes}

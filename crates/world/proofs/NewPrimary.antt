@@ -24,7 +24,7 @@ use Rattle.headline.specs.node_group.Group.{moment_of, replica_of}
 use Rattle.headline.specs.snapshots.Moments.{Moment, Moments, whole_moment}
 use Rattle.headline.specs.snapshots.Whole.{whole}
 use Rattle.headline.specs.byte_world.World.{World}
-use Rattle.headline.specs.byte_world.Goes.{Reached}
+use Rattle.headline.specs.byte_world.Steps.{Reached}
 use Rattle.headline.proofs.of_node_group.Placed.{get_mapped}
 use Rattle.headline.proofs.of_byte_world.NodesHoused.{nodes_are_orderly}
 use Rattle.escaping_client.specs.lists.Lists.{In}

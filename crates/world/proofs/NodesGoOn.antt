@@ -4,13 +4,13 @@ use Rattle.headline.specs.ballot.Config.{Config}
 use Rattle.headline.proofs.of_snapshots.PastsAgree.{has_agreed, nodes_agree}
 use Rattle.headline.specs.world_base.Core.{rules}
 use Rattle.headline.specs.node_group.Group.{Group, moment_of}
-use Rattle.headline.specs.node_group.Goes.{GroupTrace}
-use Rattle.headline.specs.node_group.Goes.GroupTrace.{then_went}
+use Rattle.headline.specs.node_group.Steps.{GroupTrace}
+use Rattle.headline.specs.node_group.Steps.GroupTrace.{then_went}
 use Rattle.headline.proofs.of_node_group.Ordered.{groups_keep_the_order}
 use Rattle.escaping_nodes.specs.world_nodes.Nodes.{NodesState, StandsFor}
 use Rattle.escaping_nodes.specs.world_nodes.Steps.{LosesNothing as NodesLoseNothing, forgetful}
-use Rattle.world.specs.Goes.{AreReached, Goes, NodesGo, NodesGoOn, StaysReached}
-use Rattle.world.specs.Goes.Goes.{rests, goes_on}
+use Rattle.world.specs.Trace.{AreReached, Goes, NodesGo, NodesGoOn, StaysReached}
+use Rattle.world.specs.Trace.Goes.{rests, goes_on}
 use Rattle.world.specs.Inside.Steps.{NodesStay}
 
 -- ---- nothing happens

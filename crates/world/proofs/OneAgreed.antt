@@ -14,7 +14,7 @@ use Rattle.headline.specs.broker_base.State.{State}
 use Rattle.escaping_nodes.specs.world_nodes.Agreed.{AgreeOn}
 use Rattle.escaping_nodes.specs.world_nodes.Nodes.{NodesState}
 use Rattle.world.specs.World.{WorldState}
-use Rattle.world.specs.Goes.{AreReached}
+use Rattle.world.specs.Trace.{AreReached}
 use Rattle.world.specs.StandsFor.{IsReached}
 
 begins : (config : Config) (past : List (Moment State Command Output)) (xs ys : List Command) → IsAgreed config past xs → IsAgreed config past ys → IsPrefixOf xs ys

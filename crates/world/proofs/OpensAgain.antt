@@ -10,7 +10,7 @@ use Rattle.escaping_nodes.specs.Opened.{first_of}
 use Rattle.headline.specs.node_moves.Ends.{IsGiven}
 use Rattle.headline.specs.byte_world.AtNodes.{Leads}
 use Rattle.headline.specs.byte_world.World.{ClientPipes, World, is_used, leads_to}
-use Rattle.headline.specs.byte_world.Goes.{Reached}
+use Rattle.headline.specs.byte_world.Steps.{Reached}
 use Rattle.headline.proofs.of_node_group.Placed.{get_mapped}
 use Rattle.headline.proofs.of_byte_world.NodesHoused.{nodes_are_orderly, ports_have_pipes}
 use Rattle.escaping_client.proofs.of_lists.Tests.{eq_is}

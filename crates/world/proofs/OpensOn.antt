@@ -12,14 +12,14 @@ use Rattle.headline.specs.world_base.Handing.{listed_at}
 use Rattle.headline.specs.node_moves.Moves.NodeCall.{takes}
 use Rattle.headline.proofs.of_node_group.Placed.{get_mapped}
 use Rattle.headline.specs.byte_world.World.{World}
-use Rattle.headline.specs.byte_world.Goes.WorldStep.{is_turned_away}
-use Rattle.escaping_nodes.specs.world_nodes.Goes.{Acts}
+use Rattle.headline.specs.byte_world.Steps.WorldStep.{is_turned_away}
+use Rattle.escaping_nodes.specs.world_nodes.ExactSteps.{Acts}
 use Rattle.escaping_nodes.specs.world_nodes.Running.{node_of}
 use Rattle.escaping_nodes.specs.world_nodes.Nodes.{NodesState}
 use Rattle.escaping_nodes.specs.world_nodes.Steps.{LosesNothing as NodesLoseNothing}
 use Rattle.world_events.specs.world_pipes.Following.{FollowsAll}
 use Rattle.world_events.specs.world_pipes.Piped.{Piped, is_holding}
-use Rattle.world.specs.Goes.{NodesGoOn}
+use Rattle.world.specs.Trace.{NodesGoOn}
 use Rattle.world.specs.SlotsAreValid.{SlotsAreValid, leads_of}
 use Rattle.world_events.specs.declared.event.Event.TheVariants as events
 use Rattle.world.specs.declared.world.WorldClient.{WorldClient}

@@ -24,7 +24,7 @@ use Rattle.escaping_client.proofs.of_lists.Places.{get_pushed, get_set}
 use Rattle.headline.specs.world_base.Core.{CountedCore}
 use Rattle.headline.specs.world_base.declared.item.Item.{Item}
 use Rattle.headline.specs.world_base.declared.item.Item.TheVariants.{Opened}
-use Rattle.escaping_nodes.specs.world_nodes.Goes.{after_node_call}
+use Rattle.escaping_nodes.specs.world_nodes.ExactSteps.{after_node_call}
 use Rattle.escaping_nodes.specs.world_nodes.Running.{node_of}
 use Rattle.escaping_nodes.specs.world_nodes.Nodes.{NodesState}
 use Rattle.escaping_nodes.proofs.of_world_nodes.Acts.{acts}
@@ -38,7 +38,7 @@ use Rattle.world.specs.Cannot.{CannotOpen, is_serving}
 use Rattle.world.specs.Opening.{OpensOne, OpensUnless, is_full, next_number, with_connection}
 use Rattle.world.specs.Found.{Named, core_named, is_named, port_of}
 use Rattle.world.specs.Gathering.{Gathers}
-use Rattle.world.specs.Goes.{LosesNothing, NodesGo}
+use Rattle.world.specs.Trace.{LosesNothing, NodesGo}
 use Rattle.world.specs.Happening.{Run}
 use Rattle.world.specs.SlotsAreValid.{SlotsAreValid, leads_of}
 use Rattle.world.specs.World.{WorldState}

@@ -10,7 +10,7 @@ use Rattle.headline.specs.packet_world.World.{AreApart}
 use Rattle.headline.specs.node_group.Group.{opening_group}
 use Rattle.headline.specs.world_base.declared.Port.{Port}
 use Rattle.headline.specs.byte_world.World.{ClientPipes, Pipe, new_client, opening}
-use Rattle.headline.specs.byte_world.Goes.Reached.{begins}
+use Rattle.headline.specs.byte_world.Steps.Reached.{begins}
 use Rattle.escaping_nodes.specs.world_nodes.Nodes.{StandsFor as NodesStand}
 use Rattle.world_events.specs.world_pipes.declared.way.Way.{Way}
 use Rattle.world_events.specs.world_pipes.StandsFor.{StandsFor as ClientStands}

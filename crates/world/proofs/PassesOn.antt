@@ -20,7 +20,7 @@ use Rattle.world.specs.declared.connection_slot.ConnectionSlot.{ConnectionSlot}
 use Rattle.world.specs.declared.world.WorldClient.{WorldClient}
 use Rattle.world.specs.Found.{slot_numbered, port_of, with_down}
 use Rattle.world.specs.Gathering.{AskedWhere, Gathers, GathersAmong, Gives, IsAsked, is_open_at, is_told_open, put_out}
-use Rattle.world.specs.Goes.{NodesGo}
+use Rattle.world.specs.Trace.{NodesGo}
 use Rattle.world.specs.SlotsAreValid.{SlotsAreValid, leads_of}
 use Rattle.world.specs.Inside.Handing.{MayHandDown, MayPutDown}
 use Rattle.world.specs.StandsFor.{WorldGoes}

@@ -17,7 +17,7 @@ use Rattle.world_events.specs.world_pipes.Piped.{Piped}
 use Rattle.world.specs.SlotsAreValid.{leads}
 use Rattle.world.specs.Found.{with_down}
 use Rattle.world.specs.Gathering.{Gives, is_more, is_told_open, put_out}
-use Rattle.world.specs.Goes.{NodesGoOn}
+use Rattle.world.specs.Trace.{NodesGoOn}
 use Rattle.world.specs.Inside.Handing.{HandsDown, MayHandDown, MayPutDown, PutsDown, tells_open}
 use Rattle.world.proofs.GroupGoes.{acts_go}
 use Rattle.world.proofs.LeadsKept.{leads_set}

@@ -19,14 +19,14 @@ use Rattle.headline.specs.world_base.Core.{CountedCore}
 use Rattle.headline.specs.world_base.declared.item.Item.TheVariants.{Peer}
 use Rattle.headline.specs.world_base.Handing.{bytes_of}
 use Rattle.headline.specs.world_base.Step.{node_step}
-use Rattle.escaping_nodes.specs.world_nodes.Goes.{ComesToNobody, after_node_call}
+use Rattle.escaping_nodes.specs.world_nodes.ExactSteps.{ComesToNobody, after_node_call}
 use Rattle.escaping_nodes.specs.world_nodes.Running.{node_of, running}
 use Rattle.escaping_nodes.specs.world_nodes.Nodes.{NodesState}
 use Rattle.world_events.specs.declared.event.Event.{Event}
 use Rattle.world_events.specs.declared.event.Event.TheVariants as events
 use Rattle.world.specs.Found.{is_named, port_of}
 use Rattle.world.specs.Gathering.{Gathers, is_told_open, put_out}
-use Rattle.world.specs.Goes.{LosesNothing, NodesGo}
+use Rattle.world.specs.Trace.{LosesNothing, NodesGo}
 use Rattle.world.specs.Happening.{Run}
 use Rattle.world.specs.SlotsAreValid.{SlotsAreValid, leads_of}
 use Rattle.world.specs.World.{WorldState}

@@ -16,7 +16,7 @@ use Rattle.headline.specs.world_base.declared.item.Item.{Item}
 use Rattle.headline.specs.world_base.declared.item.Item.TheVariants.{Peer}
 use Rattle.headline.specs.world_base.declared.Port.{Port}
 use Rattle.headline.proofs.of_world_base.Calmly.{hands_over_waits, nothing_handed, step_waits}
-use Rattle.escaping_nodes.specs.world_nodes.Goes.{Comes, GivesExactly, HeardByMaster, TakesExactly}
+use Rattle.escaping_nodes.specs.world_nodes.ExactSteps.{Comes, GivesExactly, HeardByMaster, TakesExactly}
 use Rattle.escaping_nodes.specs.world_nodes.Running.{node_of, running, unless_stopped}
 use Rattle.escaping_nodes.specs.world_nodes.Nodes.{NodesState}
 use Rattle.escaping_nodes.specs.world_nodes.Quiet.{ComesUnheeded, IsUnheeded, RestsAt, WaitsAtNone}

@@ -2,7 +2,7 @@
 use Rattle.std.proofs.Common.{inl, inr, ap, arith}
 use Rattle.std.specs.Prelude.{Ok}
 use Rattle.world_events.specs.declared.event.Event.{Event}
-use Rattle.world.specs.Goes.{LosesNothing}
+use Rattle.world.specs.Trace.{LosesNothing}
 use Rattle.world.specs.Happening.{Happens, HappensExactly}
 use Rattle.world.specs.World.{WorldState}
 use Rattle.world.proofs.Joined.{counted_loss}

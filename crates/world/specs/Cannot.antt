@@ -6,7 +6,7 @@ use Rattle.escaping_client.specs.client.Core.{Core}
 use Rattle.escaping_client.specs.client_base.State.{is_open}
 use Rattle.escaping_client.specs.client_base.Steps.{Call, keeper_step}
 use Rattle.headline.specs.world_base.Core.{CountedCore, serves}
-use Rattle.escaping_nodes.specs.world_nodes.Goes.{ComesToNobody}
+use Rattle.escaping_nodes.specs.world_nodes.ExactSteps.{ComesToNobody}
 use Rattle.escaping_nodes.specs.world_nodes.Running.{cutting, node_of, proposing, running}
 use Rattle.world_events.specs.world_pipes.declared.way.Way.{Way}
 use Rattle.world_events.specs.world_pipes.Piped.{is_holding}

@@ -6,7 +6,7 @@ use Rattle.headline.specs.broker_spec.declared.command.Command.{Command}
 use Rattle.escaping_client.specs.client_base.Steps.{Call}
 use Rattle.escaping_client.specs.client_base.declared.error.ClientError.TheVariants as errors
 use Rattle.headline.specs.world_base.declared.item.Item.TheVariants as items
-use Rattle.escaping_nodes.specs.world_nodes.Goes.{Comes, CutsExactly, TakesExactly, after_giving}
+use Rattle.escaping_nodes.specs.world_nodes.ExactSteps.{Comes, CutsExactly, TakesExactly, after_giving}
 use Rattle.escaping_nodes.specs.world_nodes.Nodes.{NodesState}
 use Rattle.escaping_nodes.specs.world_nodes.Steps.{ComesIn, CutsIn, ExpelsIn, GivesIn}
 use Rattle.world_events.specs.world_pipes.Piped.{Hears, Piped}

@@ -1,5 +1,5 @@
 pub mod World
-pub mod Goes
+pub mod Trace
 pub mod StandsFor
 pub mod SlotsAreValid
 pub mod Inside

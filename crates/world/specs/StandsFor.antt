@@ -7,7 +7,7 @@ use Rattle.escaping_client.specs.session_base.declared.publication.Publication.{
 use Rattle.headline.specs.exactly_once.Sides.{Connection}
 use Rattle.headline.specs.Exact.{IsExact}
 use Rattle.headline.specs.byte_world.World.{ClientPipes, World}
-use Rattle.headline.specs.byte_world.Goes.{Reached, WorldStep}
+use Rattle.headline.specs.byte_world.Steps.{Reached, WorldStep}
 use Rattle.headline.specs.byte_world.Published.{published_in, published_on}
 use Rattle.escaping_nodes.specs.world_nodes.Nodes.{StandsFor as NodesStand}
 use Rattle.world_events.specs.world_pipes.StandsFor.{StandsFor as ClientStands}

@@ -5,7 +5,7 @@ ghost use Rattle.escaping_client.specs.client_base.Steps.{Call, keeper_step};
 ghost use Rattle.escaping_nodes.specs.world_nodes.Running.{node_of};
 ghost use Rattle.world_events.specs.world_pipes.Following.{CallingFollows, FollowsAll};
 ghost use Rattle.world_events.specs.world_pipes.Piped.{TakesLeave, is_holding, taken_back};
-ghost use Rattle.world.specs.Goes.{CountsOnce, NodesGoOn};
+ghost use Rattle.world.specs.Trace.{CountsOnce, NodesGoOn};
 ghost use Rattle.world.specs.Opening.{is_full};
 ghost use Rattle.world.specs.ClientCalls.{Loses};
 ghost use Rattle.world.specs.Quiet.{TakesNoMemory};

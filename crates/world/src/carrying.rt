@@ -3,7 +3,7 @@
 ghost use Rattle.std.specs.Prelude.{◌≡◌, ◌⊎◌, ◌≤◌, ◌<◌, ◌-◌, ◌↔◌, true, false, Some, None, length, slice_get, if◌then◌else◌, IfOk, OnErr};
 ghost use Rattle.escaping_nodes.specs.world_nodes.Running.{running};
 ghost use Rattle.world_events.specs.world_pipes.Following.{FollowsAll};
-ghost use Rattle.world.specs.Goes.{CountsOnce, NodesGoOn};
+ghost use Rattle.world.specs.Trace.{CountsOnce, NodesGoOn};
 ghost use Rattle.world.specs.SlotsAreValid.{leads};
 ghost use Rattle.world.specs.Inside.Carrying.{CannotHear, CannotTake, CannotTakeOn, HearsOn, TakesUpOnWhere, TakesUpWhere};
 ghost use Rattle.world.specs.Inside.Steps.{GoesOn, Meets};

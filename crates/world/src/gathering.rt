@@ -3,7 +3,7 @@
 ghost use Rattle.std.specs.Prelude.{◌≡◌, ◌<◌, ◌-◌, true, false, Some, length, slice_get};
 ghost use Rattle.escaping_nodes.specs.world_nodes.Nodes.{NodesState};
 ghost use Rattle.world.specs.Gathering.{Gathers, GathersAmong};
-ghost use Rattle.world.specs.Goes.{NodesGoOn};
+ghost use Rattle.world.specs.Trace.{NodesGoOn};
 ghost use Rattle.world.specs.SlotsAreValid.{leads, open_from};
 ghost use Rattle.world.specs.Inside.Handing.{AsksAt, HandsDown, MayHandDown, MayHandOn, MayPutDown, PutsDown, StaysQuiet, marked, tells_open};
 ghost use Rattle.world.specs.Inside.Steps.{GoesOn};

@@ -6,7 +6,7 @@ ghost use Rattle.headline.specs.ballot.Config.{Config};
 ghost use Rattle.headline.specs.broker_spec.Place.{Client};
 ghost use Rattle.escaping_nodes.specs.world_nodes.Agreed.{AgreeOn, AgreeOnSoMany};
 ghost use Rattle.world.specs.Found.{core_named, is_named, slot_numbered, way_of};
-ghost use Rattle.world.specs.Goes.{AreReached};
+ghost use Rattle.world.specs.Trace.{AreReached};
 ghost use Rattle.headline.specs.Promise.{Promise};
 ghost use Rattle.headline.specs.byte_world.Published.{published_of, published_on};
 ghost use Rattle.world.specs.StandsFor.{IsReached, connections_at};

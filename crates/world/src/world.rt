@@ -7,7 +7,7 @@ ghost use Rattle.headline.specs.ballot.Losses.{one_more};
 ghost use Rattle.headline.specs.packet_world.World.{AreApart};
 ghost use Rattle.headline.specs.byte_world.World.{new_client};
 ghost use Rattle.world_events.specs.world_pipes.StandsFor.{StandsFor};
-ghost use Rattle.world.specs.Goes.{AgreedGrows, AreReached, CountsOnce, StaysReached, WorldGoesOn};
+ghost use Rattle.world.specs.Trace.{AgreedGrows, AreReached, CountsOnce, StaysReached, WorldGoesOn};
 ghost use Rattle.world.specs.Asking.{IsAsked, RunAsks};
 ghost use Rattle.world.specs.Happening.{Happens, Run, WorldOpens, new_world_client};
 ghost use Rattle.world.specs.Cannot.{CannotHappen};

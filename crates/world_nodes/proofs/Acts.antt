@@ -18,13 +18,13 @@ use Rattle.byte_world.specs.node_moves.Moves.{NodeCall, done}
 use Rattle.byte_world.specs.node_moves.Moves.NodeCall.{takes}
 use Rattle.byte_world.specs.node_group.Group.{Group, after_turn, with_record}
 use Rattle.byte_world.specs.node_group.Putting.{recorded_in}
-use Rattle.byte_world.specs.node_group.Goes.{all_given}
-use Rattle.byte_world.specs.node_group.Goes.GroupStep.{node_acts}
+use Rattle.byte_world.specs.node_group.Steps.{all_given}
+use Rattle.byte_world.specs.node_group.Steps.GroupStep.{node_acts}
 use Rattle.byte_world.specs.NodeCalls.{NodeCallWasSent, recorded_after}
 use Rattle.byte_world.proofs.NodeCallsCarry.{node_calls_carry_their_bytes}
 use Rattle.byte_world.proofs.of_node_group.Placed.{get_mapped, set_mapped}
 use Rattle.world_nodes.specs.Nodes.{NodesState, StandsFor}
-use Rattle.world_nodes.specs.Goes.{Acts, after_node_call}
+use Rattle.world_nodes.specs.ExactSteps.{Acts, after_node_call}
 use Rattle.world_nodes.specs.Steps.{TakesIn}
 use Rattle.world_nodes.specs.Inside.{RunsAt, TookItem, WasSent}
 

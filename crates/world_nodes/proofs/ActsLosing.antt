@@ -12,14 +12,14 @@ use Rattle.byte_world.specs.node_moves.LossyRuns.{IsRunOn, heard_with, is_cut}
 use Rattle.byte_world.specs.node_moves.Moves.NodeCall.{takes}
 use Rattle.byte_world.proofs.of_node_moves.LossesAreMoves.{losses_are_moves}
 use Rattle.byte_world.specs.node_group.Group.{Group, after_turn, with_record}
-use Rattle.byte_world.specs.node_group.Goes.{keeping}
-use Rattle.byte_world.specs.node_group.Goes.GroupStep.{node_loses}
+use Rattle.byte_world.specs.node_group.Steps.{keeping}
+use Rattle.byte_world.specs.node_group.Steps.GroupStep.{node_loses}
 use Rattle.byte_world.specs.node_group.Losing.{WereSent, all_given, recorded_in}
 use Rattle.byte_world.specs.NodeCalls.{NodeCallWasSent}
 use Rattle.byte_world.proofs.of_node_group.Placed.{get_mapped, set_mapped}
 use Rattle.byte_world.proofs.of_node_group.Recorded.{records_none, records_to}
 use Rattle.world_nodes.specs.Nodes.{NodesState, StandsFor}
-use Rattle.world_nodes.specs.Goes.{Acts}
+use Rattle.world_nodes.specs.ExactSteps.{Acts}
 use Rattle.world_nodes.specs.Inside.{RunsAt, TookItem, WasSent}
 use Rattle.world_nodes.specs.Steps.{recorded_if_cut}
 use Rattle.world_nodes.proofs.Acts.{after_turn_of, after_turn_with, core_in, node_call_sent}

@@ -7,12 +7,12 @@ use Rattle.master.specs.agreement.World.{can_open}
 use Rattle.byte_world.specs.broker_spec.declared.command.Command.{Command}
 use Rattle.byte_world.specs.node_moves.Moves.{NodeCall}
 use Rattle.byte_world.specs.node_group.Group.{opening_group}
-use Rattle.byte_world.specs.node_group.Goes.GroupTrace.{opened}
+use Rattle.byte_world.specs.node_group.Steps.GroupTrace.{opened}
 use Rattle.byte_world.proofs.of_node_group.GroupsArePasts.{goes_on, groups_are_pasts}
 use Rattle.master.specs.Inside.{HasCounted, ToldIn}
 use Rattle.master.proofs.Groups.{front_of}
 use Rattle.world_nodes.specs.Nodes.{NodesState, StandsFor}
-use Rattle.world_nodes.specs.Goes.{Acts}
+use Rattle.world_nodes.specs.ExactSteps.{Acts}
 use Rattle.world_nodes.specs.Inside.{HaveCounted}
 
 abbrev pub Sent : Type 0

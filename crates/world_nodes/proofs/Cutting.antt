@@ -18,7 +18,7 @@ use Rattle.byte_world.specs.node_group.Group.{replica_of}
 use Rattle.byte_world.proofs.of_node_group.Placed.{get_mapped}
 use Rattle.byte_world.proofs.of_node_moves.BaseStays.{cut_step_base}
 use Rattle.world_nodes.specs.Nodes.{NodesState, cores_of}
-use Rattle.world_nodes.specs.Goes.{CutsExactly, after_node_call}
+use Rattle.world_nodes.specs.ExactSteps.{CutsExactly, after_node_call}
 use Rattle.world_nodes.specs.Running.{cutting, unless_stopped, unless_whole}
 use Rattle.world_nodes.specs.Inside.{HaveCounted, TookItem}
 use Rattle.world_nodes.specs.Steps.{CutsIn, CutsWithLosses, LosesNothing, forgetful, recorded_if_cut}

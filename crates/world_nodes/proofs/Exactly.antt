@@ -8,7 +8,7 @@ use Rattle.byte_world.specs.world_base.declared.Port.{Port}
 use Rattle.byte_world.specs.world_base.Core.{CountedCore}
 use Rattle.byte_world.specs.node_moves.Moves.NodeCall.{takes, gives}
 use Rattle.world_nodes.specs.Nodes.{NodesState}
-use Rattle.world_nodes.specs.Goes.{Acts, GivesExactly, TakesExactly, after_node_call}
+use Rattle.world_nodes.specs.ExactSteps.{Acts, GivesExactly, TakesExactly, after_node_call}
 use Rattle.world_nodes.specs.Running.{node_of}
 use Rattle.world_nodes.specs.Steps.{ActsWithLosses, LosesNothing, TakesIn}
 use Rattle.world_nodes.proofs.Acts.{acts, not_one_more}

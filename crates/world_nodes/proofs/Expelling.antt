@@ -6,7 +6,7 @@ use Rattle.master.specs.declared.event.Idle.{Idle}
 use Rattle.byte_world.specs.world_base.declared.item.Item.TheVariants.{Expel}
 use Rattle.byte_world.specs.node_moves.Moves.NodeCall.{takes}
 use Rattle.world_nodes.specs.Nodes.{NodesState}
-use Rattle.world_nodes.specs.Goes.{Acts, TakesExactly}
+use Rattle.world_nodes.specs.ExactSteps.{Acts, TakesExactly}
 use Rattle.world_nodes.specs.Steps.{ExpelsIn, LosesNothing, TakesIn, forgetful}
 use Rattle.world_nodes.specs.GroupSteps.{ActsOrRests}
 use Rattle.world_nodes.proofs.Exactly.{exactly}

@@ -10,7 +10,7 @@ use Rattle.byte_world.specs.world_base.Core.{CountedCore}
 use Rattle.byte_world.specs.world_base.Handing.{answer_of, bytes_of, hands_over, listed_at}
 use Rattle.byte_world.proofs.of_node_group.Placed.{set_same}
 use Rattle.world_nodes.specs.Nodes.{NodesState}
-use Rattle.world_nodes.specs.Goes.{AnswersFor, GivesExactly, HandsOver}
+use Rattle.world_nodes.specs.ExactSteps.{AnswersFor, GivesExactly, HandsOver}
 use Rattle.world_nodes.specs.Running.{node_of}
 
 there : (nodes : List CountedCore) (at : ℕ) (z : CountedCore) → at < length nodes → z ≡ get_or nodes at z → slice_get nodes at ≡ Some z

@@ -16,11 +16,11 @@ use Rattle.byte_world.specs.broker_spec.declared.command.Command.{Command}
 use Rattle.byte_world.specs.world_base.declared.item.Item.TheVariants.{Peer}
 use Rattle.byte_world.specs.node_moves.Moves.NodeCall.{takes}
 use Rattle.byte_world.specs.node_group.Group.{Group, told_by_master, with_master}
-use Rattle.byte_world.specs.node_group.Goes.{GroupStep, after_assign}
-use Rattle.byte_world.specs.node_group.Goes.GroupStep.{master_assigns, master_hears, assigns_unheard, answers_unheard}
-use Rattle.byte_world.specs.Goes.{Does, IsFaithful, node_call_of}
+use Rattle.byte_world.specs.node_group.Steps.{GroupStep, after_assign}
+use Rattle.byte_world.specs.node_group.Steps.GroupStep.{master_assigns, master_hears, assigns_unheard, answers_unheard}
+use Rattle.byte_world.specs.Steps.{Does, IsFaithful, node_call_of}
 use Rattle.world_nodes.specs.Nodes.{NodesState, StandsFor}
-use Rattle.world_nodes.specs.Goes.{Acts, Comes, GoesBy, HeardByMaster, after_answer, after_giving}
+use Rattle.world_nodes.specs.ExactSteps.{Acts, Comes, GoesBy, HeardByMaster, after_answer, after_giving}
 use Rattle.world_nodes.specs.Steps.{ComesIn, GivesIn, HearsIn, LosesNothing, TakesIn, forgetful, unheard}
 use Rattle.world_nodes.specs.GroupSteps.{ActsOrRests, ComesOrRests, MasterGoes, MasterHears}
 use Rattle.master.specs.Inside.{asks_for}

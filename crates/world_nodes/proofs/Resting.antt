@@ -31,7 +31,7 @@ use Rattle.byte_world.proofs.of_world_base.Calmly.{says_nothing}
 use Rattle.byte_world.specs.node_group.Group.{moment_of}
 use Rattle.byte_world.specs.node_moves.Moves.NodeCall.{takes}
 use Rattle.world_nodes.specs.Nodes.{NodesState}
-use Rattle.world_nodes.specs.Goes.{Acts, Comes, HeardByMaster, TakesExactly, after_node_call}
+use Rattle.world_nodes.specs.ExactSteps.{Acts, Comes, HeardByMaster, TakesExactly, after_node_call}
 use Rattle.world_nodes.specs.Running.{running}
 use Rattle.world_nodes.specs.Quiet.{ComesUnheeded, IsUnheeded, RestsAt}
 use Rattle.world_nodes.specs.Steps.{ComesIn, LosesNothing, TakesIn}

@@ -9,7 +9,7 @@ use Rattle.byte_world.specs.world_base.declared.item.Item.TheVariants.{Peer}
 use Rattle.byte_world.specs.node_moves.Moves.{NodeCall}
 use Rattle.byte_world.specs.node_moves.Moves.NodeCall.{takes}
 use Rattle.byte_world.specs.node_group.Group.{Group}
-use Rattle.world_nodes.specs.Goes.{Acts, GoesBy}
+use Rattle.world_nodes.specs.ExactSteps.{Acts, GoesBy}
 use Rattle.world_nodes.specs.Nodes.{NodesState, StandsFor}
 use Rattle.world_nodes.specs.Steps.{forgetful}
 

@@ -3,7 +3,7 @@ use Rattle.std.specs.Prelude.{◌≡◌, ◌⊎◌, ℕ, List}
 use Rattle.byte_world.specs.world_base.declared.Handed.{Handed}
 use Rattle.byte_world.specs.world_base.declared.Handed.TheVariants as answers
 use Rattle.byte_world.specs.world_base.declared.Port.{Port}
-use Rattle.world_nodes.specs.Goes.{AnswersFor, GivesExactly, HandsOver}
+use Rattle.world_nodes.specs.ExactSteps.{AnswersFor, GivesExactly, HandsOver}
 use Rattle.world_nodes.specs.Nodes.{NodesState}
 use Rattle.world_nodes.specs.Steps.{forgetful}
 

@@ -1,6 +1,6 @@
 pub mod Nodes
 pub mod Running
-pub mod Goes
+pub mod ExactSteps
 pub mod Steps
 pub mod HandingOver
 pub mod GroupSteps

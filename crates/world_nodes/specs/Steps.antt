@@ -14,7 +14,7 @@ use Rattle.byte_world.specs.world_base.declared.item.Item.TheVariants.{Cut, Expe
 use Rattle.byte_world.specs.world_base.Core.{CountedCore}
 use Rattle.byte_world.specs.world_base.LossyStep.{RunsOn}
 use Rattle.byte_world.specs.node_moves.Moves.NodeCall.{takes}
-use Rattle.world_nodes.specs.Goes.{after_answer, after_node_call, after_giving}
+use Rattle.world_nodes.specs.ExactSteps.{after_answer, after_node_call, after_giving}
 use Rattle.world_nodes.specs.Running.{cutting, running}
 use Rattle.world_nodes.specs.Nodes.{NodesState}
 

@@ -7,7 +7,7 @@ ghost use Rattle.master.specs.ballot.Losses.{one_more};
 ghost use Rattle.master.specs.lists.Lists.{In};
 ghost use Rattle.master.specs.agreement.MasterState.{refusal};
 ghost use Rattle.byte_world.specs.node_moves.Moves.NodeCall.{takes};
-ghost use Rattle.world_nodes.specs.Goes.{Acts, Comes, CutsExactly, TakesExactly};
+ghost use Rattle.world_nodes.specs.ExactSteps.{Acts, Comes, CutsExactly, TakesExactly};
 ghost use Rattle.world_nodes.specs.Running.{running};
 ghost use Rattle.world_nodes.specs.Quiet.{ComesUnheeded, RestsAt};
 ghost use Rattle.world_nodes.specs.Steps.{ComesIn, CutsIn, GivesIn, HearsIn, LosesNothing, TakesIn, forgetful};

@@ -7,7 +7,7 @@ ghost use Rattle.master.specs.agreement.World.{can_open};
 ghost use Rattle.byte_world.specs.node_group.Group.{Group, opening_group};
 ghost use Rattle.byte_world.specs.node_moves.Moves.NodeCall.{takes};
 ghost use Rattle.world_nodes.specs.Nodes.{NodesState, StandsFor};
-ghost use Rattle.world_nodes.specs.Goes.{Acts, AnswersFor, Comes, ComesToNobody, CutsExactly, GivesExactly, HandsOver, TakesExactly, after_giving};
+ghost use Rattle.world_nodes.specs.ExactSteps.{Acts, AnswersFor, Comes, ComesToNobody, CutsExactly, GivesExactly, HandsOver, TakesExactly, after_giving};
 ghost use Rattle.world_nodes.specs.Running.{cutting, node_of, proposing, running};
 ghost use Rattle.world_nodes.specs.Quiet.{ComesUnheeded, RestsAt, WaitsAtNone};
 ghost use Rattle.world_nodes.specs.Steps.{ComesIn, CutsIn, ExpelsIn, GivesIn, LosesNothing, TakesIn};

@@ -14,7 +14,7 @@ use Rattle.client.specs.Core.{Core, Does, Leaves}
 use Rattle.world_pipes.specs.declared.sending.Sending.{Sending}
 use Rattle.world_pipes.specs.declared.sending.Sending.TheVariants as sendings
 use Rattle.world_pipes.specs.Following.{CallingFollows, FollowsBy}
-use Rattle.world_pipes.specs.Goes.{ClientGoes, ClientStep}
+use Rattle.world_pipes.specs.Steps.{ClientGoes, ClientStep}
 use Rattle.world_pipes.specs.Piped.{Calls, Piped, TakesLeave, is_holding, piped}
 use Rattle.world_pipes.specs.StandsFor.{StandsFor}
 use Rattle.byte_world.specs.World.{after_writing}

@@ -21,7 +21,7 @@ use Rattle.world_pipes.specs.declared.sending.Sending.{Sending}
 use Rattle.world_pipes.specs.declared.sending.Sending.TheVariants as sendings
 use Rattle.world_pipes.specs.declared.way.Way.{Way}
 use Rattle.world_pipes.specs.Following.{CallingFollows, after_losing}
-use Rattle.world_pipes.specs.Goes.{ClientGoes, ClientStep}
+use Rattle.world_pipes.specs.Steps.{ClientGoes, ClientStep}
 use Rattle.world_pipes.specs.Piped.{Calls, GoesUp, GoesUpWhere, Piped, TakesLeave, broken, is_holding, piped}
 use Rattle.world_pipes.specs.Piped as pipings
 use Rattle.byte_world.specs.exactly_once.Acceptance.{accepted_on}

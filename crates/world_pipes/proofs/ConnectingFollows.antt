@@ -21,7 +21,7 @@ use Rattle.byte_world.specs.World.{ClientPipes, new_client}
 use Rattle.byte_world.specs.ClientSteps.{after_connecting}
 use Rattle.world_pipes.specs.declared.way.Way.{Way}
 use Rattle.world_pipes.specs.Following.{ConnectingFollows, FollowsAll}
-use Rattle.world_pipes.specs.Goes.{ClientGoes}
+use Rattle.world_pipes.specs.Steps.{ClientGoes}
 use Rattle.world_pipes.specs.Piped.{Connects, Piped, is_holding, new_piped, new_way, piped, sent_up}
 use Rattle.byte_world.specs.exactly_once.Acceptance.{accepted_on}
 use Rattle.world_pipes.specs.StandsFor.{AreWays, CanGoOut, StandsFor}

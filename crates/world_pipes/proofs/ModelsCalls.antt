@@ -22,7 +22,7 @@ use Rattle.client.specs.client_base.Keeper.{Keeper, Written, ids_in_use}
 use Rattle.client.specs.client_base.Steps.{Call, disconnected, keeper_step, request_refusal, subscribed, unsubscribed}
 use Rattle.client.specs.client_base.Written.{plain, writes_first}
 use Rattle.client.proofs.of_client_base.Follows.{calls_follow}
-use Rattle.byte_world.specs.packet_world.Goes.{is_call}
+use Rattle.byte_world.specs.packet_world.Steps.{is_call}
 use Rattle.byte_world.specs.exactly_once.Sides.{Connection}
 use Rattle.byte_world.specs.exactly_once.Story.{StoryStep}
 use Rattle.byte_world.specs.World.{ClientPipes, packets_of}

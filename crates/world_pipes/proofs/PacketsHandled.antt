@@ -20,7 +20,7 @@ use Rattle.byte_world.specs.exactly_once.Sides.{Connection, Side}
 use Rattle.byte_world.specs.World.{ClientPipes, Pipe, newly_written}
 use Rattle.byte_world.specs.ClientSteps.{after_packet}
 use Rattle.byte_world.proofs.OnTheWay.{newly_is}
-use Rattle.world_pipes.specs.Goes.{ClientGoes, ClientStep, published_along, published_with}
+use Rattle.world_pipes.specs.Steps.{ClientGoes, ClientStep, published_along, published_with}
 use Rattle.byte_world.specs.exactly_once.Acceptance.{accepted_on}
 use Rattle.world_pipes.specs.StandsFor.{CanGoOut}
 use Rattle.byte_world.specs.Accepted.{accepted_once}

@@ -1,7 +1,7 @@
 -- StepsInWorlds.antt: a client's step is one of its world.
 use Rattle.std.proofs.Common.{refl}
-use Rattle.byte_world.specs.Goes.{WorldStep}
-use Rattle.world_pipes.specs.Goes.{ClientStep, ClientsStepInWorlds}
+use Rattle.byte_world.specs.Steps.{WorldStep}
+use Rattle.world_pipes.specs.Steps.{ClientStep, ClientsStepInWorlds}
 
 pub steps_in_worlds : ClientsStepInWorlds
 steps_in_worlds w i c d at (ClientStep.calls t h is spelled) = record { is = WorldStep.calls i c t h at is spelled; published = refl }

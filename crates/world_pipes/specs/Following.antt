@@ -6,7 +6,7 @@ use Rattle.byte_world.specs.broker_spec.Commands.{usual_limits}
 use Rattle.byte_world.specs.broker_spec.Connection.{ConnectionName}
 use Rattle.client.specs.client_base.declared.error.ClientError.{ClientError}
 use Rattle.client.specs.client_base.Handled.{lost}
-use Rattle.byte_world.specs.packet_world.Goes.{is_call}
+use Rattle.byte_world.specs.packet_world.Steps.{is_call}
 use Rattle.client.specs.session_base.declared.publication.Publication.{Publication}
 use Rattle.byte_world.specs.exactly_once.Story.{StoryStep, Story}
 use Rattle.byte_world.specs.world_base.declared.Port.{Port}
@@ -15,7 +15,7 @@ use Rattle.byte_world.specs.ClientSteps.{CanBeSpelled, after_connecting, story_a
 use Rattle.byte_world.specs.Published.{published_by}
 use Rattle.world_pipes.specs.declared.sending.Sending.{Sending}
 use Rattle.world_pipes.specs.declared.sending.Sending.TheVariants as sendings
-use Rattle.world_pipes.specs.Goes.{ClientGoes, published_along}
+use Rattle.world_pipes.specs.Steps.{ClientGoes, published_along}
 use Rattle.world_pipes.specs.Piped.{Hears, Piped, is_holding}
 use Rattle.world_pipes.specs.StandsFor.{StandsFor}
 

@@ -2,6 +2,6 @@ pub mod Piped
 pub mod Held
 pub mod Inside
 pub mod StandsFor
-pub mod Goes
+pub mod Steps
 pub mod Following
 pub mod FollowingBytes

@@ -1,6 +1,6 @@
 // Laws of clients in worlds. The calls do nothing; their contracts are the laws.
 
-ghost use Rattle.world_pipes.specs.Goes.{ClientsStepInWorlds};
+ghost use Rattle.world_pipes.specs.Steps.{ClientsStepInWorlds};
 
 /// States that what a client does without its nodes is a step of every world in which it is a
 /// client.

@@ -3,7 +3,7 @@ use Rattle.std.specs.Prelude.{◌≡◌, ◌⊎◌, ◌-◌, ◌==◌, ◌&&◌,
 use Rattle.headline.specs.world_base.declared.Port.{Port}
 use Rattle.headline.specs.world_base.declared.item.Item.TheVariants.{Bytes}
 use Rattle.headline.specs.node_moves.Moves.NodeCall.{takes}
-use Rattle.escaping_nodes.specs.world_nodes.Goes.{Acts}
+use Rattle.escaping_nodes.specs.world_nodes.ExactSteps.{Acts}
 use Rattle.escaping_nodes.specs.world_nodes.Running.{running}
 use Rattle.escaping_nodes.specs.world_nodes.Nodes.{NodesState}
 use Rattle.escaping_nodes.specs.world_nodes.Steps.{TakesIn}

@@ -8,7 +8,7 @@ use Rattle.headline.specs.world_base.Handing.{listed_at}
 use Rattle.headline.specs.world_base.declared.Port.{Port}
 use Rattle.headline.specs.world_base.declared.item.Item.TheVariants.{Opened}
 use Rattle.headline.specs.node_moves.Moves.NodeCall.{takes}
-use Rattle.escaping_nodes.specs.world_nodes.Goes.{Acts}
+use Rattle.escaping_nodes.specs.world_nodes.ExactSteps.{Acts}
 use Rattle.escaping_nodes.specs.world_nodes.Running.{node_of}
 use Rattle.escaping_nodes.specs.world_nodes.Nodes.{NodesState}
 use Rattle.escaping_nodes.specs.world_nodes.Steps.{LosesNothing as NodesLoseNothing, TakesIn}

@@ -4,7 +4,7 @@ use Rattle.escaping_nodes.specs.master.declared.event.Idle.{Idle}
 use Rattle.headline.specs.world_base.declared.Handed.{Handed}
 use Rattle.headline.specs.world_base.declared.Port.{Port}
 use Rattle.headline.specs.node_moves.Moves.NodeCall.{gives}
-use Rattle.escaping_nodes.specs.world_nodes.Goes.{Acts, HandsOver}
+use Rattle.escaping_nodes.specs.world_nodes.ExactSteps.{Acts, HandsOver}
 use Rattle.escaping_nodes.specs.world_nodes.Running.{node_of}
 use Rattle.escaping_nodes.specs.world_nodes.Nodes.{NodesState}
 use Rattle.escaping_nodes.specs.world_nodes.Steps.{forgetful as nodes_forgetful}

@@ -8,7 +8,7 @@ use Rattle.escaping_nodes.specs.world_nodes.Nodes.{NodesState, StandsFor as Node
 use Rattle.escaping_nodes.specs.world_nodes.Steps.{LosesNothing as NodesLoseNothing}
 use Rattle.world_events.specs.declared.event.Event.{Event}
 use Rattle.world.specs.Asking.{IsAsked}
-use Rattle.world.specs.Goes.{NodesGoOn}
+use Rattle.world.specs.Trace.{NodesGoOn}
 use Rattle.world.specs.Cannot.{CannotHappen}
 use Rattle.world.specs.Doing.{Does}
 use Rattle.world.specs.Happening.{HappensLosing}

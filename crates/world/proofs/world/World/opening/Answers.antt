@@ -1,6 +1,6 @@
 use Rattle.std.proofs.Common.{refl}
 use Rattle.headline.specs.node_group.Group.{opening_group}
-use Rattle.headline.specs.node_group.Goes.GroupTrace.{opened}
+use Rattle.headline.specs.node_group.Steps.GroupTrace.{opened}
 use Rattle.world.proofs.NodesGoOn.{are_reached}
 use Rattle.world.proofs.OpensReached.{housed_none, opens_reached}
 use Rattle.world.proofs.world.World.opening.Goals as goal

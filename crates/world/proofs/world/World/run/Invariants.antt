@@ -1,5 +1,5 @@
 use Rattle.std.proofs.Common.{take}
-use Rattle.world.specs.Goes.{WorldGoesOn}
+use Rattle.world.specs.Trace.{WorldGoesOn}
 use Rattle.world.specs.Happening.{Run}
 use Rattle.world.proofs.AskedSo.{HasAsked}
 use Rattle.world.proofs.world.World.run.Given as goal

@@ -7,9 +7,9 @@ use Rattle.client.specs.session_base.declared.publication.Publication.{Publicati
 use Rattle.client.specs.client_base.Handled.{handled}
 use Rattle.byte_world.specs.exactly_once.Sides.{Connection}
 use Rattle.byte_world.specs.exactly_once.Story.{Story, StoryStep}
-use Rattle.byte_world.specs.packet_world.Goes.{is_call}
+use Rattle.byte_world.specs.packet_world.Steps.{is_call}
 use Rattle.byte_world.specs.World.{ClientPipes, Pipe, World, after_writing, with_client, with_pipe}
-use Rattle.byte_world.specs.Goes.{WorldStep}
+use Rattle.byte_world.specs.Steps.{WorldStep}
 use Rattle.byte_world.specs.ClientSteps.{CanBeSpelled, after_packet, story_alone}
 use Rattle.byte_world.specs.Published.{from_client, published_by, published_in}
 

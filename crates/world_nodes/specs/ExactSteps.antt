@@ -17,7 +17,7 @@ use Rattle.byte_world.specs.world_base.Handing.{answer_of, bytes_of, listed_at}
 use Rattle.byte_world.specs.node_moves.Moves.{NodeCall, done}
 use Rattle.byte_world.specs.node_moves.Moves.NodeCall.{takes, gives}
 use Rattle.byte_world.specs.node_group.Group.{Group}
-use Rattle.byte_world.specs.Goes.{Does}
+use Rattle.byte_world.specs.Steps.{Does}
 use Rattle.world_nodes.specs.Nodes.{NodesState, StandsFor}
 use Rattle.world_nodes.specs.Running.{running, node_of, cutting}
 

@@ -8,7 +8,7 @@ use Rattle.headline.specs.snapshots.Moments.{IsAgreed}
 use Rattle.headline.specs.broker_spec.declared.command.Command.{Command}
 use Rattle.headline.specs.world_base.Core.{rules}
 use Rattle.headline.specs.node_group.Group.{Group, moment_of}
-use Rattle.headline.specs.node_group.Goes.{GroupStep, GroupTrace, all_put, groups_of}
+use Rattle.headline.specs.node_group.Steps.{GroupStep, GroupTrace, all_put, groups_of}
 use Rattle.headline.specs.node_group.Order.{KeepsOrder}
 use Rattle.escaping_nodes.specs.world_nodes.Nodes.{NodesState, StandsFor}
 use Rattle.world.specs.World.{WorldState}

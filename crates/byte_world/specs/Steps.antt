@@ -11,7 +11,7 @@ use Rattle.node_group.specs.broker_spec.Place.{Client}
 use Rattle.node_group.specs.client_base.Handled.{handled}
 use Rattle.node_group.specs.exactly_once.Sides.{Connection}
 use Rattle.node_group.specs.exactly_once.Story.{Story, StoryStep}
-use Rattle.node_group.specs.packet_world.Goes.{is_call}
+use Rattle.node_group.specs.packet_world.Steps.{is_call}
 use Rattle.node_group.specs.world_base.declared.Connection.{Connection as NodesEnd}
 use Rattle.node_group.specs.world_base.declared.Port.{Port}
 use Rattle.node_group.specs.world_base.declared.item.Item.TheVariants.{Opened, Bytes}
