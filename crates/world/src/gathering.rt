@@ -40,13 +40,13 @@ impl World {
         let mut at = self.open_len();
         while at > 0 {
             at -= 1;
-            self.ask_at(node, at);
+            self.gather_at(node, at);
         }
     }
 
     // Carries down what the node queued on the connection at this index among those whose end is
     // open, if that leads to the node.
-    fn ask_at(&mut self, node: u8, at: usize)
+    fn gather_at(&mut self, node: u8, at: usize)
         requires { at < length (open_from 1 self.old.connections) }
         ensures goes { GoesOn self.old self.new }
         ensures asks { AsksAt node at self.old self.new }

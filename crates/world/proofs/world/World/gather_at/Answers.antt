@@ -6,7 +6,7 @@ use Rattle.world.proofs.Joined.{goes_on_join, goes_on_rest, goes_on_still}
 use Rattle.world.proofs.Gathered.{stays_open}
 use Rattle.world.proofs.Walked.{asks_none, asks_one}
 use Rattle.world.proofs.QuietEvents.{stays_join, stays_rest}
-use Rattle.world.proofs.world.World.ask_at.Goals as goal
+use Rattle.world.proofs.world.World.gather_at.Goals as goal
 
 pub returns-then-slot-node-clause-goes : goal.returns-then-slot-node-clause-goes
 returns-then-slot-node-clause-goes c = goes_on_rest _ _ refl
