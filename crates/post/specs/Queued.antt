@@ -6,8 +6,6 @@ use Rattle.node.specs.Effect.TheVariants.{To}
 use Rattle.node.specs.Message.{Message}
 use Rattle.node.specs.declared.Item.{Item}
 use Rattle.node.specs.declared.Item.TheVariants.{Peer, Expel, Crash}
-use Rattle.post.specs.Given.{WasGiven}
-use Rattle.post.specs.Mastering.{WasAnswered}
 pub use Rattle.post.specs.Given.{EachOpens, EachOpensAs, IsNewNode, WasGiven}
 pub use Rattle.post.specs.Mastering.{WasAnswered}
 

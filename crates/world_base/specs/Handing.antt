@@ -4,7 +4,6 @@ use Rattle.std.specs.List.{find, filter}
 use Rattle.node_connections.specs.declared.port.Port.{Port}
 use Rattle.node_connections.specs.declared.connection.Connection.{Connection}
 use Rattle.node_connections.specs.Connections.{is_at, is_listed, handed, changed}
-use Rattle.node_connections.specs.Pending.{is_idle}
 use Rattle.world_base.specs.Core.{CoreState}
 pub use Rattle.node_connections.specs.Pending.{answer_of, bytes_of, is_idle}
 

@@ -2,7 +2,6 @@
 -- 3.1.2.10).
 use Rattle.std.specs.Prelude.{ℕ, length, Option, Some, None}
 use Rattle.node_connections.specs.declared.port.Port.{Port}
-use Rattle.node_connections.specs.Silent.{lowest_silent}
 use Rattle.world_base.specs.Core.{CoreState, Turn}
 use Rattle.world_base.specs.Reading.{ends}
 use Rattle.world_base.specs.Turns.{quiet, repeated}

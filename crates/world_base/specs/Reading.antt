@@ -12,7 +12,6 @@ use Rattle.node_connections.specs.broker_spec.declared.command.Command.TheVarian
 use Rattle.node_connections.specs.declared.port.Port.{Port}
 use Rattle.node_connections.specs.declared.connection.Connection.{Connection}
 use Rattle.node_connections.specs.Connections.{is_open_at, is_first, is_proposed, asked, left_with, closed, changed}
-use Rattle.node_connections.specs.Refusing.{refused}
 use Rattle.world_base.specs.Core.{CoreState, Turn}
 use Rattle.world_base.specs.Turns.{quiet, repeated, proposes, has_room}
 pub use Rattle.node_connections.specs.Refusing.{refused}
