@@ -70,7 +70,7 @@ impl Seen {
         reading: &ListReading,
         strays: &[bool],
     ) -> Option<Result<(), Broken>> {
-        self.is_confirmed = self.is_confirmed || core.connected();
+        self.is_confirmed = self.is_confirmed || core.is_connected();
         if self.may_stray() {
             return Some(Ok(()));
         }

@@ -125,10 +125,10 @@ impl Caller {
         ensures trace { OnOk result (Trace self.old [] self.new) }
         ensures lost { IfErr result (IsLostBy self.old self.new) }
     {
-        let was_connected = self.core.connected();
+        let was_connected = self.core.is_connected();
         let goes_on = goes_on(self.core.on_bytes(piece))?;
         self.check_first_session()?;
-        let is_connected = self.core.connected();
+        let is_connected = self.core.is_connected();
         self.was_accepted = self.was_accepted || is_connected;
         Ok(news_of(goes_on, was_connected, is_connected))
     }
@@ -138,7 +138,7 @@ impl Caller {
         ensures ok { OnOk result (IsFirst self.now self.now.core) }
         ensures err { IfErr result (λ fault. fault ≡ UserClientError.SessionPresent) }
     {
-        if !self.was_accepted && self.core.present() {
+        if !self.was_accepted && self.core.is_session_present() {
             return Err(UserClientError::SessionPresent);
         }
         Ok(())

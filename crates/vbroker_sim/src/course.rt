@@ -278,5 +278,5 @@ impl Course {
 
 // Says whether a client is connected, as far as it knows.
 fn is_served(world: &World, name: &ClientId) -> bool {
-    world.client(name).is_some_and(|core| core.connected())
+    world.client(name).is_some_and(|core| core.is_connected())
 }

@@ -24,7 +24,7 @@ fn is_the_end(alloc: Global, piece: &[u8], cause: ClientError) -> Result<bool, F
         (Act::Bytes(NOTHING), Some(NotActive), NOTHING, 0, 1),
     ];
     match play(alloc, &rows) {
-        Ok(client) => Ok(!client.connected()),
+        Ok(client) => Ok(!client.is_connected()),
         Err(fault) => Err(fault),
     }
 }

@@ -15,7 +15,12 @@ type Shown = (usize, usize, bool, bool);
 
 fn shown_by(client: &ClientCore) -> Shown {
     let (kept, accepted) = counts(client);
-    (kept, accepted, client.connected(), client.present())
+    (
+        kept,
+        accepted,
+        client.is_connected(),
+        client.is_session_present(),
+    )
 }
 
 // Returns what is seen once the connection is lost.
@@ -162,7 +167,7 @@ fn answers(client: &mut ClientCore, alloc: Global, count: usize) -> bool {
 
 // Says whether a client that found no memory is lost, and answers both when they come again.
 fn answers_again(client: &mut ClientCore, alloc: Global) -> bool {
-    !client.connected()
+    !client.is_connected()
         && is_back(client, alloc, true)
         && give(client, PUBLISHES).is_none()
         && wrote(client, alloc, PUBRECS)

@@ -109,7 +109,7 @@ fn comes_out(
 // Says whether a client is online with its session present.
 fn is_served(world: &World, client: &ClientId) -> bool {
     match world.client(client) {
-        Some(core) => core.connected() && core.present(),
+        Some(core) => core.is_connected() && core.is_session_present(),
         None => false,
     }
 }
