@@ -64,30 +64,28 @@ commit_gives {S = S} {C = C} {O = O} rules r held machine log progress start mid
 
 -- a command that was sent, put into the log and committed is added
 pub add_done : {S C O : Type 0} (rules : Rules S C O) (old grown after new : CountedReplica S C) (command : C)
-    (log : Log C) (progress progress' : List Progress) (long held : ℕ) (sent told : Bool)
+    (log : Log C) (progress : List Progress) (long held : ℕ) (sent told : Bool)
     (start mid later : List (Effect C O)) →
-    Sends start mid (message_to_followed O old.state.id (Append old.state.joined (places old.state.log) command) progress) sent →
-    progress ≡ old.state.progress →
+    Sends start mid (message_to_followed O old.state.id (Append old.state.joined (places old.state.log) command) old.state.progress) sent →
     log ≡ pushed old.state.log command →
     grown ≡ record { state = record old.state { log = log }; losses = old.losses } →
-    long ≡ places log → progress' ≡ old.state.progress → held ≡ least long progress' →
+    long ≡ places log → progress ≡ old.state.progress → held ≡ least long progress →
     after ≡ record { state = (commit_at rules grown.state held).state; losses = grown.losses } →
     Sends mid later (commit_at rules grown.state held).effects told →
     new.state ≡ after.state → new.losses ≡ cond (sent && told) after.losses (one_more after.losses) →
     Done old (added rules old.state command) new start later
-add_done {S = S} {C = C} {O = O} rules old grown after new command log progress progress' long held sent told start mid later
-    appends m l p0 n0 m' h0 a commits kept n =
+add_done {S = S} {C = C} {O = O} rules old grown after new command log progress long held sent told start mid later
+    appends l p0 n0 m h0 a commits kept n =
     let p : grown ≡ record { state = record old.state { log = pushed old.state.log command }; losses = old.losses } =
     p0 ∙ ap (λ xs. let z : CountedReplica S C = record { state = record old.state { log = xs }; losses = old.losses } in z) l in
     let h : held ≡ least (places (pushed old.state.log command)) old.state.progress =
-    h0 ∙ ap (λ k. least k progress') (n0 ∙ ap places l) ∙ ap (least (places (pushed old.state.log command))) m' in
+    h0 ∙ ap (λ k. least k progress) (n0 ∙ ap places l) ∙ ap (least (places (pushed old.state.log command))) m in
     let r : ReplicaState S C = record old.state { log = pushed old.state.log command } in
     let o : Outcome S C O = commit_at rules r (least (places (pushed old.state.log command)) old.state.progress) in
     let same : commit_at rules grown.state held ≡ o =
     ap (λ (z : CountedReplica S C). commit_at rules z.state held) p ∙ ap (commit_at rules r) h in
     let all : Sends start later (message_to_followed O old.state.id (Append old.state.joined (places old.state.log) command) old.state.progress ++ o.effects) (sent && told) =
-    Sends-then
-    (subst (λ xs. Sends start mid (message_to_followed O old.state.id (Append old.state.joined (places old.state.log) command) xs) sent) m appends)
+    Sends-then appends
     (subst (λ (z : Outcome S C O). Sends mid later z.effects told) same commits) in
     let state : new.state ≡ o.state =
     kept ∙ ap (λ (z : CountedReplica S C). z.state) a

@@ -9,7 +9,7 @@ use Rattle.ballot_base.specs.declared.status.Progress.{Progress}
 use Rattle.ballot_base.specs.declared.status.Role.{Role}
 use Rattle.ballot_base.specs.declared.status.Role.TheVariants.{Backup, Active}
 use Rattle.ballot_base.specs.Logs.{Log, empty_log}
-use Rattle.ballot_base.specs.Replica.{CountedReplica, opening, others, progress_at}
+use Rattle.ballot_base.specs.Replica.{CountedReplica, opening, opening_member, others, progress_at}
 
 -- which ballot a node has joined at first
 abbrev pub joined_first : ℕ → Config → ℕ
@@ -41,28 +41,48 @@ at_first id ballot log machine role members previous_members lacking progress =
       losses = 0;
     }
 
+abbrev pub opened_member : {S C O : Type 0} → Rules S C O → ℕ → Config → CountedReplica S C
+opened_member rules id config = record { state = opening_member rules id config; losses = 0 }
+
 abbrev pub opened : {S C O : Type 0} → Rules S C O → ℕ → Config → CountedReplica S C
 opened rules id config = record { state = opening rules id config; losses = 0 }
 
--- the primary of ballot 1
-pub opens_active : {S C O : Type 0} (rules : Rules S C O) (id : ℕ) (config : Config) (ballot : ℕ) (machine : S) (log : Log C)
+-- a node as it opens, before it is known whether it is the primary
+pub opens_as_member : {S C O : Type 0} (rules : Rules S C O) (id : ℕ) (config : Config) (ballot : ℕ) (machine : S) (log : Log C)
     (members previous_members lacking : List ℕ) (progress : List Progress) →
-    id ≡ config.primary → ballot ≡ joined_first id config → machine ≡ rules.opening → log ≡ empty_log C →
-    members ≡ config.members → previous_members ≡ [] → lacking ≡ [] → progress ≡ progress_at 0 (others id config.members) →
-    at_first id ballot log machine Active members previous_members lacking progress ≡ opened rules id config
-opens_active {S = S} {C = C} rules id config ballot machine log members previous_members lacking progress first b m l ms pm k p =
-    rw (b, m, l, ms, pm, k, p, eq-eqb id config.primary first) refl
+    ballot ≡ joined_first id config → machine ≡ rules.opening → log ≡ empty_log C →
+    members ≡ [] → previous_members ≡ [] → lacking ≡ [] → progress ≡ [] →
+    at_first id ballot log machine Backup members previous_members lacking progress ≡ opened_member rules id config
+opens_as_member {S = S} {C = C} rules id config ballot machine log members previous_members lacking progress b m l ms pm k p =
+    rw (b, m, l, ms, pm, k, p) refl
+
+-- the primary of ballot 1
+pub opens_active : {S C O : Type 0} (rules : Rules S C O) (id : ℕ) (config : Config) (old new : CountedReplica S C) →
+    id ≡ config.primary → old ≡ opened_member rules id config →
+    new ≡ record old {
+      state = record old.state {
+        role = Active;
+        members = config.members;
+        progress = progress_at 0 (others old.state.id config.members);
+      };
+    } →
+    new ≡ opened rules id config
+opens_active {S = S} {C = C} rules id config old new first o n =
+    n ∙ ap (λ (z : CountedReplica S C). let y : CountedReplica S C = record z {
+      state = record z.state {
+        role = Active;
+        members = config.members;
+        progress = progress_at 0 (others z.state.id config.members);
+      };
+    } in y) o
+    ∙ rw (eq-eqb id config.primary first) refl
 
 -- any other node
-pub opens_backup : {S C O : Type 0} (rules : Rules S C O) (id : ℕ) (config : Config) (ballot : ℕ) (machine : S) (log : Log C)
-    (members previous_members lacking : List ℕ) (progress : List Progress) →
-    (id ≡ config.primary → ⊥) → ballot ≡ joined_first id config → machine ≡ rules.opening → log ≡ empty_log C →
-    members ≡ [] → previous_members ≡ [] → lacking ≡ [] → progress ≡ [] →
-    at_first id ballot log machine Backup members previous_members lacking progress ≡ opened rules id config
-opens_backup {S = S} {C = C} rules id config ballot machine log members previous_members lacking progress other b m l ms pm k p =
+pub opens_backup : {S C O : Type 0} (rules : Rules S C O) (id : ℕ) (config : Config) (old : CountedReplica S C) →
+    (id ≡ config.primary → ⊥) → old ≡ opened_member rules id config → old ≡ opened rules id config
+opens_backup {S = S} {C = C} rules id config old other o =
     by_test (cases_Bool (id == config.primary))
   where
-    by_test : ((id == config.primary) ≡ true) ⊎ ((id == config.primary) ≡ false) →
-        at_first id ballot log machine Backup members previous_members lacking progress ≡ opened rules id config
+    by_test : ((id == config.primary) ≡ true) ⊎ ((id == config.primary) ≡ false) → old ≡ opened rules id config
     by_test (inl e) = absurd (other (eqb-true id config.primary e))
-    by_test (inr e) = rw (b, m, l, ms, pm, k, p, e) refl
+    by_test (inr e) = o ∙ rw e refl

@@ -8,15 +8,17 @@ ghost use Rattle.ballot_base.specs.lists.Lists.{IsPrefixOf};
 ghost use Rattle.ballot_base.specs.LawfulConfig.{is_lawful};
 ghost use Rattle.ballot_base.specs.Logs.{places};
 ghost use Rattle.ballot_base.specs.Losses.{Stepped, Done, halted, one_more};
-ghost use Rattle.ballot_base.specs.Replica.{is_active, opening, status_of};
+ghost use Rattle.ballot_base.specs.Replica.{is_active, opening, opening_member, others};
+ghost use Rattle.ballot_base.specs.Replica.{progress_at, status_of};
+ghost use Rattle.ballot_base.specs.Sending.{message_to_followed};
 ghost use Rattle.ballot_base.specs.Serving.{added, commit_at, max_places, proposed};
 
 use crate::error::{OpeningError, ProposeError};
 use ballot_base::{
-    Config, Effect, Log, MAX_NODE, Members, Progress, Role, Status, apply_places, counted,
+    Body, Config, Effect, Log, MAX_NODE, Members, Progress, Role, Status, apply_places, counted,
     least_held, progress_of_others, send_appends, send_commits,
 };
-use machine::{Halted, Machine};
+use machine::{Halted, Machine, Memory};
 use std::alloc::Global;
 use std::marker::Model;
 
@@ -136,10 +138,26 @@ impl<M: Machine> Replica<M> {
         if !config.is_lawful() {
             return Err(OpeningError::BadMembers);
         }
-        let members = config.members.as_slice();
         let machine = M::fresh(alloc)?;
+        let mut replica = Replica::new_backup(alloc, id, config, machine);
+        if id == config.primary {
+            replica.lead_first_ballot(config)?;
+        }
+        Ok(replica)
+    }
+
+    // Returns node `id` in ballot 1 with a new machine, as a backup. A node that is no member has
+    // joined no ballot.
+    fn new_backup(alloc: Global, id: u8, config: &Config, machine: M) -> Replica<M>
+        requires { machine ≡ M.rules.opening }
+        ensures { result ≡ record {
+          state = opening_member M.rules id config.now;
+          losses = 0;
+        } }
+    {
+        let members = config.members.as_slice();
         let ballot = if members.contains(&id) { 1 } else { 0 };
-        let mut replica = Replica {
+        Replica {
             alloc,
             id,
             joined: ballot,
@@ -155,13 +173,24 @@ impl<M: Machine> Replica<M> {
             machine,
             stopped: false,
             losses: 0,
-        };
-        if id == config.primary {
-            replica.role = Role::Active;
-            replica.members = Members::from_slice(alloc, members)?;
-            replica.progress = progress_of_others(alloc, 0, id, members)?;
         }
-        Ok(replica)
+    }
+
+    // Makes this node the active primary of these members, none of which holds a place.
+    fn lead_first_ballot(&mut self, config: &Config) -> Result<(), Memory>
+        ensures { OnOk result (self.new ≡ record self.old {
+          state = record self.old.state {
+            role = Role.Active;
+            members = config.now.members;
+            progress = progress_at 0 (others self.old.state.id config.now.members);
+          };
+        }) }
+    {
+        let members = config.members.as_slice();
+        self.role = Role::Active;
+        self.members = Members::from_slice(self.alloc, members)?;
+        self.progress = progress_of_others(self.alloc, 0, self.id, members)?;
+        Ok(())
     }
 
     /// Returns what the replica shows of itself.
@@ -263,16 +292,7 @@ impl<M: Machine> Replica<M> {
         ensures err { OnErr result (out.new.items ≡ out.old.items) }
     {
         let before = out.len();
-        let place = self.log.places();
-        let sent = send_appends::<M>(
-            self.alloc,
-            self.id,
-            self.joined,
-            place,
-            &command,
-            &self.progress,
-            out,
-        );
+        let sent = self.send_next(&command, out);
         let Ok(()) = self.log.push(command) else {
             out.truncate(before);
             self.losses = counted(self.losses, false);
@@ -291,6 +311,26 @@ impl<M: Machine> Replica<M> {
                 Err(ProposeError::Halted)
             }
         }
+    }
+
+    // Sends the command of the next place to the other members. Returns whether there was memory
+    // for all messages.
+    fn send_next(&self, command: &M::Command, out: &mut Vec<Effect<M::Command, M::Output>>) -> bool
+        ensures { Sends out.old.items out.new.items
+            (message_to_followed M.Output self.now.state.id
+            (Body.Append self.now.state.joined (places self.now.state.log) command.now)
+            self.now.state.progress) result }
+    {
+        let place = self.log.places();
+        send_appends::<M>(
+            self.alloc,
+            self.id,
+            self.joined,
+            place,
+            command,
+            &self.progress,
+            out,
+        )
     }
 
     // Commits the places below `held`: applies those that are not yet applied, returns their

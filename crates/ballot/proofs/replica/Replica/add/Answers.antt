@@ -7,7 +7,7 @@ use Rattle.ballot.proofs.replica.Replica.add.Goals as goal
 pub commit_at-requires-clause-within : goal.commit_at-requires-clause-within
 commit_at-requires-clause-within g c =
     rw c.least_held-held.ensures
-    (let below : least c.places.result c.deref-2.result.now ≤ c.places.result = least-le _ c.deref-2.result.now in
+    (let below : least c.places.result c.deref.result.now ≤ c.places.result = least-le _ c.deref.result.now in
     omega (arith, below, c.places.ensures))
 
 pub returns-in-Ok-commit_at-clause-outcome : goal.returns-in-Ok-commit_at-clause-outcome
@@ -15,14 +15,13 @@ returns-in-Ok-commit_at-clause-outcome g c =
     let steps = g.M.Machine.rules in
     rw (← c.self.view_is)
     (add_done steps _ _ c.commit_at.new.self _ c.args.command c.push.new.self
-    c.deref.result.now c.deref-2.result.now c.places.result c.least_held-held.result
-    c.send_appends-sent.result c.in-Ok-commit_at.commits_sent _ _ _
-    (rw c.places-place.ensures at c.send_appends-sent.ensures)
-    c.deref.ensures.value
+    c.deref.result.now c.places.result c.least_held-held.result
+    c.send_next-sent.result c.in-Ok-commit_at.commits_sent _ _ _
+    (rw (← c.self.view_is) at c.send_next-sent.ensures)
     c.in-Ok.ensures.ok
     refl
     c.places.ensures
-    c.deref-2.ensures.value
+    c.deref.ensures.value
     c.least_held-held.ensures
     c.in-Ok-commit_at.ensures.state
     c.in-Ok-commit_at.ensures.effects
