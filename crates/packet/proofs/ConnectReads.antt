@@ -13,7 +13,7 @@ use Rattle.packet_base.proofs.FieldsFound.{IsBytes, IsBytes-drop, Splits, Splits
 use Rattle.packet_base.proofs.FieldsAgain.{number_again, text_again}
 use Rattle.packet.specs.declared.connect.Connect.{Connect}
 use Rattle.packet.specs.ClientId.{has_client_length, is_client}
-use Rattle.packet.specs.Connect.{protocol, connect, connect_of, FitsConnect}
+use Rattle.packet.specs.Connect.{protocol, clean_of, connect, connect_of, FitsConnect}
 use Rattle.packet.proofs.Clients.{client_checked, client_parts, client_short}
 
 -- connect flags below 4 whose lowest bit is not set
@@ -23,6 +23,14 @@ clean_flags (suc zero) even small = absurd (omega arith)
 clean_flags (suc (suc zero)) even small = refl
 clean_flags (suc (suc (suc n))) even small = absurd (omega arith)
 
+-- flags that have CleanSession alone, or nothing
+clean_found : (flags : ℕ) → IfOk (clean_of flags) (λ clean. flags ≡ 2 * bit clean)
+clean_found flags =
+    let P : Bool → Type 0 = λ clean. flags ≡ 2 * bit clean in
+    check_if (eqb (flags % 2) 0) _ _ P (λ even.
+    check_if (ltb flags 4) _ _ P (λ small.
+    clean_flags flags (eqb-true _ _ even) (ltb-true _ _ small)))
+
 protocol_found : (body : List ℕ) → IsBytes body → starts_with nat_eq body protocol ≡ true → Splits body protocol (drop 6 body)
 protocol_found body fits named = record {
   parts = (starts_is Decides-eqb body protocol (starts_with nat_eq body protocol) refl).0 named;
@@ -30,14 +38,14 @@ protocol_found body fits named = record {
 }
 
 -- all fields one after another
-whole : (body rest l2 l3 client : List ℕ) (level flags keep_alive : ℕ) → Splits body protocol rest → Splits rest (level ∷ flags ∷ []) l2 → Splits l2 (number keep_alive) l3 → Splits l3 (text client) []
-    → level ≡ 4 → flags ≡ 2 * bit (eqb flags 2) → body ≡ protocol ++ (4 ∷ 2 * bit (eqb flags 2) ∷ []) ++ number keep_alive ++ text client
-whole body rest l2 l3 client level flags keep_alive a b c d is_level is_flags =
+whole : (body rest l2 l3 client : List ℕ) (level flags keep_alive : ℕ) (clean : Bool) → Splits body protocol rest → Splits rest (level ∷ flags ∷ []) l2 → Splits l2 (number keep_alive) l3 → Splits l3 (text client) []
+    → level ≡ 4 → flags ≡ 2 * bit clean → body ≡ protocol ++ (4 ∷ 2 * bit clean ∷ []) ++ number keep_alive ++ text client
+whole body rest l2 l3 client level flags keep_alive clean a b c d is_level is_flags =
     let front : List ℕ → List ℕ = λ two. protocol ++ two ++ number keep_alive ++ text client in
     let ab = Splits-then body protocol rest (level ∷ flags ∷ []) l2 a b in
     let abc = Splits-then body _ l2 (number keep_alive) l3 ab c in
     let abcd = Splits-then body _ l3 (text client) [] abc d in
-    let two : level ∷ flags ∷ [] ≡ 4 ∷ 2 * bit (eqb flags 2) ∷ [] = ap (λ (x : ℕ). x ∷ flags ∷ []) is_level ∙ ap (λ (x : ℕ). 4 ∷ x ∷ []) is_flags in
+    let two : level ∷ flags ∷ [] ≡ 4 ∷ 2 * bit clean ∷ [] = ap (λ (x : ℕ). x ∷ flags ∷ []) is_level ∙ ap (λ (x : ℕ). 4 ∷ x ∷ []) is_flags in
     abcd.parts ∙ append-nil _ ∙ ap front two
 
 pub connect_found : (body : List ℕ) → IsBytes body → IfOk (connect_of body) (λ c. (body ≡ connect c) × FitsConnect c)
@@ -49,17 +57,16 @@ connect_found body fits =
     then_if (byte_at (drop 6 body)) _ (λ x. Splits (drop 6 body) (x.0 ∷ []) x.1 × (x.0 < 256)) Q (byte_found (drop 6 body) a.left) (λ level h1.
     then_if (byte_at level.1) _ (λ x. Splits level.1 (x.0 ∷ []) x.1 × (x.0 < 256)) Q (byte_found level.1 h1.0.left) (λ flags h2.
     check_if (eqb level.0 4) _ _ Q (λ is_level.
-    check_if (eqb (flags.0 % 2) 0) _ _ Q (λ even.
-    check_if (ltb flags.0 4) _ _ Q (λ small.
+    then_if (clean_of flags.0) _ (λ clean. flags.0 ≡ 2 * bit clean) Q (clean_found flags.0) (λ clean is_flags.
     then_if (number_at flags.1) _ (λ x. Splits flags.1 (number x.0) x.1 × (x.0 < 2 ^ 16)) Q (number_found flags.1 h2.0.left) (λ keep h3.
     then_if (text_at keep.1) _ (λ x. Splits keep.1 (text x.0) x.1 × (length x.0 < 2 ^ 16) × (is_text x.0 ≡ true)) Q (text_found keep.1 h3.0.left) (λ client h4.
     seq_if (ended client.1) _ (client.1 ≡ []) Q (ended_found client.1) (λ nothing.
     check_if (has_client_length client.0) _ _ Q (λ len.
     let b = Splits-then (drop 6 body) (level.0 ∷ []) level.1 (flags.0 ∷ []) flags.1 h1.0 h2.0 in
     let d : Splits keep.1 (text client.0) [] = subst (λ (rest : List ℕ). Splits keep.1 (text client.0) rest) nothing h4.0 in (
-      whole body (drop 6 body) flags.1 keep.1 client.0 level.0 flags.0 keep.0 a b h3.0 d (eqb-true _ _ is_level) (clean_flags flags.0 (eqb-true _ _ even) (ltb-true _ _ small)),
+      whole body (drop 6 body) flags.1 keep.1 client.0 level.0 flags.0 keep.0 clean a b h3.0 d (eqb-true _ _ is_level) is_flags,
       (h3.1, client_checked client.0 h4.2 len),
-    )))))))))))
+    ))))))))))
 
 regrouped : (clean : Bool) (keep_alive : ℕ) (client : List ℕ) → protocol ++ (4 ∷ 2 * bit clean ∷ []) ++ number keep_alive ++ text client ≡ protocol ++ (4 ∷ 2 * bit clean ∷ (number keep_alive ++ (text client ++ [])))
 regrouped clean keep_alive client = ap (λ (x : List ℕ). protocol ++ (4 ∷ 2 * bit clean ∷ (number keep_alive ++ x))) (sym (append-nil (text client)))

@@ -1,5 +1,5 @@
 -- CONNECT without Will, user name and password (MQTT 3.1).
-use Rattle.std.specs.Prelude.{ℕ, ◌*◌, ◌%◌, ◌^◌, ◌<◌, nat_lt, nat_eq, ◌==◌, IsTrue, List, [], ◌∷◌}
+use Rattle.std.specs.Prelude.{ℕ, ◌*◌, ◌%◌, ◌^◌, ◌<◌, nat_lt, nat_eq, ◌==◌, Bool, IsTrue, List, [], ◌∷◌}
 use Rattle.std.specs.Prelude.{◌++◌, drop, codes, Result, Ok}
 use Rattle.std.specs.List.{starts_with}
 use Rattle.packet_base.specs.topics.declared.malformed.MalformedKind.TheVariants as kinds
@@ -23,6 +23,13 @@ connect c = protocol ++ (4 ∷ 2 * bit c.clean ∷ []) ++ number c.keep_alive ++
 abbrev pub FitsConnect : Connect → Type 0
 FitsConnect c = (c.keep_alive < 2 ^ 16) × IsTrue (is_client c.client)
 
+-- CleanSession of connect flags, or their first fault: bit 0, then bits 2 to 7 (MQTT 3.1.2.3)
+abbrev pub clean_of : ℕ → Result Bool Stop
+clean_of flags = do
+  check (flags % 2 == 0) (stops.Malformed kinds.Protocol)
+  check (nat_lt flags 4) (stops.Refused codes_of_refusal.NotAuthorized)
+  Ok (flags == 2)
+
 -- a body, or its first fault
 unfoldable pub connect_of : List ℕ → Result Connect Stop
 connect_of body = do
@@ -30,10 +37,9 @@ connect_of body = do
   level ← byte_at (drop 6 body)
   flags ← byte_at level.1
   check (level.0 == 4) (stops.Refused codes_of_refusal.ProtocolVersion)
-  check (flags.0 % 2 == 0) (stops.Malformed kinds.Protocol)
-  check (nat_lt flags.0 4) (stops.Refused codes_of_refusal.NotAuthorized)
+  clean ← clean_of flags.0
   keep_alive ← number_at flags.1
   client ← text_at keep_alive.1
   ended client.1
   check (has_client_length client.0) (stops.Refused codes_of_refusal.IdentifierRejected)
-  Ok (record { client = client.0; clean = flags.0 == 2; keep_alive = keep_alive.0 })
+  Ok (record { client = client.0; clean = clean; keep_alive = keep_alive.0 })

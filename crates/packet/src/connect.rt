@@ -2,8 +2,8 @@
 
 ghost use Rattle.std.specs.Prelude.{◌≡◌, ◌+◌, ◌≤◌, ◌++◌, length, min, vec_len, vec_capacity};
 ghost use Rattle.std.specs.Prelude.{IfOk, IsOk};
-ghost use Rattle.packet_base.specs.Outcome.{Gives, IsOutOfMemory};
-ghost use Rattle.packet.specs.Connect.{connect, connect_of, FitsConnect};
+ghost use Rattle.packet_base.specs.Outcome.{Gives, IsOutOfMemory, TakesNoMemory};
+ghost use Rattle.packet.specs.Connect.{clean_of, connect, connect_of, FitsConnect};
 
 use crate::client_id::{ClientId, has_client_length};
 use packet_base::{Reader, RefusalCode, Stop, put_byte, put_bytes, put_number, put_text};
@@ -46,12 +46,7 @@ impl Connect {
         if level != LEVEL {
             return Err(Stop::Refused(RefusalCode::ProtocolVersion));
         }
-        if flags % 2 != 0 {
-            return Err(Stop::Malformed(MalformedKind::Protocol));
-        }
-        if flags > CLEAN_SESSION {
-            return Err(Stop::Refused(RefusalCode::NotAuthorized));
-        }
+        let clean = clean_of(flags)?;
         let keep_alive = body.number()?;
         let client = body.text()?;
         body.end()?;
@@ -61,7 +56,7 @@ impl Connect {
         let client = ClientId::of_checked(alloc, client)?;
         Ok(Connect {
             client,
-            clean: flags == CLEAN_SESSION,
+            clean,
             keep_alive,
         })
     }
@@ -92,4 +87,18 @@ impl Connect {
         let _keep_alive = self.keep_alive;
         let _client = self.client.as_str();
     }
+}
+
+// Returns CleanSession of connect flags, of which no other may be set (MQTT 3.1.2.3).
+fn clean_of(flags: u8) -> Result<bool, Stop>
+    ensures exact { Gives (λ x. x) result (clean_of flags) }
+    ensures memory { TakesNoMemory result }
+{
+    if flags % 2 != 0 {
+        return Err(Stop::Malformed(MalformedKind::Protocol));
+    }
+    if flags > CLEAN_SESSION {
+        return Err(Stop::Refused(RefusalCode::NotAuthorized));
+    }
+    Ok(flags == CLEAN_SESSION)
 }
