@@ -21,7 +21,7 @@ use world_base::{Config, Members, Memory};
 use world_events::{EscapeError, Event, push_answers, push_client, push_group};
 
 /// More messages than any memory holds.
-const MAX_MESSAGES: u64 = 4_611_686_018_427_387_904;
+const MAX_MESSAGES: u64 = 1 << 62;
 
 impl World {
     /// Returns a list of events that leads out of this world, at most 6n + 5 for n members. It
