@@ -6,11 +6,19 @@ pub record ConnectionName : Type 0 where
   pub ballot : ℕ
   pub count : ℕ
 
+-- the greatest ballot of a name
+abbrev pub max_ballot : ℕ
+max_ballot = 2 ^ 32
+
+-- the greatest number of a connection in its ballot
+abbrev pub max_count : ℕ
+max_count = 2 ^ 40
+
 -- ballots are 1 to 2^32, and the connections of a ballot are numbered 1 to 2^40
 abbrev pub is_connection_name : ConnectionName → Bool
 is_connection_name name =
-    (nat_lt 0 name.ballot && nat_le name.ballot (2 ^ 32))
-    && (nat_lt 0 name.count && nat_le name.count (2 ^ 40))
+    (nat_lt 0 name.ballot && nat_le name.ballot max_ballot)
+    && (nat_lt 0 name.count && nat_le name.count max_count)
 
 -- the ballot and the number of the name are in their ranges
 abbrev pub IsConnectionName : ConnectionName → Type 0

@@ -1,7 +1,7 @@
 -- The first connection that a new primary opens in its ballot.
-use Rattle.std.specs.Prelude.{◌≡◌, ◌<◌, ◌≤◌, ◌^◌, ℕ, true, false, [], ◌∷◌, ◌++◌, filter}
+use Rattle.std.specs.Prelude.{◌≡◌, ◌<◌, ◌≤◌, ℕ, true, false, [], ◌∷◌, ◌++◌, filter}
 use Rattle.std.specs.List.{list_any}
-use Rattle.packet_world.specs.broker_spec.Connection.{ConnectionName}
+use Rattle.packet_world.specs.broker_spec.Connection.{ConnectionName, max_ballot}
 use Rattle.node_moves.specs.world_base.declared.item.Item.TheVariants.{Opened}
 use Rattle.node_moves.specs.world_base.declared.Port.{Port}
 use Rattle.node_moves.specs.world_base.Connections.{fresh, is_at, is_listed}
@@ -28,5 +28,5 @@ abbrev pub FirstIsOpened : Type 0
 FirstIsOpened =
     (core : CoreState) (port : Port) (now : ℕ) → serves core ≡ true → IsCalm core →
     core.last_name.ballot < core.replica.state.joined →
-    core.replica.state.joined ≤ 2 ^ 32 → list_any (is_at port) core.connections ≡ false →
+    core.replica.state.joined ≤ max_ballot → list_any (is_at port) core.connections ≡ false →
     node_step (Opened port now) core ≡ quiet (with_first port core)

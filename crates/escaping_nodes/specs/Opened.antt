@@ -1,9 +1,9 @@
 -- A client that comes back: its connection opens at the new primary, and awaits its CONNECT there.
-use Rattle.std.specs.Prelude.{◌≡◌, ◌<◌, ◌≤◌, ◌^◌, ℕ, ◌+◌, true, false, List, [], None, Some, slice_get}
+use Rattle.std.specs.Prelude.{◌≡◌, ◌<◌, ◌≤◌, ℕ, ◌+◌, true, false, List, [], None, Some, slice_get}
 use Rattle.std.specs.List.{find, list_any}
 use Rattle.escaping.specs.broker_spec.declared.command.Command.{Command}
 use Rattle.escaping.specs.broker_spec.Commands.{past_of, usual_limits}
-use Rattle.escaping.specs.broker_spec.Connection.{ConnectionName}
+use Rattle.escaping.specs.broker_spec.Connection.{ConnectionName, max_ballot}
 use Rattle.escaping.specs.broker_spec.declared.command.Output.{Output}
 use Rattle.escaping.specs.broker_spec.Past.{session_of}
 use Rattle.escaping.specs.broker_spec.Place.{Client}
@@ -38,7 +38,7 @@ pub record CanOpen (a : Moment State Command Output) (n : NodesState) (ballot in
   pub serves : Serves ballot log others_of (index + 1)
       (whole a.world.archive (replica_of node.core))
   pub low : node.core.last_name.ballot < ballot
-  pub most : ballot ≤ 2 ^ 32
+  pub most : ballot ≤ max_ballot
   pub free : list_any (is_at port) node.core.connections ≡ false
   pub unnamed : find (is_open_named (first_of ballot)) node.core.connections ≡ None
 

@@ -1,5 +1,6 @@
 -- Laws about what events do. The calls of `laws.rt` prove them.
 use Rattle.std.specs.Prelude.{◌≡◌, ◌<◌, ◌≤◌, ◌^◌, ◌-◌, ℕ, false, List, Some, Ok}
+use Rattle.headline.specs.broker_spec.Connection.{max_ballot, max_count}
 use Rattle.headline.specs.world_base.Core.{CountedCore}
 use Rattle.escaping_nodes.specs.world_nodes.Running.{node_of}
 use Rattle.world_events.specs.declared.event.Event.{Event}
@@ -16,18 +17,18 @@ UncountedIsExact =
     (event : Event) (old new : WorldState) → Happens event old (Ok tt) new → LosesNothing old new →
     HappensExactly event old new
 
--- an Open at a node that gave a connection the name 2^40 of its ballot changes nothing
+-- an Open at a node that gave a connection the last number of its ballot changes nothing
 abbrev pub OpensPastTheLast : Type 0
 OpensPastTheLast =
     (name : List ℕ) (node : ℕ) (core : CountedCore) (old new : WorldState) →
     node_of old.nodes.nodes node ≡ Some core →
-    core.core.last_name ≡ record { ballot = core.core.replica.state.joined; count = 2 ^ 40 } →
+    core.core.last_name ≡ record { ballot = core.core.replica.state.joined; count = max_count } →
     old.nodes.losses < 2 ^ 64 - 1 →
     Happens (events.Open name node) old (Ok tt) new → new ≡ old
 
--- a node that gave no number above 2^40 - 1 has a name left
+-- a node that has not given the last number has a name left
 abbrev pub HasRoomBefore : Type 0
 HasRoomBefore =
     (core : CountedCore) → 0 < core.core.replica.state.joined →
-    core.core.replica.state.joined ≤ 2 ^ 32 → core.core.last_name.count < 2 ^ 40 →
+    core.core.replica.state.joined ≤ max_ballot → core.core.last_name.count < max_count →
     is_full (Some core) ≡ false

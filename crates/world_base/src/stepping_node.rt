@@ -1,8 +1,8 @@
 // A node during a step.
 
-ghost use Rattle.std.specs.Prelude.{◌≡◌, ◌⊎◌, ◌≤◌, ◌^◌, ◌↔◌, false, true, not, [], length, IfOk, IfSome, OnSome, IfNone, IsErrOf};
+ghost use Rattle.std.specs.Prelude.{◌≡◌, ◌⊎◌, ◌≤◌, ◌↔◌, false, true, not, [], length, IfOk, IfSome, OnSome, IfNone, IsErrOf};
 ghost use Rattle.std.specs.List.{list_any, position};
-ghost use Rattle.node_connections.specs.broker_spec.Connection.{is_connection_name};
+ghost use Rattle.node_connections.specs.broker_spec.Connection.{is_connection_name, max_count};
 ghost use Rattle.ballot.specs.LawfulConfig.{is_lawful};
 ghost use Rattle.ballot.specs.Cutting.{can_cut};
 ghost use Rattle.ballot.specs.Logs.{places};
@@ -51,7 +51,8 @@ impl Drop for SteppingNode {
 }
 
 impl Model for SteppingNode {
-    ghost use Rattle.std.specs.Prelude.{◌≤◌, ◌^◌};
+    ghost use Rattle.std.specs.Prelude.{◌≤◌};
+    ghost use Rattle.node_connections.specs.broker_spec.Connection.{max_count};
     ghost use Rattle.world_base.specs.Inside.{Running};
 
     ghost Value = { Running };
@@ -66,7 +67,7 @@ impl Model for SteppingNode {
           out_of_memory = s.out_of_memory;
         } };
 
-    ghost invariant = { λ s. s.last_count ≤ 2 ^ 40 };
+    ghost invariant = { λ s. s.last_count ≤ max_count };
 }
 
 impl SteppingNode {
@@ -282,7 +283,7 @@ impl SteppingNode {
     // Returns how many connections were accepted in the ballot that the replica joined.
     fn accepted(&self) -> u64
         ensures count { result ≡ accepted self.now.core }
-        ensures most { result ≤ 2 ^ 40 }
+        ensures most { result ≤ max_count }
     {
         if self.last_ballot == self.replica.status().ballot {
             self.last_count
