@@ -36,7 +36,7 @@ use Rattle.master.specs.Group.{GroupState}
 use Rattle.snapshots.specs.Masters.{MasterOutcome}
 use Rattle.master.specs.declared.activation.Activation.{Activation}
 use Rattle.master.specs.declared.activation.Activation.TheVariants.{Activated as Granted, Superseded as Refused}
-use Rattle.master.specs.Inside.{HasCounted, IsGroup, ToldIn, least_but_one, next_least, moment_of, world_of}
+use Rattle.master.specs.Inside.{HasCounted, IsGroup, ToldIn, answer_of, least_but_one, next_least, moment_of, world_of}
 use Rattle.master.specs.Inside.Losing.{MasterTook, TookCut, TookStep}
 use Rattle.master.specs.Exact.{after}
 use Rattle.master.specs.Outcomes.{cut_outcome}
@@ -327,9 +327,9 @@ world_is (inr (e, f)) = inr e
 
 -- what the master answers
 pub answer_is : {C : Type 0} (b : ℕ) (granted : Bool) (activation : Activation) (body : Body C) → activation ≡ cond granted Granted Refused →
-    (activation ≡ Granted → body ≡ Activated b) → (activation ≡ Refused → body ≡ Superseded b) → body ≡ cond granted (Activated b) (Superseded b)
-answer_is b true activation body e grants refuses = grants e
-answer_is b false activation body e grants refuses = refuses e
+    body ≡ answer_of activation b → body ≡ cond granted (Activated b) (Superseded b)
+answer_is b true activation body e is = is ∙ ap (λ a. answer_of a b) e
+answer_is b false activation body e is = is ∙ ap (λ a. answer_of a b) e
 
 -- which counters correspond to the active ballot after an Activate
 pub turned : (told next told' next' : ToldIn) (before after : ℕ) →

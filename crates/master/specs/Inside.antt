@@ -4,13 +4,15 @@ use Rattle.std.specs.Prelude.{ℕ, false, ◌-◌, ◌<◌, ◌≤◌, ◌≡◌
 use Rattle.std.specs.Prelude.{slice_get, Option, Some, None, nat_lt, if◌then◌else◌}
 use Rattle.ballot.specs.machine.Machine.{Rules}
 use Rattle.ballot.specs.Body.{Body}
-use Rattle.ballot.specs.Body.TheVariants.{Activate}
+use Rattle.ballot.specs.Body.TheVariants.{Activate, Activated, Superseded}
 use Rattle.ballot.specs.Config.{Config}
 use Rattle.ballot.specs.Message.{Message}
 use Rattle.ballot.specs.Effect.{Effect}
 use Rattle.ballot.specs.Logs.{places}
 use Rattle.ballot.specs.lists.Lists.{Each, In}
 use Rattle.ballot.specs.Replica.{ReplicaState, CountedReplica}
+use Rattle.master.specs.declared.activation.Activation.{Activation}
+use Rattle.master.specs.declared.activation.Activation.TheVariants as activation
 use Rattle.master.specs.ToldLengths.{max_told}
 use Rattle.snapshots.specs.agreement.MasterState.{MasterState}
 use Rattle.snapshots.specs.Moments.{Moment, Moments}
@@ -106,3 +108,8 @@ least_but_one told least next (member ∷ members) =
 abbrev pub asks_for : {C : Type 0} → Body C → Option ℕ
 asks_for (Activate ballot) = Some ballot
 asks_for _ = None
+
+-- what the master answers to the node that asked it to activate a ballot
+abbrev pub answer_of : {C : Type 0} → Activation → ℕ → Body C
+answer_of activation.Activated ballot = Activated ballot
+answer_of activation.Superseded ballot = Superseded ballot

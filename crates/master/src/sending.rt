@@ -1,8 +1,8 @@
 // The messages of the master.
 
-ghost use Rattle.std.specs.Prelude.{◌≡◌, ◌++◌, ◌∷◌, [], Option, Some, None, if◌then◌else◌};
+ghost use Rattle.std.specs.Prelude.{◌≡◌, ◌++◌, ◌∷◌, []};
 ghost use Rattle.std.specs.Bool.{OnTrue, OnFalse};
-ghost use Rattle.master.specs.Inside.{asks_for};
+ghost use Rattle.master.specs.Inside.{answer_of, asks_for};
 
 use crate::activation::Activation;
 use ballot::{Body, Message};
@@ -19,8 +19,7 @@ pub fn send<C: Drop>(sent: &mut Vec<(u8, Message<C>)>, receiver: u8, body: Body<
 
 /// Returns what the master answers about a ballot.
 pub fn answer_of<C>(activation: Activation, ballot: u64) -> Body<C>
-    ensures granted { activation ≡ Activation.Activated → result ≡ Body.Activated ballot }
-    ensures refused { activation ≡ Activation.Superseded → result ≡ Body.Superseded ballot }
+    ensures { result ≡ answer_of activation ballot }
 {
     match activation {
         Activation::Activated => Body::Activated(ballot),

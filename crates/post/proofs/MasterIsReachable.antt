@@ -1,5 +1,5 @@
 -- MasterIsReachable.antt: a master continues by its answers, and what it sends is one of these.
-use Rattle.std.proofs.Common.{◌≡◌, ℕ, ◌+◌, Bool, true, false, if◌then◌else◌, List, Option, Some, None, Ok, Err, refl, ◌∙◌, ap, sym, subst, true≢false}
+use Rattle.std.proofs.Common.{◌≡◌, ℕ, ◌+◌, if◌then◌else◌, List, Option, Some, None, Ok, Err, refl, ◌∙◌, ap, sym, subst, true≢false}
 use Rattle.std.specs.Result.{is_ok}
 use Rattle.master.specs.agreement.MasterState.{AssignRefusal, MasterState, activating, is_granted, master_after, opening_master, refusal}
 use Rattle.master.specs.snapshots.Masters.{activated, assigned}
@@ -7,14 +7,16 @@ use Rattle.master.specs.agreement.MasterState.AssignRefusal.{bad_members, ballot
 use Rattle.master.specs.declared.activation.Activation.{Activation}
 use Rattle.master.specs.declared.activation.Activation.TheVariants as activation
 use Rattle.master.specs.declared.error.AssignError.{AssignError}
+use Rattle.master.specs.Inside.{answer_of}
+use Rattle.master.proofs.Groups.{answer_is}
 use Rattle.node.specs.Command.{Command}
 use Rattle.node.specs.Message.{Message}
 use Rattle.node.specs.declared.Body.{Body}
-use Rattle.node.specs.declared.Body.TheVariants.{Activate, Activated, NewBallot, Superseded}
+use Rattle.node.specs.declared.Body.TheVariants.{Activate, NewBallot}
 use Rattle.node.specs.declared.Config.{Config}
 use Rattle.node.specs.Effect.TheVariants.{To}
 use Rattle.post.specs.Given.{WasGiven}
-use Rattle.post.specs.Mastering.{IsReachable, WasAnswered, body_of}
+use Rattle.post.specs.Mastering.{IsReachable, WasAnswered}
 use Rattle.post.specs.Mastering.Answers.{to_node, to_order}
 use Rattle.post.specs.Mastering.IsReachable.{answers, opens}
 
@@ -53,16 +55,10 @@ pub reachable_by_node : (old new : MasterState) (asked : Message Command) (ballo
 reachable_by_node old new asked ballot reachable given asks is =
     subst IsReachable (sym is) (answers (activated Command old ballot asked.from old.waiting) reachable (to_node asked ballot given asks))
 
-told : (granted : Bool) (ballot : ℕ)
-    → body_of (if granted then activation.Activated else activation.Superseded) ballot
-    ≡ (if granted then Activated ballot else Superseded ballot)
-told true ballot = refl
-told false ballot = refl
-
 pub answered_node : (old : MasterState) (asked : Message Command) (ballot : ℕ) (body : Body Command) (given : Activation)
     → IsReachable old → WasGiven (To 0 asked) → asked.body ≡ Activate ballot
     → given ≡ (if is_granted old ballot old.waiting then activation.Activated else activation.Superseded)
-    → body ≡ body_of given ballot
+    → body ≡ answer_of given ballot
     → WasAnswered asked.from (record { from = 0; body = body })
 answered_node old asked ballot body given reachable was asks answer is = record {
   master = old;
@@ -70,5 +66,5 @@ answered_node old asked ballot body given reachable was asks answer is = record 
   outcome = activated Command old ballot asked.from old.waiting;
   answers = to_node asked ballot was asks;
   is = ap (λ (b : Body Command). record { receiver = asked.from; message = record { from = 0; body = b } })
-      (is ∙ ap (λ (a : Activation). body_of a ballot) answer ∙ told (is_granted old ballot old.waiting) ballot);
+      (answer_is ballot (is_granted old ballot old.waiting) given body answer is);
 }

@@ -3,21 +3,14 @@ use Rattle.std.specs.Prelude.{◌≡◌, ℕ, ◌<◌, ◌≤◌, true, Option, 
 use Rattle.master.specs.agreement.MasterState.{MasterState, max_ballot, opening_master, refusal}
 use Rattle.master.specs.ballot_base.LawfulConfig.{is_lawful}
 use Rattle.master.specs.snapshots.Masters.{MasterOutcome, activated, assigned}
-use Rattle.master.specs.declared.activation.Activation.{Activation}
-use Rattle.master.specs.declared.activation.Activation.TheVariants as activation
 use Rattle.node.specs.Command.{Command}
 use Rattle.node.specs.Message.{Message}
 use Rattle.node.specs.declared.Body.{Body}
-use Rattle.node.specs.declared.Body.TheVariants.{Activate, Activated, Superseded}
+use Rattle.node.specs.declared.Body.TheVariants.{Activate}
 use Rattle.node.specs.declared.Config.{Config}
 use Rattle.node.specs.Effect.TheVariants.{To}
 use Rattle.post.specs.Carrying.{Addressed}
 use Rattle.post.specs.Given.{WasGiven}
-
--- what the master sends to a primary about its ballot
-abbrev pub body_of : Activation → ℕ → Body Command
-body_of activation.Activated ballot = Activated ballot
-body_of activation.Superseded ballot = Superseded ballot
 
 -- what the master answers to a message of a node: only an Activate gets an answer
 abbrev pub answer_to : MasterState → ℕ → Body Command → Option (MasterOutcome Command)

@@ -9,13 +9,13 @@ ghost use Rattle.master.specs.snapshots.Masters.{assigned};
 ghost use Rattle.node.specs.Command.{Command};
 ghost use Rattle.node.specs.Effect.TheVariants.{To};
 ghost use Rattle.post.specs.Queued.{WasAnswered, WasGiven};
-ghost use Rattle.post.specs.Mastering.{MayGet, answer_to, body_of, master_after, message_if, message_of};
+ghost use Rattle.post.specs.Mastering.{MayGet, answer_to, master_after, message_if, message_of};
 
 use crate::cluster::Cluster;
 use crate::order_error::OrderError;
 use crate::outbox::Outbox;
 use ballot::MASTER;
-use master::{Activation, AssignError, Master};
+use master::{AssignError, Master, answer_of};
 use node::{Body, Command, Config, Members, Message};
 use std::alloc::Global;
 use std::marker::Model;
@@ -168,15 +168,5 @@ impl MessagingMaster {
             receiver: asked.from,
             message: Message { from: MASTER, body },
         })
-    }
-}
-
-// Returns what the master sends to a primary about its ballot, as `answer_of` of `master` does.
-fn answer_of(activation: Activation, ballot: u64) -> Body<Command>
-    ensures { result ≡ body_of activation ballot }
-{
-    match activation {
-        Activation::Activated => Body::Activated(ballot),
-        Activation::Superseded => Body::Superseded(ballot),
     }
 }

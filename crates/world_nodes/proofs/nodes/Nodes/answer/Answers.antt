@@ -12,7 +12,7 @@ pub returns-clause-step : goal.returns-clause-step
 returns-clause-step c =
     let m = c.self.inside.master in
     let body = answer_is c.args.ballot (is_granted m c.args.ballot m.waiting) c.activate-activation.result c.answer_of.result
-    c.activate-activation.ensures.answer c.answer_of.ensures.granted c.answer_of.ensures.refused in
+    c.activate-activation.ensures.answer c.answer_of.ensures in
     let old : NodesState = record {
       master = m;
       nodes = c.self.inside.nodes.items;
@@ -30,7 +30,7 @@ returns-clause-acts c =
     let m = c.self.inside.master in
     let sent = rw (← c.self.view_is) at c.requires in
     let body = answer_is c.args.ballot (is_granted m c.args.ballot m.waiting) c.activate-activation.result c.answer_of.result
-    c.activate-activation.ensures.answer c.answer_of.ensures.granted c.answer_of.ensures.refused in
+    c.activate-activation.ensures.answer c.answer_of.ensures in
     rw (← c.self.view_is) (answers_or_loses (let old : NodesState = record {
       master = m;
       nodes = c.self.inside.nodes.items;
@@ -47,7 +47,7 @@ invariant_of-self c =
     let turned_to = c.follow_ballot.new.self in
     let sent = rw (← c.self.view_is) at c.requires in
     let body = answer_is c.args.ballot (is_granted m c.args.ballot m.waiting) c.activate-activation.result c.answer_of.result
-    c.activate-activation.ensures.answer c.answer_of.ensures.granted c.answer_of.ensures.refused in
+    c.activate-activation.ensures.answer c.answer_of.ensures in
     answers_counting (let old : NodesState = record {
       master = m;
       nodes = c.self.inside.nodes.items;
