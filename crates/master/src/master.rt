@@ -98,9 +98,7 @@ impl Master {
         if self.given >= MAX_BALLOT {
             return Err(AssignError::BallotsSpent);
         }
-        self.given += 1;
-        self.waiting = Some((self.given, config));
-        Ok(self.given)
+        Ok(self.give(config))
     }
 
     /// Gives the next ballot to a configuration that is not refused, and lets it wait. Returns the

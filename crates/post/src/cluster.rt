@@ -13,8 +13,8 @@ use crate::order_error::OrderError;
 use crate::outgoing::Outgoing;
 use crate::peer::Peer;
 use ballot::MASTER;
-use master::AssignError;
-use node::{Config, Members, Memory, NodeNaming, NodeState, OpeningError, Status};
+use master::{AssignError, config_of};
+use node::{Config, Memory, NodeNaming, NodeState, OpeningError, Status};
 use packet::ClientId;
 use std::alloc::Global;
 use std::marker::Model;
@@ -59,10 +59,7 @@ impl Cluster {
             is_lawful config.now.members config.now.primary ≡ false }
     {
         let nodes = peers_of(alloc, numbers)?;
-        let Ok(master) = MessagingMaster::new(Config {
-            members: Members::from_slice(alloc, config.members.as_slice())?,
-            primary: config.primary,
-        }) else {
+        let Ok(master) = MessagingMaster::new(config_of(alloc, config)?) else {
             return Err(OpeningError::BadMembers);
         };
         Ok(Cluster {
