@@ -2,19 +2,22 @@
 
 ghost use Rattle.std.specs.Prelude.{◌≡◌, ◌++◌, ◌∷◌, []};
 ghost use Rattle.std.specs.Bool.{OnTrue, OnFalse};
+ghost use Rattle.ballot.specs.Sending.{master};
 ghost use Rattle.master.specs.Inside.{answer_of, asks_for};
 
 use crate::activation::Activation;
-use ballot::{Body, Message};
+use ballot::{Body, MASTER, Message};
 
 /// Appends a message of the master to those that were sent. Returns whether there was memory for
 /// it.
 pub fn send<C: Drop>(sent: &mut Vec<(u8, Message<C>)>, receiver: u8, body: Body<C>) -> bool
     ensures kept { OnTrue result
-        (sent.new.items ≡ sent.old.items ++ (receiver, record { from = 0; body = body }) ∷ []) }
+        (sent.new.items ≡ sent.old.items ++ (receiver, record { from = master; body = body })
+        ∷ []) }
     ensures lost { OnFalse result (sent.new.items ≡ sent.old.items) }
 {
-    sent.push((receiver, Message { from: 0, body })).is_ok()
+    sent.push((receiver, Message { from: MASTER, body }))
+        .is_ok()
 }
 
 /// Returns what the master answers about a ballot.

@@ -2,6 +2,7 @@
 use Rattle.std.specs.Prelude.{◌≡◌, ℕ, ◌<◌, ◌≤◌, true, Option, Some, None}
 use Rattle.master.specs.agreement.MasterState.{MasterState, max_ballot, opening_master, refusal}
 use Rattle.master.specs.ballot_base.LawfulConfig.{is_lawful}
+use Rattle.master.specs.ballot_base.Sending.{master}
 use Rattle.master.specs.snapshots.Masters.{MasterOutcome, activated, assigned}
 use Rattle.node.specs.Command.{Command}
 use Rattle.node.specs.Message.{Message}
@@ -22,11 +23,11 @@ abbrev pub master_after : MasterState → Option (MasterOutcome Command) → Mas
 master_after master (Some outcome) = outcome.state
 master_after master None = master
 
--- the message about an outcome, with its receiver; 0 is the master's own number
+-- the message about an outcome, with its receiver
 abbrev pub message_of : MasterOutcome Command → Addressed
 message_of outcome = record {
   receiver = outcome.receiver;
-  message = record { from = 0; body = outcome.body };
+  message = record { from = master; body = outcome.body };
 }
 
 -- the message of an outcome of the master, if there is one
