@@ -21,7 +21,7 @@ ghost use Rattle.master.specs.Inside.Losing.{TookStep, input_of};
 ghost use Rattle.master.specs.Steps.{Run, StepsBy, TakesNoMemory, LosesNothing, done_exactly};
 
 use crate::event::{Event, Idle};
-use crate::inputs::{Taken, counted, part, step_replica};
+use crate::inputs::{Input, counted, part, step_replica};
 use crate::master::Master;
 use crate::opening::can_open;
 use crate::told::Told;
@@ -267,27 +267,27 @@ impl<M: Machine> Group<M> {
     }
 
     // Lets a node that runs take an input.
-    fn take_input(&mut self, at: usize, taken: Taken<M::Command>)
+    fn take_input(&mut self, at: usize, input: Input<M::Command>)
         requires runs { (replica : ReplicaState M M.Command) ×
             (slice_get self.old.moment.world.nodes at ≡ Some replica) ×
             (replica.stopped ≡ false) }
-        requires may { MayTake self.old.moment.world at (input_of taken) }
+        requires may { MayTake self.old.moment.world at (input_of input) }
         ensures { (replica : ReplicaState M M.Command) →
             slice_get self.old.moment.world.nodes at ≡ Some replica →
             TookStep M.rules self.old (record {
               index = at;
               before = replica;
-              outcome = replica_step M.rules replica (input_of taken);
+              outcome = replica_step M.rules replica (input_of input);
             }) self.new }
     {
         let from = self.left.len();
-        let told = self.sent.len();
+        let before = self.sent.len();
         let replica = &mut self.nodes[at];
-        let taken = step_replica(replica, taken, &mut self.left);
+        let had_memory = step_replica(replica, input, &mut self.left);
         let kept = part(&mut self.left, &mut self.sent, from);
-        self.told.count_from(&self.sent, told);
-        self.next.count_from(&self.sent, told);
-        self.losses = counted(self.losses, taken, kept);
+        self.told.count_from(&self.sent, before);
+        self.next.count_from(&self.sent, before);
+        self.losses = counted(self.losses, had_memory, kept);
     }
 
     // Returns how long the log of a node is; 0 if the node is unknown.

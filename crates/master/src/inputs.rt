@@ -12,7 +12,7 @@ use machine::Machine;
 
 /// An input of a node.
 #[derive(Drop)]
-pub enum Taken<C> {
+pub enum Input<C> {
     /// A message of another node.
     Received(Message<C>),
     /// A command.
@@ -24,22 +24,22 @@ pub enum Taken<C> {
 /// Lets a replica that runs take an input. Returns whether memory sufficed.
 pub fn step_replica<M: Machine>(
     replica: &mut Replica<M>,
-    taken: Taken<M::Command>,
+    input: Input<M::Command>,
     out: &mut Vec<Effect<M::Command, M::Output>>,
 ) -> bool
     requires { replica.old.state.stopped ≡ false }
-    ensures { TookIn M.rules replica.old (input_of taken) replica.new
+    ensures { TookIn M.rules replica.old (input_of input) replica.new
         out.old.items out.new.items result }
 {
     let before = replica.losses();
-    match taken {
-        Taken::Received(message) => {
+    match input {
+        Input::Received(message) => {
             let _ = replica.on(message, out);
         }
-        Taken::Proposed(command) => {
+        Input::Proposed(command) => {
             let _ = replica.propose(command, out);
         }
-        Taken::Ticked => replica.tick(out),
+        Input::Ticked => replica.tick(out),
     }
     replica.losses() == before && before < u64::MAX
 }

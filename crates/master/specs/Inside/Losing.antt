@@ -12,16 +12,16 @@ use Rattle.ballot.specs.Unread.{is_unread}
 use Rattle.snapshots.specs.Masters.{MasterOutcome}
 use Rattle.snapshots.specs.Steps.{tells_from_master}
 use Rattle.snapshots.specs.World.{messages, outputs, moved}
-use Rattle.master.specs.declared.inputs.Taken.{Taken}
-use Rattle.master.specs.declared.inputs.Taken.TheVariants.{Received, Proposed, Ticked}
+use Rattle.master.specs.declared.inputs.Input.{Input as InputInCode}
+use Rattle.master.specs.declared.inputs.Input.TheVariants.{Received, Proposed, Ticked}
 use Rattle.master.specs.Group.{GroupState}
 use Rattle.master.specs.Exact.{after}
 use Rattle.master.specs.Outcomes.{NodeOutcome}
 use Rattle.master.specs.Outcomes.EventOutcome.{by_cut}
 use Rattle.master.specs.Steps.{Freezes}
 
--- the input of a node
-abbrev pub input_of : {C : Type 0} → Taken C → Input C
+-- the input of a node that one in code means
+abbrev pub input_of : {C : Type 0} → InputInCode C → Input C
 input_of (Received message) = Receives message
 input_of (Proposed command) = Proposes command
 input_of Ticked = Ticks

@@ -16,7 +16,7 @@ ghost use Rattle.master.specs.Steps.{StepsBy, TakesNoMemory, done_exactly};
 use super::Group;
 use crate::copying::{config_of, copy_of};
 use crate::event::{Event, Idle};
-use crate::inputs::{Taken, counted};
+use crate::inputs::{Input, counted};
 use crate::recording::record;
 use crate::sending::{answer_of, asks_for, send};
 use crate::told::follow_ballot;
@@ -41,7 +41,7 @@ impl<M: Machine> Group<M> {
             return Err(Idle);
         }
         match M::copy(self.alloc, command) {
-            Ok(command) => self.take_input(at, Taken::Proposed(command)),
+            Ok(command) => self.take_input(at, Input::Proposed(command)),
             Err(_) => self.count_loss(),
         }
         Ok(())
@@ -113,7 +113,7 @@ impl<M: Machine> Group<M> {
             return Ok(());
         }
         match copy_of::<M>(self.alloc, message) {
-            Ok(message) => self.take_input(at, Taken::Received(message)),
+            Ok(message) => self.take_input(at, Input::Received(message)),
             Err(_) => self.count_loss(),
         }
         Ok(())
@@ -149,7 +149,7 @@ impl<M: Machine> Group<M> {
         if !self.nodes[at].speaks() {
             return Ok(());
         }
-        self.take_input(at, Taken::Ticked);
+        self.take_input(at, Input::Ticked);
         Ok(())
     }
 

@@ -9,8 +9,8 @@ use Rattle.master.proofs.inputs.step_replica.Goals.{in-Received, in-Proposed, in
 pub returns-then-losses-before : goal.returns-then-losses-before
 returns-then-losses-before g c =
     let rules = g.M.Machine.rules in
-    let called : Called rules c.args.replica.now (input_of c.args.taken) c.match-taken.replica c.args.out.now.items c.match-taken.out.items =
-    elim c.match-taken.branch [
+    let called : Called rules c.args.replica.now (input_of c.args.input) c.match-input.replica c.args.out.now.items c.match-input.out.items =
+    elim c.match-input.branch [
       | in-Received w ↦ called_as rules c.args.replica.now _ _ _ _ c.args.out.now.items _ _ (ap input_of w.in-Received.is) w.replica-is (ap (λ v. v.items) w.out-is)
           (record { stepped = w.on.ensures.step c.requires; quiet = w.on.ensures.quiet c.requires })
       | in-Proposed w ↦ called_as rules c.args.replica.now _ _ _ _ c.args.out.now.items _ _ (ap input_of w.in-Proposed.is) w.replica-is (ap (λ v. v.items) w.out-is)
@@ -30,8 +30,8 @@ returns-then-losses-before g c =
 pub returns-else-losses-before : goal.returns-else-losses-before
 returns-else-losses-before g c =
     let rules = g.M.Machine.rules in
-    let called : Called rules c.args.replica.now (input_of c.args.taken) c.match-taken.replica c.args.out.now.items c.match-taken.out.items =
-    elim c.match-taken.branch [
+    let called : Called rules c.args.replica.now (input_of c.args.input) c.match-input.replica c.args.out.now.items c.match-input.out.items =
+    elim c.match-input.branch [
       | in-Received w ↦ called_as rules c.args.replica.now _ _ _ _ c.args.out.now.items _ _ (ap input_of w.in-Received.is) w.replica-is (ap (λ v. v.items) w.out-is)
           (record { stepped = w.on.ensures.step c.requires; quiet = w.on.ensures.quiet c.requires })
       | in-Proposed w ↦ called_as rules c.args.replica.now _ _ _ _ c.args.out.now.items _ _ (ap input_of w.in-Proposed.is) w.replica-is (ap (λ v. v.items) w.out-is)
