@@ -1,4 +1,4 @@
-// What a node queued goes down to its clients.
+// What a node queued goes into the pipes to its clients.
 
 ghost use Rattle.std.specs.Prelude.{◌≡◌, ◌<◌, ◌-◌, true, false, Some, length, slice_get};
 ghost use Rattle.escaping_nodes.specs.world_nodes.Nodes.{NodesState};
@@ -16,8 +16,8 @@ use world_nodes::{Idle, Nodes};
 use world_pipes::PipedClient;
 
 impl World {
-    /// Carries down what a node queued, on each connection whose end there is open. The master,
-    /// node 0, has none.
+    /// Puts into the pipes what a node queued, on each connection whose end there is open. The
+    /// master, node 0, has none.
     pub(crate) fn gather(&mut self, node: u8)
         ensures goes { GoesOn self.old self.new }
         ensures gathers { Gathers false node self.old self.new }
@@ -29,8 +29,8 @@ impl World {
         }
     }
 
-    // Carries down what the node queued on the connections whose end is open, at whichever node,
-    // from the newest to the oldest.
+    // Puts into the pipes what the node queued, on the connections whose end is open, at whichever
+    // node, from the newest to the oldest.
     fn gather_open(&mut self, node: u8)
         ensures goes { GoesOn self.old self.new }
         ensures gathers { GathersAmong false (length self.old.connections) node self.old self.new }
@@ -44,8 +44,8 @@ impl World {
         }
     }
 
-    // Carries down what the node queued on the connection at this index among those whose end is
-    // open, if that leads to the node.
+    // Puts into the pipe what the node queued on the connection at this index among those whose end
+    // is open, if that leads to the node.
     fn gather_at(&mut self, node: u8, at: usize)
         requires { at < length (open_from 1 self.old.connections) }
         ensures goes { GoesOn self.old self.new }
@@ -94,7 +94,8 @@ impl World {
         self.open_ends.remove(at);
     }
 
-    // Carries down what its node queued for a connection. Returns whether its end there is open.
+    // Puts into the pipe what its node queued for a connection. Returns whether its end there is
+    // open.
     fn hand_on(&mut self, slot: ConnectionSlot, number: u64) -> bool
         requires stands { slice_get self.old.connections (number - 1) ≡ Some slot }
         requires positive { 0 < number }
@@ -116,7 +117,8 @@ impl World {
     }
 }
 
-// Carries down what a node queued for a port on a connection. Returns whether its end is open.
+// Puts into the pipe of a connection what a node queued for its port. Returns whether its end is
+// open.
 fn hand_down(
     alloc: Global,
     nodes: &mut Nodes,
