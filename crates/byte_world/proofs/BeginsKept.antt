@@ -11,7 +11,7 @@ use Rattle.node_group.specs.exactly_once.Sides.{Connection}
 use Rattle.node_group.proofs.of_exactly_once.publishing.Grown.{handled_grows}
 use Rattle.byte_world.specs.Steps.{Reached, WorldStep}
 use Rattle.byte_world.specs.Steps.Reached.{begins, goes_on}
-use Rattle.byte_world.specs.Steps.WorldStep.{goes_on as group_goes, calls, connects, is_turned_away, comes_up, goes_down, arrives, handles}
+use Rattle.byte_world.specs.Steps.WorldStep.{goes_on as group_goes, calls, connects, is_taken_back, comes_up, goes_down, arrives, handles}
 use Rattle.byte_world.specs.World.{ClientPipes, World, new_client}
 use Rattle.byte_world.proofs.WorldsKeep.{call_writes}
 
@@ -43,7 +43,7 @@ step_begins v w each (calls i c t happens at call spelled) =
     (subst (Each BeginsKept) (sym new.1) (writes_still new.0 c.connections (each_get AllBeginKept v.clients i c each at)))
 step_begins v w each (connects i n c port now d core end at unused after there_so spelled) =
     each_set AllBeginKept v.clients i _ each (record { client = c.keeper.client; more = []; written = refl }, each_get AllBeginKept v.clients i c each at)
-step_begins v w each (is_turned_away n port now d core unused after none) = each
+step_begins v w each (is_taken_back n port now d core unused after none) = each
 step_begins v w each (comes_up i j c κ p piece rest now d has is) = each_set AllBeginKept v.clients i _ each (each_get AllBeginKept v.clients i c each has.client)
 step_begins v w each (goes_down i j c κ p d has) = each_set AllBeginKept v.clients i _ each (each_get AllBeginKept v.clients i c each has.client)
 step_begins v w each (arrives i j c κ p piece rest has is) = each_set AllBeginKept v.clients i _ each (each_get AllBeginKept v.clients i c each has.client)

@@ -9,7 +9,7 @@ pub mod WorldsHold
 pub mod WorldsKeep
 pub mod OpensUnused
 pub mod WorldsOpen
-pub mod TurnedAway
+pub mod TakenBack
 pub mod PipesInOrder
 pub mod NodesHoused
 pub mod BeginsKept

@@ -18,12 +18,12 @@ use Rattle.node_group.proofs.CarriedInOrder.{CarriedSo, IsAgreedSo, carried_so, 
 use Rattle.byte_world.specs.Carried.{trace_of, went_on}
 use Rattle.byte_world.specs.Steps.{Reached, WorldStep}
 use Rattle.byte_world.specs.Steps.Reached.{begins, goes_on}
-use Rattle.byte_world.specs.Steps.WorldStep.{goes_on as group_goes, calls, connects, is_turned_away, comes_up, goes_down, arrives, handles}
+use Rattle.byte_world.specs.Steps.WorldStep.{goes_on as group_goes, calls, connects, is_taken_back, comes_up, goes_down, arrives, handles}
 use Rattle.byte_world.specs.InPipes.{IsInOrder, PipesCarryInOrder}
 use Rattle.byte_world.specs.World.{ClientPipes, HasPipe, Pipe, World, new_client, opening, packets_of}
 use Rattle.byte_world.proofs.WorldsHold.{Holds, arrives_holds, client_holds, set_at}
 use Rattle.byte_world.proofs.WorldsKeep.{call_writes, calls_hold, comes_holds, goes_holds, group_holds, handles_hold}
-use Rattle.byte_world.proofs.TurnedAway.{turned_holds}
+use Rattle.byte_world.proofs.TakenBack.{taken_back_holds}
 use Rattle.byte_world.proofs.WorldsOpen.{connects_holds}
 
 -- ---- as it opens
@@ -64,7 +64,7 @@ step_holds v w went h (calls i c t happens at call spelled) =
     let new = call_writes happens call in calls_hold v went i c t.keeper t.connections new.0 at new.1 spelled h
 step_holds v w went h (connects i n c port now d core end at unused after there_so spelled) =
     connects_holds v went h n port now d core end after there_so unused i c at spelled
-step_holds v w went h (is_turned_away n port now d core unused after none) = turned_holds v went h n port now d unused core after none
+step_holds v w went h (is_taken_back n port now d core unused after none) = taken_back_holds v went h n port now d unused core after none
 step_holds v w went h (comes_up i j c κ p piece rest now d has is) = comes_holds v went i j c κ p piece rest now d has is h
 step_holds v w went h (goes_down i j c κ p d has) = goes_holds v went i j c κ p d has h
 step_holds v w went h (arrives i j c κ p piece rest has is) =

@@ -8,7 +8,7 @@ use Rattle.node_group.specs.Carried.{Carries}
 use Rattle.byte_world.specs.World.{World}
 use Rattle.byte_world.specs.Steps.{Reached, WorldStep}
 use Rattle.byte_world.specs.Steps.Reached.{begins, goes_on}
-use Rattle.byte_world.specs.Steps.WorldStep.{goes_on as group_goes, calls, connects, is_turned_away, comes_up, goes_down, arrives, handles}
+use Rattle.byte_world.specs.Steps.WorldStep.{goes_on as group_goes, calls, connects, is_taken_back, comes_up, goes_down, arrives, handles}
 
 -- if a step of a world has a step of its group, the group does that step
 abbrev pub went_on : {nodes : ℕ} {config : Config} {v w : World} → GroupTrace nodes config v.group →
@@ -17,7 +17,7 @@ went_on went (group_goes node_call d apart) = then_went went d.step
 went_on went (calls i c t h at call spelled) = went
 went_on went (connects i n c port now d core end at unused after there spelled) =
     then_went went d.step
-went_on went (is_turned_away n port now d core unused after none) = then_went went d.step
+went_on went (is_taken_back n port now d core unused after none) = then_went went d.step
 went_on went (comes_up i j c κ p piece rest now d pipe is) = then_went went d.step
 went_on went (goes_down i j c κ p d pipe) = then_went went d.step
 went_on went (arrives i j c κ p piece rest pipe is) = went

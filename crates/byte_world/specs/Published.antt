@@ -8,7 +8,7 @@ use Rattle.node_group.specs.exactly_once.Story.StoryStep.{takes, others_take, re
 use Rattle.byte_world.specs.World.{World}
 use Rattle.byte_world.specs.Steps.{Reached, WorldStep}
 use Rattle.byte_world.specs.Steps.Reached.{begins, goes_on}
-use Rattle.byte_world.specs.Steps.WorldStep.{goes_on as group_goes, calls, connects, is_turned_away, comes_up, goes_down, arrives, handles}
+use Rattle.byte_world.specs.Steps.WorldStep.{goes_on as group_goes, calls, connects, is_taken_back, comes_up, goes_down, arrives, handles}
 
 -- what a client publishes with a call
 abbrev pub published_by : {limits : Limits} {s t : Story} → StoryStep limits s t → List Publication
@@ -31,7 +31,7 @@ abbrev pub published_in : {v w : World} → WorldStep v w → List (ℕ × Publi
 published_in (group_goes node_call d apart) = []
 published_in (calls i c t h at call spelled) = from_client i (published_by h)
 published_in (connects i n c port now d core end at unused after there spelled) = []
-published_in (is_turned_away n port now d core unused after none) = []
+published_in (is_taken_back n port now d core unused after none) = []
 published_in (comes_up i j c κ p piece rest now d pipe is) = []
 published_in (goes_down i j c κ p d pipe) = []
 published_in (arrives i j c κ p piece rest pipe is) = []

@@ -49,7 +49,7 @@ pub data WorldStep (w : World) : World → Type 0 where
       WorldStep w (with_client i (after_connecting end.name n port c)
       (record w { group = d.after }))
   -- the node does not take it, because memory ran out, and then the client has none
-  is_turned_away : (n : ℕ) (port : Port) (now : ℕ)
+  is_taken_back : (n : ℕ) (port : Port) (now : ℕ)
       (d : Does w.group (Some (n, takes (Opened port now)))) (core : CoreState) →
       is_used n port w.clients ≡ false →
       slice_get d.after.nodes n ≡ Some core → listed_at port core ≡ None →

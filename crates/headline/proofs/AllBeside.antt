@@ -13,7 +13,7 @@ use Rattle.byte_world.specs.node_group.Steps.GroupTrace.{opened}
 use Rattle.byte_world.specs.Carried.{trace_of, went_on}
 use Rattle.byte_world.specs.Steps.{Reached, WorldStep}
 use Rattle.byte_world.specs.Steps.Reached.{begins, goes_on}
-use Rattle.byte_world.specs.Steps.WorldStep.{goes_on as group_goes, calls, connects, is_turned_away, comes_up, goes_down, arrives, handles}
+use Rattle.byte_world.specs.Steps.WorldStep.{goes_on as group_goes, calls, connects, is_taken_back, comes_up, goes_down, arrives, handles}
 use Rattle.byte_world.specs.World.{World, new_client, opening}
 use Rattle.byte_world.proofs.PipesInOrder.{opens_hold, step_holds}
 use Rattle.byte_world.proofs.WorldsHold.{Holds}
@@ -60,7 +60,7 @@ step_goes apart v w went s (group_goes node_call d is_apart) holds =
     group_beside apart (record v { group = d.after }) v.group went s.so d.step (λ agreed is. s.beside agreed is) holds s.piped
 step_goes apart v w went s (calls i c t h at call spelled) holds = calls_so v went i c t h s at call holds
 step_goes apart v w went s (connects i n c port now d core end at unused after there_so spelled) holds = connects_so apart v went i n c end.name port now d s at holds
-step_goes apart v w went s (is_turned_away n port now d core unused after none) holds =
+step_goes apart v w went s (is_taken_back n port now d core unused after none) holds =
     group_beside apart (record v { group = d.after }) v.group went s.so d.step (λ agreed is. s.beside agreed is) holds s.piped
 step_goes apart v w went s (comes_up i j c κ p piece rest now d has is) holds = pipe_beside apart v went d.after i j c (record p { up = rest }) s d.step has.client holds
 step_goes apart v w went s (goes_down i j c κ p d has) holds = pipe_beside apart v went d.after i j c _ s d.step has.client holds

@@ -29,7 +29,7 @@ use Rattle.byte_world.specs.node_group.Steps.{GroupTrace}
 use Rattle.byte_world.specs.Carried.{trace_of}
 use Rattle.byte_world.specs.Steps.{Reached, WorldStep}
 use Rattle.byte_world.specs.Steps.Reached.{begins, goes_on}
-use Rattle.byte_world.specs.Steps.WorldStep.{goes_on as group_goes, calls, connects, is_turned_away, comes_up, goes_down, arrives, handles}
+use Rattle.byte_world.specs.Steps.WorldStep.{goes_on as group_goes, calls, connects, is_taken_back, comes_up, goes_down, arrives, handles}
 use Rattle.byte_world.specs.Published.{from_client, published_by, published_in, published_of, published_on}
 use Rattle.byte_world.specs.World.{ClientPipes, World, new_client}
 use Rattle.headline.proofs.GoesBeside.{GoesBeside}
@@ -134,7 +134,7 @@ step_says apart v w went s asked all (group_goes node_call d is_apart) = still w
 step_says apart v w went s asked all (calls j c t h at call spelled) = becomes v w.clients asked j c _ (published_by h) refl at (call_says h call) all
 step_says apart v w went s asked all (connects j n c port now d core end at unused after there_so spelled) =
     becomes v w.clients asked j c _ [] refl at (sym (append-nil (publications_of (all_own c.keeper)))) all
-step_says apart v w went s asked all (is_turned_away n port now d core unused after none) = still w asked all
+step_says apart v w went s asked all (is_taken_back n port now d core unused after none) = still w asked all
 step_says apart v w went s asked all (comes_up j k c κ p piece rest now d has is) = becomes v w.clients asked j c _ [] refl has.client (sym (append-nil (publications_of (all_own c.keeper)))) all
 step_says apart v w went s asked all (goes_down j k c κ p d has) = becomes v w.clients asked j c _ [] refl has.client (sym (append-nil (publications_of (all_own c.keeper)))) all
 step_says apart v w went s asked all (arrives j k c κ p piece rest has is) = becomes v w.clients asked j c _ [] refl has.client (sym (append-nil (publications_of (all_own c.keeper)))) all

@@ -12,7 +12,7 @@ use Rattle.headline.specs.world_base.Handing.{listed_at}
 use Rattle.headline.specs.node_moves.Moves.NodeCall.{takes}
 use Rattle.headline.proofs.of_node_group.Placed.{get_mapped}
 use Rattle.headline.specs.byte_world.World.{World}
-use Rattle.headline.specs.byte_world.Steps.WorldStep.{is_turned_away}
+use Rattle.headline.specs.byte_world.Steps.WorldStep.{is_taken_back}
 use Rattle.escaping_nodes.specs.world_nodes.ExactSteps.{Acts}
 use Rattle.escaping_nodes.specs.world_nodes.Running.{node_of}
 use Rattle.escaping_nodes.specs.world_nodes.Nodes.{NodesState}
@@ -91,7 +91,7 @@ turned old new node port housed beyond (inr hears) nodes config cs m trail s = b
         let stands = ap (λ (l : List CoreState). slice_get l n) d.stands.nodes ∙ get_mapped (λ (c : CountedCore). c.core) new.nodes n has.core found in
         record {
           after = (let w : World = record m { group = d.does.after } in w);
-          steps = goes_on rests (is_turned_away n port 0 d.does has.core.core (unused n (length old.connections) port beyond old.clients m.clients s.clients housed.used) stands
+          steps = goes_on rests (is_taken_back n port 0 d.does has.core.core (unused n (length old.connections) port beyond old.clients m.clients s.clients housed.used) stands
               (is_none (listed_at port has.core.core) has.known));
           asked_is = refl;
           stands = record { nodes = d.stands; clients = s.clients };

@@ -48,8 +48,8 @@ module _ {nodes : ℕ} {config : Config} (v : World) (went : GroupTrace nodes co
   each_known x (inl silent) = inl (facts.still_unheard x silent)
   each_known x (inr k) = inr k
 
-  pub turned_holds : Holds (record v { group = d.after }) (then_went went d.step)
-  turned_holds =
+  pub taken_back_holds : Holds (record v { group = d.after }) (then_went went d.step)
+  taken_back_holds =
       holds_on v (record v { group = d.after }) went (then_went went d.step) h
       (λ k c l κ p has.
       let old : HasPipe v k c l κ p = record { client = has.client; connection = has.connection; pipe = has.pipe } in
