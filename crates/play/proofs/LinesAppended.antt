@@ -10,10 +10,10 @@ use Rattle.world.specs.world_events.declared.event.Event.{Event}
 use Rattle.world.specs.declared.world.WorldClient.{WorldClient}
 use Rattle.world.specs.Found.{core_at, is_named}
 use Rattle.world.specs.Asking.{IsAsked}
-use Rattle.world.specs.Trace.{StaysReached, WorldGoesOn}
-use Rattle.world.specs.Trace.Goes.{rests}
+use Rattle.world.specs.Trace.{StaysReached, KeepsGroup}
+use Rattle.world.specs.Trace.StepsOfGroup.{rests}
 use Rattle.world.specs.Happening.{Happens, new_world_client}
-use Rattle.world.specs.StandsFor.{KeepsReached, WorldGoesBy, asked_on}
+use Rattle.world.specs.StandsFor.{KeepsReached, FollowsModelAsking, asked_on}
 use Rattle.world.specs.master.declared.event.Idle.{Idle}
 use Rattle.world.specs.World.{WorldState}
 use Rattle.play.specs.declared.played_world.Recipient.{Recipient}
@@ -112,7 +112,7 @@ no_event script_line world idle none =
     }
 
 pub happened : (script_line : ScriptLine) (old : WorldState) (event : Event) (result : Result (Unit {0}) Idle) (new : WorldState) → asked_in old script_line ≡ Some event → Happens event old result new
-    → WorldGoesOn old new → StaysReached old.nodes new.nodes → (asked : List (ℕ × Publication)) × IsAsked event old result asked new × WorldGoesBy asked old new × KeepsReached asked old new → Comes script_line old result new
+    → KeepsGroup old new → StaysReached old.nodes new.nodes → (asked : List (ℕ × Publication)) × IsAsked event old result asked new × FollowsModelAsking asked old new × KeepsReached asked old new → Comes script_line old result new
 happened script_line old event result new is happens goes reached asks =
     record {
       comes = subst (λ (o : Option Event). ComesTo o old result new) (sym is) happens;

@@ -5,7 +5,7 @@ use Rattle.script.specs.session_base.declared.publication.Publication.{Publicati
 use Rattle.script.specs.declared.script_line.ScriptLine.{ScriptLine}
 use Rattle.play.specs.Lines.{end_line}
 use Rattle.world.specs.world_events.declared.event.Event.{Event}
-use Rattle.world.specs.Trace.{StaysReached, WorldGoesOn}
+use Rattle.world.specs.Trace.{StaysReached, KeepsGroup}
 use Rattle.world.specs.StandsFor.{KeepsReached}
 use Rattle.world.specs.World.{WorldState}
 use Rattle.world.specs.world_nodes.Agreed.{AgreeOnSoMany}
@@ -21,7 +21,7 @@ IsCallOf line event = (waiting : ℕ) → event_of waiting line ≡ Some event
 pub record Comes (line : ScriptLine) (old : WorldState) (result : Result (Unit {0}) Idle)
     (new : WorldState) : Type 0 where
   pub comes : ComesTo (asked_in old line) old result new
-  pub goes : WorldGoesOn old new
+  pub goes : KeepsGroup old new
   pub reached : StaysReached old.nodes new.nodes
   pub asked : List (ℕ × Publication)
   pub asks : IsAskedIn (asked_in old line) old result asked new

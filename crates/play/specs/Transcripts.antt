@@ -11,7 +11,7 @@ use Rattle.script.specs.declared.reading.Script.{Script}
 use Rattle.play.specs.Lines.{accepted_line, done_line, end_line, idle_line}
 use Rattle.world.specs.world_events.declared.event.Event.{Event}
 use Rattle.world.specs.Found.{core_named}
-use Rattle.world.specs.Trace.{AreReached, StaysReached, WorldGoesOn}
+use Rattle.world.specs.Trace.{AreReached, StaysReached, KeepsGroup}
 use Rattle.world.specs.Happening.{Happens}
 use Rattle.world.specs.Asking.{IsAsked}
 use Rattle.world.specs.StandsFor.{IsReached, KeepsReached, asked_on}
@@ -74,7 +74,7 @@ pub record Step (clients : List (List ℕ)) (index : ℕ) (script_line : ScriptL
   pub line : List ℕ
   pub is_line : IsLine index result new line
   pub whole : lines ≡ line ++ new_lines clients old new
-  pub goes : WorldGoesOn old new
+  pub goes : KeepsGroup old new
   pub reached : StaysReached old.nodes new.nodes
   pub asked : List (ℕ × Publication)
   pub asks : IsAskedIn (asked_in old script_line) old result asked new

@@ -20,8 +20,8 @@ use Rattle.headline.proofs.of_node_group.NamesInGroups.{puts_in_the_ballot_of_th
 use Rattle.headline.proofs.of_node_group.Ordered.{groups_keep_the_order, in_agreed}
 use Rattle.headline.proofs.of_node_group.Packets.{packets_join}
 use Rattle.escaping_nodes.specs.world_nodes.Nodes.{NodesState}
-use Rattle.world.specs.Trace.{AgreedGrows, Goes, NodesGo}
-use Rattle.world.specs.Trace.Goes.{rests, goes_on}
+use Rattle.world.specs.Trace.{AgreedGrows, StepsOfGroup, NodesGo}
+use Rattle.world.specs.Trace.StepsOfGroup.{rests, goes_on}
 use Rattle.world.proofs.OneAgreed.{one_agreed}
 
 -- A group that continued from another: its past continues from the past of that one.
@@ -30,7 +30,7 @@ record LeadsOn (nodes : ℕ) (config : Config) (g : Group) (earlier : List (Mome
   pub of : HasPast config h (groups_of went) (all_put went)
   pub grows : (xs ys : List Command) → IsAgreed config (moment_of g ∷ earlier) xs → IsAgreed config (moment_of h ∷ of.earlier) ys → IsPrefixOf xs ys
 
-leads_on : (nodes : ℕ) (config : Config) (g h : Group) (went : GroupTrace nodes config g) (of : HasPast config g (groups_of went) (all_put went)) → Goes g h
+leads_on : (nodes : ℕ) (config : Config) (g h : Group) (went : GroupTrace nodes config g) (of : HasPast config g (groups_of went) (all_put went)) → StepsOfGroup g h
     → LeadsOn nodes config g of.earlier h
 leads_on nodes config g h went of rests =
     record {

@@ -22,15 +22,15 @@ use Rattle.world.specs.Asking.{AskedBy, AsksOne, IsAsked, RunAsks}
 use Rattle.world.specs.Found.{is_named}
 use Rattle.world.specs.Happening.{Happens}
 use Rattle.world.specs.Inside.Calling.{Counts, IsCall, forgetful}
-use Rattle.world.specs.Inside.Steps.{GoesAsked, GoesOn, GoesOnBy, IsCounted}
-use Rattle.world.specs.StandsFor.{KeepsReached, WorldGoesBy}
+use Rattle.world.specs.Inside.Steps.{PublishesAsked, IsTrace, IsTraceAsking, IsCounted}
+use Rattle.world.specs.StandsFor.{KeepsReached, FollowsModelAsking}
 use Rattle.world.specs.World.{WorldState}
 use Rattle.world.proofs.ClientGoes.{client_asked_forgetful, client_asked_on, same_piped, with_piped}
 use Rattle.world.proofs.Joined.{asked_goes_join, goes_on_rest, goes_on_then, keeps_reached, world_rests}
 
 -- ---- one that asks nothing
 
-pub asks_nothing : (event : Event) (old : WorldState) (result : Result (Unit {0}) Idle) (new : WorldState) → AskedBy event old [] new → GoesOn old new → GoesAsked event old result new
+pub asks_nothing : (event : Event) (old : WorldState) (result : Result (Unit {0}) Idle) (new : WorldState) → AskedBy event old [] new → IsTrace old new → PublishesAsked event old result new
 asks_nothing event old (Ok done) new by goes = record { asked = []; is = by; goes = goes }
 asks_nothing event old (Err idle) new by goes = record { asked = []; is = refl; goes = goes }
 
@@ -42,7 +42,7 @@ module _ (name : List ℕ) (p : Publication) (old : WorldState) (at : ℕ) (clie
   between = with_piped at client piped old
 
   was_done : (sending : Sending) (losses : ℕ) → IsCall (Call.Publishes p) client.piped (Ok sending) piped
-      → new ≡ (let w : WorldState = record between { losses = losses } in w) → GoesOnBy ((at, p) ∷ []) old new → GoesAsked (events.Publish name p) old (Ok tt) new
+      → new ≡ (let w : WorldState = record between { losses = losses } in w) → IsTraceAsking ((at, p) ∷ []) old new → PublishesAsked (events.Publish name p) old (Ok tt) new
   was_done sending losses calls is goes =
       record {
         asked = (at, p) ∷ [];
@@ -56,26 +56,26 @@ module _ (name : List ℕ) (p : Publication) (old : WorldState) (at : ℕ) (clie
         goes = goes;
       }
 
-  was_idle : (result : Result (Unit {0}) Idle) → IsErr result → new ≡ between → piped ≡ client.piped → GoesAsked (events.Publish name p) old result new
+  was_idle : (result : Result (Unit {0}) Idle) → IsErr result → new ≡ between → piped ≡ client.piped → PublishesAsked (events.Publish name p) old result new
   was_idle (Ok done) err is same = absurd (both_ways false refl err)
   was_idle (Err idle) err is same = record { asked = []; is = refl; goes = goes_on_rest old new (is ∙ same_piped old at client piped found same) }
 
   pub publish_asked : (done : Result Sending ClientError) (result : Result (Unit {0}) Idle) → IsCall (Call.Publishes p) client.piped done piped
-      → CallingFollows (p ∷ []) client.piped done piped → old.losses ≤ (forgetful old).losses → Counts done between result new → GoesAsked (events.Publish name p) old result new
+      → CallingFollows (p ∷ []) client.piped done piped → old.losses ≤ (forgetful old).losses → Counts done between result new → PublishesAsked (events.Publish name p) old result new
   publish_asked (Ok sendings.Sent) (Ok done) calls follows rises counts =
       was_done sendings.Sent old.losses calls counts.1
-      (subst (λ (w : WorldState). GoesOnBy ((at, p) ∷ []) old w) (sym counts.1)
+      (subst (λ (w : WorldState). IsTraceAsking ((at, p) ∷ []) old w) (sym counts.1)
       (client_asked_on (p ∷ []) old at client piped found (calling_goes (p ∷ []) client.piped (Ok sendings.Sent) piped follows)))
   publish_asked (Ok sendings.Sent) (Err idle) calls follows rises counts = absurd (both_ways false refl counts.0)
   publish_asked (Ok sendings.Lost) (Ok done) calls follows rises counts =
       was_done sendings.Lost (one_more old.losses) calls counts.1
-      (subst (λ (w : WorldState). GoesOnBy ((at, p) ∷ []) old w) (sym counts.1) (client_asked_forgetful (p ∷ []) old at client piped found follows rises))
+      (subst (λ (w : WorldState). IsTraceAsking ((at, p) ∷ []) old w) (sym counts.1) (client_asked_forgetful (p ∷ []) old at client piped found follows rises))
   publish_asked (Ok sendings.Lost) (Err idle) calls follows rises counts = absurd (both_ways false refl counts.0)
   publish_asked (Err errors.Memory) (Ok done) calls follows rises counts =
       record {
         asked = [];
         is = inr (record { is = counts.1 ∙ ap forgetful (same_piped old at client piped found follows); none = refl });
-        goes = subst (λ (w : WorldState). GoesOn old w) (sym counts.1)
+        goes = subst (λ (w : WorldState). IsTrace old w) (sym counts.1)
             (client_asked_forgetful [] old at client piped found (calling_goes (p ∷ []) client.piped (Err errors.Memory) piped follows) rises);
       }
   publish_asked (Err errors.Memory) (Err idle) calls follows rises counts = absurd (both_ways false refl counts.0)
@@ -129,9 +129,9 @@ asked_counted (events.Unsubscribe name filter) old asked mid new before counted 
 -- what a step says about it
 abbrev pub StepAsks : Event → WorldState → Result (Unit {0}) Idle → WorldState → Type 0
 StepAsks event old result new =
-    (asked : List (ℕ × Publication)) × IsAsked event old result asked new × WorldGoesBy asked old new × KeepsReached asked old new
+    (asked : List (ℕ × Publication)) × IsAsked event old result asked new × FollowsModelAsking asked old new × KeepsReached asked old new
 
-pub step_asks : (event : Event) (old mid new : WorldState) (before counted : ℕ) → counted ≡ old.losses → GoesAsked event old (Ok tt) mid → IsCounted before counted mid new → GoesOn mid new
+pub step_asks : (event : Event) (old mid new : WorldState) (before counted : ℕ) → counted ≡ old.losses → PublishesAsked event old (Ok tt) mid → IsCounted before counted mid new → IsTrace mid new
     → StepAsks event old (Ok tt) new
 step_asks event old mid new before counted is a counts more =
     let goes = (goes_on_then a.asked old mid new a.goes more).goes in
@@ -147,7 +147,7 @@ idle_asks event old idle result new err same =
 -- so far
 abbrev pub HasAsked : List Event → WorldState → WorldState → Type 0
 HasAsked events old new =
-    (asked : List (ℕ × Publication)) × RunAsks events old asked new × WorldGoesBy asked old new × KeepsReached asked old new
+    (asked : List (ℕ × Publication)) × RunAsks events old asked new × FollowsModelAsking asked old new × KeepsReached asked old new
 
 pub none_asked : (old new : WorldState) → new ≡ old → HasAsked [] old new
 none_asked old new same = let goes = world_rests old new same in ([], (refl, same), goes, keeps_reached [] old new goes)

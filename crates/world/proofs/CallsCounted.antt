@@ -14,7 +14,7 @@ use Rattle.world_events.specs.world_pipes.StandsFor.{StandsFor}
 use Rattle.world_events.proofs.of_world_pipes.CallingFollows.{calling_goes}
 use Rattle.world.specs.declared.world.WorldClient.{WorldClient}
 use Rattle.world.specs.Inside.Calling.{Counts, forgetful}
-use Rattle.world.specs.Inside.Steps.{GoesOn}
+use Rattle.world.specs.Inside.Steps.{IsTrace}
 use Rattle.world.specs.World.{WorldState}
 use Rattle.world.proofs.ClientGoes.{client_goes_forgetful, client_goes_on, same_piped, with_piped}
 use Rattle.world.proofs.Joined.{goes_on_rest}
@@ -28,7 +28,7 @@ on_err (Ok done) P p = tt
 on_err (Err idle) P p = p
 
 pub record IsCounted (old : WorldState) (result : Result (Unit {0}) Idle) (new : WorldState) : Type 0 where
-  pub goes : GoesOn old new
+  pub goes : IsTrace old new
   pub same : OnErr result (new ≡ old)
 
 idle_call : (old : WorldState) (i : ℕ) (client : WorldClient) (piped : Piped) (result : Result (Unit {0}) Idle) (new : WorldState) → slice_get old.clients i ≡ Some client →
@@ -42,17 +42,17 @@ pub call_counted : (old : WorldState) (i : ℕ) (client : WorldClient) (piped : 
     IsCounted old result new
 call_counted old i client piped (Ok sendings.Sent) result new found follows rises counts =
     record {
-      goes = subst (λ w. GoesOn old w) (sym counts.1) (client_goes_on old i client piped found (calling_goes [] client.piped (Ok sendings.Sent) piped follows));
+      goes = subst (λ w. IsTrace old w) (sym counts.1) (client_goes_on old i client piped found (calling_goes [] client.piped (Ok sendings.Sent) piped follows));
       same = done_no_err result (new ≡ old) counts.0;
     }
 call_counted old i client piped (Ok sendings.Lost) result new found follows rises counts =
     record {
-      goes = subst (λ w. GoesOn old w) (sym counts.1) (client_goes_forgetful old i client piped found follows rises);
+      goes = subst (λ w. IsTrace old w) (sym counts.1) (client_goes_forgetful old i client piped found follows rises);
       same = done_no_err result (new ≡ old) counts.0;
     }
 call_counted old i client piped (Err errors.Memory) result new found follows rises counts =
     record {
-      goes = subst (λ w. GoesOn old w) (sym counts.1)
+      goes = subst (λ w. IsTrace old w) (sym counts.1)
           (client_goes_forgetful old i client piped found (calling_goes [] client.piped (Err errors.Memory) piped follows) rises);
       same = done_no_err result (new ≡ old) counts.0;
     }
@@ -67,9 +67,9 @@ call_counted old i client piped (Err (errors.Malformed kind)) result new found f
 
 pub hearing_counted : (old : WorldState) (i : ℕ) (client : WorldClient) (piped : Piped) (had : Bool) (new : WorldState) → slice_get old.clients i ≡ Some client →
     FollowsAll client.piped piped → old.losses ≤ (forgetful old).losses →
-    new ≡ (if had then with_piped i client piped old else forgetful (with_piped i client piped old)) → GoesOn old new
-hearing_counted old i client piped true new found follows rises is = subst (λ w. GoesOn old w) (sym is) (client_goes_on old i client piped found follows)
-hearing_counted old i client piped false new found follows rises is = subst (λ w. GoesOn old w) (sym is) (client_goes_forgetful old i client piped found follows rises)
+    new ≡ (if had then with_piped i client piped old else forgetful (with_piped i client piped old)) → IsTrace old new
+hearing_counted old i client piped true new found follows rises is = subst (λ w. IsTrace old w) (sym is) (client_goes_on old i client piped found follows)
+hearing_counted old i client piped false new found follows rises is = subst (λ w. IsTrace old w) (sym is) (client_goes_forgetful old i client piped found follows rises)
 
 -- one that receives nothing stays as it is
 pub stays_all : (old new : Piped) → new ≡ old → FollowsAll old new

@@ -12,9 +12,9 @@ use Rattle.world_events.proofs.of_world_pipes.StepsInWorlds.{steps_in_worlds}
 use Rattle.world.specs.declared.connection_slot.ConnectionSlot.{ConnectionSlot}
 use Rattle.world.specs.declared.world.WorldClient.{WorldClient}
 use Rattle.world.specs.SlotsAreValid.{SlotsAreValid, leads, leads_of}
-use Rattle.world.specs.Inside.Steps.{GoesOn, GoesOnBy}
+use Rattle.world.specs.Inside.Steps.{IsTrace, IsTraceAsking}
 use Rattle.world.specs.Inside.Calling.{forgetful}
-use Rattle.world.specs.StandsFor.{Steps, WorldGoes, WorldGoesBy, published_along}
+use Rattle.world.specs.StandsFor.{Steps, FollowsModel, FollowsModelAsking, published_along}
 use Rattle.world.specs.StandsFor.Steps.{rests, goes_on}
 use Rattle.world.specs.World.{WorldState}
 use Rattle.world.proofs.ClientsStand.{client_at, stand_set}
@@ -61,7 +61,7 @@ abbrev pub with_piped : ℕ → WorldClient → Piped → WorldState → WorldSt
 with_piped i client piped w = record w { clients = set w.clients i (record client { piped = piped }) }
 
 pub client_asked : (asked : List Publication) (old : WorldState) (i : ℕ) (client : WorldClient) (piped : Piped) → slice_get old.clients i ≡ Some client
-    → FollowsBy asked client.piped piped → WorldGoesBy (from_client i asked) old (with_piped i client piped old)
+    → FollowsBy asked client.piped piped → FollowsModelAsking (from_client i asked) old (with_piped i client piped old)
 client_asked asked old i client piped found follows nodes config cs m trail s =
     let a = client_at old.clients m.clients i client s.clients found in
     let f = follows a.c a.stands in
@@ -74,34 +74,34 @@ client_asked asked old i client piped found follows nodes config cs m trail s =
     }
 
 pub client_goes : (old : WorldState) (i : ℕ) (client : WorldClient) (piped : Piped) → slice_get old.clients i ≡ Some client → FollowsAll client.piped piped →
-    WorldGoes old (with_piped i client piped old)
+    FollowsModel old (with_piped i client piped old)
 client_goes = client_asked []
 
 -- only clients change, and no count falls
-pub clients_go_on : (asked : List (ℕ × Publication)) (old new : WorldState) → new.nodes ≡ old.nodes → old.losses ≤ new.losses → WorldGoesBy asked old new → GoesOnBy asked old new
+pub clients_go_on : (asked : List (ℕ × Publication)) (old new : WorldState) → new.nodes ≡ old.nodes → old.losses ≤ new.losses → FollowsModelAsking asked old new → IsTraceAsking asked old new
 clients_go_on asked old new nodes rises goes = record { rises = rises; nodes = nodes_rest old.nodes new.nodes nodes; goes = goes }
 
 pub client_asked_on : (asked : List Publication) (old : WorldState) (i : ℕ) (client : WorldClient) (piped : Piped) → slice_get old.clients i ≡ Some client
-    → FollowsBy asked client.piped piped → GoesOnBy (from_client i asked) old (with_piped i client piped old)
+    → FollowsBy asked client.piped piped → IsTraceAsking (from_client i asked) old (with_piped i client piped old)
 client_asked_on asked old i client piped found follows =
     clients_go_on (from_client i asked) old (with_piped i client piped old) refl (omega arith) (client_asked asked old i client piped found follows)
 
 pub client_goes_on : (old : WorldState) (i : ℕ) (client : WorldClient) (piped : Piped) → slice_get old.clients i ≡ Some client → FollowsAll client.piped piped →
-    GoesOn old (with_piped i client piped old)
+    IsTrace old (with_piped i client piped old)
 client_goes_on = client_asked_on []
 
 -- it finds no memory, which is counted
 pub client_asked_forgetful : (asked : List Publication) (old : WorldState) (i : ℕ) (client : WorldClient) (piped : Piped) → slice_get old.clients i ≡ Some client
-    → FollowsBy asked client.piped piped → old.losses ≤ (forgetful old).losses → GoesOnBy (from_client i asked) old (forgetful (with_piped i client piped old))
+    → FollowsBy asked client.piped piped → old.losses ≤ (forgetful old).losses → IsTraceAsking (from_client i asked) old (forgetful (with_piped i client piped old))
 client_asked_forgetful asked old i client piped found follows rises =
     let mid = with_piped i client piped old in
     let all = from_client i asked in
     clients_go_on all old (forgetful mid) refl rises
-    (subst (λ (l : List (ℕ × Publication)). WorldGoesBy l old (forgetful mid)) (append-nil all)
+    (subst (λ (l : List (ℕ × Publication)). FollowsModelAsking l old (forgetful mid)) (append-nil all)
     (asked_goes_join all [] old mid (forgetful mid) (client_asked asked old i client piped found follows) (world_stays mid (forgetful mid) refl refl)))
 
 pub client_goes_forgetful : (old : WorldState) (i : ℕ) (client : WorldClient) (piped : Piped) → slice_get old.clients i ≡ Some client → FollowsAll client.piped piped →
-    old.losses ≤ (forgetful old).losses → GoesOn old (forgetful (with_piped i client piped old))
+    old.losses ≤ (forgetful old).losses → IsTrace old (forgetful (with_piped i client piped old))
 client_goes_forgetful = client_asked_forgetful []
 
 -- a client that stays as it is leaves the world as it is

@@ -16,7 +16,7 @@ use Rattle.world.specs.declared.world.WorldClient.{WorldClient}
 use Rattle.world.specs.SlotsAreValid.{LeadsThere, leads_of}
 use Rattle.world.specs.Found.{with_less}
 use Rattle.world.specs.Inside.Carrying.{TakesUp}
-use Rattle.world.specs.StandsFor.{GoesTo, StandsFor, WorldGoes}
+use Rattle.world.specs.StandsFor.{ModelStepsTo, StandsFor, FollowsModel}
 use Rattle.world.specs.StandsFor.Steps.{rests, goes_on}
 use Rattle.world.specs.World.{WorldState}
 use Rattle.world.proofs.ClientsStand.{StandsAt, client_at, stand_set}
@@ -26,7 +26,7 @@ use Rattle.world.proofs.WaysStand.{PipeAt, pipe_at, way_changes}
 
 taken_up : (old : WorldState) (m : World) (s : StandsFor m old) (place : ConnectionSlot) (client : WorldClient) (one : StandsAt m.clients place.client client.piped) (way : Way)
     (x : PipeAt client.piped one.c place.at way) (new : NodesState) (count : ℕ) → count ≤ length way.up
-    → Acts x.p.node (takes (Bytes x.p.port (take count way.up) 0)) old.nodes new → GoesTo [] m (put_down place.client client (with_less place.at count way client.piped) new old)
+    → Acts x.p.node (takes (Bytes x.p.port (take count way.up) 0)) old.nodes new → ModelStepsTo [] m (put_down place.client client (with_less place.at count way client.piped) new old)
 taken_up old m s place client one way x new count part acts =
     let d = acts m.group s.nodes in
     let has : HasPipe m place.client one.c x.turned.place x.κ x.p = record { client = one.at; connection = x.connection; pipe = x.pipe } in
@@ -55,7 +55,7 @@ taken_up old m s place client one way x new count part acts =
 
 pub takes_up : (old : WorldState) (number count : ℕ) (place : ConnectionSlot) (client : WorldClient) (new : NodesState) (later : Piped) → LeadsThere (leads_of old.clients) number place
     → slice_get old.clients place.client ≡ Some client → TakesUp place (record { 0 = number }) count old.nodes client.piped new later
-    → WorldGoes old (put_down place.client client later new old)
+    → FollowsModel old (put_down place.client client later new old)
 takes_up old number count place client new later there at t nodes config cs m trail s =
     let l = led old.clients number place client there at in
     let one = client_at old.clients m.clients place.client client s.clients at in
@@ -64,7 +64,7 @@ takes_up old number count place client new later there at t nodes config cs m tr
     let port : (let q : Port = record { 0 = number } in q) ≡ x.p.port = sym l.port ∙ ap (λ (z : Way). z.port) same ∙ sym x.is.port in
     let leads : place.node ≡ suc x.p.node = sym l.node ∙ ap (λ (z : Way). suc z.node) same ∙ ap suc (sym x.is.node) in
     let low : place.node - 1 ≡ x.p.node = omega (arith, leads) in
-    subst (λ (z : Piped). GoesTo [] m (put_down place.client client z new old)) (sym t.is)
+    subst (λ (z : Piped). ModelStepsTo [] m (put_down place.client client z new old)) (sym t.is)
     (taken_up old m s place client one t.way x new count t.part
     (subst (λ (k : ℕ). Acts k (takes (Bytes x.p.port (take count t.way.up) 0)) old.nodes new) low
     (subst (λ (q : Port). Acts (place.node - 1) (takes (Bytes q (take count t.way.up) 0)) old.nodes new) port t.acts)))

@@ -24,7 +24,7 @@ use Rattle.world_events.specs.world_pipes.StandsFor.{AreWays}
 use Rattle.world.specs.declared.world.WorldClient.{WorldClient}
 use Rattle.world.specs.SlotsAreValid.{SlotsAreValid, leads, leads_of}
 use Rattle.world.specs.Inside.Connecting.{ConnectsAt, IsKnown}
-use Rattle.world.specs.StandsFor.{ClientsStand, GoesTo, WorldGoes}
+use Rattle.world.specs.StandsFor.{ClientsStand, ModelStepsTo, FollowsModel}
 use Rattle.world.specs.StandsFor.Steps.{rests, goes_on}
 use Rattle.world.specs.World.{WorldState}
 use Rattle.world.proofs.ClientsStand.{client_at, stand_set}
@@ -74,7 +74,7 @@ module _ (n bound : ℕ) (port : Port) (beyond : bound < port.0) where
 
 -- ---- the step
 
-pub connects_goes : (i node : ℕ) (old new : WorldState) → SlotsAreValid (leads_of old.clients) old.connections → ConnectsAt i node old new → WorldGoes old new
+pub connects_goes : (i node : ℕ) (old new : WorldState) → SlotsAreValid (leads_of old.clients) old.connections → ConnectsAt i node old new → FollowsModel old new
 connects_goes i node old new housed one nodes config cs m trail s = by node refl
   where
     number : ℕ
@@ -86,7 +86,7 @@ connects_goes i node old new housed one nodes config cs m trail s = by node refl
     has : IsKnown true node port one.between
     has = one.reaches.hears.known
 
-    by : (k : ℕ) → node ≡ k → GoesTo [] m new
+    by : (k : ℕ) → node ≡ k → ModelStepsTo [] m new
     by zero is = absurd (none-some has.core (sym (ap (node_of one.between.nodes) is) ∙ has.stands))
     by (suc n) is =
         let low : node - 1 ≡ n = omega (arith, is) in

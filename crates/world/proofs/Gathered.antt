@@ -5,7 +5,7 @@ use Rattle.escaping_nodes.specs.world_nodes.Steps.{forgetful}
 use Rattle.world.specs.declared.connection_slot.ConnectionSlot.{ConnectionSlot}
 use Rattle.world.specs.Found.{slot_numbered, port_of, with_down, with_piped}
 use Rattle.world.specs.Gathering.{AskedWhere, Gathers, GathersAmong, IsAsked, MayBeAsked, is_open_at, put_out}
-use Rattle.world.specs.Inside.Steps.{GoesOn}
+use Rattle.world.specs.Inside.Steps.{IsTrace}
 use Rattle.world.specs.Inside.Handing.{HandsOn, MayHandOn, marked}
 use Rattle.world.specs.World.{WorldState}
 use Rattle.world.proofs.Joined.{goes_on_join}
@@ -46,10 +46,10 @@ may_be_asked number place is_open old mid new at positive up (inr lost) is =
 
 -- what was asked so far, and what is still to come
 pub record IsGathering (node count number : ℕ) (initial now : WorldState) : Type 0 where
-  pub goes : GoesOn initial now
+  pub goes : IsTrace initial now
   pub rest : (later : WorldState) → GathersAmong false number node now later → GathersAmong false count node initial later
 
-pub gathering_on : (node count number next : ℕ) (initial now new : WorldState) → 0 < number → next ≡ number - 1 → IsGathering node count number initial now → GoesOn now new
+pub gathering_on : (node count number next : ℕ) (initial now new : WorldState) → 0 < number → next ≡ number - 1 → IsGathering node count number initial now → IsTrace now new
     → AskedWhere false (is_open_at node (slot_numbered number now.connections)) number now new → IsGathering node count next initial new
 gathering_on node count zero next initial now new positive less g goes asks = absurd (omega (arith, positive))
 gathering_on node count (suc before) next initial now new positive less g goes asks =

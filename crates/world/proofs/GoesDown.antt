@@ -32,7 +32,7 @@ use Rattle.world.specs.SlotsAreValid.{LeadsThere, leads_of}
 use Rattle.world.specs.Found.{with_down}
 use Rattle.world.specs.Inside.Handing.{MayHandDown, MayPutDown}
 use Rattle.world.specs.Inside.Steps.{NodesStay}
-use Rattle.world.specs.StandsFor.{GoesTo, StandsFor, WorldGoes}
+use Rattle.world.specs.StandsFor.{ModelStepsTo, StandsFor, FollowsModel}
 use Rattle.world.specs.StandsFor.Steps.{rests, goes_on}
 use Rattle.world.specs.World.{WorldState}
 use Rattle.world.proofs.ClientsStand.{StandsAt, client_at, stand_set}
@@ -63,7 +63,7 @@ module _ {nodes : ℕ} {config : Config} {cs : List Client} (m : World) (trail :
 
   -- with the bytes that it handed over
   hands_down : (bytes : List ℕ) → Acts x.p.node (gives x.p.port) old.nodes new → HandsOver (suc x.p.node) x.p.port old.nodes way.down bytes
-      → GoesTo [] m (put_down place.client client (with_down place.at way bytes client.piped) new old)
+      → ModelStepsTo [] m (put_down place.client client (with_down place.at way bytes client.piped) new old)
   hands_down bytes acts over =
       let d = acts m.group s.nodes in
       let carried = carries_with m.group d.does.after d.does.step x.p.node (gives x.p.port) d.does.faithful d.does.is in
@@ -91,16 +91,16 @@ module _ {nodes : ℕ} {config : Config} {cs : List Client} (m : World) (trail :
       }
 
   -- with none, if the node is unknown, or there is no memory for them
-  hands_nothing : (later : Piped) → slice_get old.clients place.client ≡ Some client → NodesStay old.nodes new → later ≡ client.piped → GoesTo [] m (put_down place.client client later new old)
+  hands_nothing : (later : Piped) → slice_get old.clients place.client ≡ Some client → NodesStay old.nodes new → later ≡ client.piped → ModelStepsTo [] m (put_down place.client client later new old)
   hands_nothing later at stay still =
-      subst (λ (z : Piped). GoesTo [] m (put_down place.client client z new old)) (sym still)
-      (subst (λ (l : List WorldClient). GoesTo [] m (let w : WorldState = record old { nodes = new; clients = l } in w)) (sym (set_itself old.clients place.client client at))
+      subst (λ (z : Piped). ModelStepsTo [] m (put_down place.client client z new old)) (sym still)
+      (subst (λ (l : List WorldClient). ModelStepsTo [] m (let w : WorldState = record old { nodes = new; clients = l } in w)) (sym (set_itself old.clients place.client client at))
       (record { after = m; steps = rests; asked_is = refl; stands = record { nodes = stay m.group s.nodes; clients = s.clients } }))
 
 -- what its node queued for the connection of a number goes down, or nothing does
 pub puts_down : (old : WorldState) (number : ℕ) (place : ConnectionSlot) (client : WorldClient) (new : NodesState) (later : Piped) → LeadsThere (leads_of old.clients) number place
     → slice_get old.clients place.client ≡ Some client → MayPutDown place.at place.node (record { 0 = number }) old.nodes client.piped new later
-    → WorldGoes old (put_down place.client client later new old)
+    → FollowsModel old (put_down place.client client later new old)
 puts_down old number place client new later there at puts nodes config cs m trail s =
     let l = led old.clients number place client there at in
     let one = client_at old.clients m.clients place.client client s.clients at in
@@ -110,7 +110,7 @@ puts_down old number place client new later there at puts nodes config cs m trai
     by : (way : Way) (one : StandsAt m.clients place.client client.piped) (x : PipeAt client.piped one.c place.at way) (bytes : List ℕ) → suc way.node ≡ place.node → way.port ≡ record { 0 = number }
         → slice_get client.piped.ways place.at ≡ Some way
         → MayHandDown place.node (record { 0 = number }) old.nodes way.down new bytes → later ≡ with_down place.at way bytes client.piped
-        → GoesTo [] m (put_down place.client client later new old)
+        → ModelStepsTo [] m (put_down place.client client later new old)
     by way one x bytes node port found (inl (stay, still)) is =
         hands_nothing m trail old s place client one way x new later at stay
         (is ∙ ap (λ (b : List ℕ). with_down place.at way b client.piped) still
@@ -119,7 +119,7 @@ puts_down old number place client new later there at puts nodes config cs m trai
         let number_is : place.node ≡ suc x.p.node = sym node ∙ ap suc (sym x.is.node) in
         let port_is : (let q : Port = record { 0 = number } in q) ≡ x.p.port = sym port ∙ sym x.is.port in
         let low : place.node - 1 ≡ x.p.node = omega (arith, number_is) in
-        subst (λ (z : Piped). GoesTo [] m (put_down place.client client z new old)) (sym is)
+        subst (λ (z : Piped). ModelStepsTo [] m (put_down place.client client z new old)) (sym is)
         (hands_down m trail old s place client one way x new bytes
         (subst (λ (k : ℕ). Acts k (gives x.p.port) old.nodes new) low (subst (λ (q : Port). Acts (place.node - 1) (gives q) old.nodes new) port_is acts))
         (subst (λ (k : ℕ). HandsOver k x.p.port old.nodes way.down bytes) number_is (subst (λ (q : Port). HandsOver place.node q old.nodes way.down bytes) port_is over)))

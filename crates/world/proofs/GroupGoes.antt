@@ -20,9 +20,9 @@ use Rattle.escaping_nodes.specs.world_nodes.ExactSteps.{Acts, GoesBy}
 use Rattle.escaping_nodes.specs.world_nodes.Steps.{forgetful}
 use Rattle.escaping_nodes.specs.world_nodes.GroupSteps.{ActsOrRests, ComesOrRests, MasterGoesOrRests, MasterHears}
 use Rattle.world.specs.Trace.{NodesGo, NodesGoOn}
-use Rattle.world.specs.Trace.Goes.{rests as stands_still, goes_on as then_goes}
-use Rattle.world.specs.Inside.Steps.{GoesOn, NodesStay}
-use Rattle.world.specs.StandsFor.{WorldGoes}
+use Rattle.world.specs.Trace.StepsOfGroup.{rests as stands_still, goes_on as then_goes}
+use Rattle.world.specs.Inside.Steps.{IsTrace, NodesStay}
+use Rattle.world.specs.StandsFor.{FollowsModel}
 use Rattle.world.specs.StandsFor.Steps.{rests, goes_on}
 use Rattle.world.specs.World.{WorldState}
 use Rattle.world.proofs.NodesGoOn.{nodes_forget, nodes_rest, nodes_stay, staying_goes}
@@ -44,10 +44,10 @@ nodes_go : (old new : NodesState) → GoesApart old new → NodesGo old new
 nodes_go old new (stays stay) = staying_goes old new stay
 nodes_go old new (acts node_call apart by) = acts_go node_call old new by
 
-pub world_stands : (old : WorldState) (new : NodesState) → NodesStay old.nodes new → WorldGoes old (with_nodes new old)
+pub world_stands : (old : WorldState) (new : NodesState) → NodesStay old.nodes new → FollowsModel old (with_nodes new old)
 world_stands old new stay nodes config cs m trail s = record { after = m; steps = rests; asked_is = refl; stands = record { nodes = stay m.group s.nodes; clients = s.clients } }
 
-world_goes : (old : WorldState) (new : NodesState) → GoesApart old.nodes new → WorldGoes old (with_nodes new old)
+world_goes : (old : WorldState) (new : NodesState) → GoesApart old.nodes new → FollowsModel old (with_nodes new old)
 world_goes old new (stays stay) nodes config cs m trail s = world_stands old new stay nodes config cs m trail s
 world_goes old new (acts node_call apart by) nodes config cs m trail s =
     let d = by m.group s.nodes in
@@ -58,7 +58,7 @@ world_goes old new (acts node_call apart by) nodes config cs m trail s =
       stands = record { nodes = d.stands; clients = s.clients };
     }
 
-pub goes_apart : (old : WorldState) (new : NodesState) → old.nodes.losses ≤ new.losses → GoesApart old.nodes new → GoesOn old (with_nodes new old)
+pub goes_apart : (old : WorldState) (new : NodesState) → old.nodes.losses ≤ new.losses → GoesApart old.nodes new → IsTrace old (with_nodes new old)
 goes_apart old new rises apart =
     record { rises = omega arith; nodes = record { rises = rises; goes = nodes_go old.nodes new apart }; goes = world_goes old new apart }
 

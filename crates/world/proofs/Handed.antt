@@ -18,7 +18,7 @@ use Rattle.world.specs.Trace.{NodesGoOn}
 use Rattle.world.specs.SlotsAreValid.{SlotsAreValid, leads, leads_of}
 use Rattle.world.specs.Found.{port_of, with_down, with_less}
 use Rattle.world.specs.Inside.Carrying.{CanTake, CannotTake, CannotTakeOn, TakesUp, TakesUpOnWhere, TakesUpWhere}
-use Rattle.world.specs.Inside.Steps.{GoesOn}
+use Rattle.world.specs.Inside.Steps.{IsTrace}
 use Rattle.world.specs.Inside.Handing.{HandsDown, MayHandOn, MayPutDown, PutsDown}
 use Rattle.world.specs.World.{WorldState}
 use Rattle.world.proofs.ComesUp.{takes_up}
@@ -65,7 +65,7 @@ hands old number place client way is_open new later owned stands puts = by (puts
 
 pub hands_on : (old : WorldState) (number : ℕ) (place : ConnectionSlot) (client : WorldClient) (new : NodesState) (later : Piped) → SlotsAreValid (leads_of old.clients) old.connections
     → slice_get old.connections (number - 1) ≡ Some place → 0 < number → slice_get old.clients place.client ≡ Some client → NodesGoOn old.nodes new
-    → MayPutDown place.at place.node (record { 0 = number }) old.nodes client.piped new later → GoesOn old (put_down place.client client later new old)
+    → MayPutDown place.at place.node (record { 0 = number }) old.nodes client.piped new later → IsTrace old (put_down place.client client later new old)
 hands_on old number place client new later housed at positive found nodes puts =
     record {
       rises = omega arith;
@@ -80,14 +80,14 @@ unchanged old i client new later found same still =
     same_client old i client new later found still ∙ ap (λ (n : NodesState). let w : WorldState = record old { nodes = n } in w) same
 
 pub takes_nothing : (old : WorldState) (i : ℕ) (client : WorldClient) (new : NodesState) (later : Piped) → slice_get old.clients i ≡ Some client → new ≡ old.nodes → later ≡ client.piped
-    → GoesOn old (put_down i client later new old)
+    → IsTrace old (put_down i client later new old)
 takes_nothing old i client new later found same still = goes_on_rest old (put_down i client later new old) (unchanged old i client new later found same still)
 
 -- bytes come, or there is no memory for them
 pub takes_on : {E : Type 0} (r : Result Bool E) (old : WorldState) (number count : ℕ) (place : ConnectionSlot) (client : WorldClient) (new : NodesState) (later : Piped)
     → SlotsAreValid (leads_of old.clients) old.connections → slice_get old.connections (number - 1) ≡ Some place → 0 < number → slice_get old.clients place.client ≡ Some client
     → NodesGoOn old.nodes new → IfOk r (λ had. TakesUpWhere had place (record { 0 = number }) count old.nodes client.piped new later)
-    → OnErr r (new ≡ old.nodes) → OnErr r (later ≡ client.piped) → GoesOn old (put_down place.client client later new old)
+    → OnErr r (new ≡ old.nodes) → OnErr r (later ≡ client.piped) → IsTrace old (put_down place.client client later new old)
 takes_on (Ok true) old number count place client new later housed at positive found nodes took same still =
     record {
       rises = omega arith;

@@ -12,10 +12,10 @@ use Rattle.headline.specs.byte_world.Steps.{Reached}
 use Rattle.headline.specs.byte_world.Steps.Reached.{goes_on as reached_more}
 use Rattle.headline.specs.byte_world.Published.{published_in, published_on}
 use Rattle.escaping_nodes.specs.world_nodes.Nodes.{NodesState, StandsFor as NodesStand}
-use Rattle.world.specs.Trace.{LosesNothing, WorldGoesOn}
-use Rattle.world.specs.Inside.Steps.{GoesOn, GoesOnBy}
+use Rattle.world.specs.Trace.{LosesNothing, KeepsGroup}
+use Rattle.world.specs.Inside.Steps.{IsTrace, IsTraceAsking}
 use Rattle.world.specs.declared.world.WorldClient.{WorldClient}
-use Rattle.world.specs.StandsFor.{ClientsStand, GoesTo, IsReached, KeepsReached, StandsFor, Steps, WorldGoes, WorldGoesBy, asked_on, published_along}
+use Rattle.world.specs.StandsFor.{ClientsStand, ModelStepsTo, IsReached, KeepsReached, StandsFor, Steps, FollowsModel, FollowsModelAsking, asked_on, published_along}
 use Rattle.world.specs.StandsFor.Steps.{rests, goes_on}
 use Rattle.world.specs.World.{WorldState}
 use Rattle.world.proofs.NodesGoOn.{nodes_go_join, nodes_join, nodes_rest}
@@ -53,13 +53,13 @@ stands_as m a b nodes clients s =
       clients = subst (λ (cs : List WorldClient). ClientsStand cs m.clients) (sym clients) s.clients;
     }
 
-pub world_stays : (a b : WorldState) → b.nodes ≡ a.nodes → b.clients ≡ a.clients → WorldGoes a b
+pub world_stays : (a b : WorldState) → b.nodes ≡ a.nodes → b.clients ≡ a.clients → FollowsModel a b
 world_stays a b same clients nodes config cs m trail s = record { after = m; steps = rests; asked_is = refl; stands = stands_as m a b same clients s }
 
-pub world_rests : (a b : WorldState) → b ≡ a → WorldGoes a b
-world_rests a b same nodes config cs m trail s = subst (λ (w : WorldState). GoesTo [] m w) (sym same) (record { after = m; steps = rests; asked_is = refl; stands = s })
+pub world_rests : (a b : WorldState) → b ≡ a → FollowsModel a b
+world_rests a b same nodes config cs m trail s = subst (λ (w : WorldState). ModelStepsTo [] m w) (sym same) (record { after = m; steps = rests; asked_is = refl; stands = s })
 
-pub asked_goes_join : (asked later : List (ℕ × Publication)) (a b c : WorldState) → WorldGoesBy asked a b → WorldGoesBy later b c → WorldGoesBy (asked ++ later) a c
+pub asked_goes_join : (asked later : List (ℕ × Publication)) (a b c : WorldState) → FollowsModelAsking asked a b → FollowsModelAsking later b c → FollowsModelAsking (asked ++ later) a c
 asked_goes_join asked later a b c one two nodes config cs m trail s =
     let first = one nodes config cs m trail s in
     let next = two nodes config cs first.after (reached_on trail first.steps) first.stands in
@@ -70,7 +70,7 @@ asked_goes_join asked later a b c one two nodes config cs m trail s =
       stands = next.stands;
     }
 
-pub world_goes_join : (a b c : WorldState) → WorldGoes a b → WorldGoes b c → WorldGoes a c
+pub world_goes_join : (a b c : WorldState) → FollowsModel a b → FollowsModel b c → FollowsModel a c
 world_goes_join a b c one two = asked_goes_join [] [] a b c one two
 
 -- if nothing is lost from end to end, nothing is on the way
@@ -87,37 +87,37 @@ counted_loss old new losses rises is none = let same = none.0 in let low = none.
 
 -- ---- parts of a step
 
-pub goes_on_rest : (a b : WorldState) → b ≡ a → GoesOn a b
+pub goes_on_rest : (a b : WorldState) → b ≡ a → IsTrace a b
 goes_on_rest a b same =
-    subst (λ (w : WorldState). GoesOn a w) (sym same) (record { rises = omega arith; nodes = nodes_rest a.nodes a.nodes refl; goes = world_rests a a refl })
+    subst (λ (w : WorldState). IsTrace a w) (sym same) (record { rises = omega arith; nodes = nodes_rest a.nodes a.nodes refl; goes = world_rests a a refl })
 
-pub goes_on_join : (a b c : WorldState) → GoesOn a b → GoesOn b c → GoesOn a c
+pub goes_on_join : (a b c : WorldState) → IsTrace a b → IsTrace b c → IsTrace a c
 goes_on_join a b c one two =
     let x = one.rises in let y = two.rises in
     record { rises = omega (arith, x, y); nodes = nodes_join a.nodes b.nodes c.nodes one.nodes two.nodes; goes = world_goes_join a b c one.goes two.goes }
 
 -- nothing is published after it
-pub goes_on_then : (asked : List (ℕ × Publication)) (a b c : WorldState) → GoesOnBy asked a b → GoesOn b c → GoesOnBy asked a c
+pub goes_on_then : (asked : List (ℕ × Publication)) (a b c : WorldState) → IsTraceAsking asked a b → IsTrace b c → IsTraceAsking asked a c
 goes_on_then asked a b c one two =
     let x = one.rises in let y = two.rises in
     record {
       rises = omega (arith, x, y);
       nodes = nodes_join a.nodes b.nodes c.nodes one.nodes two.nodes;
-      goes = subst (λ (l : List (ℕ × Publication)). WorldGoesBy l a c) (append-nil asked) (asked_goes_join asked [] a b c one.goes two.goes);
+      goes = subst (λ (l : List (ℕ × Publication)). FollowsModelAsking l a c) (append-nil asked) (asked_goes_join asked [] a b c one.goes two.goes);
     }
 
-pub goes_on_still : (a b : WorldState) → b.nodes ≡ a.nodes → b.clients ≡ a.clients → a.losses ≤ b.losses → GoesOn a b
+pub goes_on_still : (a b : WorldState) → b.nodes ≡ a.nodes → b.clients ≡ a.clients → a.losses ≤ b.losses → IsTrace a b
 goes_on_still a b nodes clients rises = record { rises = rises; nodes = nodes_rest a.nodes b.nodes nodes; goes = world_stays a b nodes clients }
 
 -- ---- whole steps
 
-pub world_goes_on : (asked : List (ℕ × Publication)) (old new : WorldState) → GoesOnBy asked old new → WorldGoesOn old new
+pub world_goes_on : (asked : List (ℕ × Publication)) (old new : WorldState) → IsTraceAsking asked old new → KeepsGroup old new
 world_goes_on asked old new on = record { rises = on.rises; goes = on.nodes.goes }
 
-pub world_on_rest : (a b : WorldState) → b ≡ a → WorldGoesOn a b
+pub world_on_rest : (a b : WorldState) → b ≡ a → KeepsGroup a b
 world_on_rest a b same = world_goes_on [] a b (goes_on_rest a b same)
 
-pub world_on_join : (a b c : WorldState) → WorldGoesOn a b → WorldGoesOn b c → WorldGoesOn a c
+pub world_on_join : (a b c : WorldState) → KeepsGroup a b → KeepsGroup b c → KeepsGroup a c
 world_on_join a b c one two =
     let x = one.rises in let y = two.rises in
     record { rises = omega (arith, x, y); goes = nodes_go_join a.nodes b.nodes c.nodes one.goes two.goes }
@@ -133,7 +133,7 @@ pub is_reached_asked : (nodes : ℕ) (config : Config) (cs : List Client) (m : W
 unfolding is_reached
 is_reached_asked nodes config cs m w apart trail stands = refl
 
-pub keeps_reached : (asked : List (ℕ × Publication)) (old new : WorldState) → WorldGoesBy asked old new → KeepsReached asked old new
+pub keeps_reached : (asked : List (ℕ × Publication)) (old new : WorldState) → FollowsModelAsking asked old new → KeepsReached asked old new
 keeps_reached asked old new goes nodes config cs r =
     let to = goes nodes config cs r.world r.trail r.stands in (
       is_reached nodes config cs to.after new r.apart (reached_on r.trail to.steps) to.stands,

@@ -30,7 +30,7 @@ use Rattle.world.specs.Escaping.{CanEscape, configuration_of}
 use Rattle.world.specs.Trace.{LosesNothing, NodesGo}
 use Rattle.world.specs.Happening.{Run}
 use Rattle.world.specs.SlotsAreValid.{SlotsAreValid, leads_of}
-use Rattle.world.specs.StandsFor.{WorldGoes}
+use Rattle.world.specs.StandsFor.{FollowsModel}
 use Rattle.world.specs.World.{WorldState}
 use Rattle.world.proofs.CanLead.{can_be_led, seen_as}
 use Rattle.world.proofs.DeliversOn.{walk}
@@ -48,7 +48,7 @@ pub record LedTo (config : Config) (g : Group) (past : List (Moment State Comman
   pub mid : WorldState
   pub followed : AreFollowed (g.master.given + 1) way.last (after_giving (configuration_of members) w.nodes) mid.nodes
   pub nodes : NodesGo w.nodes mid.nodes
-  pub world : WorldGoes w mid
+  pub world : FollowsModel w mid
   pub housed : SlotsAreValid (leads_of mid.clients) mid.connections
   pub clients : map seen_of mid.clients ≡ map seen_of w.clients
   pub many : length mid.connections ≡ length w.connections

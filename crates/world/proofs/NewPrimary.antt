@@ -35,7 +35,7 @@ use Rattle.escaping_nodes.specs.world_nodes.Nodes.{cores_of}
 use Rattle.world_events.specs.declared.event.Event.{Event}
 use Rattle.world.specs.Escaping.{CanEscape, is_running}
 use Rattle.world.specs.Found.{port_of}
-use Rattle.world.specs.StandsFor.{GoesTo, StandsFor}
+use Rattle.world.specs.StandsFor.{ModelStepsTo, StandsFor}
 use Rattle.world.specs.World.{WorldState}
 use Rattle.world.proofs.CanLead.{each_passes, runs_here, seen_as}
 use Rattle.world.proofs.Joined.{reached_on}
@@ -135,7 +135,7 @@ module _ (config : Config) {nodes : ℕ} {cs : List Client} (m : World) (trail :
       let joined = low_before config (moment_of m.group) past came w.nodes (seen_as m.group w.nodes s.nodes) r.at r.node r.stands in
       omega (arith, kept, within, joined)
 
-  to : GoesTo [] m l.mid
+  to : ModelStepsTo [] m l.mid
   to = l.world nodes config cs m trail s
 
   most : ballot ≤ 2 ^ 32

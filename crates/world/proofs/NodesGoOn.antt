@@ -9,8 +9,8 @@ use Rattle.headline.specs.node_group.Steps.GroupTrace.{then_went}
 use Rattle.headline.proofs.of_node_group.Ordered.{groups_keep_the_order}
 use Rattle.escaping_nodes.specs.world_nodes.Nodes.{NodesState, StandsFor}
 use Rattle.escaping_nodes.specs.world_nodes.Steps.{LosesNothing as NodesLoseNothing, forgetful}
-use Rattle.world.specs.Trace.{AreReached, Goes, NodesGo, NodesGoOn, StaysReached}
-use Rattle.world.specs.Trace.Goes.{rests, goes_on}
+use Rattle.world.specs.Trace.{AreReached, StepsOfGroup, NodesGo, NodesGoOn, StaysReached}
+use Rattle.world.specs.Trace.StepsOfGroup.{rests, goes_on}
 use Rattle.world.specs.Inside.Steps.{NodesStay}
 
 -- ---- nothing happens
@@ -31,7 +31,7 @@ nodes_rest old new same =
 
 -- ---- one after another
 
-goes_join : {f g h : Group} → Goes f g → Goes g h → Goes f h
+goes_join : {f g h : Group} → StepsOfGroup f g → StepsOfGroup g h → StepsOfGroup f h
 goes_join one rests = one
 goes_join one (goes_on two step) = goes_on (goes_join one two) step
 
@@ -75,7 +75,7 @@ are_reached nodes config g new went stands =
       leaves = agree.2;
     }
 
-went_on : (nodes : ℕ) (config : Config) (g h : Group) → GroupTrace nodes config g → Goes g h → GroupTrace nodes config h
+went_on : (nodes : ℕ) (config : Config) (g h : Group) → GroupTrace nodes config g → StepsOfGroup g h → GroupTrace nodes config h
 went_on nodes config g h went rests = went
 went_on nodes config g h went (goes_on goes step) = then_went (went_on nodes config g _ went goes) step
 

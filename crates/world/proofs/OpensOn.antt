@@ -31,8 +31,8 @@ use Rattle.world.specs.Happening.{HappensLosing}
 use Rattle.world.specs.Cannot.{CannotOpen, is_serving}
 use Rattle.world.specs.Gathering.{Gathers, TakesItem}
 use Rattle.world.specs.Inside.Connecting.{Begins, ConnectsAt, HasNew, HearsOfOne, IsKnown, MayOpenNone, OpensAt, OpensNoneAt}
-use Rattle.world.specs.Inside.Steps.{GoesOn, IsDone}
-use Rattle.world.specs.StandsFor.{GoesTo, WorldGoes}
+use Rattle.world.specs.Inside.Steps.{IsTrace, IsDone}
+use Rattle.world.specs.StandsFor.{ModelStepsTo, FollowsModel}
 use Rattle.world.specs.StandsFor.Steps.{rests, goes_on}
 use Rattle.world.specs.World.{WorldState}
 use Rattle.world.proofs.CallsMet.{or_nodes}
@@ -52,7 +52,7 @@ is_none (Some x) e = absurd (both_ways true e refl)
 -- ---- its node takes it
 
 pub connects_on : (i node : ℕ) (old new : WorldState) → SlotsAreValid (leads_of old.clients) old.connections → new.losses ≡ old.losses → NodesGoOn old.nodes new.nodes → ConnectsAt i node old new
-    → GoesOn old new
+    → IsTrace old new
 connects_on i node old new housed losses nodes one = record { rises = omega (arith, losses); nodes = nodes; goes = connects_goes i node old new housed one }
 
 -- what a client that has it does to the world
@@ -74,14 +74,14 @@ connects_at i node number at old client between piped after found counted last i
 
 -- only the nodes
 turned : (old : WorldState) (new : NodesState) (node : ℕ) (port : Port) → SlotsAreValid (leads_of old.clients) old.connections → length old.connections < port.0
-    → HearsOfOne false node port old.nodes new → WorldGoes old (with_nodes new old)
+    → HearsOfOne false node port old.nodes new → FollowsModel old (with_nodes new old)
 turned old new node port housed beyond (inl same) nodes config cs m trail s = world_stands old new (nodes_stay old.nodes new same) nodes config cs m trail s
 turned old new node port housed beyond (inr hears) nodes config cs m trail s = by node refl
   where
     has : IsKnown false node port new
     has = hears.known
 
-    by : (k : ℕ) → node ≡ k → GoesTo [] m (with_nodes new old)
+    by : (k : ℕ) → node ≡ k → ModelStepsTo [] m (with_nodes new old)
     by zero is = absurd (none-some has.core (sym (ap (node_of new.nodes) is) ∙ has.stands))
     by (suc n) is =
         let low : node - 1 ≡ n = omega (arith, is) in
@@ -99,7 +99,7 @@ turned old new node port housed beyond (inr hears) nodes config cs m trail s = b
 
 pub refused_on : (old : WorldState) (i node : ℕ) (client : WorldClient) (new : NodesState) (later : Piped) → SlotsAreValid (leads_of old.clients) old.connections
     → slice_get old.clients i ≡ Some client → NodesGoOn old.nodes new → FollowsAll client.piped later → HearsOfOne false node (port_of (next_number old)) old.nodes new
-    → GoesOn old (put_down i client later new old)
+    → IsTrace old (put_down i client later new old)
 refused_on old i node client new later housed found nodes follows hears =
     record {
       rises = omega arith;

@@ -23,7 +23,7 @@ use Rattle.world.specs.Gathering.{AskedWhere, Gathers, GathersAmong, Gives, IsAs
 use Rattle.world.specs.Trace.{NodesGo}
 use Rattle.world.specs.SlotsAreValid.{SlotsAreValid, leads_of}
 use Rattle.world.specs.Inside.Handing.{MayHandDown, MayPutDown}
-use Rattle.world.specs.StandsFor.{WorldGoes}
+use Rattle.world.specs.StandsFor.{FollowsModel}
 use Rattle.world.specs.World.{WorldState}
 use Rattle.world.proofs.GoesDown.{put_down, puts_down}
 use Rattle.world.proofs.GroupGoes.{acts_go}
@@ -41,7 +41,7 @@ seen_of client = (client.name, client.piped.core)
 
 pub record Passes (ks : List ℕ) (old new : WorldState) : Type 0 where
   pub nodes : NodesGo old.nodes new.nodes
-  pub world : WorldGoes old new
+  pub world : FollowsModel old new
   pub housed : SlotsAreValid (leads_of new.clients) new.connections
   pub clients : map seen_of new.clients ≡ map seen_of old.clients
   pub many : length new.connections ≡ length old.connections

@@ -10,7 +10,7 @@ use Rattle.world.specs.Found.{slot_numbered}
 use Rattle.world.specs.Gathering.{AskedWhere, GathersAmong, is_open_at}
 use Rattle.world.specs.SlotsAreValid.{open_from}
 use Rattle.world.specs.Inside.Handing.{AsksAt, MayHandOn, marked}
-use Rattle.world.specs.Inside.Steps.{GoesOn}
+use Rattle.world.specs.Inside.Steps.{IsTrace}
 use Rattle.world.specs.World.{WorldState}
 use Rattle.world.proofs.Gathered.{IsGathering, gathered, gathering_on, may_be_asked}
 use Rattle.world.proofs.OpenEnds.{IsNewest, newest, none_open, stands_at}
@@ -67,7 +67,7 @@ pub record IsWalking (node at : ℕ) (initial now : WorldState) : Type 0 where
   pub many : length (open_from 1 (take number now.connections)) ≡ at
   pub gathering : IsGathering node (length initial.connections) number initial now
 
-pub walk_begins : (node at : ℕ) (w : WorldState) → at ≡ length (open_from 1 w.connections) → GoesOn w w → IsWalking node at w w
+pub walk_begins : (node at : ℕ) (w : WorldState) → at ≡ length (open_from 1 w.connections) → IsTrace w w → IsWalking node at w w
 walk_begins node at w counted rests =
     record {
       number = length w.connections;
@@ -87,7 +87,7 @@ there_is node at initial now w =
     let r = newest now.connections w.number at w.within w.many in
     slice_get_within (open_from 1 now.connections) at (1 + r.i) (next_found node at initial now w r)
 
-walk_on : (node at : ℕ) (initial now new : WorldState) → IsWalking node (suc at) initial now → GoesOn now new → AsksAt node at now new → IsWalking node at initial new
+walk_on : (node at : ℕ) (initial now new : WorldState) → IsWalking node (suc at) initial now → IsTrace now new → AsksAt node at now new → IsWalking node at initial new
 walk_on node at initial now new w goes a =
     let r = newest now.connections w.number at w.within w.many in
     let one : a.number ≡ 1 + r.i = same_Some a.number (1 + r.i) (sym a.stands ∙ next_found node at initial now w r) in
@@ -110,7 +110,7 @@ pub next_there : (node at next : ℕ) (initial now : WorldState) → 0 < at → 
 next_there node at next initial now some is w =
     there_is node next initial now (subst (λ (k : ℕ). IsWalking node k initial now) (let e : at ≡ suc next = omega (arith, some, is) in e) w)
 
-pub walk_goes_on : (node at next : ℕ) (initial now new : WorldState) → 0 < at → next ≡ at - 1 → IsWalking node at initial now → GoesOn now new → AsksAt node next now new
+pub walk_goes_on : (node at next : ℕ) (initial now new : WorldState) → 0 < at → next ≡ at - 1 → IsWalking node at initial now → IsTrace now new → AsksAt node next now new
     → IsWalking node next initial new
 walk_goes_on node at next initial now new some is w goes a =
     walk_on node next initial now new (subst (λ (k : ℕ). IsWalking node k initial now) (let e : at ≡ suc next = omega (arith, some, is) in e) w) goes a

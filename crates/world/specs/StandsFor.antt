@@ -42,21 +42,23 @@ published_along (goes_on steps step) = published_along steps ++ published_in ste
 
 -- A world of the model moves by steps in which its clients publish this, and the world in code
 -- corresponds to the one after them.
-pub record GoesTo (asked : List (ℕ × Publication)) (m : World) (new : WorldState) : Type 0 where
+pub record ModelStepsTo (asked : List (ℕ × Publication)) (m : World) (new : WorldState)
+    : Type 0 where
   pub after : World
   pub steps : Steps m after
   pub asked_is : published_along steps ≡ asked
   pub stands : StandsFor after new
 
--- each reachable world of the model that corresponded to it before goes to it (`GoesTo`)
-abbrev pub WorldGoesBy : List (ℕ × Publication) → WorldState → WorldState → Type 0
-WorldGoesBy asked old new =
+-- each reachable world of the model that corresponded before steps to one that corresponds after
+-- (`ModelStepsTo`)
+abbrev pub FollowsModelAsking : List (ℕ × Publication) → WorldState → WorldState → Type 0
+FollowsModelAsking asked old new =
     (nodes : ℕ) (config : Config) (cs : List Client) (m : World) → Reached nodes config cs m →
-    StandsFor m old → GoesTo asked m new
+    StandsFor m old → ModelStepsTo asked m new
 
 -- nothing is published
-abbrev pub WorldGoes : WorldState → WorldState → Type 0
-WorldGoes old new = WorldGoesBy [] old new
+abbrev pub FollowsModel : WorldState → WorldState → Type 0
+FollowsModel old new = FollowsModelAsking [] old new
 
 -- ---- what is promised for it
 

@@ -16,21 +16,21 @@ use Rattle.world.specs.World.{WorldState}
 -- ---- steps of a group, one after another
 
 -- steps of a group, one after another
-pub data Goes (g : Group) : Group → Type 0 where
+pub data StepsOfGroup (g : Group) : Group → Type 0 where
   -- no step
-  rests : Goes g g
+  rests : StepsOfGroup g g
   -- one more step
-  goes_on : {h k : Group} → Goes g h → GroupStep h k → Goes g k
+  goes_on : {h k : Group} → StepsOfGroup g h → GroupStep h k → StepsOfGroup g k
 
 -- a group moves by steps, and then corresponds to these nodes
-pub record GoesTo (g : Group) (new : NodesState) : Type 0 where
+pub record GroupStepsTo (g : Group) (new : NodesState) : Type 0 where
   pub after : Group
-  pub goes : Goes g after
+  pub goes : StepsOfGroup g after
   pub stands : StandsFor after new
 
 -- each group that corresponds to the nodes before moves, and corresponds to the nodes after
 abbrev pub NodesGo : NodesState → NodesState → Type 0
-NodesGo old new = (g : Group) → StandsFor g old → GoesTo g new
+NodesGo old new = (g : Group) → StandsFor g old → GroupStepsTo g new
 
 -- the count of the nodes' losses never falls, and each group that corresponds to them moves
 pub record NodesGoOn (old new : NodesState) : Type 0 where
@@ -48,7 +48,7 @@ abbrev pub CountsOnce : WorldState → WorldState → Type 0
 CountsOnce old new = (new.losses ≡ old.losses) ⊎ (new.losses ≡ one_more old.losses)
 
 -- a world's count of losses never falls, and its nodes move as a group
-pub record WorldGoesOn (old new : WorldState) : Type 0 where
+pub record KeepsGroup (old new : WorldState) : Type 0 where
   pub rises : old.losses ≤ new.losses
   pub goes : NodesGo old.nodes new.nodes
 

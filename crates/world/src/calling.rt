@@ -13,7 +13,7 @@ ghost use Rattle.world.specs.Cannot.{is_serving};
 ghost use Rattle.world.specs.SlotsAreValid.{leads};
 ghost use Rattle.world.specs.Inside.Connecting.{Begins, ConnectsAt, HearsOfOne, MayOpenNone, Reaches};
 ghost use Rattle.world.specs.Inside.Calling.{Counts, IsCall};
-ghost use Rattle.world.specs.Inside.Steps.{GoesAsked, GoesOn, Meets};
+ghost use Rattle.world.specs.Inside.Steps.{PublishesAsked, IsTrace, Meets};
 
 use crate::connection_slot::ConnectionSlot;
 use crate::world::World;
@@ -30,7 +30,7 @@ impl World {
     /// a connection, and if the node is no running active primary. An open past the last connection
     /// of a ballot changes nothing.
     pub(crate) fn open(&mut self, client: &ClientId, node: u8) -> Result<(), Idle>
-        ensures goes { GoesOn self.old self.new }
+        ensures goes { IsTrace self.old self.new }
         ensures meets { Meets (Event.Open client.now node) self.old result self.new }
         ensures once { CountsOnce self.old self.new }
         ensures quiet { TakesNoMemory (Event.Open client.now node) self.old → self.new ≡ self.old }
@@ -59,7 +59,7 @@ impl World {
         requires free { IfSome (slice_get self.old.clients client)
             (λ found. is_holding found.piped ≡ false) }
         requires node { 0 < node }
-        ensures goes { GoesOn self.old self.new }
+        ensures goes { IsTrace self.old self.new }
         ensures begins { Begins client node self.old self.new }
         ensures once { CountsOnce self.old self.new }
     {
@@ -78,7 +78,7 @@ impl World {
         requires free { IfSome (slice_get self.old.clients client)
             (λ found. is_holding found.piped ≡ false) }
         requires node { 0 < node }
-        ensures goes { GoesOn self.old self.new }
+        ensures goes { IsTrace self.old self.new }
         ensures connects { result ≡ true → ConnectsAt client node self.old self.new }
         ensures none { result ≡ false → MayOpenNone client node self.old self.new }
         ensures losses { self.new.losses ≡ self.old.losses }
@@ -107,7 +107,7 @@ impl World {
 
     /// Lets a client lose its connection. `Idle` comes if there is no such client, or it has none.
     pub(crate) fn abandon(&mut self, client: &ClientId) -> Result<(), Idle>
-        ensures goes { GoesOn self.old self.new }
+        ensures goes { IsTrace self.old self.new }
         ensures meets { Meets (Event.Abandon client.now)
             self.old result self.new }
         ensures still { self.new.losses ≡ self.old.losses }
@@ -125,7 +125,7 @@ impl World {
 
     /// Lets a client disconnect. `Idle` comes if there is no such client, or it has no connection.
     pub(crate) fn disconnect(&mut self, client: &ClientId) -> Result<(), Idle>
-        ensures goes { GoesOn self.old self.new }
+        ensures goes { IsTrace self.old self.new }
         ensures meets { Meets (Event.Disconnect client.now)
             self.old result self.new }
         ensures once { CountsOnce self.old self.new }
@@ -146,7 +146,7 @@ impl World {
         client: &ClientId,
         publication: &Publication,
     ) -> Result<(), Idle>
-        ensures asked { GoesAsked (Event.Publish client.now publication.now)
+        ensures asked { PublishesAsked (Event.Publish client.now publication.now)
             self.old result self.new }
         ensures meets { Meets (Event.Publish client.now publication.now)
             self.old result self.new }
@@ -169,7 +169,7 @@ impl World {
         filter: &Filter,
         qos: QoS,
     ) -> Result<(), Idle>
-        ensures goes { GoesOn self.old self.new }
+        ensures goes { IsTrace self.old self.new }
         ensures meets { Meets (Event.Subscribe client.now filter.now qos)
             self.old result self.new }
         ensures once { CountsOnce self.old self.new }
@@ -186,7 +186,7 @@ impl World {
 
     /// Lets a client unsubscribe from a filter. `Idle` comes as for `publish`.
     pub(crate) fn unsubscribe(&mut self, client: &ClientId, filter: &Filter) -> Result<(), Idle>
-        ensures goes { GoesOn self.old self.new }
+        ensures goes { IsTrace self.old self.new }
         ensures meets { Meets (Event.Unsubscribe client.now filter.now)
             self.old result self.new }
         ensures once { CountsOnce self.old self.new }

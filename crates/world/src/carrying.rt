@@ -6,7 +6,7 @@ ghost use Rattle.world_events.specs.world_pipes.Following.{FollowsAll};
 ghost use Rattle.world.specs.Trace.{CountsOnce, NodesGoOn};
 ghost use Rattle.world.specs.SlotsAreValid.{leads};
 ghost use Rattle.world.specs.Inside.Carrying.{CannotHear, CannotTake, CannotTakeOn, HearsOn, TakesUpOnWhere, TakesUpWhere};
-ghost use Rattle.world.specs.Inside.Steps.{GoesOn, Meets};
+ghost use Rattle.world.specs.Inside.Steps.{IsTrace, Meets};
 ghost use Rattle.world.specs.Inside.Calling.{forgetful};
 
 use crate::connection_slot::ConnectionSlot;
@@ -21,7 +21,7 @@ impl World {
     /// Carries `count` bytes from the front of a connection to its node. `Idle` comes if the end at
     /// the node is closed, if the node has stopped, for no bytes, and for more than wait.
     pub(crate) fn carry_up(&mut self, number: u64, count: u64) -> Result<(), Idle>
-        ensures goes { GoesOn self.old self.new }
+        ensures goes { IsTrace self.old self.new }
         ensures meets { Meets (Event.CarryUp number count) self.old result self.new }
         ensures once { CountsOnce self.old self.new }
     {
@@ -37,7 +37,7 @@ impl World {
         requires stands { slice_get self.old.connections (number - 1) ≡ Some slot }
         requires positive { 0 < number }
         requires up { slot.is_open ≡ true }
-        ensures goes { GoesOn self.old self.new }
+        ensures goes { IsTrace self.old self.new }
         ensures meets { Meets (Event.CarryUp number count) self.old result self.new }
         ensures once { CountsOnce self.old self.new }
     {
@@ -55,7 +55,7 @@ impl World {
     fn take_up(&mut self, slot: ConnectionSlot, number: u64, count: u64) -> Result<bool, Idle>
         requires stands { slice_get self.old.connections (number - 1) ≡ Some slot }
         requires positive { 0 < number }
-        ensures goes { GoesOn self.old self.new }
+        ensures goes { IsTrace self.old self.new }
         ensures takes { IfOk result
             (λ had. TakesUpOnWhere had number slot count self.old self.new) }
         ensures still { self.new.losses ≡ self.old.losses }
@@ -76,7 +76,7 @@ impl World {
     /// Carries `count` bytes from the front of a connection to its client. `Idle` comes if the
     /// client does not hold this connection, for no bytes, and for more than wait.
     pub(crate) fn carry_down(&mut self, number: u64, count: u64) -> Result<(), Idle>
-        ensures goes { GoesOn self.old self.new }
+        ensures goes { IsTrace self.old self.new }
         ensures meets { Meets (Event.CarryDown number count) self.old result self.new }
         ensures once { CountsOnce self.old self.new }
     {

@@ -6,7 +6,7 @@ ghost use Rattle.world.specs.Gathering.{Gathers, GathersAmong};
 ghost use Rattle.world.specs.Trace.{NodesGoOn};
 ghost use Rattle.world.specs.SlotsAreValid.{leads, open_from};
 ghost use Rattle.world.specs.Inside.Handing.{AsksAt, HandsDown, MayHandDown, MayHandOn, MayPutDown, PutsDown, StaysQuiet, marked, tells_open};
-ghost use Rattle.world.specs.Inside.Steps.{GoesOn};
+ghost use Rattle.world.specs.Inside.Steps.{IsTrace};
 
 use crate::connection_slot::ConnectionSlot;
 use crate::world::World;
@@ -19,7 +19,7 @@ impl World {
     /// Puts into the pipes what a node queued, on each connection whose end there is open. The
     /// master, node 0, has none.
     pub(crate) fn gather(&mut self, node: u8)
-        ensures goes { GoesOn self.old self.new }
+        ensures goes { IsTrace self.old self.new }
         ensures gathers { Gathers false node self.old self.new }
         ensures still { self.new.losses ≡ self.old.losses }
         ensures quiet { StaysQuiet node self.old.nodes self.new.nodes }
@@ -32,7 +32,7 @@ impl World {
     // Puts into the pipes what the node queued, on the connections whose end is open, at whichever
     // node, from the newest to the oldest.
     fn gather_open(&mut self, node: u8)
-        ensures goes { GoesOn self.old self.new }
+        ensures goes { IsTrace self.old self.new }
         ensures gathers { GathersAmong false (length self.old.connections) node self.old self.new }
         ensures still { self.new.losses ≡ self.old.losses }
         ensures quiet { StaysQuiet node self.old.nodes self.new.nodes }
@@ -48,7 +48,7 @@ impl World {
     // is open, if that leads to the node.
     fn gather_at(&mut self, node: u8, at: usize)
         requires { at < length (open_from 1 self.old.connections) }
-        ensures goes { GoesOn self.old self.new }
+        ensures goes { IsTrace self.old self.new }
         ensures asks { AsksAt node at self.old self.new }
         ensures still { self.new.losses ≡ self.old.losses }
         ensures quiet { StaysQuiet node self.old.nodes self.new.nodes }
@@ -99,7 +99,7 @@ impl World {
     fn hand_on(&mut self, slot: ConnectionSlot, number: u64) -> bool
         requires stands { slice_get self.old.connections (number - 1) ≡ Some slot }
         requires positive { 0 < number }
-        ensures goes { GoesOn self.old self.new }
+        ensures goes { IsTrace self.old self.new }
         ensures connections { self.new.connections ≡ self.old.connections }
         ensures hands { MayHandOn number slot self.old result self.new }
         ensures still { self.new.losses ≡ self.old.losses }

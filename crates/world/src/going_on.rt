@@ -3,7 +3,7 @@
 ghost use Rattle.std.specs.Prelude.{◌≡◌, ◌<◌, ◌-◌, true, Some, slice_get};
 ghost use Rattle.world.specs.Doing.{receiver_of};
 ghost use Rattle.world.specs.Found.{port_of};
-ghost use Rattle.world.specs.Inside.Steps.{GoesOn, Meets};
+ghost use Rattle.world.specs.Inside.Steps.{IsTrace, Meets};
 ghost use Rattle.world.specs.Quiet.{IsQuietAt, TakesNoMemory};
 
 use crate::connection_slot::ConnectionSlot;
@@ -17,7 +17,7 @@ impl World {
     /// Delivers the message of a number. `Idle` comes if no such message was sent, and if its
     /// receiver is unknown or has stopped.
     pub(crate) fn deliver(&mut self, number: u64) -> Result<(), Idle>
-        ensures goes { GoesOn self.old self.new }
+        ensures goes { IsTrace self.old self.new }
         ensures meets { Meets (Event.Deliver number) self.old result self.new }
         ensures still { self.new.losses ≡ self.old.losses }
         ensures quiet { TakesNoMemory (Event.Deliver number) self.old →
@@ -41,7 +41,7 @@ impl World {
 
     /// Lets time pass at a node. `Idle` comes if it is unknown or has stopped.
     pub(crate) fn tick(&mut self, node: u8) -> Result<(), Idle>
-        ensures goes { GoesOn self.old self.new }
+        ensures goes { IsTrace self.old self.new }
         ensures meets { Meets (Event.Tick node) self.old result self.new }
         ensures still { self.new.losses ≡ self.old.losses }
         ensures quiet { TakesNoMemory (Event.Tick node) self.old →
@@ -55,7 +55,7 @@ impl World {
     /// Lets a node cut its log. `Idle` comes if it is unknown or has stopped, and if it has applied
     /// nothing since its last cut.
     pub(crate) fn cut(&mut self, node: u8) -> Result<(), Idle>
-        ensures goes { GoesOn self.old self.new }
+        ensures goes { IsTrace self.old self.new }
         ensures meets { Meets (Event.Cut node) self.old result self.new }
         ensures still { self.new.losses ≡ self.old.losses }
     {
@@ -67,7 +67,7 @@ impl World {
     /// Lets a node propose to end the session of a client. `Idle` comes if there is no such client,
     /// if the node is no running active primary, and if its log is full.
     pub(crate) fn expel(&mut self, client: &ClientId, node: u8) -> Result<(), Idle>
-        ensures goes { GoesOn self.old self.new }
+        ensures goes { IsTrace self.old self.new }
         ensures meets { Meets (Event.Expel client.now node) self.old result self.new }
         ensures still { self.new.losses ≡ self.old.losses }
     {
@@ -81,7 +81,7 @@ impl World {
 
     /// Stops a node for good. `Idle` comes if it is unknown or has stopped.
     pub(crate) fn crash(&mut self, node: u8) -> Result<(), Idle>
-        ensures goes { GoesOn self.old self.new }
+        ensures goes { IsTrace self.old self.new }
         ensures meets { Meets (Event.Crash node) self.old result self.new }
         ensures still { self.new.losses ≡ self.old.losses }
         ensures quiet { TakesNoMemory (Event.Crash node) self.old →
@@ -94,7 +94,7 @@ impl World {
 
     /// Lets the master give the next ballot to a configuration. `Idle` comes if the master refuses.
     pub(crate) fn assign(&mut self, config: &Config) -> Result<(), Idle>
-        ensures goes { GoesOn self.old self.new }
+        ensures goes { IsTrace self.old self.new }
         ensures meets { Meets (Event.Assign config.now) self.old result self.new }
         ensures still { self.new.losses ≡ self.old.losses }
     {
@@ -104,7 +104,7 @@ impl World {
     /// Lets a node notice the end of a connection. `Idle` comes if its end there is closed, and if
     /// the node has stopped.
     pub(crate) fn notice(&mut self, number: u64) -> Result<(), Idle>
-        ensures goes { GoesOn self.old self.new }
+        ensures goes { IsTrace self.old self.new }
         ensures meets { Meets (Event.Notice number) self.old result self.new }
         ensures still { self.new.losses ≡ self.old.losses }
         ensures quiet { TakesNoMemory (Event.Notice number) self.old →
@@ -121,7 +121,7 @@ impl World {
         requires stands { slice_get self.old.connections (number - 1) ≡ Some slot }
         requires up { slot.is_open ≡ true }
         requires positive { 0 < number }
-        ensures goes { GoesOn self.old self.new }
+        ensures goes { IsTrace self.old self.new }
         ensures meets { Meets (Event.Notice number) self.old result self.new }
         ensures still { self.new.losses ≡ self.old.losses }
         ensures quiet { IsQuietAt slot.node (Item.Ended (port_of number)) self.old.nodes →

@@ -7,13 +7,13 @@ ghost use Rattle.headline.specs.ballot.Losses.{one_more};
 ghost use Rattle.headline.specs.packet_world.World.{AreApart};
 ghost use Rattle.headline.specs.byte_world.World.{new_client};
 ghost use Rattle.world_events.specs.world_pipes.StandsFor.{StandsFor};
-ghost use Rattle.world.specs.Trace.{AgreedGrows, AreReached, CountsOnce, StaysReached, WorldGoesOn};
+ghost use Rattle.world.specs.Trace.{AgreedGrows, AreReached, CountsOnce, StaysReached, KeepsGroup};
 ghost use Rattle.world.specs.Asking.{IsAsked, RunAsks};
 ghost use Rattle.world.specs.Happening.{Happens, Run, WorldOpens, new_world_client};
 ghost use Rattle.world.specs.Cannot.{CannotHappen};
-ghost use Rattle.world.specs.Inside.Steps.{GoesAsked, IsCounted, Meets};
+ghost use Rattle.world.specs.Inside.Steps.{PublishesAsked, IsCounted, Meets};
 ghost use Rattle.world.specs.Quiet.{TakesNoMemory};
-ghost use Rattle.world.specs.StandsFor.{ClientsStand, IsReached, KeepsReached, WorldGoesBy, asked_on, identifiers};
+ghost use Rattle.world.specs.StandsFor.{ClientsStand, IsReached, KeepsReached, FollowsModelAsking, asked_on, identifiers};
 
 use crate::connection_slot::ConnectionSlot;
 use packet::ClientId;
@@ -122,10 +122,10 @@ impl World {
         // clients are asked to publish just what the event asks.
         ensures exact { (asked : List (ℕ × Publication))
             × IsAsked event.now self.old result asked self.new
-            × WorldGoesBy asked self.old self.new × KeepsReached asked self.old self.new }
+            × FollowsModelAsking asked self.old self.new × KeepsReached asked self.old self.new }
 
         // Its nodes move as a group, and agree after the event.
-        ensures goes { WorldGoesOn self.old self.new }
+        ensures goes { KeepsGroup self.old self.new }
         ensures reached { StaysReached self.old.nodes self.new.nodes }
 
         // What was agreed is a prefix of what is agreed after the event.
@@ -157,10 +157,10 @@ impl World {
         // events. Its clients are asked to publish just what the events ask, in order.
         ensures exact { (asked : List (ℕ × Publication))
             × RunAsks events.now self.old asked self.new
-            × WorldGoesBy asked self.old self.new × KeepsReached asked self.old self.new }
+            × FollowsModelAsking asked self.old self.new × KeepsReached asked self.old self.new }
 
         // Its nodes move as a group, and agree after the events.
-        ensures goes { WorldGoesOn self.old self.new }
+        ensures goes { KeepsGroup self.old self.new }
         ensures reached { StaysReached self.old.nodes self.new.nodes }
 
         // What was agreed is a prefix of what is agreed after them.
@@ -230,7 +230,7 @@ impl World {
 
     // Hands an event to the call for its kind.
     fn happen(&mut self, event: &Event) -> Result<(), Idle>
-        ensures asked { GoesAsked event.now self.old result self.new }
+        ensures asked { PublishesAsked event.now self.old result self.new }
         ensures meets { Meets event.now self.old result self.new }
         ensures once { CountsOnce self.old self.new }
         ensures quiet { TakesNoMemory event.now self.old →

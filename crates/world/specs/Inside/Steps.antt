@@ -12,26 +12,26 @@ use Rattle.world.specs.Trace.{NodesGoOn}
 use Rattle.world.specs.Cannot.{CannotHappen}
 use Rattle.world.specs.Doing.{Does}
 use Rattle.world.specs.Happening.{HappensLosing}
-use Rattle.world.specs.StandsFor.{WorldGoesBy}
+use Rattle.world.specs.StandsFor.{FollowsModelAsking}
 use Rattle.world.specs.World.{WorldState}
 
--- counts do not fall, and each world of the model that corresponded to it moves on, while its
--- clients publish this
-pub record GoesOnBy (asked : List (ℕ × Publication)) (old new : WorldState) : Type 0 where
+-- what happened is a trace of the model: counts do not fall, and each world of the model that
+-- corresponded before steps to one that corresponds after, while its clients publish this
+pub record IsTraceAsking (asked : List (ℕ × Publication)) (old new : WorldState) : Type 0 where
   pub rises : old.losses ≤ new.losses
   pub nodes : NodesGoOn old.nodes new.nodes
-  pub goes : WorldGoesBy asked old new
+  pub goes : FollowsModelAsking asked old new
 
 -- nothing is published
-abbrev pub GoesOn : WorldState → WorldState → Type 0
-GoesOn old new = GoesOnBy [] old new
+abbrev pub IsTrace : WorldState → WorldState → Type 0
+IsTrace old new = IsTraceAsking [] old new
 
 -- what an event asked was published, and nothing else
-pub record GoesAsked (event : Event) (old : WorldState) (result : Result (Unit {0}) Idle)
+pub record PublishesAsked (event : Event) (old : WorldState) (result : Result (Unit {0}) Idle)
     (new : WorldState) : Type 0 where
   pub asked : List (ℕ × Publication)
   pub is : IsAsked event old result asked new
-  pub goes : GoesOnBy asked old new
+  pub goes : IsTraceAsking asked old new
 
 -- each group that corresponds to the nodes before still corresponds to them
 abbrev pub NodesStay : NodesState → NodesState → Type 0

@@ -1,12 +1,12 @@
 use Rattle.std.proofs.Common.{take}
-use Rattle.world.specs.Trace.{WorldGoesOn}
+use Rattle.world.specs.Trace.{KeepsGroup}
 use Rattle.world.specs.Happening.{Run}
 use Rattle.world.proofs.AskedSo.{HasAsked}
 use Rattle.world.proofs.world.World.run.Given as goal
 
 abbrev pub invariant-loop-event : goal.invariant-loop-event
 invariant-loop-event l = record {
-  goes : WorldGoesOn l.initial.self l.self;
+  goes : KeepsGroup l.initial.self l.self;
   asks : HasAsked (take l.event-index l.events) l.initial.self l.self;
   runs : Run (take l.event-index l.events) l.initial.self l.self;
 }
