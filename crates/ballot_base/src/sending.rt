@@ -42,7 +42,7 @@ fn send_made<C: Drop, O: Drop>(
     }
 }
 
-// Sends a copy of the command at a place to a node.
+// Sends a copy of the command at a place to a node. Returns whether there was memory for it.
 fn send_append<M: Machine>(
     alloc: Global,
     from: u8,
@@ -71,7 +71,7 @@ fn append_of<M: Machine>(
     Ok(Body::Append(ballot, place, M::copy(alloc, command)?))
 }
 
-/// Sends the command at a place to each node with a progress.
+/// Sends the command at a place to each node with a progress. Returns whether no message was lost.
 pub fn send_appends<M: Machine>(
     alloc: Global,
     from: u8,
@@ -94,6 +94,7 @@ pub fn send_appends<M: Machine>(
 }
 
 /// Sends to each node whose progress is below the length of the log the command at its progress.
+/// Returns whether no message was lost.
 pub fn send_after<M: Machine>(
     alloc: Global,
     from: u8,
@@ -113,7 +114,7 @@ pub fn send_after<M: Machine>(
     whole
 }
 
-// Sends the place at a progress, if the log keeps it.
+// Sends the place at a progress, if the log keeps it. Returns whether no message was lost.
 fn send_at_reached<M: Machine>(
     alloc: Global,
     from: u8,
@@ -144,7 +145,8 @@ fn send_at_reached<M: Machine>(
     }
 }
 
-/// Sends to each node with a progress how many places are committed.
+/// Sends to each node with a progress how many places are committed. Returns whether no message was
+/// lost.
 pub fn send_commits<C: Drop, O: Drop>(
     from: u8,
     ballot: u64,
@@ -164,7 +166,7 @@ pub fn send_commits<C: Drop, O: Drop>(
     whole
 }
 
-/// Asks each of some nodes for its log.
+/// Asks each of some nodes for its log. Returns whether no message was lost.
 pub fn send_joins<C: Drop, O: Drop>(
     from: u8,
     ballot: u64,
@@ -184,7 +186,7 @@ pub fn send_joins<C: Drop, O: Drop>(
     whole
 }
 
-/// Sends a copy of a log to the primary that asked for it.
+/// Sends a copy of a log to the primary that asked for it. Returns whether there was memory for it.
 pub fn send_state<M: Machine>(
     alloc: Global,
     from: u8,
@@ -222,7 +224,7 @@ fn install_of<M: Machine>(
     Ok(Body::Install(ballot, copy_log::<M>(alloc, log)?))
 }
 
-/// Sends a copy of a log to each of some members.
+/// Sends a copy of a log to each of some members. Returns whether no message was lost.
 pub fn send_installs<M: Machine>(
     alloc: Global,
     from: u8,

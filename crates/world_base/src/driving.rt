@@ -33,7 +33,7 @@ impl SteppingNode {
         taken
     }
 
-    // Proposes a command to the replica only.
+    // Proposes a command to the replica only. Returns whether it was taken.
     fn propose_to_replica(
         &mut self,
         command: Command,

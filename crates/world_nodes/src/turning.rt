@@ -25,7 +25,8 @@ pub fn step_node(
     keep_all(effects, sent) && whole
 }
 
-/// Lets a node ignore the message of a number, as in `step_node`: no copy of it is made.
+/// Lets a node ignore the message of a number, as in `step_node`: no copy of it is made. Returns
+/// whether memory sufficed.
 pub fn pass_over(
     alloc: Global,
     node: &mut NodeCore,

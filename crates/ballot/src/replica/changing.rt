@@ -147,7 +147,8 @@ impl<M: Machine> Replica<M> {
 
     // Takes a log that lacks no applied place. A log whose base is above the replica's own replaces
     // the log once its snapshot is read, before anything is changed. Of any other log the places
-    // are taken from the replica's base on. False if the snapshot does not thaw, or memory ran out.
+    // are taken from the replica's base on. Returns false if the snapshot does not thaw, or memory
+    // ran out.
     fn take(&mut self, log: Log<M::Command>) -> bool
         requires running { self.old.state.stopped ≡ false }
         requires within { self.old.state.committed ≤ places log }

@@ -38,7 +38,7 @@ impl<M: Machine> Replica<M> {
         self.losses = counted(self.losses, whole);
     }
 
-    // Sends what a tick repeats, by the role.
+    // Sends what a tick repeats, by the role. Returns whether no message was lost.
     fn send_repeats(&self, out: &mut Vec<Effect<M::Command, M::Output>>) -> bool
         ensures { Sends out.old.items out.new.items
             (ticked M.Output self.now.state self.now.state.role).effects result }
@@ -54,7 +54,8 @@ impl<M: Machine> Replica<M> {
         }
     }
 
-    // Sends what the other members of an active primary may lack, and what is committed.
+    // Sends what the other members of an active primary may lack, and what is committed. Returns
+    // whether no message was lost.
     fn send_missing(&self, out: &mut Vec<Effect<M::Command, M::Output>>) -> bool
         ensures { Sends out.old.items out.new.items
             (appends_after M.Output self.now.state.id self.now.state.joined self.now.state.log
@@ -75,7 +76,7 @@ impl<M: Machine> Replica<M> {
     }
 
     /// Sends the log to the members that lack it; if there is none, the master may activate the
-    /// ballot.
+    /// ballot. Returns whether no message was lost.
     pub(super) fn send_log(&self, out: &mut Vec<Effect<M::Command, M::Output>>) -> bool
         ensures { Sends out.old.items out.new.items
             (installs M.Output self.now.state self.now.state.lacking) result }
