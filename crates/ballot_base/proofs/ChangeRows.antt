@@ -14,7 +14,7 @@ use Rattle.ballot_base.specs.Protocol.{ticked}
 use Rattle.ballot_base.specs.Replica.{ReplicaState, is_backup, is_fetching, is_installing, others, progress_at}
 use Rattle.ballot_base.specs.Sending.{nothing_done, message_to, message_to_each}
 use Rattle.ballot_base.specs.Serving.{max_places, added}
-use Rattle.ballot_base.specs.Changing.{waits_for, lacks, hands_on, answers_installed, on_new_ballot, on_join, on_install, installs, on_state, on_tick_fetching, on_tick_installing}
+use Rattle.ballot_base.specs.Changing.{waits_for, lacks, installs_taken, answers_installed, on_new_ballot, on_join, on_install, installs, on_state, on_tick_fetching, on_tick_installing}
 use Rattle.ballot_base.specs.Activating.{on_superseded, activates, on_installed, on_activated}
 
 -- NewBallot
@@ -65,13 +65,13 @@ pub on_state-takes : {S C O : Type 0} (rules : Rules S C O) (r took : ReplicaSta
       effects = installs O (record took { held_in = b; role = Installing; lacking = others r.id r.members }) (others r.id r.members);
     }
 unfolding on_state
-on_state-takes rules r took b log e f = rw e (ap (hands_on _ r b) f)
+on_state-takes rules r took b log e f = rw e (ap (installs_taken _ r b) f)
 
 -- .. whose snapshot does not thaw
 pub on_state-unread : {S C O : Type 0} (rules : Rules S C O) (r : ReplicaState S C) (b : ℕ) (log : Log C) →
     waits_for r b (places log) ≡ true → taken rules r log ≡ None → on_state rules r b log ≡ nothing_done O r
 unfolding on_state
-on_state-unread rules r b log e f = rw e (ap (hands_on _ r b) f)
+on_state-unread rules r b log e f = rw e (ap (installs_taken _ r b) f)
 
 -- Install
 pub on_install-takes : {S C O : Type 0} (rules : Rules S C O) (r took : ReplicaState S C) (from b : ℕ) (log : Log C) →

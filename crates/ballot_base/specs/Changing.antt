@@ -53,10 +53,10 @@ abbrev pub waits_for : {S C : Type 0} → ReplicaState S C → ℕ → ℕ → B
 waits_for r ballot held = r.joined == ballot && (is_fetching r.role && nat_le r.committed held)
 
 -- a new primary that took a log sends it to the others; it takes none that cannot be read
-abbrev pub hands_on : {S C : Type 0} (O : Type 0) →
+abbrev pub installs_taken : {S C : Type 0} (O : Type 0) →
     ReplicaState S C → ℕ → Option (ReplicaState S C) → Outcome S C O
-hands_on O r ballot None = nothing_done O r
-hands_on O r ballot (Some took) =
+installs_taken O r ballot None = nothing_done O r
+installs_taken O r ballot (Some took) =
     let new = record took {
       held_in = ballot;
       role = Installing;
@@ -70,7 +70,7 @@ unfoldable pub on_state : {S C O : Type 0} →
     Rules S C O → ReplicaState S C → ℕ → Log C → Outcome S C O
 on_state {O = O} rules r ballot log =
     if waits_for r ballot (places log)
-    then hands_on O r ballot (taken rules r log)
+    then installs_taken O r ballot (taken rules r log)
     else nothing_done O r
 
 -- whether an Install is taken: no higher ballot was joined, the ballot's log was not taken yet, and

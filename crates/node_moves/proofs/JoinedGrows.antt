@@ -5,7 +5,7 @@ use Rattle.std.proofs.lemmas.Bool.{ltb-true, eqb-true, and_parts, or_cases}
 use Rattle.world_base.specs.ballot.Machine.{Rules}
 use Rattle.world_base.specs.ballot.Logs.{Log, places, pushed}
 use Rattle.world_base.specs.ballot.Taking.{read_into, taken, with_places}
-use Rattle.world_base.specs.ballot.Changing.{answers_installed, hands_on, lacks, waits_for, on_new_ballot, on_join, on_state, on_install}
+use Rattle.world_base.specs.ballot.Changing.{answers_installed, installs_taken, lacks, waits_for, on_new_ballot, on_join, on_state, on_install}
 use Rattle.world_base.specs.ballot.Activating.{on_installed, on_activated, on_superseded}
 use Rattle.world_base.specs.ballot.Body.{Body}
 use Rattle.world_base.specs.ballot.Body.TheVariants.{NewBallot, Join, State, Install, Installed, Activate, Activated, Superseded, Append, Held, Commit}
@@ -48,10 +48,10 @@ up_join {S = S} {C = C} O r from ballot previous =
     joins false e = same_le r.joined
 
 -- a log that is taken
-up_handed : {S C O : Type 0} (rules : Rules S C O) (r : ReplicaState S C) (ballot : ℕ) (log : Log C) → Up {O = O} r (hands_on O r ballot (taken rules r log))
+up_handed : {S C O : Type 0} (rules : Rules S C O) (r : ReplicaState S C) (ballot : ℕ) (log : Log C) → Up {O = O} r (installs_taken O r ballot (taken rules r log))
 up_handed {S = S} {C = C} {O = O} rules r ballot log = by (nat_lt r.log.base log.base) (rules.thawed log.snapshot)
   where
-    by : (over : Bool) (read : Option S) → Up {O = O} r (hands_on O r ballot (if over then read_into r log read else Some (with_places r log)))
+    by : (over : Bool) (read : Option S) → Up {O = O} r (installs_taken O r ballot (if over then read_into r log read else Some (with_places r log)))
     by true None = up_nothing O r
     by true (Some machine) = same_le r.joined
     by false read = same_le r.joined
@@ -59,7 +59,7 @@ up_handed {S = S} {C = C} {O = O} rules r ballot log = by (nat_lt r.log.base log
 up_state : {S C O : Type 0} (rules : Rules S C O) (r : ReplicaState S C) (ballot : ℕ) (log : Log C) → Up {O = O} r (on_state rules r ballot log)
 unfolding on_state
 up_state {O = O} rules r ballot log =
-    up_if r (waits_for r ballot (places log)) (hands_on O r ballot (taken rules r log)) (nothing_done O r) (λ e. up_handed rules r ballot log) (λ e. up_nothing O r)
+    up_if r (waits_for r ballot (places log)) (installs_taken O r ballot (taken rules r log)) (nothing_done O r) (λ e. up_handed rules r ballot log) (λ e. up_nothing O r)
 
 up_answered : {S C : Type 0} (O : Type 0) (r : ReplicaState S C) (from ballot held : ℕ) (t : Option (ReplicaState S C)) → r.joined ≤ ballot →
     Up {O = O} r (answers_installed O r from ballot held t)

@@ -9,7 +9,7 @@ use Rattle.world_base.specs.ballot.Body.{Body}
 use Rattle.world_base.specs.ballot.Body.TheVariants.{NewBallot, Join, State, Install, Installed, Activate, Activated, Superseded, Append, Held, Commit}
 use Rattle.world_base.specs.ballot.Logs.{Log, places}
 use Rattle.world_base.specs.ballot.Taking.{taken}
-use Rattle.world_base.specs.ballot.Changing.{answers_installed, hands_on, lacks, waits_for, on_new_ballot, on_join, on_install, on_state}
+use Rattle.world_base.specs.ballot.Changing.{answers_installed, installs_taken, lacks, waits_for, on_new_ballot, on_join, on_install, on_state}
 use Rattle.world_base.specs.ballot.Activating.{on_superseded, on_installed, on_activated}
 use Rattle.world_base.specs.ballot.Machine.{Rules}
 use Rattle.world_base.specs.ballot.Protocol.{Input, received, ticked, replica_step}
@@ -48,7 +48,7 @@ state_stays : {S C O : Type 0} (rules : Rules S C O) (r : ReplicaState S C) (b :
 unfolding on_state
 state_stays {S = S} {C = C} {O = O} rules r b log = by (waits_for r b (places log)) (taken rules r log)
   where
-    by : (waits : Bool) (t : Option (ReplicaState S C)) → StaysOr r (let o : Outcome S C O = if waits then hands_on O r b t else nothing_done O r in o).state
+    by : (waits : Bool) (t : Option (ReplicaState S C)) → StaysOr r (let o : Outcome S C O = if waits then installs_taken O r b t else nothing_done O r in o).state
     by false t = inl refl
     by true None = inl refl
     by true (Some took) = inr refl

@@ -20,7 +20,7 @@ use Rattle.agreement.specs.ballot_base.Sending.{Outcome, message_to_each, messag
 use Rattle.snapshots.specs.World.{messages}
 use Rattle.agreement.specs.ballot_base.declared.message.Body.TheVariants.{Join, State, Install, Installed, Append, Held, Commit}
 use Rattle.agreement.specs.ballot_base.declared.message.Effect.TheVariants.{To, Out}
-use Rattle.agreement.specs.ballot_base.Changing.{answers_installed, hands_on, installs, on_join, on_new_ballot}
+use Rattle.agreement.specs.ballot_base.Changing.{answers_installed, installs_taken, installs, on_join, on_new_ballot}
 use Rattle.agreement.specs.ballot_base.Activating.{activates, on_activated, on_installed, on_superseded}
 use Rattle.agreement.specs.ballot_base.Applying.{applied_to, outputs_from, outputs_to}
 
@@ -250,7 +250,7 @@ tick_keeps O r =
 
 -- ---- logs that are taken: after State a new primary hands out what it took
 
-pub state_own : {S C : Type 0} (O : Type 0) (r took : ReplicaState S C) (b : ℕ) → SaysOwn {O = O} (hands_on O r b (Some took)).state (hands_on O r b (Some took)).effects
+pub state_own : {S C : Type 0} (O : Type 0) (r took : ReplicaState S C) (b : ℕ) → SaysOwn {O = O} (installs_taken O r b (Some took)).state (installs_taken O r b (Some took)).effects
 state_own O r took b = own_installs O (record took { held_in = b; role = Installing; lacking = others r.id r.members }) (others r.id r.members)
 
 pub install_own : {S C : Type 0} (O : Type 0) (r took : ReplicaState S C) (from b : ℕ) (log : Log C) →

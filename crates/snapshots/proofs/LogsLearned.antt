@@ -17,7 +17,7 @@ use Rattle.agreement.specs.whole.Sending.{Outcome as WholeOutcome}
 use Rattle.agreement.specs.ballot_base.Logs.{Log, places}
 use Rattle.snapshots.specs.Whole.{whole_log, whole}
 use Rattle.agreement.specs.ballot_base.Sending.{Outcome}
-use Rattle.agreement.specs.ballot_base.Changing.{answers_installed, hands_on, on_install, on_state}
+use Rattle.agreement.specs.ballot_base.Changing.{answers_installed, installs_taken, on_install, on_state}
 use Rattle.agreement.specs.ballot_base.Taking.{taken}
 use Rattle.snapshots.proofs.Changing.{whole_handed}
 use Rattle.snapshots.proofs.Fronts.{whole_long}
@@ -26,9 +26,9 @@ use Rattle.snapshots.proofs.Serving.{thinned_same}
 
 pub state_took : {S C O : Type 0} (rules : Rules S C O) (r took : ReplicaState S C) (ballot : ℕ) (log : Log C) →
     (r.joined == ballot && (is_fetching r.role && nat_le r.committed (places log))) ≡ true → taken rules r log ≡ Some took →
-    on_state rules r ballot log ≡ hands_on O r ballot (Some took)
+    on_state rules r ballot log ≡ installs_taken O r ballot (Some took)
 unfolding on_state
-state_took {O = O} rules r took ballot log e is = rw e (ap (hands_on O r ballot) is)
+state_took {O = O} rules r took ballot log e is = rw e (ap (installs_taken O r ballot) is)
 
 pub install_took : {S C O : Type 0} (rules : Rules S C O) (r took : ReplicaState S C) (from ballot : ℕ) (log : Log C) →
     ((nat_lt r.joined ballot || (r.joined == ballot && nat_lt r.held_in ballot)) && nat_le r.committed (places log)) ≡ true → taken rules r log ≡ Some took →
@@ -48,7 +48,7 @@ pub state_learns : {S C O : Type 0} (rules : Rules S C O) (archive : List C) (r 
 state_learns {S = S} {C = C} {O = O} rules archive r took ballot log k e within is same =
     subst (λ (o : Outcome S C O). LearnsTo rules archive k o (whole_on_state O (whole archive r) ballot (whole_log archive log)))
     (sym (state_took rules r took ballot log e is))
-    (subst (λ (p : WholeOutcome S C O). LearnsTo rules archive k (hands_on O r ballot (Some took)) p)
+    (subst (λ (p : WholeOutcome S C O). LearnsTo rules archive k (installs_taken O r ballot (Some took)) p)
     (sym (on_state-takes O (whole archive r) ballot (whole_log archive log)
     (ap (λ n. r.joined == ballot && (is_fetching r.role && nat_le r.committed n)) (whole_long archive log within) ∙ e)))
     (record {

@@ -16,7 +16,7 @@ use Rattle.agreement.specs.ballot_base.Logs.{Log, places}
 use Rattle.snapshots.specs.Whole.{whole_log, whole, whole_effects}
 use Rattle.snapshots.specs.Matches.{Matches}
 use Rattle.agreement.specs.ballot_base.Sending.{Outcome}
-use Rattle.agreement.specs.ballot_base.Changing.{answers_installed, hands_on, on_install, on_state}
+use Rattle.agreement.specs.ballot_base.Changing.{answers_installed, installs_taken, on_install, on_state}
 use Rattle.agreement.specs.ballot_base.Taking.{taken}
 use Rattle.snapshots.proofs.Fronts.{whole_long}
 use Rattle.snapshots.proofs.Changing.{whole_handed}
@@ -32,7 +32,7 @@ state_matches {S = S} {C = C} {O = O} rules archive r took ballot log within is 
     if_matches archive (r.joined == ballot && (is_fetching r.role && nat_le r.committed (places log)))
     (r.joined == ballot && (is_fetching r.role && nat_le r.committed (length (whole_log archive log)))) _ _ _ _
     (ap (λ n. r.joined == ballot && (is_fetching r.role && nat_le r.committed n)) (sym (whole_long archive log within)))
-    (subst (λ (o : Option (ReplicaState S C)). Matches {O = O} archive (hands_on O r ballot o) (record { state = new; effects = whole_installs O new (others r.id r.members) })) (sym is)
+    (subst (λ (o : Option (ReplicaState S C)). Matches {O = O} archive (installs_taken O r ballot o) (record { state = new; effects = whole_installs O new (others r.id r.members) })) (sym is)
     (matches_all archive _ _ state
     (whole_handed O archive (record took { held_in = ballot; role = Installing; lacking = others r.id r.members }) (others r.id r.members)
     ∙ ap (λ (x : WholeState S C). whole_installs O x (others r.id r.members)) state)))

@@ -12,7 +12,7 @@ use Rattle.agreement.specs.ballot_base.declared.message.Body.TheVariants.{NewBal
 use Rattle.agreement.specs.ballot_base.declared.message.Effect.{Effect}
 use Rattle.agreement.specs.ballot_base.declared.message.Effect.TheVariants.{To, Out}
 use Rattle.agreement.specs.ballot_base.declared.status.Role.TheVariants.{Installing}
-use Rattle.agreement.specs.ballot_base.Changing.{answers_installed, hands_on, installs, lacks, on_install, on_state, waits_for}
+use Rattle.agreement.specs.ballot_base.Changing.{answers_installed, installs_taken, installs, lacks, on_install, on_state, waits_for}
 use Rattle.agreement.specs.ballot_base.Logs.{Log, places}
 use Rattle.agreement.specs.ballot_base.Losses.{Loses, Thinned, halted}
 use Rattle.agreement.specs.ballot_base.Losses.Thinned.{none, keeps, loses}
@@ -71,7 +71,7 @@ state_silent : {S C O : Type 0} (rules : Rules S C O) (r : ReplicaState S C) (b 
 unfolding on_state
 state_silent {S = S} {C = C} {O = O} rules r b log = by (waits_for r b (places log)) (taken rules r log)
   where
-    by : (waits : Bool) (t : Option (ReplicaState S C)) → IsSilent {O = O} r (cond waits (hands_on O r b t) (nothing_done O r))
+    by : (waits : Bool) (t : Option (ReplicaState S C)) → IsSilent {O = O} r (cond waits (installs_taken O r b t) (nothing_done O r))
     by false t = stays refl refl
     by true None = stays refl refl
     by true (Some took) =

@@ -23,7 +23,7 @@ use Rattle.snapshots.specs.ballot_base.declared.config.Config.{Config}
 use Rattle.snapshots.specs.ballot_base.declared.message.Body.{Body}
 use Rattle.snapshots.specs.ballot_base.declared.message.Body.TheVariants.{NewBallot, Join, State, Install, Installed, Activate, Activated, Superseded, Append, Held, Commit}
 use Rattle.snapshots.specs.ballot_base.declared.status.Role.TheVariants.{Backup, Installing}
-use Rattle.snapshots.specs.ballot_base.Changing.{answers_installed, hands_on, on_install, on_state}
+use Rattle.snapshots.specs.ballot_base.Changing.{answers_installed, installs_taken, on_install, on_state}
 use Rattle.snapshots.specs.ballot_base.Logs.{Log, places}
 use Rattle.snapshots.specs.ballot_base.Protocol.{received}
 use Rattle.snapshots.specs.ballot_base.Protocol.Input.{Receives}
@@ -182,10 +182,10 @@ module _ {S C O : Type 0} (rules : Rules S C O) (config : Config) (m : MasterSta
           with_it : ReplicaState S C
           with_it = record t.took { held_in = b; role = Installing; lacking = others r.id r.members }
 
-          sends : whole_effects w.archive (hands_on O r b (Some t.took)).effects ≡ whole_installs O (whole w.archive with_it) (others r.id r.members)
+          sends : whole_effects w.archive (installs_taken O r b (Some t.took)).effects ≡ whole_installs O (whole w.archive with_it) (others r.id r.members)
           sends = whole_handed O w.archive with_it (others r.id r.members)
 
-          by_so : TookSo rules w.archive r log t.took → AreLike {O = O} rules ballot given (wholly w.archive (hands_on O r b (Some t.took)))
+          by_so : TookSo rules w.archive r log t.took → AreLike {O = O} rules ballot given (wholly w.archive (installs_taken O r b (Some t.took)))
           by_so (inl same) =
               let state : whole w.archive with_it ≡ new = ap (λ (x : WholeState S C). let y : WholeState S C = record x { held_in = b; role = Installing; lacking = others r.id r.members } in y) same in
               record { state = inl state; effects = sends ∙ ap (λ (x : WholeState S C). whole_installs O x (others r.id r.members)) state }
