@@ -76,7 +76,8 @@ impl Piece {
     }
 
     /// Adds the bytes of a packet at the end, if there are no more than `most` then, and says
-    /// whether they were added. The only error is that memory ran out, as in [`Piece::put`].
+    /// whether they were added. Gives up with [`Memory`] where [`Piece::put`] adds nothing: memory
+    /// ran out, or the packet has none, as it has an empty list or is over the size limit.
     pub fn put_within(&mut self, packet: &Packet, most: usize) -> Result<bool, Memory>
         ensures fits { IfOk result (λ put.
             put ≡ nat_le (length self.old + length (spelling packet.now)) most) }

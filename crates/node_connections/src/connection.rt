@@ -238,8 +238,9 @@ impl Connection {
         put
     }
 
-    /// Queues a packet, or closes the connection as lost if there is no room for it, or no memory.
-    /// Says whether there was memory.
+    /// Queues a packet, or closes the connection as lost if there is no room for it, or if its
+    /// bytes cannot be written: memory ran out, or it has none, as it has an empty list or is over
+    /// the size limit. Says whether they could be written.
     pub fn put_or_fail(&mut self, packet: &Packet) -> bool
         ensures whole { result ≡ true → self.new ≡ put_out (spelling packet.now) self.old }
         ensures lost { result ≡ false → self.new ≡ failing self.old }
