@@ -2,8 +2,8 @@
 use Rattle.std.specs.Prelude.{ℕ, ◌+◌, ◌-◌, ◌*◌, nat_lt, ◌==◌, Bool, true, false, not, ◌&&◌}
 use Rattle.std.specs.Prelude.{if◌then◌else◌, List, [], ◌∷◌, length, take, drop, Result, Ok, Err}
 use Rattle.std.specs.Int.{w16, from_be_bytes}
-use Rattle.std.specs.List.{list_any}
 use Rattle.std.specs.Str.{is_utf8}
+use Rattle.topics.specs.Text.{has}
 use Rattle.topics.specs.declared.malformed.MalformedKind.{MalformedKind}
 use Rattle.topics.specs.declared.malformed.MalformedKind.TheVariants as kinds
 use Rattle.packet_base.specs.declared.stop.Stop.{Stop}
@@ -53,13 +53,9 @@ id_at bytes = do
   check (nat_lt 0 id.0) (stops.Malformed kinds.Identifier)
   Ok id
 
--- whether U+0000 is in the text
-abbrev pub has_null : List ℕ → Bool
-has_null bytes = list_any (λ b. b == 0) bytes
-
 -- well-formed UTF-8 without U+0000 (MQTT 1.5.3)
 abbrev pub is_text : List ℕ → Bool
-is_text bytes = is_utf8 bytes && not (has_null bytes)
+is_text bytes = is_utf8 bytes && not (has 0 bytes)
 
 -- bytes that have to be a text
 abbrev pub text_of : List ℕ → Result (List ℕ) Stop
