@@ -1,7 +1,7 @@
 // The Remaining Length of a packet: one to four bytes (MQTT 2.2.3).
 
-ghost use Rattle.std.specs.Prelude.{◌≡◌, ◌+◌, ◌<◌, ◌≤◌, ◌^◌, IfOk, vec_len, vec_capacity};
-ghost use Rattle.packet_base.specs.Spelling.{AppendsLength, length_bytes};
+ghost use Rattle.std.specs.Prelude.{◌≡◌, ◌+◌, ◌<◌, ◌≤◌, ◌^◌, ◌++◌, IfOk, vec_len, vec_capacity};
+ghost use Rattle.packet_base.specs.Spelling.{AppendsLength, length_bytes, remaining_length};
 ghost use Rattle.packet_base.specs.Reading.{length_at};
 ghost use Rattle.packet_base.specs.Outcome.{Gives, TakesNoMemory};
 ghost use Rattle.packet_base.specs.Inside.{length_limit};
@@ -66,6 +66,7 @@ pub fn length_size(length: u32) -> usize
 pub fn put_length(out: &mut Vec<u8>, length: u32)
     requires small { length < 2 ^ 28 }
     requires room { vec_len out.old + length_bytes length ≤ vec_capacity out.old }
+    ensures exact { out.new.items ≡ out.old.items ++ remaining_length length }
     ensures spelled { AppendsLength out.old.items out.new.items length }
     ensures len { vec_len out.new ≡ vec_len out.old + length_bytes length }
     ensures capacity { vec_capacity out.old ≤ vec_capacity out.new }
