@@ -1,8 +1,8 @@
 -- Each field that is spelled is read again, whatever follows it.
-use Rattle.std.proofs.Common.{◌≡◌, ℕ, ◌^◌, ◌<◌, Bool, true, false, cond, ltb, List, ◌++◌, length, Some, None, Ok, refl, arith}
+use Rattle.std.proofs.Common.{◌≡◌, ℕ, ◌^◌, ◌<◌, ◌≤◌, Bool, true, false, cond, leb, ltb, List, ◌++◌, length, Some, None, Ok, refl, arith}
 use Rattle.std.specs.Prelude.{not, ◌&&◌, is_none}
 use Rattle.std.specs.Str.{is_utf8}
-use Rattle.std.proofs.lemmas.Bool.{le-ltb, lt-ltb, ltb-true}
+use Rattle.std.proofs.lemmas.Bool.{le-ltb, leb-true, lt-ltb}
 use Rattle.std.proofs.lemmas.List.{take_at, drop_at, length-append}
 use Rattle.std.proofs.lemmas.Nat.{from_be_bytes-to_be_bytes_2}
 use Rattle.packet_base.specs.Spelling.{number, text}
@@ -46,7 +46,7 @@ named_parts true false true true false a b c t = absurd cc
 
 -- and its length fits two bytes
 short_name : (bytes : List ℕ) → has_length bytes ≡ true → length bytes < 2 ^ 16
-short_name bytes good = let few : length bytes < 65536 = ltb-true (length bytes) 65536 (both (ltb 0 (length bytes)) (ltb (length bytes) 65536) good) in omega (arith, few)
+short_name bytes good = let few : length bytes ≤ 65535 = leb-true (length bytes) 65535 (both (ltb 0 (length bytes)) (leb (length bytes) 65535) good) in omega (arith, few)
   where
     both : (a b : Bool) → (a && b) ≡ true → b ≡ true
     both true true t = refl

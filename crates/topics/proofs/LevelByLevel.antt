@@ -1,5 +1,5 @@
 -- A text's levels are the bytes before its first `/` and the levels of what follows it.
-use Rattle.std.proofs.Common.{◌≡◌, ℕ, zero, suc, ◌+◌, ◌-◌, ◌<◌, List, [], ◌∷◌, length, get_or, take, drop, refl, true, false, ◌==◌, arith, cond, ap, ◌∙◌, add-one, nat_lt, count_by}
+use Rattle.std.proofs.Common.{◌≡◌, ℕ, zero, suc, ◌+◌, ◌-◌, ◌<◌, List, [], ◌∷◌, length, get_or, take, drop, refl, true, false, ◌==◌, arith, cond, ap, ◌∙◌, add-one, nat_le, nat_lt, count_by}
 use Rattle.std.specs.List.{onto_first}
 use Rattle.std.proofs.lemmas.Bool.{eq-eqb, ne_eqb}
 use Rattle.std.proofs.lemmas.Bool.Decides.{nat_tests}
@@ -38,7 +38,7 @@ is_last_levels (x ∷ xs) =
       | false ↦ some x (levels xs)
     ]
 
-one_more : (n : ℕ) → nat_lt (n + 1) 33 ≡ nat_lt n 32
+one_more : (n : ℕ) → nat_le (n + 1) 32 ≡ nat_lt n 32
 one_more n = grind (arith, nat_tests)
 
 -- as many levels as `/`, and one more

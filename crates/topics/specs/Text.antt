@@ -10,6 +10,7 @@ use Rattle.std.specs.Prelude.{
   ◌||◌,
   ◌==◌,
   nat_lt,
+  nat_le,
   if◌then◌else◌,
   List,
   [],
@@ -26,6 +27,8 @@ use Rattle.std.specs.Prelude.{
 use Rattle.std.specs.List.{list_any, slice_split}
 use Rattle.std.specs.Borrow.{Bor}
 use Rattle.std.specs.Str.{is_utf8}
+use Rattle.topics.specs.declared.level.TheConstants.{MAX_TEXT_BYTES}
+use Rattle.topics.specs.declared.survey.TheConstants.{MAX_LEVELS}
 use Rattle.topics.specs.declared.malformed.MalformedKind.{MalformedKind}
 use Rattle.topics.specs.declared.malformed.MalformedKind.TheVariants as kinds
 
@@ -48,11 +51,11 @@ has byte text = list_any (λ b. b == byte) text
 
 -- 1 to 65,535 bytes (MQTT 4.7.3)
 abbrev pub has_length : List ℕ → Bool
-has_length text = nat_lt 0 (length text) && nat_lt (length text) 65536
+has_length text = nat_lt 0 (length text) && nat_le (length text) MAX_TEXT_BYTES
 
 -- at most 32 levels, this broker's own limit
 abbrev pub is_shallow : List ℕ → Bool
-is_shallow text = nat_lt (length (levels text)) 33
+is_shallow text = nat_le (length (levels text)) MAX_LEVELS
 
 -- a Topic Name has no wildcard, 43 is `+` and 35 is `#` (MQTT 4.7.1)
 abbrev pub has_no_wildcard : List ℕ → Bool
