@@ -4,6 +4,7 @@
 ghost use Rattle.std.specs.Prelude.{
   ◌≡◌,
   ◌+◌,
+  ◌^◌,
   ◌<◌,
   ◌≤◌,
   [],
@@ -47,7 +48,7 @@ pub fn put_number(out: &mut Vec<u8>, value: u16)
 
 /// Writes a text with its length before it (MQTT 1.5.3).
 pub fn put_text(out: &mut Vec<u8>, value: &str)
-    requires short { length value.now < 65536 }
+    requires short { length value.now < 2 ^ 16 }
     requires room { vec_len out.old + (2 + length value.now) ≤ vec_capacity out.old }
     ensures items { out.new.items ≡ out.old.items ++ text value.now }
     ensures len { vec_len out.new ≡ vec_len out.old + (2 + length value.now) }

@@ -1,6 +1,6 @@
 // Appends the parts of a frozen session to a vector.
 
-ghost use Rattle.std.specs.Prelude.{◌≡◌, ◌<◌, ◌++◌, length, OnOk};
+ghost use Rattle.std.specs.Prelude.{◌≡◌, ◌<◌, ◌^◌, ◌++◌, length, OnOk};
 ghost use Rattle.packet_base.specs.Spelling.{number, text};
 ghost use Rattle.session_base.specs.Form.{long_number, publication_bytes, granted_filter_bytes, flight_bytes};
 ghost use Rattle.session_base.specs.Form.{HasLength, IsWritable};
@@ -20,7 +20,7 @@ pub fn write_number(value: u16, bytes: &mut Vec<u8>) -> Result<(), AllocError>
 
 /// Appends a text with its length before it (MQTT 1.5.3).
 pub fn write_text(value: &str, bytes: &mut Vec<u8>) -> Result<(), AllocError>
-    requires { length value.now < 65536 }
+    requires { length value.now < 2 ^ 16 }
     ensures { OnOk result (bytes.new.items ≡ bytes.old.items ++ text value.now) }
 {
     write_number(value.len() as u16, bytes)?;
@@ -29,7 +29,7 @@ pub fn write_text(value: &str, bytes: &mut Vec<u8>) -> Result<(), AllocError>
 
 /// Appends a payload with its length in four bytes before it.
 pub fn write_payload(payload: &[u8], bytes: &mut Vec<u8>) -> Result<(), AllocError>
-    requires { length payload.now < 4294967296 }
+    requires { length payload.now < 2 ^ 32 }
     ensures { OnOk result
         (bytes.new.items ≡ bytes.old.items ++ (long_number (length payload.now) ++ payload.now)) }
 {
