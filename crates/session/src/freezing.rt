@@ -7,6 +7,7 @@ ghost use Rattle.session_base.specs.Counted.{counted};
 ghost use Rattle.session_base.specs.Form.{one_byte, granted_filter_bytes, flight_bytes, publication_bytes};
 ghost use Rattle.session_base.specs.Form.{state_bytes, HasLength, IsWritable};
 ghost use Rattle.session_base.specs.FormLaws.{HasForm};
+ghost use Rattle.session_base.specs.Identifiers.{max_id};
 ghost use Rattle.session.specs.Inside.{AreWritable};
 
 use crate::received::Received;
@@ -59,7 +60,7 @@ impl Subscriptions {
 impl Received {
     /// Appends their count, and each of them.
     pub(crate) fn write(&self, bytes: &mut Vec<u8>) -> Result<(), AllocError>
-        requires { length self.now ≤ 65535 }
+        requires { length self.now ≤ max_id }
         ensures { OnOk result
             (bytes.new.items ≡ bytes.old.items ++ counted number number self.now) }
     {

@@ -1,9 +1,9 @@
 // One client's session (MQTT 3.1.2.4, 4.1).
 
-ghost use Rattle.std.specs.Prelude.{◌≡◌, ◌≢◌, ◌≤◌, ◌<◌, ◌++◌, ◌↔◌, [], true, length, IsOk, Ok, Err};
+ghost use Rattle.std.specs.Prelude.{◌≡◌, ◌≢◌, ◌≤◌, ◌++◌, ◌↔◌, [], true, length, IsOk, Ok, Err};
 ghost use Rattle.std.specs.Prelude.{OnOk, OnErr};
 ghost use Rattle.session_base.specs.lists.Lists.{has_id};
-ghost use Rattle.session_base.specs.Identifiers.{with_id, without_id};
+ghost use Rattle.session_base.specs.Identifiers.{max_id, with_id, without_id};
 ghost use Rattle.session_base.specs.Subscriptions.{is_subscribed, with_subscription};
 ghost use Rattle.session_base.specs.Subscriptions.{without_filter, granted_qos};
 ghost use Rattle.session_base.specs.Queue.{on_puback, on_pubrec, on_pubcomp, enqueue, room, filled};
@@ -147,7 +147,7 @@ impl Session {
     /// takes the least free identifier, and its PUBLISH is appended (MQTT 4.6). If memory runs out
     /// nothing changes.
     pub fn fill(&mut self, window: usize, out: &mut Vec<Packet>) -> Result<(), AllocError>
-        requires { window < 65536 }
+        requires { window ≤ max_id }
         ensures state { OnOk result
             (self.new ≡ with_queue (filled window self.old.queue) self.old) }
         ensures sends { OnOk result

@@ -4,7 +4,7 @@ ghost use Rattle.std.specs.Prelude.{◌≡◌, ◌≤◌, ◌<◌, ◌++◌, [],
 ghost use Rattle.std.specs.Prelude.{take, drop, IsOk, IfOk, OnOk, OnErr};
 ghost use Rattle.std.specs.List.{list_any};
 ghost use Rattle.session_base.specs.lists.Lists.{has_id};
-ghost use Rattle.session_base.specs.Identifiers.{least_free};
+ghost use Rattle.session_base.specs.Identifiers.{least_free, max_id};
 ghost use Rattle.session_base.specs.Session.{with_flights};
 ghost use Rattle.session_base.specs.OrderLaws.{IsReleasedFirst};
 ghost use Rattle.session_base.specs.Sending.{fill_sends, resend, pubrec_sends};
@@ -71,7 +71,7 @@ impl SessionQueue {
     /// Starts what waits while fewer are in flight than the window, and appends what is sent. If
     /// memory runs out nothing changes.
     pub(crate) fn fill(&mut self, window: usize, out: &mut Vec<Packet>) -> Result<(), AllocError>
-        requires { window < 65536 }
+        requires { window ≤ max_id }
         ensures state { OnOk result (self.new ≡ filled window self.old) }
         ensures sends { OnOk result
             (out.new.items
@@ -99,7 +99,7 @@ impl SessionQueue {
     // Starts what may start, appends what is sent, and returns how many started. They still wait as
     // well.
     fn start_all(&mut self, window: usize, out: &mut Vec<Packet>) -> Result<usize, AllocError>
-        requires { window < 65536 }
+        requires { window ≤ max_id }
         ensures state { IfOk result
             (λ many. record { in_flight = self.new.in_flight; waiting = drop many self.old.waiting }
             ≡ filled window self.old) }
@@ -125,7 +125,7 @@ impl SessionQueue {
 
     // Starts the one that waits at this index. It still waits there as well.
     fn start(&mut self, index: usize, out: &mut Vec<Packet>) -> Result<(), AllocError>
-        requires { length self.old.in_flight < 65535 }
+        requires { length self.old.in_flight < max_id }
         ensures state { OnOk result
             (self.new.in_flight
             ≡ (started_with self.old.in_flight (drop index self.old.waiting)).in_flight) }
@@ -279,7 +279,7 @@ impl SessionQueue {
 
 // Returns the least identifier that is not in flight.
 fn free_id(in_flight: &IndexMap<PacketId, Awaits>) -> PacketId
-    requires { length in_flight.now.entries < 65535 }
+    requires { length in_flight.now.entries < max_id }
     ensures { result ≡ least_free (ids_of in_flight.now.entries) }
 {
     let mut number = 1;

@@ -8,6 +8,7 @@ ghost use Rattle.session_base.specs.packet_base.Reading.{byte_at, number_at, id_
 ghost use Rattle.session_base.specs.Counted.{counted_at, items_after, last_of, Adds};
 ghost use Rattle.session_base.specs.Form.{is_new_filter, granted_filter_at, is_above, may_follow, flight_at};
 ghost use Rattle.session_base.specs.Form.{anything, was_released, waiting_at, state_at};
+ghost use Rattle.session_base.specs.Identifiers.{max_id};
 ghost use Rattle.session_base.specs.lists.Lists.{has_id};
 ghost use Rattle.session_base.specs.Queue.{ids_of};
 ghost use Rattle.session_base.specs.OrderLaws.{IsReleasedFirst};
@@ -69,7 +70,7 @@ impl Received {
     #[tactic(auto, unfolding(session_base::specs::Counted::counted_at))]
     pub(crate) fn read(alloc: Global, reader: &mut Reader) -> Result<Received, Stop>
         ensures { Reads (λ x. x) result reader.new
-            (counted_at number_at is_above id_at 65535 reader.old) }
+            (counted_at number_at is_above id_at max_id reader.old) }
     {
         let count = reader.number()?;
         read_ids(alloc, count, reader)

@@ -14,12 +14,12 @@ use Rattle.session_base.specs.declared.awaits.Awaits.{Awaits}
 use Rattle.session_base.specs.declared.awaits.Awaits.TheVariants as waits_for
 use Rattle.session_base.specs.Publication.{is_answered, is_acknowledged}
 use Rattle.session_base.specs.Subscriptions.{GrantedFilter}
+use Rattle.session_base.specs.Identifiers.{max_id}
 use Rattle.session_base.specs.Queue.{Flight}
 use Rattle.session_base.specs.Session.{SessionState, max_entries, max_subscriptions}
 use Rattle.session_base.specs.Counted.{check_form, counted_at}
 pub use Rattle.session_base.specs.Writing.{long_number, one_byte, publication_bytes, granted_filter_bytes}
-pub use Rattle.session_base.specs.Writing.{awaits_bytes, flight_bytes, state_bytes}
-pub use Rattle.session_base.specs.Writing.{HasLength, IsWritable}
+pub use Rattle.session_base.specs.Writing.{awaits_bytes, flight_bytes, state_bytes, HasLength, IsWritable}
 pub use Rattle.session_base.specs.Follows.{is_new_filter, is_over, is_above, was_released}
 pub use Rattle.session_base.specs.Follows.{may_follow, anything}
 
@@ -107,7 +107,7 @@ flight_at bytes = do
 unfoldable pub state_at : ℕ → List ℕ → Result (SessionState × List ℕ) Stop
 state_at window bytes = do
   subscriptions ← counted_at byte_at is_new_filter granted_filter_at max_subscriptions bytes
-  received ← counted_at number_at is_above id_at 65535 subscriptions.1
+  received ← counted_at number_at is_above id_at max_id subscriptions.1
   in_flight ← counted_at number_at may_follow flight_at window received.1
   waiting ← counted_at number_at anything waiting_at (max_entries - length in_flight.0) in_flight.1
   Ok (

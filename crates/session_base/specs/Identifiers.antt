@@ -4,6 +4,10 @@ use Rattle.std.specs.Ordering.{nat_cmp}
 use Rattle.std.specs.BTreeSet.{insert_key}
 use Rattle.lists.specs.Lists.{has_id}
 
+-- the greatest Packet Identifier: each is a number of two bytes, and none is 0 (MQTT 2.3.1)
+abbrev pub max_id : ℕ
+max_id = 65535
+
 -- the first number from i on that is not busy, if this many may be
 abbrev pub free_from : ℕ → ℕ → List ℕ → ℕ
 free_from zero i busy = i
