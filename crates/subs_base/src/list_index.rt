@@ -142,7 +142,8 @@ impl ListIndex {
         self.clients.get(client)
     }
 
-    // Removes the subscription, and leaves the client's map, which may then be empty.
+    // Removes the subscription, and leaves the client's map, which may then be empty. Returns
+    // whether the subscription was there.
     fn clear_row(&mut self, client: &ClientId, filter: &Filter) -> bool
         ensures found { IsTrue result ↔ IsSome (content_of self.old client.now filter.now) }
         ensures after { content_of self.new
@@ -187,7 +188,7 @@ fn set_filter(
     Ok(())
 }
 
-// Removes a filter, and says whether it was there.
+// Removes a filter. Returns whether it was there.
 fn clear_filter(filters: &mut BTreeMap<Filter, QoS>, filter: &Filter) -> bool
     ensures found { result ≡ is_some (get (slice_cmp nat_cmp) filters.old filter.now) }
     ensures after { Updates (slice_cmp nat_cmp) filters.old filters.new filter.now None }
