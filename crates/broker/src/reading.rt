@@ -86,6 +86,7 @@ fn client_of(alloc: Global, text: &str) -> Result<ClientId, Stop>
 {
     match ClientId::new(alloc, text) {
         Ok(client) => {
+            // This call shows that the text is a Client Identifier.
             let _text = client.as_str();
             Ok(client)
         }

@@ -53,6 +53,7 @@ impl Received {
     pub(crate) fn remove(&mut self, id: PacketId)
         ensures { self.new ≡ without_id id self.old }
     {
+        // This call shows that the identifiers rise, so that each is there once.
         let _count = self.ids.len();
         self.ids.remove(&id);
     }

