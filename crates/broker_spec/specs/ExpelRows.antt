@@ -1,31 +1,23 @@
 -- Worked examples: a client is expelled, and all that was kept for it is removed (MQTT 3.1.2.4,
 -- 4.1).
-use Rattle.std.specs.Prelude.{◌≡◌, true, false, List, [], ◌∷◌, ◌++◌, codes, Some, None}
-use Rattle.retained.specs.packet.declared.qos.QoS.TheVariants as qualities
+use Rattle.std.specs.Prelude.{◌≡◌, true, false, [], ◌∷◌, ◌++◌, codes, Some, None}
 use Rattle.retained.specs.packet.declared.delivery.Delivery.TheVariants as deliveries
 use Rattle.retained.specs.packet.declared.packet.Packet.TheVariants as packets
 use Rattle.broker_spec.specs.Past.{current_connection, session_of, session_start}
 use Rattle.broker_spec.specs.Times.{entries_of}
 use Rattle.broker_spec.specs.Received.{received_of}
 use Rattle.broker_spec.specs.Commands.{past_of, usual_limits}
-use Rattle.broker_spec.specs.RowWords.{Gives, a, b, nth, connect, gets, sends, connack}
-use Rattle.broker_spec.specs.RowWords.{publish, subscribed_at}
+use Rattle.broker_spec.specs.RowWords.{Gives, a, b, nth, connect, gets, sends, connack, publish}
+use Rattle.broker_spec.specs.Rows.{published_x}
 use Rattle.broker_spec.specs.SessionRows.{Ends, Began, connect_clean}
-use Rattle.broker_spec.specs.declared.command.Command.{Command}
 use Rattle.broker_spec.specs.declared.command.Command.TheVariants as commands
 use Rattle.broker_spec.specs.declared.command.Output.TheVariants.{Close}
-
--- b subscribes, and a publishes x at QoS 2, which starts for b
-abbrev pub x_is_in_transit : List Command
-x_is_in_transit =
-    subscribed_at qualities.ExactlyOnce
-    ++ gets 2 (publish (deliveries.ExactlyOnce false 1) false (codes "x")) ∷ []
 
 -- b's connection is closed, once; what a publishes then reaches no client; b comes back and a new
 -- session begins, and its answers match no entry
 abbrev pub ExpelledOnce : Type 0
 ExpelledOnce =
-    Gives usual_limits x_is_in_transit
+    Gives usual_limits published_x
     (commands.Expel b ∷ commands.Expel b
     ∷ gets 2 (publish (deliveries.ExactlyOnce false 2) false (codes "y"))
     ∷ gets 1 (packets.Pubrec 1) ∷ connect 3 b ∷ gets 3 (packets.Pubrec 1)
@@ -37,7 +29,7 @@ ExpelledOnce =
 -- nothing of the session is left: no connection, no session, no entry
 abbrev pub NothingIsLeft : Type 0
 NothingIsLeft =
-    let past = past_of usual_limits (x_is_in_transit ++ commands.Expel b ∷ []) in
+    let past = past_of usual_limits (published_x ++ commands.Expel b ∷ []) in
     (current_connection past b ≡ None) × (session_of past b ≡ None)
     × (entries_of usual_limits past b ≡ [])
     × (session_of past a ≡ Some false) × (current_connection past a ≡ Some (nth 2))
@@ -45,9 +37,9 @@ NothingIsLeft =
 -- the identifiers that were received are removed too, so the same publication is taken once more
 abbrev pub IdentifiersAreGone : Type 0
 IdentifiersAreGone =
-    let past = past_of usual_limits (x_is_in_transit ++ commands.Expel a ∷ connect 4 a ∷ []) in
-    (received_of (past_of usual_limits x_is_in_transit) a ≡ 1 ∷ []) × (received_of past a ≡ [])
-    × Gives usual_limits (x_is_in_transit ++ commands.Expel a ∷ connect 4 a ∷ [])
+    let past = past_of usual_limits (published_x ++ commands.Expel a ∷ connect 4 a ∷ []) in
+    (received_of (past_of usual_limits published_x) a ≡ 1 ∷ []) × (received_of past a ≡ [])
+    × Gives usual_limits (published_x ++ commands.Expel a ∷ connect 4 a ∷ [])
     (gets 4 (publish (deliveries.ExactlyOnce true 1) false (codes "x")) ∷ [])
     ((sends 4 (packets.Pubrec 1)
     ∷ sends 1 (publish (deliveries.ExactlyOnce false 2) false (codes "x")) ∷ []) ∷ [])
