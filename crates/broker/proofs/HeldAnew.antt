@@ -14,7 +14,8 @@ use Rattle.broker_tables.specs.broker_base.StateLaws.{AllSound, AreByClient}
 use Rattle.broker_tables.proofs.of_broker_base.ClientsInOrder.{same_is}
 use Rattle.broker_tables.proofs.of_broker_base.SessionsStayByClient.{ComesBefore}
 use Rattle.broker_tables.specs.subs_base.Content.{Content, no_subscriptions, with_filters}
-use Rattle.broker_tables.specs.broker_rows.Indexed.{qos_at, subscribed_in, content_in}
+use Rattle.broker_tables.specs.broker_rows.Indexed.{subscribed_in, content_in}
+use Rattle.broker_tables.specs.broker_spec.Subscriptions.{qos_asked}
 use Rattle.broker_tables.proofs.of_broker_rows.ConnectSteps.{no_session}
 use Rattle.broker_tables.proofs.of_broker_rows.publications.GreatestGranted.{none_held}
 use Rattle.broker_tables.proofs.of_broker_rows.maps.FiltersHeld.{bytes_back}
@@ -27,20 +28,20 @@ first_of (Some a) other = Some a
 first_of None other = other
 
 -- each filter is held once
-last_once : (held : List GrantedFilter) (g : List ℕ → Option QoS) (f : List ℕ) → AreFiltersApart held → update_all bytes_eq g held f ≡ first_of (qos_at f held) (g f)
+last_once : (held : List GrantedFilter) (g : List ℕ → Option QoS) (f : List ℕ) → AreFiltersApart held → update_all bytes_eq g held f ≡ first_of (qos_asked f held) (g f)
 last_once [] g f apart = refl
 last_once (new ∷ more) g f apart = last_once more (update bytes_eq g new.0 (Some new.1)) f apart.1 ∙ by (bytes_eq f new.0) refl
   where
-    once : bytes_eq f new.0 ≡ true → qos_at f more ≡ None
-    once e = ap (λ x. qos_at x more) ((bytes_decides f new.0).0 e) ∙ none_held new.0 more apart.0
+    once : bytes_eq f new.0 ≡ true → qos_asked f more ≡ None
+    once e = ap (λ x. qos_asked x more) ((bytes_decides f new.0).0 e) ∙ none_held new.0 more apart.0
 
     by : (same : Bool) → bytes_eq f new.0 ≡ same →
-        first_of (qos_at f more) (cond (bytes_eq new.0 f) (Some new.1) (g f)) ≡ first_of (cond same (Some new.1) (qos_at f more)) (g f)
+        first_of (qos_asked f more) (cond (bytes_eq new.0 f) (Some new.1) (g f)) ≡ first_of (cond same (Some new.1) (qos_asked f more)) (g f)
     by true e = ap₂ (λ b o. first_of o (cond b (Some new.1) (g f))) (bytes_back new.0 f ∙ e) (once e)
-    by false e = ap (λ b. first_of (qos_at f more) (cond b (Some new.1) (g f))) (bytes_back new.0 f ∙ e)
+    by false e = ap (λ b. first_of (qos_asked f more) (cond b (Some new.1) (g f))) (bytes_back new.0 f ∙ e)
 
-held_is : (held : List GrantedFilter) (f : List ℕ) → AreFiltersApart held → last_held held f ≡ qos_at f held
-held_is held f apart = last_once held (λ _. None) f apart ∙ alone (qos_at f held)
+held_is : (held : List GrantedFilter) (f : List ℕ) → AreFiltersApart held → last_held held f ≡ qos_asked f held
+held_is held f apart = last_once held (λ _. None) f apart ∙ alone (qos_asked f held)
   where
     alone : (o : Option QoS) → first_of o None ≡ o
     alone (Some q) = refl
@@ -48,7 +49,7 @@ held_is held f apart = last_once held (λ _. None) f apart ∙ alone (qos_at f h
 
 -- of the session that there may be, or what was there
 abbrev pick : List ℕ → Option ClientSession → Option QoS → Option QoS
-pick f (Some kept) o = qos_at f kept.state.subscriptions
+pick f (Some kept) o = qos_asked f kept.state.subscriptions
 pick f None o = o
 
 held_at : (rows : Sessions) (content : Content) (c f : List ℕ) → AreByClient rows → AllSound rows →

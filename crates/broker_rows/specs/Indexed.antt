@@ -1,21 +1,17 @@
 -- What an index of the sessions' subscriptions shows.
-use Rattle.std.specs.Prelude.{ℕ, if◌then◌else◌, List, [], ◌∷◌, filter, bytes_eq, Option, Some, None}
+use Rattle.std.specs.Prelude.{ℕ, List, [], ◌∷◌, filter, Option, Some, None}
 use Rattle.std.specs.Map.{keys_of}
 use Rattle.subs.specs.packet.declared.qos.QoS.{QoS}
 use Rattle.broker_spec.specs.session_base.Subscriptions.{GrantedFilter}
+use Rattle.broker_spec.specs.Subscriptions.{qos_asked}
 use Rattle.broker_base.specs.Place.{Client}
 use Rattle.broker_base.specs.ClientSession.{ClientSession}
 use Rattle.broker_base.specs.State.{Sessions, session_in}
 use Rattle.subs.specs.Content.{Content, with_row, without_row, without_client}
 
--- the QoS at which exactly this filter is subscribed
-abbrev pub qos_at : List ℕ → List GrantedFilter → Option QoS
-qos_at filter (held ∷ others) = if bytes_eq filter held.0 then Some held.1 else qos_at filter others
-qos_at filter [] = None
-
 -- the subscription of this filter in a session, if there is one
 abbrev pub subscribed_in : List ℕ → Option ClientSession → Option QoS
-subscribed_in filter (Some kept) = qos_at filter kept.state.subscriptions
+subscribed_in filter (Some kept) = qos_asked filter kept.state.subscriptions
 subscribed_in filter None = None
 
 -- the content of an index that holds the subscriptions of these sessions

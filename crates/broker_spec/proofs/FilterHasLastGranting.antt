@@ -8,9 +8,9 @@ use Rattle.retained.specs.packet.declared.subscribe.Subscription.{Subscription}
 use Rattle.retained.specs.packet.declared.packet.Packet.TheVariants as packets
 use Rattle.broker_spec.specs.Place.{Client, same_client, Mark}
 use Rattle.broker_spec.specs.Past.{session_of, begins, in_session}
-use Rattle.broker_spec.specs.Subscriptions.{as_granted, granted_of, subscribed, subscriptions_of}
+use Rattle.broker_spec.specs.Subscriptions.{as_granted, granted_of, subscribed, subscriptions_of, qos_asked}
 use Rattle.session_base.specs.Subscriptions.{GrantedFilter, with_subscription, with_subscriptions, without_filter, without_filters}
-use Rattle.broker_spec.specs.Laws.{newest, either, qos_asked, last_qos, word_on, last_granting, FilterHasLastGranting}
+use Rattle.broker_spec.specs.Laws.{newest, either, last_qos, word_on, last_granting, FilterHasLastGranting}
 use Rattle.broker_spec.specs.declared.command.Command.{Command}
 use Rattle.broker_spec.specs.declared.command.Command.TheVariants as commands
 

@@ -12,9 +12,8 @@ use Rattle.broker_spec.specs.Connection.{ConnectionName}
 use Rattle.broker_spec.specs.Place.{Client, same_client, Mark, Place, Past}
 use Rattle.broker_spec.specs.Past.{accepts, ends_any, current_connection, session_of}
 use Rattle.broker_spec.specs.Past.{begins, in_session}
-use Rattle.broker_spec.specs.Subscriptions.{granted_of, subscriptions_of}
+use Rattle.broker_spec.specs.Subscriptions.{granted_of, subscriptions_of, qos_asked}
 use Rattle.retained.specs.lists.Lists.{has_id}
-use Rattle.session_base.specs.Subscriptions.{GrantedFilter}
 use Rattle.broker_spec.specs.Received.{received_of}
 use Rattle.broker_spec.specs.declared.command.Command.{Command}
 use Rattle.broker_spec.specs.declared.command.Command.TheVariants as commands
@@ -78,11 +77,6 @@ RepeatIsUnreleased =
     (past : Past) (c : Client) (id : ℕ) → has_id id (received_of past c) ≡ ends_in_publish past c id
 
 -- ---- subscriptions
-
--- the QoS of a filter in a session's list
-abbrev pub qos_asked : List ℕ → List GrantedFilter → Option QoS
-qos_asked f (held ∷ more) = if bytes_eq f held.0 then Some held.1 else qos_asked f more
-qos_asked f [] = None
 
 -- the first of two options, or else the second
 abbrev pub either : {A : Type 0} → Option A → Option A → Option A

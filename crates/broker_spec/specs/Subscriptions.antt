@@ -1,6 +1,7 @@
 -- The subscriptions of a session, and at which QoS it gets a publication (MQTT 3.3.5, 3.8.4,
 -- 3.10.4).
-use Rattle.std.specs.Prelude.{Bool, if◌then◌else◌, List, [], ◌∷◌, map, Option, option_map}
+use Rattle.std.specs.Prelude.{ℕ, Bool, if◌then◌else◌, List, [], ◌∷◌, map, bytes_eq}
+use Rattle.std.specs.Prelude.{Option, Some, None, option_map}
 use Rattle.retained.specs.packet.declared.qos.QoS.{QoS}
 use Rattle.retained.specs.packet.declared.subscribe.Subscription.{Subscription}
 use Rattle.retained.specs.packet.declared.packet.Packet.TheVariants as packets
@@ -16,6 +17,11 @@ use Rattle.broker_spec.specs.declared.command.Command.TheVariants as commands
 -- a filter of a SUBSCRIBE with the QoS that it asks for, as a session holds it
 abbrev pub as_granted : Subscription → GrantedFilter
 as_granted s = (s.filter, s.qos)
+
+-- the QoS at which a session's list has exactly this filter
+abbrev pub qos_asked : List ℕ → List GrantedFilter → Option QoS
+qos_asked f (held ∷ more) = if bytes_eq f held.0 then Some held.1 else qos_asked f more
+qos_asked f [] = None
 
 -- the elements of the list that are granted
 abbrev pub granted_of : {A : Type 0} → List A → List Bool → List A

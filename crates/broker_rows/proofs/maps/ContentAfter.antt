@@ -8,7 +8,8 @@ use Rattle.broker_base.specs.Place.{Client, same_client}
 use Rattle.broker_base.specs.ClientSession.{ClientSession}
 use Rattle.broker_base.specs.State.{Sessions, session_in}
 use Rattle.subs.specs.Content.{Content, with_row, without_row, without_client}
-use Rattle.broker_rows.specs.Indexed.{qos_at, subscribed_in, content_in, all_set, all_cleared}
+use Rattle.broker_rows.specs.Indexed.{subscribed_in, content_in, all_set, all_cleared}
+use Rattle.broker_spec.specs.Subscriptions.{qos_asked}
 use Rattle.broker_rows.proofs.maps.FiltersHeld.{qos_granted, qos_given_up}
 
 -- these are the sessions, with this one at the client
@@ -26,7 +27,7 @@ content_now d o rows after now c f = ap (subscribed_in f) (now c) ∙ by (same_c
 
 -- the content with these subscriptions of the client
 abbrev with_held : Client → List GrantedFilter → Content → Content
-with_held d held content c f = if bytes_eq d c then qos_at f held else content c f
+with_held d held content c f = if bytes_eq d c then qos_asked f held else content c f
 
 -- if the client has them already
 held_already : (d : Client) (old : ClientSession) (rows : Sessions) → session_in d rows ≡ Some old → content_in rows ≡ with_held d old.state.subscriptions (content_in rows)
@@ -35,7 +36,7 @@ held_already d old rows found = λ i c f. at c f i
     at : (c : Client) (f : List ℕ) → content_in rows c f ≡ with_held d old.state.subscriptions (content_in rows) c f
     at c f = by (bytes_eq d c) refl
       where
-        by : (b : Bool) → bytes_eq d c ≡ b → content_in rows c f ≡ (if b then qos_at f old.state.subscriptions else content_in rows c f)
+        by : (b : Bool) → bytes_eq d c ≡ b → content_in rows c f ≡ (if b then qos_asked f old.state.subscriptions else content_in rows c f)
         by true e = ap (λ x. content_in rows x f) (sym ((bytes_decides d c).0 e)) ∙ ap (subscribed_in f) found
         by false e = refl
 
@@ -45,8 +46,8 @@ set_one : (d : Client) (new : GrantedFilter) (held : List GrantedFilter) (conten
 set_one d new held content = λ i c f. by c f (bytes_eq d c) i
   where
     by : (c : Client) (f : List ℕ) (b : Bool) →
-        (if b && bytes_eq new.0 f then Some new.1 else if b then qos_at f held else content c f)
-        ≡ (if b then qos_at f (with_subscription new held) else content c f)
+        (if b && bytes_eq new.0 f then Some new.1 else if b then qos_asked f held else content c f)
+        ≡ (if b then qos_asked f (with_subscription new held) else content c f)
     by c f true = sym (qos_granted new held f)
     by c f false = refl
 
@@ -61,8 +62,8 @@ clear_one : (d : Client) (g : List ℕ) (held : List GrantedFilter) (content : C
 clear_one d g held content = λ i c f. by c f (bytes_eq d c) i
   where
     by : (c : Client) (f : List ℕ) (b : Bool) →
-        (if b && bytes_eq g f then None else if b then qos_at f held else content c f)
-        ≡ (if b then qos_at f (without_filter g held) else content c f)
+        (if b && bytes_eq g f then None else if b then qos_asked f held else content c f)
+        ≡ (if b then qos_asked f (without_filter g held) else content c f)
     by c f true = sym (qos_given_up g held f)
     by c f false = refl
 

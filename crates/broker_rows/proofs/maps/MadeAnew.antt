@@ -15,7 +15,8 @@ use Rattle.broker_base.proofs.ConnectionsOfSessions.{same_turned}
 use Rattle.broker_base.proofs.SessionsStayByClient.{ComesBefore}
 use Rattle.subs.specs.Content.{Content, no_subscriptions, with_row}
 use Rattle.broker_rows.specs.Owners.{Owners, owners_in, no_owners, owned_by, all_owned}
-use Rattle.broker_rows.specs.Indexed.{qos_at, subscribed_in, all_set, all_told}
+use Rattle.broker_rows.specs.Indexed.{subscribed_in, all_set, all_told}
+use Rattle.broker_spec.specs.Subscriptions.{qos_asked}
 use Rattle.broker_rows.specs.OwnerLaws.{OwnersMadeAnew}
 use Rattle.broker_rows.specs.IndexLaws.{IndexMadeAnew}
 use Rattle.broker_rows.proofs.OwnersRow.{on_is}
@@ -40,7 +41,7 @@ first_alone None = refl
 
 -- the content if one client's filters, each held once, are set
 set_at : (d : Client) (held : List GrantedFilter) (content : Content) (c f : List ℕ) → AreFiltersApart held →
-    all_set d held content c f ≡ (if bytes_eq d c then first_of (qos_at f held) (content c f) else content c f)
+    all_set d held content c f ≡ (if bytes_eq d c then first_of (qos_asked f held) (content c f) else content c f)
 set_at d [] content c f apart = by (bytes_eq d c)
   where
     by : (b : Bool) → content c f ≡ (if b then content c f else content c f)
@@ -50,16 +51,16 @@ set_at d (new ∷ more) content c f apart =
     set_at d more (with_row content d new.0 new.1) c f apart.1 ∙ by (bytes_eq d c) (bytes_eq f new.0) refl (bytes_back new.0 f)
   where
     -- the filter is held once
-    once : bytes_eq f new.0 ≡ true → qos_at f more ≡ None
-    once e = ap (λ x. qos_at x more) ((bytes_decides f new.0).0 e) ∙ none_held new.0 more apart.0
+    once : bytes_eq f new.0 ≡ true → qos_asked f more ≡ None
+    once e = ap (λ x. qos_asked x more) ((bytes_decides f new.0).0 e) ∙ none_held new.0 more apart.0
 
     by : (mine same : Bool) → bytes_eq f new.0 ≡ same → bytes_eq new.0 f ≡ bytes_eq f new.0 →
-        (if mine then first_of (qos_at f more) (if mine && bytes_eq new.0 f then Some new.1 else content c f)
+        (if mine then first_of (qos_asked f more) (if mine && bytes_eq new.0 f then Some new.1 else content c f)
         else if mine && bytes_eq new.0 f then Some new.1 else content c f)
-        ≡ (if mine then first_of (if same then Some new.1 else qos_at f more) (content c f) else content c f)
+        ≡ (if mine then first_of (if same then Some new.1 else qos_asked f more) (content c f) else content c f)
     by true true e back =
         ap₂ (λ b o. first_of o (if b then Some new.1 else content c f)) (back ∙ e) (once e)
-    by true false e back = ap (λ b. first_of (qos_at f more) (if b then Some new.1 else content c f)) (back ∙ e)
+    by true false e back = ap (λ b. first_of (qos_asked f more) (if b then Some new.1 else content c f)) (back ∙ e)
     by false same e back = refl
 
 -- the content if all sessions' filters are set
@@ -73,13 +74,13 @@ told_at (row ∷ rows) content c f by_client sound =
     ∙ by (same_client c row.0) refl (same_bytes c row.0)
   where
     by : (b : Bool) → same_client c row.0 ≡ b → bytes_eq row.0 c ≡ same_client c row.0 →
-        first_of (subscribed_in f (session_in c rows)) (if bytes_eq row.0 c then first_of (qos_at f row.1.state.subscriptions) (content c f) else content c f)
+        first_of (subscribed_in f (session_in c rows)) (if bytes_eq row.0 c then first_of (qos_asked f row.1.state.subscriptions) (content c f) else content c f)
         ≡ first_of (subscribed_in f (if b then Some row.1 else session_in c rows)) (content c f)
     by true e same =
-        ap₂ (λ o b. first_of (subscribed_in f o) (if b then first_of (qos_at f row.1.state.subscriptions) (content c f) else content c f))
+        ap₂ (λ o b. first_of (subscribed_in f o) (if b then first_of (qos_asked f row.1.state.subscriptions) (content c f) else content c f))
         (no_session c rows (subst (λ (z : Client). ComesBefore z rows) (sym (same_is c row.0 e)) by_client.0)) (same ∙ e)
     by false e same =
-        ap (λ b. first_of (subscribed_in f (session_in c rows)) (if b then first_of (qos_at f row.1.state.subscriptions) (content c f) else content c f)) (same ∙ e)
+        ap (λ b. first_of (subscribed_in f (session_in c rows)) (if b then first_of (qos_asked f row.1.state.subscriptions) (content c f) else content c f)) (same ∙ e)
 
 -- from nothing
 pub index_made_anew : IndexMadeAnew

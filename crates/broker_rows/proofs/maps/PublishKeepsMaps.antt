@@ -7,7 +7,8 @@ use Rattle.broker_base.specs.ClientSession.{ClientSession}
 use Rattle.broker_base.specs.State.{Sessions}
 use Rattle.subs.specs.Granted.{Row}
 use Rattle.broker_rows.specs.Published.{changed, received_on, delivered_on, all_delivered}
-use Rattle.broker_rows.specs.Indexed.{qos_at, subscribed_in, content_in}
+use Rattle.broker_rows.specs.Indexed.{subscribed_in, content_in}
+use Rattle.broker_spec.specs.Subscriptions.{qos_asked}
 use Rattle.broker_rows.specs.Owners.{owners_in}
 use Rattle.broker_rows.specs.OwnerLaws.{PublishingKeepsOwners}
 use Rattle.broker_rows.specs.IndexLaws.{PublishingKeepsContent}
@@ -18,7 +19,7 @@ use Rattle.broker_rows.proofs.maps.OwnersStay.{owners_changed}
 content_changed : (d : Client) (change : ClientSession → ClientSession) (rows : Sessions) (c : Client) (f : List ℕ) →
     ((kept : ClientSession) → (change kept).state.subscriptions ≡ kept.state.subscriptions) →
     content_in (changed d change rows) c f ≡ content_in rows c f
-content_changed d change rows c f same = changed_as (subscribed_in f) d change c rows (λ kept. ap (qos_at f) (same kept))
+content_changed d change rows c f same = changed_as (subscribed_in f) d change c rows (λ kept. ap (qos_asked f) (same kept))
 
 -- copies, one by one
 owners_delivered : (w : ℕ) (p : Publication) (granted : List Row) (rows : Sessions) (y : ConnectionName) → owners_in (all_delivered w p granted rows) y ≡ owners_in rows y

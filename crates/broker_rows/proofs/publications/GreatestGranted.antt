@@ -9,7 +9,7 @@ use Rattle.subs.specs.packet.declared.qos.QoS.{QoS}
 use Rattle.subs.specs.packet.QoS.{qos_number}
 use Rattle.broker_spec.specs.session_base.Publication.{greater_qos}
 use Rattle.broker_spec.specs.session_base.Subscriptions.{GrantedFilter, is_subscribed, granted_qos}
-use Rattle.broker_rows.specs.Indexed.{qos_at}
+use Rattle.broker_spec.specs.Subscriptions.{qos_asked}
 use Rattle.broker_spec.specs.session_base.KeepingLaws.{AreFiltersApart}
 
 -- ---- the greater of two
@@ -40,11 +40,11 @@ greater_cases q (Some b) =
 -- ---- of a session's subscriptions
 
 -- a matching filter's QoS is at most the one that is granted
-pub reaches : (topic : List ℕ) (held : List GrantedFilter) (f : List ℕ) (q : QoS) → qos_at f held ≡ Some q → is_match f topic ≡ true →
+pub reaches : (topic : List ℕ) (held : List GrantedFilter) (f : List ℕ) (q : QoS) → qos_asked f held ≡ Some q → is_match f topic ≡ true →
     (p : QoS) × (granted_qos topic held ≡ Some p) × (qos_number q ≤ qos_number p)
 reaches topic [] f q found is = absurd (cc)
 reaches topic (s ∷ others) f q found is =
-    elim (bytes_eq f s.0) as (λ v. bytes_eq f s.0 ≡ v → cond v (Some s.1) (qos_at f others) ≡ Some q →
+    elim (bytes_eq f s.0) as (λ v. bytes_eq f s.0 ≡ v → cond v (Some s.1) (qos_asked f others) ≡ Some q →
     (p : QoS) × (granted_qos topic (s ∷ others) ≡ Some p) × (qos_number q ≤ qos_number p)) [
       | true ↦ λ t e.
           let here : is_match s.0 topic ≡ true = ap (λ x. is_match x topic) (sym ((bytes_decides f s.0).0 t)) ∙ is in
@@ -66,27 +66,27 @@ reaches topic (s ∷ others) f q found is =
     ] refl found
 
 -- the subscription of a filter after the first, if filters are apart
-at_after : (s : GrantedFilter) (others : List GrantedFilter) (f : List ℕ) (p : QoS) → qos_at s.0 others ≡ None → qos_at f others ≡ Some p → qos_at f (s ∷ others) ≡ Some p
+at_after : (s : GrantedFilter) (others : List GrantedFilter) (f : List ℕ) (p : QoS) → qos_asked s.0 others ≡ None → qos_asked f others ≡ Some p → qos_asked f (s ∷ others) ≡ Some p
 at_after s others f p apart found =
-    elim (bytes_eq f s.0) as (λ v. bytes_eq f s.0 ≡ v → cond v (Some s.1) (qos_at f others) ≡ Some p) [
+    elim (bytes_eq f s.0) as (λ v. bytes_eq f s.0 ≡ v → cond v (Some s.1) (qos_asked f others) ≡ Some p) [
       | true ↦ λ t.
-          let none : qos_at f others ≡ None = ap (λ x. qos_at x others) ((bytes_decides f s.0).0 t) ∙ apart in
+          let none : qos_asked f others ≡ None = ap (λ x. qos_asked x others) ((bytes_decides f s.0).0 t) ∙ apart in
           absurd (cc)
       | false ↦ λ t. found
     ] refl
 
 -- a filter that is not held has no QoS
-pub none_held : (f : List ℕ) (held : List GrantedFilter) → is_subscribed f held ≡ false → qos_at f held ≡ None
+pub none_held : (f : List ℕ) (held : List GrantedFilter) → is_subscribed f held ≡ false → qos_asked f held ≡ None
 none_held f [] e = refl
 none_held f (old ∷ others) e =
     let parts = or_parts (bytes_eq f old.0) (is_subscribed f others) e in rw (parts.0) (none_held f others parts.1)
 
 -- what is granted is the QoS of a matching filter
 pub comes : (topic : List ℕ) (held : List GrantedFilter) (p : QoS) → AreFiltersApart held → granted_qos topic held ≡ Some p →
-    (f : List ℕ) × (qos_at f held ≡ Some p) × (is_match f topic ≡ true)
+    (f : List ℕ) × (qos_asked f held ≡ Some p) × (is_match f topic ≡ true)
 comes topic [] p apart is = absurd (cc)
 comes topic (s ∷ others) p apart is =
-    let Goal : Type 0 = (f : List ℕ) × (qos_at f (s ∷ others) ≡ Some p) × (is_match f topic ≡ true) in
+    let Goal : Type 0 = (f : List ℕ) × (qos_asked f (s ∷ others) ≡ Some p) × (is_match f topic ≡ true) in
     let further : granted_qos topic others ≡ Some p → Goal =
     λ e. let h = comes topic others p apart.1 e in (h.0, at_after s others h.0 p (none_held s.0 others apart.0) h.1, h.2) in
     elim (is_match s.0 topic) as (λ v. is_match s.0 topic ≡ v → cond v (Some (greater_qos s.1 (granted_qos topic others))) (granted_qos topic others) ≡ Some p → Goal) [
@@ -94,7 +94,7 @@ comes topic (s ∷ others) p apart is =
           elim (greater_cases s.1 (granted_qos topic others)) as (λ _. Goal) [
             | inl here ↦ (
               s.0,
-              ap (λ b. cond b (Some s.1) (qos_at s.0 others)) ((bytes_decides s.0 s.0).1 refl) ∙ ap (λ q. Some q) (sym here) ∙ e,
+              ap (λ b. cond b (Some s.1) (qos_asked s.0 others)) ((bytes_decides s.0 s.0).1 refl) ∙ ap (λ q. Some q) (sym here) ∙ e,
               t,
             )
             | inr there ↦ further (there ∙ e)
