@@ -1,6 +1,6 @@
 -- Which publication of a client a place carries, by position: the j-th command of a connection is
 -- its j-th written packet.
-use Rattle.std.specs.Prelude.{ℕ, Bool, true, false, if◌then◌else◌, List, [], ◌∷◌, ◌++◌, map, Option, Some, None, slice_get}
+use Rattle.std.specs.Prelude.{ℕ, Bool, true, false, ◌==◌, if◌then◌else◌, List, [], ◌∷◌, ◌++◌, map, Option, Some, None, slice_get}
 use Rattle.client_base.specs.packet.declared.qos.QoS.{QoS}
 use Rattle.client_base.specs.packet.declared.qos.QoS.TheVariants as qualities
 use Rattle.client_base.specs.packet.declared.packet.Packet.TheVariants as packets
@@ -19,6 +19,11 @@ abbrev pub connection_named : ConnectionName → List Connection → Option Conn
 connection_named x (κ ∷ connections) =
     if same_connection x κ.name then Some κ else connection_named x connections
 connection_named x [] = None
+
+-- whether it is this number
+abbrev pub is_this : ℕ → Option ℕ → Bool
+is_this k (Some j) = j == k
+is_this k None = false
 
 -- the number of the publication in a written packet, if it is one
 abbrev pub number_of : Option Written → Option ℕ

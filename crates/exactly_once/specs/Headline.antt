@@ -1,7 +1,7 @@
 -- What holds for one client's story, whatever happens: publications once and in order, and what it
 -- accepts.
 use Rattle.client_base.specs.Keeper.{all_own}
-use Rattle.std.specs.Prelude.{◌≡◌, ◌≤◌, ℕ, ◌+◌, Bool, false, ◌==◌, if◌then◌else◌, List, [], ◌∷◌, ◌++◌, length, map, filter, Option, Some, None, slice_get}
+use Rattle.std.specs.Prelude.{◌≡◌, ◌≤◌, ℕ, ◌+◌, if◌then◌else◌, List, [], ◌∷◌, ◌++◌, length, map, filter, Some, slice_get}
 use Rattle.client_base.specs.packet.declared.publish.Publish.{Publish}
 use Rattle.client_base.specs.packet.declared.packet.Packet.{Packet}
 use Rattle.client_base.specs.packet.declared.packet.Packet.TheVariants as packets
@@ -23,7 +23,7 @@ use Rattle.client_base.specs.lists.Lists.{In, IsPrefixOf}
 use Rattle.exactly_once.specs.Sides.{Connection}
 use Rattle.exactly_once.specs.Story.{Story}
 use Rattle.exactly_once.specs.StoryTrace.{StoryTrace}
-use Rattle.exactly_once.specs.Carried.{carries, new_numbers, publications_of, published}
+use Rattle.exactly_once.specs.Carried.{is_this, carries, new_numbers, publications_of, published}
 use Rattle.exactly_once.specs.Acceptance.{AcceptedInOrder}
 
 -- ---- publishers
@@ -31,11 +31,6 @@ use Rattle.exactly_once.specs.Acceptance.{AcceptedInOrder}
 -- one of the answers of this place is of this kind, to the place's own connection
 abbrev pub IsAnsweredBy : Limits → Place → Past → ConnectionName → Packet → Type 0
 IsAnsweredBy limits place below x packet = In (Send x packet) (answers_at limits place below)
-
--- whether the carried publication is this one
-abbrev pub is_this : ℕ → Option ℕ → Bool
-is_this k (Some j) = j == k
-is_this k None = false
 
 -- how many of these entries come from places that carry publication k of the client
 abbrev pub made_by : List Connection → ℕ → Past → List Entry → ℕ

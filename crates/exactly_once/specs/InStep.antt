@@ -1,6 +1,6 @@
 -- A client with several sessions: which place and which connection belongs to which of them, and
 -- who is in step.
-use Rattle.std.specs.Prelude.{◌≡◌, ℕ, Bool, true, false, ◌&&◌, ◌||◌, ◌==◌, ◌+◌, if◌then◌else◌, List, [], ◌∷◌, ◌++◌, length, Option, Some, None, ◌⊎◌}
+use Rattle.std.specs.Prelude.{◌≡◌, ℕ, Bool, true, false, ◌&&◌, ◌||◌, ◌+◌, if◌then◌else◌, List, [], ◌∷◌, ◌++◌, length, Option, Some, None, ◌⊎◌}
 use Rattle.client_base.specs.session_base.declared.publication.Publication.{Publication}
 use Rattle.client_base.specs.lists.Lists.{Each}
 use Rattle.broker_base.specs.broker_spec.Connection.{ConnectionName, same_connection}
@@ -9,6 +9,7 @@ use Rattle.broker_base.specs.broker_spec.Past.{accepts, begins, session_start}
 use Rattle.broker_base.specs.broker_spec.Entries.{Entry}
 use Rattle.broker_base.specs.broker_spec.Times.{entries_of}
 use Rattle.exactly_once.specs.Sides.{Connection}
+use Rattle.exactly_once.specs.Carried.{is_this}
 use Rattle.exactly_once.specs.Story.{Story}
 
 -- ---- sessions of a list of commands
@@ -47,11 +48,6 @@ began_again (place ∷ past) c x =
     || began_again past c x
 began_again [] c x = false
 
--- whether this is the session that began at this place
-abbrev pub is_at : ℕ → Option ℕ → Bool
-is_at start (Some n) = n == start
-is_at start None = false
-
 -- the session in which a connection of the client was accepted, by the place at which it began
 abbrev pub opened_in : Past → Client → ConnectionName → Option ℕ
 opened_in (place ∷ past) c x =
@@ -63,7 +59,7 @@ opened_in [] c x = None
 -- last place
 abbrev pub entries_in : Limits → Past → Client → ℕ → List Entry
 entries_in limits (place ∷ past) c start =
-    if is_at start (session_start (place ∷ past) c) then entries_of limits (place ∷ past) c
+    if is_this start (session_start (place ∷ past) c) then entries_of limits (place ∷ past) c
     else entries_in limits past c start
 entries_in limits [] c start = []
 
@@ -71,7 +67,7 @@ entries_in limits [] c start = []
 abbrev pub accepted_in : Past → Client → ℕ → List Connection → List Publication
 accepted_in past c start (κ ∷ connections) =
     accepted_in past c start connections
-    ++ (if is_at start (opened_in past c κ.name) then κ.accepted else [])
+    ++ (if is_this start (opened_in past c κ.name) then κ.accepted else [])
 accepted_in past c start [] = []
 
 -- ---- in step

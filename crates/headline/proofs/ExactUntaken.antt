@@ -11,10 +11,10 @@ use Rattle.byte_world.specs.broker_spec.Place.{Client, Limits, Past, Place}
 use Rattle.byte_world.specs.broker_spec.Received.{is_new}
 use Rattle.byte_world.specs.broker_spec.Times.{entries_of}
 use Rattle.byte_world.specs.client_base.Keeper.{Keeper, all_own}
-use Rattle.byte_world.specs.exactly_once.Carried.{carries, connection_named, more_by, new_numbers, number_at, published}
-use Rattle.byte_world.specs.exactly_once.Headline.{IsTakenAt, is_this, made_by}
+use Rattle.byte_world.specs.exactly_once.Carried.{carries, connection_named, more_by, new_numbers, number_at, published, is_this}
+use Rattle.byte_world.specs.exactly_once.Headline.{IsTakenAt, made_by}
 use Rattle.byte_world.specs.exactly_once.Acceptance.{accepted_on}
-use Rattle.byte_world.specs.exactly_once.InStep.{AreWelcome, IsFirstSession, IsInStep, WasWelcome, accepted_in, is_at, opened_in, starts_of}
+use Rattle.byte_world.specs.exactly_once.InStep.{AreWelcome, IsFirstSession, IsInStep, WasWelcome, accepted_in, opened_in, starts_of}
 use Rattle.byte_world.specs.exactly_once.Lives.{AcceptedInSession, ExactlyOnceOverSessions, IsRising, PublishedOverSessions}
 use Rattle.byte_world.specs.exactly_once.Unexpelled.{HasOneSession}
 use Rattle.byte_world.specs.exactly_once.Sides.{Connection}
@@ -58,7 +58,7 @@ accepted_untaken (κ ∷ connections) = ap (λ l. l ++ κ.accepted) (accepted_un
 accepted_in_untaken : (past : Past) (c : Client) (start : ℕ) (connections : List Connection) → accepted_in past c start (map untaken_connection connections) ≡ accepted_in past c start connections
 accepted_in_untaken past c start [] = refl
 accepted_in_untaken past c start (κ ∷ connections) =
-    ap (λ l. l ++ (if is_at start (opened_in past c κ.name) then κ.accepted else [])) (accepted_in_untaken past c start connections)
+    ap (λ l. l ++ (if is_this start (opened_in past c κ.name) then κ.accepted else [])) (accepted_in_untaken past c start connections)
 
 -- the same holds for other connections
 same_by : {X : Type 0} (f : List Connection → X) → ((connections : List Connection) → f (map untaken_connection connections) ≡ f connections)

@@ -23,8 +23,8 @@ use Rattle.broker_base.proofs.EntersOnce.{one_if, MadeBelow, none-yet, made-belo
 use Rattle.broker_base.proofs.EntersWhereTaken.{enters_where_taken}
 use Rattle.client_base.specs.lists.Lists.{In, IsDistinct}
 use Rattle.exactly_once.specs.Story.{Story}
-use Rattle.exactly_once.specs.Carried.{carries, is_two, more_by, new_numbers, published, publications_of}
-use Rattle.exactly_once.specs.Headline.{is_this, made_by}
+use Rattle.exactly_once.specs.Carried.{carries, is_two, more_by, new_numbers, published, publications_of, is_this}
+use Rattle.exactly_once.specs.Headline.{made_by}
 use Rattle.exactly_once.proofs.carrying.PlacesSay.{Says}
 use Rattle.exactly_once.proofs.carrying.KeepsPlaces.{IsCarried}
 use Rattle.exactly_once.proofs.carrying.Acknowledging.{carried_publish, says_at}

@@ -9,7 +9,8 @@ use Rattle.client_base.specs.Written.{writes_first}
 use Rattle.exactly_once.specs.Sides.{Connection}
 use Rattle.exactly_once.specs.StoryCommands.{counted_at}
 use Rattle.exactly_once.specs.Acceptance.{two_entries, accepted_on}
-use Rattle.exactly_once.specs.InStep.{is_at, opened_in, entries_in, accepted_in}
+use Rattle.exactly_once.specs.Carried.{is_this}
+use Rattle.exactly_once.specs.InStep.{opened_in, entries_in, accepted_in}
 use Rattle.exactly_once.specs.Lives.{AcceptedInSession}
 use Rattle.exactly_once.proofs.sessions.Beside.{kept_of, with_connections}
 use Rattle.exactly_once.proofs.sessions.Openings.{opened_same}
@@ -17,7 +18,7 @@ use Rattle.exactly_once.proofs.sessions.EachPlaced.{IsFresh}
 
 -- what it accepted on one connection
 abbrev pub share : Past → Client → ℕ → Connection → List Publication
-share past c start κ = if is_at start (opened_in past c κ.name) then κ.accepted else []
+share past c start κ = if is_this start (opened_in past c κ.name) then κ.accepted else []
 
 -- what it accepted on these, as a story of a client and its connections
 abbrev pub Accepts : Limits → Client → Past → List Connection → ℕ → Type 0
@@ -50,8 +51,8 @@ none_on (false ∷ flags) (κ ∷ connections) h = none_on flags connections h.1
 -- ---- a place
 
 share_fresh : (place : Place) (past : Past) (c : Client) (start : ℕ) (κ : Connection) → IsFresh place c κ → share (place ∷ past) c start κ ≡ share past c start κ
-share_fresh place past c start κ (inl e) = ap (λ o. if is_at start o then κ.accepted else []) (opened_same place past c κ.name e)
-share_fresh place past c start κ (inr e) = share_nothing (is_at start (opened_in (place ∷ past) c κ.name)) κ.accepted e ∙ sym (share_nothing (is_at start (opened_in past c κ.name)) κ.accepted e)
+share_fresh place past c start κ (inl e) = ap (λ o. if is_this start o then κ.accepted else []) (opened_same place past c κ.name e)
+share_fresh place past c start κ (inr e) = share_nothing (is_this start (opened_in (place ∷ past) c κ.name)) κ.accepted e ∙ sym (share_nothing (is_this start (opened_in past c κ.name)) κ.accepted e)
 
 pub accepted_placed : (place : Place) (past : Past) (c : Client) (start : ℕ) (connections : List Connection) → Each (IsFresh place c) connections
     → accepted_in (place ∷ past) c start connections ≡ accepted_in past c start connections
@@ -77,11 +78,11 @@ kept_counted (false ∷ flags) (suc i) (κ ∷ connections) = kept_counted flags
 -- ---- the first connection
 
 -- of another session, whatever it accepts
-pub accepted_head : (past : Past) (c : Client) (start : ℕ) (κ κ' : Connection) (others : List Connection) → κ'.name ≡ κ.name → is_at start (opened_in past c κ.name) ≡ false
+pub accepted_head : (past : Past) (c : Client) (start : ℕ) (κ κ' : Connection) (others : List Connection) → κ'.name ≡ κ.name → is_this start (opened_in past c κ.name) ≡ false
     → accepted_in past c start (κ' ∷ others) ≡ accepted_in past c start (κ ∷ others)
 accepted_head past c start κ κ' others name e =
     ap (λ l. accepted_in past c start others ++ l)
-    (ap (λ b. if b then κ'.accepted else []) (ap (λ x. is_at start (opened_in past c x)) name ∙ e) ∙ sym (ap (λ b. if b then κ.accepted else []) e))
+    (ap (λ b. if b then κ'.accepted else []) (ap (λ x. is_this start (opened_in past c x)) name ∙ e) ∙ sym (ap (λ b. if b then κ.accepted else []) e))
 
 pub accepted_written : (past : Past) (c : Client) (start : ℕ) (more : List Written) (connections : List Connection) → accepted_in past c start (writes_first more connections) ≡ accepted_in past c start connections
 accepted_written past c start more [] = refl
@@ -90,4 +91,4 @@ accepted_written past c start more (κ ∷ connections) = refl
 -- of which nothing was accepted
 pub accepted_new : (past : Past) (c : Client) (start : ℕ) (κ : Connection) (connections : List Connection) → κ.accepted ≡ [] → accepted_in past c start (κ ∷ connections) ≡ accepted_in past c start connections
 accepted_new past c start κ connections e =
-    ap (λ l. accepted_in past c start connections ++ l) (share_nothing (is_at start (opened_in past c κ.name)) κ.accepted e) ∙ append-nil (accepted_in past c start connections)
+    ap (λ l. accepted_in past c start connections ++ l) (share_nothing (is_this start (opened_in past c κ.name)) κ.accepted e) ∙ append-nil (accepted_in past c start connections)

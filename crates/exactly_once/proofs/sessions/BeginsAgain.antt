@@ -23,7 +23,8 @@ use Rattle.exactly_once.specs.StoryTrace.{StoryTrace}
 use Rattle.exactly_once.specs.StoryTrace.StoryTrace.{goes_on}
 use Rattle.exactly_once.specs.Story.StoryStep.{takes}
 use Rattle.exactly_once.specs.Acceptance.{accepted_on}
-use Rattle.exactly_once.specs.InStep.{has_begun, opens_on, is_at, opened_in, accepted_in}
+use Rattle.exactly_once.specs.Carried.{is_this}
+use Rattle.exactly_once.specs.InStep.{has_begun, opens_on, opened_in, accepted_in}
 use Rattle.exactly_once.specs.Inside.Shape.{NamesApart}
 use Rattle.exactly_once.proofs.Takes.{same_name_self}
 use Rattle.exactly_once.proofs.subscribing.places.Accepted.{opened}
@@ -101,13 +102,13 @@ nothing_new limits past c (κ ∷ connections) h = by κ.taken refl (nothing_new
     by zero e ih = ap₂ (λ a b. a ++ b) ih (ap (λ (z : Connection). z.accepted) (h.0 e).is)
     by (suc n) e ih = ih
 
-older_only : (past : Past) (c : Client) (x : ConnectionName) → is_at (length past) (opened_in past c x) ≡ false
+older_only : (past : Past) (c : Client) (x : ConnectionName) → is_this (length past) (opened_in past c x) ≡ false
 older_only past c x = by (opened_in past c x) refl
   where
     less : (m n : ℕ) → m < n → (m == n) ≡ false
     less m n h = grind (arith, h)
 
-    by : (o : Option ℕ) → opened_in past c x ≡ o → is_at (length past) o ≡ false
+    by : (o : Option ℕ) → opened_in past c x ≡ o → is_this (length past) o ≡ false
     by None e = refl
     by (Some m) e = less m (length past) (opened_below past c x m e)
 
@@ -117,7 +118,7 @@ shares_older past c x [] none = tt
 shares_older past c x (μ ∷ others) none =
     let two = or_none (same_connection x μ.name) (any_named (same_connection x) others) none in
     let other : opens_on μ.name (accepts (commands.Connect x c false) Mark.Accepted c) ≡ false = ap (opens_on μ.name) (opened x c) ∙ same_turned μ.name x ∙ two.0 in (
-      ap (λ b. if b then μ.accepted else []) (ap (is_at (length past)) (opened_same (accepted_at x c) past c μ.name other) ∙ older_only past c μ.name),
+      ap (λ b. if b then μ.accepted else []) (ap (is_this (length past)) (opened_same (accepted_at x c) past c μ.name other) ∙ older_only past c μ.name),
       shares_older past c x others two.1,
     )
 

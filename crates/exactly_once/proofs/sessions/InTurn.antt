@@ -14,7 +14,8 @@ use Rattle.client_base.specs.Written.{writes_first}
 use Rattle.exactly_once.specs.Sides.{Connection}
 use Rattle.exactly_once.specs.StoryCommands.{counted_at}
 use Rattle.exactly_once.specs.Acceptance.{accepted_on}
-use Rattle.exactly_once.specs.InStep.{is_at, opened_in, accepted_in, starts_of}
+use Rattle.exactly_once.specs.Carried.{is_this}
+use Rattle.exactly_once.specs.InStep.{opened_in, accepted_in, starts_of}
 use Rattle.exactly_once.proofs.sessions.AcceptedShares.{share, none_in, accepted_placed, accepted_counted, accepted_new, kept_counted}
 use Rattle.exactly_once.proofs.sessions.EachPlaced.{IsFresh, counted_none}
 use Rattle.exactly_once.proofs.sessions.Openings.{opened_below}
@@ -48,9 +49,9 @@ not_yet past c κ = by (opened_in past c κ.name) refl
     below n less = grind (arith, less)
 
     by : (o : Option ℕ) → opened_in past c κ.name ≡ o → share past c (length past) κ ≡ []
-    by None e = ap (λ p. if is_at (length past) p then κ.accepted else []) e
+    by None e = ap (λ p. if is_this (length past) p then κ.accepted else []) e
     by (Some n) e =
-        ap (λ p. if is_at (length past) p then κ.accepted else []) e
+        ap (λ p. if is_this (length past) p then κ.accepted else []) e
         ∙ ap (λ b. if b then κ.accepted else []) (below n (opened_below past c κ.name n e))
 
 none_yet : (past : Past) (c : Client) (connections : List Connection) → Each (λ (κ : Connection). share past c (length past) κ ≡ []) connections
@@ -113,21 +114,21 @@ IsHeadOfLast past c (κ ∷ others) = IsOfLast past c κ
 
 module _ (past : Past) (c : Client) (κ : Connection) (others : List Connection) (n : ℕ) (opened : opened_in past c κ.name ≡ Some n) where
   abbrev whole : ℕ → List Publication
-  whole start = accepted_in past c start others ++ (if is_at start (opened_in past c κ.name) then κ.accepted else [])
+  whole start = accepted_in past c start others ++ (if is_this start (opened_in past c κ.name) then κ.accepted else [])
 
   abbrev rest : ℕ → List Publication
   rest start = accepted_in past c start others
 
   elsewhere : (m : ℕ) → (n == m) ≡ false → whole m ≡ rest m
   elsewhere m apart =
-      ap (λ o. rest m ++ (if is_at m o then κ.accepted else [])) opened ∙ ap (λ b. rest m ++ (if b then κ.accepted else [])) apart ∙ append-nil (rest m)
+      ap (λ o. rest m ++ (if is_this m o then κ.accepted else [])) opened ∙ ap (λ b. rest m ++ (if b then κ.accepted else [])) apart ∙ append-nil (rest m)
 
   all_elsewhere : (ms : List ℕ) → Each (λ m. (n == m) ≡ false) ms → flat_map whole ms ≡ flat_map rest ms
   all_elsewhere [] apart = refl
   all_elsewhere (m ∷ ms) apart = ap₂ (λ a b. a ++ b) (elsewhere m apart.0) (all_elsewhere ms apart.1)
 
   here_all : whole n ≡ rest n ++ κ.accepted
-  here_all = ap (λ o. rest n ++ (if is_at n o then κ.accepted else [])) opened ∙ ap (λ b. rest n ++ (if b then κ.accepted else [])) (eq_same n)
+  here_all = ap (λ o. rest n ++ (if is_this n o then κ.accepted else [])) opened ∙ ap (λ b. rest n ++ (if b then κ.accepted else [])) (eq_same n)
 
   -- the last share is at the end
   at_last : (starts : List ℕ) → IsLastOf starts n → flat_map rest starts ++ κ.accepted ≡ flat_map whole starts

@@ -12,7 +12,8 @@ use Rattle.broker_base.specs.broker_spec.Times.{entries_of}
 use Rattle.exactly_once.specs.Sides.{Connection}
 use Rattle.exactly_once.specs.StoryCommands.{counted_at}
 use Rattle.exactly_once.specs.Acceptance.{accepted_on}
-use Rattle.exactly_once.specs.InStep.{has_begun, opens_on, is_at, opened_in, entries_in, accepted_in}
+use Rattle.exactly_once.specs.Carried.{is_this}
+use Rattle.exactly_once.specs.InStep.{has_begun, opens_on, opened_in, entries_in, accepted_in}
 use Rattle.exactly_once.proofs.places.After.{IsKeptSession, IsSpared}
 use Rattle.exactly_once.proofs.publishing.kept.KeepsNames.{OpensKept}
 use Rattle.exactly_once.proofs.sessions.Beside.{kept_of}
@@ -42,7 +43,7 @@ pub record Lasts (limits : Limits) (c : Client) (flags : List Bool) (past : Past
   pub head : IsHeadOpened past c connections
   pub tail : (start : ℕ) → session_start past c ≡ Some start → IsTailKept past c start flags connections
   pub unbegun : session_start past c ≡ None → has_begun past c ≡ false
-  pub elsewhere : (start : ℕ) → is_at start (session_start past c) ≡ false → Accepts limits c past connections start
+  pub elsewhere : (start : ℕ) → is_this start (session_start past c) ≡ false → Accepts limits c past connections start
 
 -- ---- before the first session nothing was accepted
 
@@ -91,7 +92,7 @@ nothing_kept : (past : Past) (c : Client) (start : ℕ) (flags : List Bool) (oth
     → accepted_in past c start others ≡ accepted_on (kept_of flags others)
 nothing_kept past c start flags others h =
     none_in past c start others
-    (each_then (λ (μ : Connection). μ.accepted ≡ []) (λ (μ : Connection). share past c start μ ≡ []) others (λ μ e. share_nothing (is_at start (opened_in past c μ.name)) μ.accepted e) h)
+    (each_then (λ (μ : Connection). μ.accepted ≡ []) (λ (μ : Connection). share past c start μ ≡ []) others (λ μ e. share_nothing (is_this start (opened_in past c μ.name)) μ.accepted e) h)
     ∙ sym (none_on flags others h)
 
 tail_begins : (place : Place) (past : Past) (c : Client) (start i : ℕ) (flags : List Bool) (connections : List Connection) → Each (λ (κ : Connection). κ.accepted ≡ []) connections
@@ -101,7 +102,7 @@ tail_begins place past c start zero flags (κ ∷ others) h = nothing_kept (plac
 tail_begins place past c start (suc i) flags (κ ∷ others) h =
     accepted_counted (place ∷ past) c start i others ∙ nothing_kept (place ∷ past) c start (after_first flags) others h.1 ∙ sym (kept_counted (after_first flags) i others)
 
-pub entries_over : (limits : Limits) (place : Place) (past : Past) (c : Client) (start : ℕ) → is_at start (session_start (place ∷ past) c) ≡ false → entries_in limits (place ∷ past) c start ≡ entries_in limits past c start
+pub entries_over : (limits : Limits) (place : Place) (past : Past) (c : Client) (start : ℕ) → is_this start (session_start (place ∷ past) c) ≡ false → entries_in limits (place ∷ past) c start ≡ entries_in limits past c start
 entries_over limits place past c start e = ap (λ b. if b then entries_of limits (place ∷ past) c else entries_in limits past c start) e
 
 pub lasts_placed : (limits : Limits) (c : Client) (flags : List Bool) (place : Place) (past : Past) (i : ℕ) (connections : List Connection) → IsKeptSession (session_of past c) → OpensKept c place
@@ -120,9 +121,9 @@ lasts_placed limits c flags place past i connections kept opens spared fresh shu
     keeps : (n : ℕ) → session_start past c ≡ Some n → session_start (place ∷ past) c ≡ Some n
     keeps n e = start_keeps place past c n kept opens spared e
 
-    before : (start : ℕ) → is_at start (session_start (place ∷ past) c) ≡ false → (o : Option ℕ) → session_start past c ≡ o → is_at start (session_start past c) ≡ false
-    before start e None f = ap (is_at start) f
-    before start e (Some n) f = ap (is_at start) (f ∙ sym (keeps n f)) ∙ e
+    before : (start : ℕ) → is_this start (session_start (place ∷ past) c) ≡ false → (o : Option ℕ) → session_start past c ≡ o → is_this start (session_start past c) ≡ false
+    before start e None f = ap (is_this start) f
+    before start e (Some n) f = ap (is_this start) (f ∙ sym (keeps n f)) ∙ e
 
     tail : (start : ℕ) → session_start (place ∷ past) c ≡ Some start → (o : Option ℕ) → session_start past c ≡ o → IsTailKept (place ∷ past) c start flags (counted_at i connections)
     tail start e None f = tail_begins place past c start i flags connections (nothing_yet limits past c connections (h.unbegun f) shut)

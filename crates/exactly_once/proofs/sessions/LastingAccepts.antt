@@ -11,7 +11,8 @@ use Rattle.exactly_once.specs.Sides.{Connection}
 use Rattle.exactly_once.specs.Story.{Story}
 use Rattle.exactly_once.specs.StoryTrace.{StoryTrace}
 use Rattle.exactly_once.specs.Acceptance.{two_entries}
-use Rattle.exactly_once.specs.InStep.{is_at, entries_in}
+use Rattle.exactly_once.specs.Carried.{is_this}
+use Rattle.exactly_once.specs.InStep.{entries_in}
 use Rattle.exactly_once.proofs.keeping.StoryTrace.{told_stories_accept}
 use Rattle.exactly_once.proofs.sessions.Beside.{kept_of, IsHeadKept, with_connections}
 use Rattle.exactly_once.proofs.sessions.Anew.{waiting}
@@ -24,7 +25,7 @@ use Rattle.exactly_once.proofs.sessions.LastingGoes.{all_kept, Stands}
 pub entries_now : (limits : Limits) (past : Past) (c : Client) (start : ℕ) → session_start past c ≡ Some start → entries_in limits past c start ≡ entries_of limits past c
 unfolding session_start
 entries_now limits [] c start e = absurd (cc)
-entries_now limits (place ∷ past) c start e = ap (λ b. if b then entries_of limits (place ∷ past) c else entries_in limits past c start) (ap (is_at start) e ∙ eq_same start)
+entries_now limits (place ∷ past) c start e = ap (λ b. if b then entries_of limits (place ∷ past) c else entries_in limits past c start) (ap (is_this start) e ∙ eq_same start)
 
 accepts_now : (limits : Limits) → IsSteady limits → (c : Client) (flags : List Bool) (past : Past) (keeper : Keeper) (connections : List Connection) (start : ℕ) → keeper.client ≡ c → IsHeadKept flags
     → AreShutUnopened limits past c connections → Lasts limits c flags past connections → StoryTrace limits c (with_connections past keeper (kept_of flags connections)) → session_start past c ≡ Some start
@@ -52,8 +53,8 @@ lasting_accepts limits steady c flags s life stands h start = by (session_start 
 
     two : (n : ℕ) → session_start s.past c ≡ Some n → (b : Bool) → (n == start) ≡ b → Accepts limits c s.past s.connections start
     two n e true f = now stands (e ∙ ap (λ m. Some m) (eq_is n start f))
-    two n e false f = h.elsewhere start (ap (is_at start) e ∙ f)
+    two n e false f = h.elsewhere start (ap (is_this start) e ∙ f)
 
     by : (o : Option ℕ) → session_start s.past c ≡ o → Accepts limits c s.past s.connections start
-    by None e = h.elsewhere start (ap (is_at start) e)
+    by None e = h.elsewhere start (ap (is_this start) e)
     by (Some n) e = two n e (n == start) refl

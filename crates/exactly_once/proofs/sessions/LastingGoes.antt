@@ -14,7 +14,8 @@ use Rattle.exactly_once.specs.Story.{Story, StoryStep}
 use Rattle.exactly_once.specs.StoryCommands.{command_of, names_client}
 use Rattle.exactly_once.specs.Story.StoryStep.{takes, others_take, receives, opens_anew, loses, disconnects, publishes_one, subscribes, unsubscribes}
 use Rattle.exactly_once.specs.Acceptance.{accepted_on}
-use Rattle.exactly_once.specs.InStep.{IsInStep, opens_on, is_at, opened_in, accepted_in}
+use Rattle.exactly_once.specs.Carried.{is_this}
+use Rattle.exactly_once.specs.InStep.{IsInStep, opens_on, opened_in, accepted_in}
 use Rattle.exactly_once.proofs.keeping.CurrentOnes.{none_opened}
 use Rattle.exactly_once.proofs.places.Spared.{other_spares}
 use Rattle.exactly_once.proofs.publishing.Last.{each_there}
@@ -49,16 +50,16 @@ pub all_kept : (limits : Limits) (c : Client) (flags : List Bool) (past : Past) 
 all_kept limits c flags past [] start head shut h e = sym (on_none flags)
 all_kept limits c flags past (κ ∷ others) start head shut h e = ap₂ (λ a b. a ++ b) (h.tail start e) (by h.head) ∙ sym (on_head flags κ others head)
   where
-    by : (opened_in past c κ.name ≡ None) ⊎ (opened_in past c κ.name ≡ session_start past c) → (if is_at start (opened_in past c κ.name) then κ.accepted else []) ≡ κ.accepted
-    by (inl none) = ap (λ o. if is_at start o then κ.accepted else []) none ∙ sym (shut.0 none).nothing
-    by (inr same) = ap (λ o. if is_at start o then κ.accepted else []) (same ∙ e) ∙ ap (λ b. if b then κ.accepted else []) (eq_same start)
+    by : (opened_in past c κ.name ≡ None) ⊎ (opened_in past c κ.name ≡ session_start past c) → (if is_this start (opened_in past c κ.name) then κ.accepted else []) ≡ κ.accepted
+    by (inl none) = ap (λ o. if is_this start o then κ.accepted else []) none ∙ sym (shut.0 none).nothing
+    by (inr same) = ap (λ o. if is_this start o then κ.accepted else []) (same ∙ e) ∙ ap (λ b. if b then κ.accepted else []) (eq_same start)
 
 -- ---- the first connection
 
-head_elsewhere : (past : Past) (c : Client) (start : ℕ) (κ : Connection) (others : List Connection) → IsHeadOpened past c (κ ∷ others) → is_at start (session_start past c) ≡ false
-    → is_at start (opened_in past c κ.name) ≡ false
-head_elsewhere past c start κ others (inl none) e = ap (is_at start) none
-head_elsewhere past c start κ others (inr same) e = ap (is_at start) same ∙ e
+head_elsewhere : (past : Past) (c : Client) (start : ℕ) (κ : Connection) (others : List Connection) → IsHeadOpened past c (κ ∷ others) → is_this start (session_start past c) ≡ false
+    → is_this start (opened_in past c κ.name) ≡ false
+head_elsewhere past c start κ others (inl none) e = ap (is_this start) none
+head_elsewhere past c start κ others (inr same) e = ap (is_this start) same ∙ e
 
 pub lasts_head : (limits : Limits) (c : Client) (flags : List Bool) (past : Past) (κ κ' : Connection) (others : List Connection) → κ'.name ≡ κ.name → Lasts limits c flags past (κ ∷ others)
     → Lasts limits c flags past (κ' ∷ others)

@@ -14,7 +14,8 @@ use Rattle.exactly_once.specs.Sides.{Connection}
 use Rattle.exactly_once.specs.Sends.{sends_to, put_to}
 use Rattle.exactly_once.specs.Story.{Story, StoryStep}
 use Rattle.exactly_once.specs.StoryCommands.{counted_at}
-use Rattle.exactly_once.specs.InStep.{has_begun, WasWelcome, AreWelcome, IsInStep, opens_on, is_at, opened_in, entries_in, accepted_in, starts_of}
+use Rattle.exactly_once.specs.Carried.{is_this}
+use Rattle.exactly_once.specs.InStep.{has_begun, WasWelcome, AreWelcome, IsInStep, opens_on, opened_in, entries_in, accepted_in, starts_of}
 use Rattle.exactly_once.proofs.places.After.{none_opens}
 use Rattle.exactly_once.proofs.publishing.AtPlaces.{put_more}
 use Rattle.exactly_once.proofs.sessions.Beside.{with_connections, flags_after}
@@ -63,7 +64,7 @@ pub record Lingers (limits : Limits) (c : Client) (s : Story) : Type 0 where
 pub lingers_accepts : (limits : Limits) → IsSteady limits → (c : Client) (s : Story) → Lingers limits c s → (start : ℕ) → Accepts limits c s.past s.connections start
 lingers_accepts limits steady c s l start =
     accepts_same limits c l.earlier s.past (l.newest ∷ l.before) s.connections start (l.since.entries start)
-    (ap (accepted_in s.past c start) l.are ∙ ap₂ (λ a b. a ++ b) (l.since.rest start) (ap (λ o. if is_at start o then l.newest.accepted else []) l.since.opened))
+    (ap (accepted_in s.past c start) l.are ∙ ap₂ (λ a b. a ++ b) (l.since.rest start) (ap (λ o. if is_this start o then l.newest.accepted else []) l.since.opened))
     (lasting_accepts limits steady c l.flags (with_connections l.earlier s.keeper (l.newest ∷ l.before)) l.frozen.life l.frozen.stands l.frozen.lasts start)
 
 -- ---- the client continues

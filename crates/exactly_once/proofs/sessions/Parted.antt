@@ -14,7 +14,8 @@ use Rattle.broker_base.specs.broker_spec.declared.command.Command.TheVariants as
 use Rattle.broker_base.specs.broker_spec.Connection.{ConnectionName}
 use Rattle.exactly_once.specs.Sides.{Connection}
 use Rattle.exactly_once.specs.StoryCommands.{counted_at}
-use Rattle.exactly_once.specs.InStep.{has_begun, WasWelcome, AreWelcome, opens_on, is_at, opened_in, entries_in}
+use Rattle.exactly_once.specs.Carried.{is_this}
+use Rattle.exactly_once.specs.InStep.{has_begun, WasWelcome, AreWelcome, opens_on, opened_in, entries_in}
 use Rattle.exactly_once.proofs.places.After.{none_opens}
 use Rattle.exactly_once.proofs.sessions.Again.{accepted_at, again_there}
 use Rattle.exactly_once.proofs.sessions.Openings.{no_start, opened_same}
@@ -36,7 +37,7 @@ pub record Parts (limits : Limits) (c : Client) (past : Past) (connections : Lis
 -- ---- a place that opens none of its connections
 
 pub entries_parted : (limits : Limits) (place : Place) (past : Past) (c : Client) (start : ℕ) → session_of (place ∷ past) c ≡ None → entries_in limits (place ∷ past) c start ≡ entries_in limits past c start
-entries_parted limits place past c start none = entries_over limits place past c start (ap (is_at start) (no_start (place ∷ past) c none))
+entries_parted limits place past c start none = entries_over limits place past c start (ap (is_this start) (no_start (place ∷ past) c none))
 
 head_placed : (place : Place) (past : Past) (c : Client) (i : ℕ) (connections : List Connection) → accepts place.command place.mark c ≡ None → IsHeadUnopened past c connections
     → IsHeadUnopened (place ∷ past) c (counted_at i connections)

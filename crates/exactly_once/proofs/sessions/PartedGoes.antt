@@ -18,7 +18,7 @@ use Rattle.exactly_once.specs.Sides.{Connection, Side}
 use Rattle.exactly_once.specs.Story.{Story, StoryStep}
 use Rattle.exactly_once.specs.StoryCommands.{command_of, counted_at, names_client}
 use Rattle.exactly_once.specs.Story.StoryStep.{takes, others_take, receives, opens_anew, loses, disconnects, publishes_one, subscribes, unsubscribes}
-use Rattle.exactly_once.specs.InStep.{AreWelcome, IsInStep, is_at, opened_in, sessions_begun}
+use Rattle.exactly_once.specs.InStep.{AreWelcome, IsInStep, opened_in, sessions_begun}
 use Rattle.exactly_once.proofs.keeping.CurrentOnes.{none_opened}
 use Rattle.exactly_once.proofs.publishing.Last.{each_there}
 use Rattle.exactly_once.proofs.subscribing.Given.{stays_handled}
@@ -34,7 +34,7 @@ use Rattle.exactly_once.proofs.sessions.Lasting.{Lasts}
 use Rattle.exactly_once.proofs.sessions.BeginsAgain.{stands_anew, lasts_anew, StandsAnew}
 use Rattle.exactly_once.proofs.sessions.Parted.{Parts, parts_placed, accepted_or_not, none_older, at_accepted}
 use Rattle.exactly_once.proofs.sessions.NothingNew.{nothing_new_yet, again_begun}
-use Rattle.exactly_once.specs.Carried.{new_numbers}
+use Rattle.exactly_once.specs.Carried.{new_numbers, is_this}
 
 -- ---- what is left to show of each event: it stays so, or a session begins
 
@@ -110,7 +110,7 @@ parts_head limits c past κ κ' others name p =
       none = p.none;
       begun = p.begun;
       head = ap (opened_in past c) name ∙ p.head;
-      all = λ start. accepts_same limits c past past (κ ∷ others) (κ' ∷ others) start refl (accepted_head past c start κ κ' others name (ap (is_at start) p.head)) (p.all start);
+      all = λ start. accepts_same limits c past past (κ ∷ others) (κ' ∷ others) start refl (accepted_head past c start κ κ' others name (ap (is_this start) p.head)) (p.all start);
     }
 
 parts_written : (limits : Limits) (c : Client) (past : Past) (more : List Written) (connections : List Connection) → Parts limits c past connections → Parts limits c past (writes_first more connections)

@@ -4,7 +4,8 @@ use Rattle.std.specs.Prelude.{is_some, ◌==◌}
 use Rattle.broker_base.specs.broker_spec.Place.{Client, Place, Past, Limits, only_if}
 use Rattle.broker_base.specs.broker_spec.Past.{session_of, session_start, begins}
 use Rattle.broker_base.specs.broker_spec.Times.{entries_of}
-use Rattle.exactly_once.specs.InStep.{is_at, entries_in}
+use Rattle.exactly_once.specs.Carried.{is_this}
+use Rattle.exactly_once.specs.InStep.{entries_in}
 
 -- it began here, or below
 pub began_here_or_below : (place : Place) (past : Past) (c : Client) (n : ℕ) → session_start (place ∷ past) c ≡ Some n → (n ≡ length past) ⊎ (session_start past c ≡ Some n)
@@ -27,19 +28,19 @@ began_below (place ∷ past) c n e = by (began_here_or_below place past c n e) (
     by (inr f) ih = let g = ih f in omega (arith, g)
 
 -- a session that is over stays so
-pub over_stays : (place : Place) (past : Past) (c : Client) (start : ℕ) → start < length past → is_at start (session_start past c) ≡ false → is_at start (session_start (place ∷ past) c) ≡ false
+pub over_stays : (place : Place) (past : Past) (c : Client) (start : ℕ) → start < length past → is_this start (session_start past c) ≡ false → is_this start (session_start (place ∷ past) c) ≡ false
 over_stays place past c start less over = by (session_start (place ∷ past) c) refl
   where
     other : (n : ℕ) → (n ≡ length past) ⊎ (session_start past c ≡ Some n) → (n == start) ≡ false
     other n (inl e) = grind (arith, e, less)
-    other n (inr e) = sym (ap (is_at start) e) ∙ over
+    other n (inr e) = sym (ap (is_this start) e) ∙ over
 
-    by : (o : Option ℕ) → session_start (place ∷ past) c ≡ o → is_at start o ≡ false
+    by : (o : Option ℕ) → session_start (place ∷ past) c ≡ o → is_this start o ≡ false
     by None e = refl
     by (Some n) e = other n (began_here_or_below place past c n e)
 
 -- so its entries stay as they were at its last place
-pub entries_stay : (limits : Limits) (place : Place) (past : Past) (c : Client) (start : ℕ) → start < length past → is_at start (session_start past c) ≡ false
+pub entries_stay : (limits : Limits) (place : Place) (past : Past) (c : Client) (start : ℕ) → start < length past → is_this start (session_start past c) ≡ false
     → entries_in limits (place ∷ past) c start ≡ entries_in limits past c start
 entries_stay limits place past c start less over =
     ap (λ b. if b then entries_of limits (place ∷ past) c else entries_in limits past c start) (over_stays place past c start less over)
