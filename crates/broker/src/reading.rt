@@ -1,7 +1,7 @@
 // Reads the rows of a frozen broker from the front of the bytes that are left. Bytes that are not
 // of the form stop the reading; the reader is not to be used after an error.
 
-ghost use Rattle.std.specs.Prelude.{◌≡◌, true, Ok, IfOk};
+ghost use Rattle.std.specs.Prelude.{◌≡◌, true, IfOk};
 ghost use Rattle.packet.specs.ClientId.{is_client};
 ghost use Rattle.packet.specs.packet_base.Outcome.{Gives, Reads};
 ghost use Rattle.session_base.specs.Counted.{check_form};
@@ -10,11 +10,13 @@ ghost use Rattle.broker_form.specs.Form.{retained_at, row_at, size_at, wide_numb
 
 use broker_spec::{ConnectionName, Window};
 use broker_tables::ClientRow;
-use packet::{ClientId, MAX_BODY, Payload};
+use packet::{ClientId, MAX_BODY};
 use packet_base::{OUT_OF_MEMORY, Reader, Stop};
 use retained::RetainedPublication;
 use session::Session;
-use session_base::{Publication, body_length, check_form, read_flag, read_long_number, read_qos};
+use session_base::{
+    Publication, body_length, check_form, payload_of, read_flag, read_long_number, read_qos,
+};
 use std::alloc::Global;
 use topics::{MalformedKind, TopicName};
 
@@ -169,14 +171,4 @@ fn retainable(publication: Publication) -> Result<(TopicName, RetainedPublicatio
         payload: publication.payload,
     };
     Ok((publication.topic, kept))
-}
-
-// Returns a copy of bytes as a payload; memory is its only fault.
-fn payload_of(alloc: Global, bytes: &[u8]) -> Result<Payload, Stop>
-    ensures { Gives (λ x. x) result (Ok bytes.now) }
-{
-    match Payload::new(alloc, bytes) {
-        Ok(payload) => Ok(payload),
-        Err(_) => Err(OUT_OF_MEMORY),
-    }
 }

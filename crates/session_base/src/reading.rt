@@ -72,8 +72,8 @@ pub fn read_publication(alloc: Global, reader: &mut Reader) -> Result<Publicatio
     Ok(publication)
 }
 
-// Returns a copy of bytes as a payload; memory is its only fault.
-fn payload_of(alloc: Global, bytes: &[u8]) -> Result<Payload, Stop>
+/// Returns a copy of bytes as a payload. The only error is that memory ran out.
+pub fn payload_of(alloc: Global, bytes: &[u8]) -> Result<Payload, Stop>
     ensures { Gives (λ x. x) result (Ok bytes.now) }
 {
     match Payload::new(alloc, bytes) {
