@@ -53,9 +53,9 @@ impl ClientRow {
         }
     }
 
-    /// Continues a session that is not clean on this connection. What is in flight is sent again,
+    /// Resumes a session that is not clean on this connection. What is in flight is sent again,
     /// then what may start starts (MQTT 4.4).
-    pub fn come_back(
+    pub fn resume(
         &mut self,
         connection: ConnectionName,
         window: Window,

@@ -26,7 +26,7 @@ use Rattle.broker_session.specs.broker_rows.Touched.{written}
 use Rattle.broker_tables.specs.declared.tables.Tables.{Tables}
 use Rattle.broker_tables.specs.Tables.{owners_at, state_in, stepped, IsTied, IsConsistent}
 use Rattle.broker_session.specs.OneSession.{sent_to_resumed}
-use Rattle.broker_tables.specs.Connecting.{goes_on, goes_on_in, TakesOver}
+use Rattle.broker_tables.specs.Connecting.{resumes, resumes_in, TakesOver}
 use Rattle.broker_tables.proofs.FoundByMaps.{is_nobodys}
 use Rattle.broker_tables.proofs.Losses.{loss_step}
 use Rattle.broker_tables.proofs.TiesOfRows.{tied_to}
@@ -82,7 +82,7 @@ module _ (tables : Tables) (x : ConnectionName) (c : Client) (clean : Bool) (ste
   full_of full = full_step usual_limits 64 (state_in tables) x c clean (is_nobodys tables x none) full
 
   -- a session continues
-  resuming_by : (session : Option ClientSession) → session_in c tables.sessions.entries ≡ session → goes_on clean session ≡ true →
+  resuming_by : (session : Option ClientSession) → session_in c tables.sessions.entries ≡ session → resumes clean session ≡ true →
       stepped tables (commands.Connect x c clean)
       ≡ (
         record {
@@ -122,7 +122,7 @@ module _ (tables : Tables) (x : ConnectionName) (c : Client) (clean : Bool) (ste
             closed (connection_of (sym held i)) ++ welcome x true ∷ map (outputs.Send x) (sent_to_resumed tables.window (sym held i)),
           ))
 
-  pub resuming_of : goes_on_in (state_in tables) c clean ≡ true →
+  pub resuming_of : resumes_in (state_in tables) c clean ≡ true →
       stepped tables (commands.Connect x c clean)
       ≡ (
         record {
@@ -135,12 +135,12 @@ module _ (tables : Tables) (x : ConnectionName) (c : Client) (clean : Bool) (ste
       )
   resuming_of on = resuming_by (session_in c tables.sessions.entries) refl on
 
-  pub ties_of_resuming : (after : Tables) → goes_on_in (state_in tables) c clean ≡ true →
+  pub ties_of_resuming : (after : Tables) → resumes_in (state_in tables) c clean ≡ true →
       after.sessions.entries ≡ changed c (kept_resumed tables.window (x, false)) tables.sessions.entries →
       TakesOver tables x c after → content_of after.index ≡ content_of tables.index → IsTied after
   ties_of_resuming after on is owners index = by (session_in c tables.sessions.entries) refl on
     where
-      by : (session : Option ClientSession) → session_in c tables.sessions.entries ≡ session → goes_on clean session ≡ true → IsTied after
+      by : (session : Option ClientSession) → session_in c tables.sessions.entries ≡ session → resumes clean session ≡ true → IsTied after
       by None held e = absurd (cc)
       by (Some kept) held e =
           tied_to after (written c (Some (kept_resumed tables.window (x, false) kept)) tables.sessions.entries)

@@ -10,13 +10,13 @@ use Rattle.broker_session.specs.broker_base.ClientSession.{ClientSession}
 use Rattle.broker_session.specs.broker_base.State.{State, session_in}
 
 -- there is a session, and neither it nor the Connect is clean
-abbrev pub goes_on : Bool → Option ClientSession → Bool
-goes_on clean (Some kept) = not clean && not kept.clean
-goes_on clean None = false
+abbrev pub resumes : Bool → Option ClientSession → Bool
+resumes clean (Some kept) = not clean && not kept.clean
+resumes clean None = false
 
 -- this client has a session in this state, and neither it nor the Connect is clean
-abbrev pub goes_on_in : State → Client → Bool → Bool
-goes_on_in state c clean = goes_on clean (session_in c state.sessions)
+abbrev pub resumes_in : State → Client → Bool → Bool
+resumes_in state c clean = resumes clean (session_in c state.sessions)
 
 -- the connection becomes the client's, and the client's old one has no client any more
 abbrev pub TakesOver : Tables → ConnectionName → Client → Tables → Type 0

@@ -12,13 +12,14 @@ ghost use Rattle.broker_session.specs.broker_base.StepAnswers.{connection_of};
 ghost use Rattle.broker_session.specs.broker_rows.Owners.{owners_in, with_owner, without_owner};
 ghost use Rattle.broker_session.specs.broker_rows.ConnectLaws.{may_have_session, begins_in};
 ghost use Rattle.broker_tables.specs.Tables.{IsConsistent, IsTied, owners_at, state_in, stepped};
-ghost use Rattle.broker_tables.specs.declared.connecting.ConnectOutcome.TheVariants.{Begins, GoesOn};
+ghost use Rattle.broker_tables.specs.declared.connecting.ConnectOutcome.TheVariants.{Begins, Resumes};
 ghost use Rattle.broker_tables.specs.declared.connecting.ConnectOutcome.TheVariants.{TurnedAway};
 ghost use Rattle.broker_session.specs.broker_rows.Published.{changed};
 ghost use Rattle.broker_tables.specs.Inside.{HasOthersOf, HasOthersThanOwners};
-ghost use Rattle.broker_tables.specs.Connecting.{goes_on_in, TakesOver};
+ghost use Rattle.broker_tables.specs.Connecting.{resumes_in, TakesOver};
 ghost use Rattle.broker_session.specs.OneSession.{sent_to_resumed};
 
+use crate::expelling::shut;
 use crate::limits::MAX_SESSIONS;
 use crate::tables::Tables;
 use broker_session::{ClientRow, send_all};
@@ -33,8 +34,8 @@ use subs::SubIndex;
 pub(crate) enum ConnectOutcome {
     /// A session begins.
     Begins,
-    /// The client's session continues.
-    GoesOn,
+    /// The client's session is resumed.
+    Resumes,
     /// There are too many sessions.
     TurnedAway,
 }
@@ -64,17 +65,18 @@ impl Tables {
         }
         match self.outcome_of(client, clean) {
             ConnectOutcome::Begins => self.begin(connection, client, clean, out)?,
-            ConnectOutcome::GoesOn => self.resume(connection, client, clean, out)?,
+            ConnectOutcome::Resumes => self.resume(connection, client, clean, out)?,
             ConnectOutcome::TurnedAway => turn_away(connection, out)?,
         }
         Ok(())
     }
 
-    // Says what a Connect does that is no violation. A session continues if it exists and neither
+    // Says what a Connect does that is no violation. A session is resumed if it exists and neither
     // it nor the Connect is clean. Otherwise one begins, if the client has one or there is room for
     // one more (MQTT 3.1.2.4). If there is none, the client is turned away.
     fn outcome_of(&self, client: &ClientId, clean: bool) -> ConnectOutcome
-        ensures goes_on { result ≡ GoesOn → goes_on_in (state_in self.now) client.now clean ≡ true }
+        ensures resumes { result ≡ Resumes
+            → resumes_in (state_in self.now) client.now clean ≡ true }
         ensures begins { result ≡ Begins → begins_in (state_in self.now) client.now clean ≡ true }
         ensures room { result ≡ Begins
             → may_have_session usual_limits (state_in self.now) client.now ≡ true }
@@ -86,7 +88,7 @@ impl Tables {
                 if clean || row.clean {
                     ConnectOutcome::Begins
                 } else {
-                    ConnectOutcome::GoesOn
+                    ConnectOutcome::Resumes
                 }
             }
             None => {
@@ -157,7 +159,7 @@ impl Tables {
         }
     }
 
-    // Continues a session on a new connection: what is in flight is sent again, then what may start
+    // Resumes a session on a new connection: what is in flight is sent again, then what may start
     // starts (MQTT 4.4).
     fn resume(
         &mut self,
@@ -168,7 +170,7 @@ impl Tables {
     ) -> Result<(), Halted>
         requires consistent { IsConsistent self.old }
         requires nobodys { owners_in self.old.sessions.entries connection ≡ None }
-        requires goes_on { goes_on_in (state_in self.old) client.now clean ≡ true }
+        requires resumes { resumes_in (state_in self.old) client.now clean ≡ true }
         ensures state { OnOk result
             (state_in self.new
             ≡ (stepped self.old (commands.Connect connection client.now clean)).0) }
@@ -178,14 +180,14 @@ impl Tables {
         ensures tied { OnOk result (IsTied self.new) }
     {
         self.welcome(connection, client, true, out)?;
-        self.go_on(connection, client, out)?;
+        self.resume_row(connection, client, out)?;
         Ok(())
     }
 }
 
 impl Tables {
-    // Continues the client's session on this connection, and sends what it has for the client.
-    fn go_on(
+    // Resumes the client's session on this connection, and sends what it has for the client.
+    fn resume_row(
         &mut self,
         connection: ConnectionName,
         client: &ClientId,
@@ -202,7 +204,7 @@ impl Tables {
     {
         let mut sent = Vec::new(self.alloc);
         let row = self.sessions.get_mut(client).unwrap();
-        row.come_back(connection, self.window, &mut sent)?;
+        row.resume(connection, self.window, &mut sent)?;
         send_all(connection, sent, out)?;
         Ok(())
     }
@@ -246,9 +248,7 @@ fn greet(
     ensures { OnOk result
         (out.new.items ≡ out.old.items ++ (closed left ++ welcome connection present ∷ [])) }
 {
-    if let Some(left) = left {
-        out.push(Output::Close(left))?;
-    }
+    shut(left, out)?;
     out.push(Output::Send(connection, Packet::Connack(Connack::Accepted(present))))?;
     Ok(())
 }

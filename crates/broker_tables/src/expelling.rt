@@ -38,8 +38,8 @@ impl Tables {
     }
 }
 
-// Closes a connection, if there is one.
-fn shut(left: Option<ConnectionName>, out: &mut Vec<Output>) -> Result<(), Halted>
+/// Closes a connection, if there is one.
+pub(crate) fn shut(left: Option<ConnectionName>, out: &mut Vec<Output>) -> Result<(), Halted>
     ensures closes { OnOk result (out.new.items ≡ out.old.items ++ closed left) }
     ensures unsent { OnErr result (out.new.items ≡ out.old.items) }
 {
