@@ -5,7 +5,8 @@ use Rattle.std.specs.Prelude.{None, option_map}
 use Rattle.session_base.specs.packet.declared.packet.Packet.TheVariants as packets
 use Rattle.broker_spec.specs.retained.Retained.{RetainedTopics}
 use Rattle.session_base.specs.declared.publication.Publication.{Publication}
-use Rattle.session_base.specs.Publication.{publication_of, lower_qos}
+use Rattle.session_base.specs.Publication.{publication_of}
+use Rattle.session_base.specs.packet.QoS.{lower_qos}
 use Rattle.session_base.specs.Subscriptions.{GrantedFilter, granted_qos}
 use Rattle.session_base.specs.Session.{empty_session}
 use Rattle.session_base.specs.Queue.{Flight, Queue, on_puback, on_pubrec, on_pubcomp, fill, filled}

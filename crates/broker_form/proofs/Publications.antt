@@ -10,7 +10,8 @@ use Rattle.packet.specs.declared.publish.Publish.{Publish}
 use Rattle.packet.specs.declared.delivery.Delivery.{Delivery}
 use Rattle.packet.specs.declared.delivery.Delivery.TheVariants as deliveries
 use Rattle.session_base.specs.declared.publication.Publication.{Publication}
-use Rattle.session_base.specs.Publication.{publish_of, publication_of, lower_qos}
+use Rattle.session_base.specs.Publication.{publish_of, publication_of}
+use Rattle.packet.specs.QoS.{lower_qos}
 use Rattle.session_base.specs.InRange.{CanBeSent}
 
 -- the publication with these parts

@@ -6,7 +6,8 @@ use Rattle.std.specs.List.{fold}
 use Rattle.subs.specs.packet.declared.qos.QoS.{QoS}
 use Rattle.subs.specs.packet.declared.delivery.Delivery.{Delivery}
 use Rattle.broker_spec.specs.session_base.declared.publication.Publication.{Publication}
-use Rattle.broker_spec.specs.session_base.Publication.{is_answered, lower_qos}
+use Rattle.broker_spec.specs.session_base.Publication.{is_answered}
+use Rattle.subs.specs.packet.QoS.{lower_qos}
 use Rattle.broker_spec.specs.session_base.Queue.{room}
 use Rattle.broker_spec.specs.session_base.Session.{with_received, with_queue}
 use Rattle.broker_spec.specs.session_base.Sending.{copies_sent}

@@ -5,7 +5,7 @@ use Rattle.session.specs.packet.declared.qos.QoS.{QoS}
 use Rattle.session.specs.packet.declared.packet.Packet.{Packet}
 use Rattle.session.specs.packet.declared.packet.Packet.TheVariants as packets
 use Rattle.session.specs.session_base.declared.publication.Publication.{Publication}
-use Rattle.session.specs.session_base.Publication.{lower_qos}
+use Rattle.session.specs.packet.QoS.{lower_qos}
 use Rattle.session.specs.session_base.Session.{SessionState}
 use Rattle.session.specs.session_base.Queue.{on_puback, on_pubrec, on_pubcomp}
 use Rattle.session.specs.session_base.Sending.{fill_sends, pubrec_sends, resend}

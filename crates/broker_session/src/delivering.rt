@@ -2,8 +2,7 @@
 
 ghost use Rattle.std.specs.Prelude.{◌≡◌, ◌≤◌, ◌++◌, [], ◌∷◌, true, false, Some, OnOk, IfOk};
 ghost use Rattle.session.specs.packet.declared.packet.Packet.TheVariants as packets;
-ghost use Rattle.session.specs.session_base.Publication.{publish_of, lower_qos};
-ghost use Rattle.session.specs.session_base.Publication.{publication_of, is_answered};
+ghost use Rattle.session.specs.session_base.Publication.{publish_of, publication_of, is_answered};
 ghost use Rattle.session.specs.packet.declared.qos.QoS.TheVariants as qualities;
 ghost use Rattle.session.specs.session_base.Queue.{room};
 ghost use Rattle.session.specs.session_base.Copies.{copies_left};
@@ -36,17 +35,6 @@ pub fn publication_of(publish: &Publish) -> Result<Publication, AllocError>
     })
 }
 
-/// Returns the lower QoS of two.
-pub fn lower(one: QoS, other: QoS) -> QoS
-    ensures { result ≡ lower_qos one other }
-{
-    if other.number() < one.number() {
-        other
-    } else {
-        one
-    }
-}
-
 // Returns a copy of a publication for a subscriber: with RETAIN 0 (MQTT 3.3.1.3), at the lower QoS
 // of the two.
 fn copy_at(publication: &Publication, qos: QoS) -> Result<Publication, AllocError>
@@ -54,7 +42,7 @@ fn copy_at(publication: &Publication, qos: QoS) -> Result<Publication, AllocErro
 {
     Ok(Publication {
         retain: false,
-        qos: lower(publication.qos, qos),
+        qos: publication.qos.lower(qos),
         topic: publication.topic.clone()?,
         payload: publication.payload.clone()?,
     })

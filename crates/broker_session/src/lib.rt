@@ -10,7 +10,7 @@ mod retained_copies;
 mod sending;
 
 pub use client_row::ClientRow;
-pub use delivering::{deliver, lower, publication_of};
+pub use delivering::{deliver, publication_of};
 pub use granting::grant_all;
 pub use handshakes::{do_handshake, is_handshake};
 pub use sending::send_all;

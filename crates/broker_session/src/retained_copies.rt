@@ -7,7 +7,7 @@ ghost use Rattle.session.specs.session_base.Sending.{copies_sent};
 ghost use Rattle.session.specs.session_base.Session.{with_queue};
 ghost use Rattle.broker_rows.specs.broker_spec.Entries.{copies_for, queued, retained_copy};
 
-use crate::delivering::{lower, put_copy};
+use crate::delivering::put_copy;
 use broker_spec::Window;
 use machine::Halted;
 use packet::{Packet, QoS, Subscription};
@@ -24,7 +24,7 @@ fn retained_copy(asked: QoS, topic: TopicName, kept: RetainedPublication) -> Pub
 {
     Publication {
         retain: true,
-        qos: lower(asked, kept.qos),
+        qos: asked.lower(kept.qos),
         topic,
         payload: kept.payload,
     }

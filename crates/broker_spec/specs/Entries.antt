@@ -9,7 +9,8 @@ use Rattle.retained.specs.declared.retained_publication.RetainedPublication.{Ret
 use Rattle.retained.specs.Retained.{RetainedTopics, matching_entries}
 use Rattle.broker_spec.specs.Place.{Client, same_client, Mark, Place, Past}
 use Rattle.session_base.specs.declared.publication.Publication.{Publication}
-use Rattle.session_base.specs.Publication.{publication_of, is_answered, lower_qos}
+use Rattle.session_base.specs.Publication.{publication_of, is_answered}
+use Rattle.retained.specs.packet.QoS.{lower_qos}
 use Rattle.broker_spec.specs.Subscriptions.{granted_of, effective_qos}
 use Rattle.broker_spec.specs.Retained.{retained_publications}
 use Rattle.broker_spec.specs.declared.command.Command.{Command}

@@ -8,7 +8,7 @@ use Rattle.retained.specs.packet.declared.packet.Packet.TheVariants as packets
 use Rattle.broker_spec.specs.Place.{Client, same_client, Mark, Past}
 use Rattle.broker_spec.specs.Past.{session_of, begins, in_session}
 use Rattle.session_base.specs.declared.publication.Publication.{Publication}
-use Rattle.session_base.specs.Publication.{lower_qos}
+use Rattle.retained.specs.packet.QoS.{lower_qos}
 use Rattle.session_base.specs.Subscriptions.{GrantedFilter, with_subscriptions}
 use Rattle.session_base.specs.Subscriptions.{without_filters, granted_qos}
 use Rattle.broker_spec.specs.declared.command.Command.{Command}

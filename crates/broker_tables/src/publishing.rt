@@ -18,7 +18,7 @@ ghost use Rattle.broker_session.specs.broker_rows.Published.{copy_answered, deli
 ghost use Rattle.broker_session.specs.broker_rows.Published.{granted_rows, received_on};
 
 use crate::tables::Tables;
-use broker_session::{ClientRow, deliver, lower, publication_of};
+use broker_session::{ClientRow, deliver, publication_of};
 use broker_spec::{ConnectionName, Output, Window};
 use machine::Halted;
 use packet::{ClientId, Delivery, Packet, Publish, QoS};
@@ -152,7 +152,7 @@ fn is_full_at(
 {
     let (client, qos) = granted;
     match sessions.get(client) {
-        Some(row) => { lower(publication.qos, *qos) != QoS::AtMostOnce && row.state.room() == 0 }
+        Some(row) => { publication.qos.lower(*qos) != QoS::AtMostOnce && row.state.room() == 0 }
         None => false,
     }
 }

@@ -1,5 +1,5 @@
 -- Quality of Service (MQTT 4.3).
-use Rattle.std.specs.Prelude.{ℕ, ◌==◌, if◌then◌else◌, Result, Ok}
+use Rattle.std.specs.Prelude.{ℕ, ◌==◌, nat_lt, if◌then◌else◌, Result, Ok, Option, Some, None}
 use Rattle.packet_base.specs.topics.declared.malformed.MalformedKind.TheVariants as kinds
 use Rattle.packet_base.specs.declared.stop.Stop.{Stop}
 use Rattle.packet_base.specs.Reading.{malformed}
@@ -18,3 +18,12 @@ qos_of number =
     if number == 0 then Ok qualities.AtMostOnce else
     if number == 1 then Ok qualities.AtLeastOnce else
     if number == 2 then Ok qualities.ExactlyOnce else malformed kinds.Qos
+
+-- the lower QoS of two
+abbrev pub lower_qos : QoS → QoS → QoS
+lower_qos q r = if nat_lt (qos_number r) (qos_number q) then r else q
+
+-- the greater QoS of two, of which the second may be missing
+abbrev pub greater_qos : QoS → Option QoS → QoS
+greater_qos q None = q
+greater_qos q (Some r) = if nat_lt (qos_number q) (qos_number r) then r else q

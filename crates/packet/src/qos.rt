@@ -1,7 +1,7 @@
 // The three qualities of service.
 
 ghost use Rattle.std.specs.Prelude.{◌≡◌};
-ghost use Rattle.packet.specs.QoS.{qos_number, qos_of};
+ghost use Rattle.packet.specs.QoS.{greater_qos, lower_qos, qos_number, qos_of};
 
 use packet_base::Stop;
 use topics::MalformedKind;
@@ -39,6 +39,27 @@ impl QoS {
             QoS::AtMostOnce => 0,
             QoS::AtLeastOnce => 1,
             QoS::ExactlyOnce => 2,
+        }
+    }
+
+    /// Returns the lower of two.
+    pub fn lower(self, other: QoS) -> QoS
+        ensures { result ≡ lower_qos self other }
+    {
+        if other.number() < self.number() {
+            other
+        } else {
+            self
+        }
+    }
+
+    /// Returns the greater of two, of which the second may be missing.
+    pub fn greater(self, other: Option<QoS>) -> QoS
+        ensures { result ≡ greater_qos self other }
+    {
+        match other {
+            Some(other) if self.number() < other.number() => other,
+            _ => self,
         }
     }
 }

@@ -6,7 +6,8 @@ use Rattle.session_base.specs.packet.declared.packet.Packet.{Packet}
 use Rattle.session_base.specs.packet.declared.packet.Packet.TheVariants as packets
 use Rattle.session_base.specs.declared.publication.Publication.{Publication}
 use Rattle.session_base.specs.declared.awaits.Awaits.TheVariants as waits_for
-use Rattle.session_base.specs.Publication.{publish_of, greater_qos}
+use Rattle.session_base.specs.Publication.{publish_of}
+use Rattle.session_base.specs.packet.QoS.{greater_qos}
 use Rattle.session_base.specs.Queue.{Flight, Queue, started_flight}
 use Rattle.session_base.specs.Form.{IsWritable}
 

@@ -3,7 +3,6 @@
 ghost use Rattle.std.specs.Prelude.{◌≡◌, [], true, IsOk, OnOk, OnErr, length};
 ghost use Rattle.session_base.specs.Subscriptions.{is_subscribed, with_subscription};
 ghost use Rattle.session_base.specs.Subscriptions.{without_filter, granted_qos};
-ghost use Rattle.session_base.specs.Publication.{greater_qos};
 
 use indexmap::IndexMap;
 use packet::QoS;
@@ -82,19 +81,9 @@ impl Subscriptions {
         let mut best = None;
         for (filter, qos) in &self.filters {
             if matches(filter, topic) {
-                best = Some(greater(*qos, best));
+                best = Some(qos.greater(best));
             }
         }
         best
-    }
-}
-
-// Returns the greater of two QoS, the second of which may be missing, as `greater` of `subs_base`.
-fn greater(qos: QoS, best: Option<QoS>) -> QoS
-    ensures { result ≡ greater_qos qos best }
-{
-    match best {
-        Some(other) if qos.number() < other.number() => other,
-        _ => qos,
     }
 }

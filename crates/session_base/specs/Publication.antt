@@ -1,11 +1,10 @@
 -- Publications, and the packets that carry them (MQTT 3.3).
-use Rattle.std.specs.Prelude.{ℕ, Bool, true, false, if◌then◌else◌, nat_lt, Option, Some, None}
+use Rattle.std.specs.Prelude.{ℕ, Bool, true, false}
 use Rattle.packet.specs.declared.qos.QoS.{QoS}
 use Rattle.packet.specs.declared.qos.QoS.TheVariants as qualities
 use Rattle.packet.specs.declared.delivery.Delivery.{Delivery}
 use Rattle.packet.specs.declared.delivery.Delivery.TheVariants as deliveries
 use Rattle.packet.specs.declared.publish.Publish.{Publish}
-use Rattle.packet.specs.QoS.{qos_number}
 use Rattle.packet.specs.Delivery.{delivery_qos}
 use Rattle.session_base.specs.declared.publication.Publication.{Publication}
 
@@ -46,12 +45,3 @@ abbrev pub is_acknowledged : QoS → Bool
 is_acknowledged qualities.AtMostOnce = false
 is_acknowledged qualities.AtLeastOnce = true
 is_acknowledged qualities.ExactlyOnce = false
-
--- the lower QoS of two
-abbrev pub lower_qos : QoS → QoS → QoS
-lower_qos q r = if nat_lt (qos_number r) (qos_number q) then r else q
-
--- the greater QoS of two, of which the second may be missing
-abbrev pub greater_qos : QoS → Option QoS → QoS
-greater_qos q None = q
-greater_qos q (Some r) = if nat_lt (qos_number q) (qos_number r) then r else q

@@ -5,7 +5,7 @@ use Rattle.std.specs.Prelude.{Some, None}
 use Rattle.std.specs.List.{list_any}
 use Rattle.packet_base.specs.topics.Matching.{is_match}
 use Rattle.packet.specs.declared.qos.QoS.{QoS}
-use Rattle.session_base.specs.Publication.{greater_qos}
+use Rattle.packet.specs.QoS.{greater_qos}
 
 -- a filter of a session, with the QoS at which it was granted last
 abbrev pub GrantedFilter : Type 0

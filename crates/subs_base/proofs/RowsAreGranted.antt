@@ -18,14 +18,14 @@ use Rattle.std.proofs.lemmas.List.Elements.{All-nil, All-cons, All-weaker, Conta
 use Rattle.packet.specs.topics.Matching.{Matches, is_match}
 use Rattle.packet.proofs.of_topics.MatchingIsTested.{tested}
 use Rattle.packet.specs.declared.qos.QoS.{QoS}
-use Rattle.packet.specs.QoS.{qos_number}
+use Rattle.packet.specs.QoS.{greater_qos, qos_number}
 use Rattle.subs_base.specs.Granted.{Row, clients_of, IsGreatest, IsGranted, IsWanted, AppendsGranted, row_of}
 use Rattle.subs_base.specs.ListIndex.{Filters, Clients, at, content_of}
-use Rattle.subs_base.specs.Inside.{greater, greatest_from, rows_of, AreOrdered, listed}
+use Rattle.subs_base.specs.Inside.{greatest_from, rows_of, AreOrdered, listed}
 
--- ---- the greater of two
+-- ---- the greater_qos of two
 
-greater_left : (q : QoS) (best : Option QoS) → qos_number q ≤ qos_number (greater q best)
+greater_left : (q : QoS) (best : Option QoS) → qos_number q ≤ qos_number (greater_qos q best)
 greater_left q None = omega arith
 greater_left q (Some b) =
     elim (nat_lt (qos_number q) (qos_number b)) as (λ v. nat_lt (qos_number q) (qos_number b) ≡ v → qos_number q ≤ qos_number (cond v b q)) [
@@ -33,14 +33,14 @@ greater_left q (Some b) =
       | false ↦ λ e. omega arith
     ] refl
 
-greater_right : (q b : QoS) → qos_number b ≤ qos_number (greater q (Some b))
+greater_right : (q b : QoS) → qos_number b ≤ qos_number (greater_qos q (Some b))
 greater_right q b =
     elim (nat_lt (qos_number q) (qos_number b)) as (λ v. nat_lt (qos_number q) (qos_number b) ≡ v → qos_number b ≤ qos_number (cond v b q)) [
       | true ↦ λ e. omega arith
       | false ↦ λ e. grind (arith, nat_tests)
     ] refl
 
-greater_cases : (q : QoS) (best : Option QoS) → (greater q best ≡ q) ⊎ (best ≡ Some (greater q best))
+greater_cases : (q : QoS) (best : Option QoS) → (greater_qos q best ≡ q) ⊎ (best ≡ Some (greater_qos q best))
 greater_cases q None = inl refl
 greater_cases q (Some b) =
     elim (nat_lt (qos_number q) (qos_number b)) as (λ v. (cond v b q ≡ q) ⊎ (Some b ≡ Some (cond v b q))) [ true ↦ inr refl | false ↦ inl refl ]
@@ -69,10 +69,10 @@ first e es = ap (λ b. cond b (Some e.1) (at e.0 es)) (sym (texts_ties e.0 e.0) 
 at_least : (topic : List ℕ) (b : QoS) (fs : Filters) → (p : QoS) × (greatest_from topic (Some b) fs ≡ Some p) × (qos_number b ≤ qos_number p)
 at_least topic b [] = (b, refl, omega arith)
 at_least topic b (e ∷ es) =
-    elim (is_match e.0 topic) as (λ v. (p : QoS) × (cond v (greatest_from topic (Some (greater e.1 (Some b))) es) (greatest_from topic (Some b) es) ≡ Some p) × (qos_number b ≤ qos_number p)) [
+    elim (is_match e.0 topic) as (λ v. (p : QoS) × (cond v (greatest_from topic (Some (greater_qos e.1 (Some b))) es) (greatest_from topic (Some b) es) ≡ Some p) × (qos_number b ≤ qos_number p)) [
       | true ↦
-          let h = at_least topic (greater e.1 (Some b)) es in
-          let l : qos_number b ≤ qos_number (greater e.1 (Some b)) = greater_right e.1 b in
+          let h = at_least topic (greater_qos e.1 (Some b)) es in
+          let l : qos_number b ≤ qos_number (greater_qos e.1 (Some b)) = greater_right e.1 b in
           let m = h.2 in
           (h.0, h.1, omega arith)
       | false ↦ at_least topic b es
@@ -85,15 +85,15 @@ reaches topic best (e ∷ es) f q found is =
     elim (is_at (slice_cmp nat_cmp f) e.0) as (λ v. is_at (slice_cmp nat_cmp f) e.0 ≡ v → cond v (Some e.1) (at f es) ≡ Some q → (p : QoS) × (greatest_from topic best (e ∷ es) ≡ Some p) × (qos_number q ≤ qos_number p)) [
       | true ↦ λ t s.
           let here : is_match e.0 topic ≡ true = ap (λ x. is_match x topic) (sym (same f e.0 t)) ∙ is in
-          let h = at_least topic (greater e.1 best) es in
-          let l : qos_number e.1 ≤ qos_number (greater e.1 best) = greater_left e.1 best in
+          let h = at_least topic (greater_qos e.1 best) es in
+          let l : qos_number e.1 ≤ qos_number (greater_qos e.1 best) = greater_left e.1 best in
           let n : e.1 ≡ q = cc in
           let m : qos_number e.1 ≡ qos_number q = ap qos_number n in
           let k = h.2 in
-          (h.0, ap (λ v. cond v (greatest_from topic (Some (greater e.1 best)) es) (greatest_from topic best es)) here ∙ h.1, omega arith)
+          (h.0, ap (λ v. cond v (greatest_from topic (Some (greater_qos e.1 best)) es) (greatest_from topic best es)) here ∙ h.1, omega arith)
       | false ↦ λ t s.
-          elim (is_match e.0 topic) as (λ v. (p : QoS) × (cond v (greatest_from topic (Some (greater e.1 best)) es) (greatest_from topic best es) ≡ Some p) × (qos_number q ≤ qos_number p)) [
-            | true ↦ reaches topic (Some (greater e.1 best)) es f q s is
+          elim (is_match e.0 topic) as (λ v. (p : QoS) × (cond v (greatest_from topic (Some (greater_qos e.1 best)) es) (greatest_from topic best es) ≡ Some p) × (qos_number q ≤ qos_number p)) [
+            | true ↦ reaches topic (Some (greater_qos e.1 best)) es f q s is
             | false ↦ reaches topic best es f q s is
           ]
     ] refl found
@@ -105,9 +105,9 @@ comes topic best (e ∷ es) p sorted is =
     let rest : IsStrictlySortedBy (slice_cmp nat_cmp) (keys_of es) = sorted_tail (slice_cmp nat_cmp) e.0 (keys_of es) sorted in
     let Goal : Type 0 = (best ≡ Some p) ⊎ ((f : List ℕ) × (at f (e ∷ es) ≡ Some p) × (is_match f topic ≡ true)) in
     let further : ((f : List ℕ) × (at f es ≡ Some p) × (is_match f topic ≡ true)) → Goal = λ h. inr (h.0, later h.0 e es p sorted h.1, h.2) in
-    elim (is_match e.0 topic) as (λ v. is_match e.0 topic ≡ v → cond v (greatest_from topic (Some (greater e.1 best)) es) (greatest_from topic best es) ≡ Some p → Goal) [
+    elim (is_match e.0 topic) as (λ v. is_match e.0 topic ≡ v → cond v (greatest_from topic (Some (greater_qos e.1 best)) es) (greatest_from topic best es) ≡ Some p → Goal) [
       | true ↦ λ t s.
-          elim (comes topic (Some (greater e.1 best)) es p rest s) as (λ _. Goal) [
+          elim (comes topic (Some (greater_qos e.1 best)) es p rest s) as (λ _. Goal) [
             | inl h ↦
                 elim (greater_cases e.1 best) as (λ _. Goal) [
                   | inl here ↦ inr (e.0, first e es ∙ ap (λ q. Some q) (sym here) ∙ h, t)

@@ -1,6 +1,5 @@
 -- How a `ListIndex` goes through its clients and their filters.
-use Rattle.std.specs.Prelude.{ℕ, List, [], ◌∷◌, ◌++◌, Option, Some, None, if◌then◌else◌}
-use Rattle.std.specs.Prelude.{nat_lt, map}
+use Rattle.std.specs.Prelude.{ℕ, List, [], ◌∷◌, ◌++◌, Option, Some, None, if◌then◌else◌, map}
 use Rattle.std.specs.BTreeMap.{BTreeMap}
 use Rattle.std.specs.Map.{keys_of}
 use Rattle.std.specs.List.Sorted.{IsStrictlySortedBy}
@@ -8,7 +7,7 @@ use Rattle.std.specs.Cmp.Lexicographic.{slice_cmp}
 use Rattle.std.specs.Ordering.{nat_cmp}
 use Rattle.packet.specs.topics.Matching.{is_match}
 use Rattle.packet.specs.declared.qos.QoS.{QoS}
-use Rattle.packet.specs.QoS.{qos_number}
+use Rattle.packet.specs.QoS.{greater_qos}
 use Rattle.subs_base.specs.Granted.{Row, row_of}
 use Rattle.subs_base.specs.ListIndex.{Filters, Clients}
 
@@ -16,16 +15,11 @@ use Rattle.subs_base.specs.ListIndex.{Filters, Clients}
 abbrev pub listed : List (List ℕ × BTreeMap (List ℕ) QoS) → Clients
 listed entries = map (λ entry. (entry.0, entry.1.entries)) entries
 
--- the greater of two, none being the least
-abbrev pub greater : QoS → Option QoS → QoS
-greater qos None = qos
-greater qos (Some best) = if nat_lt (qos_number qos) (qos_number best) then best else qos
-
 -- the greatest QoS so far, and of the filters that match
 abbrev pub greatest_from : List ℕ → Option QoS → Filters → Option QoS
 greatest_from topic best [] = best
 greatest_from topic best (entry ∷ entries) =
-    if is_match entry.0 topic then greatest_from topic (Some (greater entry.1 best)) entries
+    if is_match entry.0 topic then greatest_from topic (Some (greater_qos entry.1 best)) entries
     else greatest_from topic best entries
 
 -- a row for each client with a matching filter

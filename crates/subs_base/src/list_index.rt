@@ -27,7 +27,7 @@ ghost use Rattle.std.specs.BTreeMap.{Updates, IsOrdered, get};
 ghost use Rattle.subs_base.specs.Content.{without_row, with_filters};
 ghost use Rattle.subs_base.specs.Granted.{IsWanted};
 ghost use Rattle.subs_base.specs.ListIndex.{content_of, at};
-ghost use Rattle.subs_base.specs.Inside.{listed, greater, greatest_from, rows_of, AreOrdered};
+ghost use Rattle.subs_base.specs.Inside.{listed, greatest_from, rows_of, AreOrdered};
 
 use crate::sub_index::SubIndex;
 use packet::{ClientId, QoS};
@@ -225,18 +225,8 @@ fn greatest(filters: &BTreeMap<Filter, QoS>, topic: &TopicName) -> Option<QoS>
     let mut best = None;
     for (filter, qos) in filters {
         if matches(filter, topic) {
-            best = Some(greater(*qos, best));
+            best = Some(qos.greater(best));
         }
     }
     best
-}
-
-// Returns the greater one of a QoS and the best so far.
-fn greater(qos: QoS, best: Option<QoS>) -> QoS
-    ensures { result ≡ greater qos best }
-{
-    match best {
-        Some(other) if qos.number() < other.number() => other,
-        _ => qos,
-    }
 }

@@ -5,7 +5,8 @@ use Rattle.subs.specs.packet.declared.qos.QoS.{QoS}
 use Rattle.subs.specs.packet.declared.publish.Publish.{Publish}
 use Rattle.subs.specs.packet.declared.packet.Packet.TheVariants as packets
 use Rattle.broker_spec.specs.retained.Retained.{RetainedTopics}
-use Rattle.broker_spec.specs.session_base.Publication.{publication_of, lower_qos}
+use Rattle.broker_spec.specs.session_base.Publication.{publication_of}
+use Rattle.subs.specs.packet.QoS.{lower_qos}
 use Rattle.broker_spec.specs.session_base.Sending.{copies_sent}
 use Rattle.broker_base.specs.Connection.{ConnectionName}
 use Rattle.broker_base.specs.Place.{Client, Mark, Place}

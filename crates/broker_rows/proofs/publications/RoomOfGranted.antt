@@ -4,7 +4,7 @@ use Rattle.std.specs.Prelude.{option_map}
 use Rattle.std.specs.List.{list_any}
 use Rattle.subs.specs.packet.declared.qos.QoS.{QoS}
 use Rattle.broker_spec.specs.session_base.declared.publication.Publication.{Publication}
-use Rattle.broker_spec.specs.session_base.Publication.{lower_qos}
+use Rattle.subs.specs.packet.QoS.{lower_qos}
 use Rattle.broker_spec.specs.session_base.Queue.{room}
 use Rattle.broker_base.specs.Place.{Client, Limits}
 use Rattle.broker_spec.specs.session_base.Subscriptions.{granted_qos}
