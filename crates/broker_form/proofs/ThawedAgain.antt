@@ -5,11 +5,11 @@ use Rattle.std.proofs.lemmas.Bool.{eqb-true}
 use Rattle.std.proofs.lemmas.Nat.{be_bytes_8}
 use Rattle.packet_base.specs.declared.stop.Stop.{Stop}
 use Rattle.packet_base.specs.Spelling.{number, text, bit}
-use Rattle.packet_base.specs.Reading.{byte_at, front_at, number_at, text_at, ended, is_text}
+use Rattle.packet_base.specs.Reading.{AreBytes, byte_at, front_at, number_at, text_at, ended, is_text}
 use Rattle.packet_base.specs.TopicFields.{topic_at}
 use Rattle.packet_base.specs.topics.Text.{is_topic}
 use Rattle.packet_base.proofs.Steps.{then_if, seq_if, check_if}
-use Rattle.packet_base.proofs.FieldsFound.{IsBytes, Splits, Splits-then, Splits-all, byte_found, front_found, text_found, topic_found, ended_found}
+use Rattle.packet_base.proofs.FieldsFound.{Splits, Splits-then, Splits-all, byte_found, front_found, text_found, topic_found, ended_found}
 use Rattle.packet.specs.ClientId.{is_client}
 use Rattle.broker_spec.specs.retained.declared.retained_publication.RetainedPublication.{RetainedPublication}
 use Rattle.session_base.specs.Counted.{counted, counted_at}
@@ -32,7 +32,7 @@ wide_spelled : IsSpelled wide_number wide_number_at
 unfolding wide_number_at
 wide_spelled given fits =
     let Q : ℕ × List ℕ → Type 0 = λ x. Splits given (wide_number x.0) x.1 in
-    then_if (front_at 8 given) _ (λ x. Splits given x.0 x.1 × (length x.0 ≡ 8) × IsBytes x.0) Q (front_found 8 given fits) (λ x h.
+    then_if (front_at 8 given) _ (λ x. Splits given x.0 x.1 × (length x.0 ≡ 8) × AreBytes x.0) Q (front_found 8 given fits) (λ x h.
     subst (λ (front : List ℕ). Splits given front x.1) (sym (be_bytes_8 x.0 _ h.1 h.2 refl)) h.0)
 
 -- the name of a connection, after the byte that says that there is one
@@ -88,7 +88,7 @@ topic_spelled given fits =
     then_if (qos_at given) _ (λ x. Splits given (qos_byte x.0) x.1) Q (qos_spelled given fits) (λ qos a.
     then_if (topic_at qos.1) _ (λ x. Splits qos.1 (text x.0) x.1 × (is_topic x.0 ≡ true)) Q (topic_found qos.1 a.left) (λ topic b.
     then_if (long_number_at topic.1) _ (λ x. Splits topic.1 (long_number x.0) x.1) Q (long_spelled topic.1 b.0.left) (λ len c.
-    then_if (front_at len.0 len.1) _ (λ x. Splits len.1 x.0 x.1 × (length x.0 ≡ len.0) × IsBytes x.0) Q (front_found len.0 len.1 c.left) (λ payload d.
+    then_if (front_at len.0 len.1) _ (λ x. Splits len.1 x.0 x.1 × (length x.0 ≡ len.0) × AreBytes x.0) Q (front_found len.0 len.1 c.left) (λ payload d.
     then_if (retainable (topic.0, record { qos = qos.0; payload = payload.0 })) _ (λ x. x ≡ (topic.0, record { qos = qos.0; payload = payload.0 })) Q (retainable_is (topic.0, record { qos = qos.0; payload = payload.0 })) (λ row is.
     let body = payload_spelled topic.1 len.0 len.1 payload.0 payload.1 c d.0 d.1 in
     let named = Splits-then qos.1 (text topic.0) topic.1 (long_number (length payload.0) ++ payload.0) payload.1 b.0 body in
@@ -114,7 +114,7 @@ by_form given form rest true b e f k h = inr (refl, subst (λ (n : ℕ). Splits 
 by_form given form rest false true e f k h = size_spelled given rest (subst (λ (n : ℕ). Splits given (n ∷ []) rest) (eqb-true form 2 f) h)
 by_form given form rest false false e f k h = absurd cc
 
-head_spelled : (given : List ℕ) → IsBytes given → IfOk (head_at given) (λ x. Heads given x.0 x.1)
+head_spelled : (given : List ℕ) → AreBytes given → IfOk (head_at given) (λ x. Heads given x.0 x.1)
 unfolding head_at
 head_spelled given fits =
     let Q : ℕ × List ℕ → Type 0 = λ x. Heads given x.0 x.1 in
@@ -127,7 +127,7 @@ head_spelled given fits =
 abbrev IsContent : ℕ → List ℕ → State → Type 0
 IsContent window given state = (state.window ≡ window) × (given ≡ content_bytes state)
 
-content_spelled : (window : ℕ) (given : List ℕ) → IsBytes given → IfOk (content_at window given) (IsContent window given)
+content_spelled : (window : ℕ) (given : List ℕ) → AreBytes given → IfOk (content_at window given) (IsContent window given)
 content_spelled window given fits =
     then_if (counted_at number_at row_follows (row_at window) 4096 given) _ (λ x. Splits given (counted number row_bytes x.0) x.1) (IsContent window given)
     (counted_spelled number number_at row_follows row_bytes (row_at window) 4096 number_spelled (row_spelled window) given fits) (λ sessions a.
@@ -151,11 +151,11 @@ with_head given rest window state (inr h) k =
     let e : 1 ∷ content_bytes state ≡ 1 ∷ rest = ap (λ (z : List ℕ). 1 ∷ z) (sym k.1) in
     inr (k.0 ∙ h.0, e ∙ sym h.1.parts)
 
-left_of : (given rest : List ℕ) (window : ℕ) → Heads given window rest → IsBytes rest
+left_of : (given rest : List ℕ) (window : ℕ) → Heads given window rest → AreBytes rest
 left_of given rest window (inl h) = h.left
 left_of given rest window (inr h) = h.1.left
 
-broker_spelled : (given : List ℕ) → IsBytes given → IfOk (broker_at given) (IsFrozen given)
+broker_spelled : (given : List ℕ) → AreBytes given → IfOk (broker_at given) (IsFrozen given)
 unfolding broker_at
 broker_spelled given fits =
     then_if (head_at given) _ (λ x. Heads given x.0 x.1) (IsFrozen given) (head_spelled given fits) (λ head h.

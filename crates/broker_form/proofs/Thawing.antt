@@ -5,11 +5,11 @@ use Rattle.std.specs.List.{AllByRecursion}
 use Rattle.std.proofs.lemmas.Bool.{leb-true, ltb-true}
 use Rattle.std.proofs.lemmas.List.{append-nil}
 use Rattle.packet_base.specs.Spelling.{number, text}
-use Rattle.packet_base.specs.Reading.{byte_at, front_at, number_at, text_at, ended, is_text}
+use Rattle.packet_base.specs.Reading.{AreBytes, byte_at, front_at, number_at, text_at, ended, is_text}
 use Rattle.packet_base.specs.TopicFields.{topic_at}
 use Rattle.packet_base.proofs.Steps.{then_if, check_if, seq_if}
 use Rattle.packet_base.proofs.FieldsAgain.{number_again}
-use Rattle.packet_base.proofs.FieldsFound.{IsBytes, Splits, text_found, topic_found, ended_found}
+use Rattle.packet_base.proofs.FieldsFound.{Splits, text_found, topic_found, ended_found}
 use Rattle.packet_base.specs.topics.Text.{is_topic}
 use Rattle.packet.specs.ClientId.{is_client}
 use Rattle.packet.specs.Spelling.{max_body}
@@ -91,30 +91,30 @@ frozen_before_is_thawed state h e = ap found (before_again state h e)
 a_wide_number : IsFound wide_number_at (λ n. Unit {0})
 unfolding wide_number_at
 a_wide_number bytes fits =
-    then_if (front_at 8 bytes) _ (λ x. Unit {0} × IsBytes x.1) (λ x. Unit {0} × IsBytes x.1) (a_front 8 bytes fits) (λ x h. h)
+    then_if (front_at 8 bytes) _ (λ x. Unit {0} × AreBytes x.1) (λ x. Unit {0} × AreBytes x.1) (a_front 8 bytes fits) (λ x h. h)
 
 a_name : IsFound name_at IsNamed
 unfolding name_at
 a_name bytes fits =
-    let Q : Option ConnectionName × List ℕ → Type 0 = λ x. IsNamed x.0 × IsBytes x.1 in
-    then_if (wide_number_at bytes) _ (λ x. Unit {0} × IsBytes x.1) Q (a_wide_number bytes fits) (λ ballot a.
-    then_if (wide_number_at ballot.1) _ (λ x. Unit {0} × IsBytes x.1) Q (a_wide_number ballot.1 a.1) (λ count b.
+    let Q : Option ConnectionName × List ℕ → Type 0 = λ x. IsNamed x.0 × AreBytes x.1 in
+    then_if (wide_number_at bytes) _ (λ x. Unit {0} × AreBytes x.1) Q (a_wide_number bytes fits) (λ ballot a.
+    then_if (wide_number_at ballot.1) _ (λ x. Unit {0} × AreBytes x.1) Q (a_wide_number ballot.1 a.1) (λ count b.
     check_if (is_connection_name (record { ballot = ballot.0; count = count.0 })) _ _ Q (λ test. (test, b.1))))
 
 a_connection : IsFound connection_at IsNamed
 unfolding connection_at
 a_connection bytes fits =
-    let Q : Option ConnectionName × List ℕ → Type 0 = λ x. IsNamed x.0 × IsBytes x.1 in
-    then_if (flag_at bytes) _ (λ x. Unit {0} × IsBytes x.1) Q (a_flag bytes fits) (λ flag h. by flag.0 flag.1 h.1)
+    let Q : Option ConnectionName × List ℕ → Type 0 = λ x. IsNamed x.0 × AreBytes x.1 in
+    then_if (flag_at bytes) _ (λ x. Unit {0} × AreBytes x.1) Q (a_flag bytes fits) (λ flag h. by flag.0 flag.1 h.1)
   where
-    by : (b : Bool) (rest : List ℕ) → IsBytes rest → IfOk (if b then name_at rest else Ok (None, rest)) (λ x. IsNamed x.0 × IsBytes x.1)
+    by : (b : Bool) (rest : List ℕ) → AreBytes rest → IfOk (if b then name_at rest else Ok (None, rest)) (λ x. IsNamed x.0 × AreBytes x.1)
     by true rest fits = a_name rest fits
     by false rest fits = (tt, fits)
 
 a_client : IsFound client_at (λ c. IsTrue (is_client c))
 unfolding client_at
 a_client bytes fits =
-    let Q : Client × List ℕ → Type 0 = λ x. IsTrue (is_client x.0) × IsBytes x.1 in
+    let Q : Client × List ℕ → Type 0 = λ x. IsTrue (is_client x.0) × AreBytes x.1 in
     then_if (text_at bytes) _ (λ x. Splits bytes (text x.0) x.1 × (length x.0 < 2 ^ 16) × (is_text x.0 ≡ true)) Q (text_found bytes fits) (λ client h.
     check_if (is_client client.0) _ _ Q (λ test. (test, h.0.left)))
 
@@ -131,12 +131,12 @@ served false some e f = absurd (cc)
 a_row : (window : ℕ) → window ≤ 4096 → IsFound (row_at window) (IsRow window)
 unfolding row_at
 a_row window small bytes fits =
-    let Q : (Client × ClientSession) × List ℕ → Type 0 = λ x. IsRow window x.0 × IsBytes x.1 in
-    then_if (client_at bytes) _ (λ x. IsTrue (is_client x.0) × IsBytes x.1) Q (a_client bytes fits) (λ client a.
-    then_if (flag_at client.1) _ (λ x. Unit {0} × IsBytes x.1) Q (a_flag client.1 a.1) (λ clean b.
-    then_if (connection_at clean.1) _ (λ x. IsNamed x.0 × IsBytes x.1) Q (a_connection clean.1 b.1) (λ connection c.
+    let Q : (Client × ClientSession) × List ℕ → Type 0 = λ x. IsRow window x.0 × AreBytes x.1 in
+    then_if (client_at bytes) _ (λ x. IsTrue (is_client x.0) × AreBytes x.1) Q (a_client bytes fits) (λ client a.
+    then_if (flag_at client.1) _ (λ x. Unit {0} × AreBytes x.1) Q (a_flag client.1 a.1) (λ clean b.
+    then_if (connection_at clean.1) _ (λ x. IsNamed x.0 × AreBytes x.1) Q (a_connection clean.1 b.1) (λ connection c.
     check_if (not clean.0 || is_some connection.0) _ _ Q (λ test.
-    then_if (state_at window connection.1) _ (λ x. HasForm x.0 × FitsIn window x.0 × IsBytes x.1) Q (read_has_form window small connection.1 c.1) (λ state d. (
+    then_if (state_at window connection.1) _ (λ x. HasForm x.0 × FitsIn window x.0 × AreBytes x.1) Q (read_has_form window small connection.1 c.1) (λ state d. (
       record {
         sound = record {
           filters = d.0.filters_apart;
@@ -172,11 +172,11 @@ retainable_found row topic =
 a_topic_row : IsFound retained_at IsRetained
 unfolding retained_at
 a_topic_row bytes fits =
-    let Q : (List ℕ × RetainedPublication) × List ℕ → Type 0 = λ x. IsRetained x.0 × IsBytes x.1 in
-    then_if (qos_at bytes) _ (λ x. Unit {0} × IsBytes x.1) Q (a_qos bytes fits) (λ qos a.
+    let Q : (List ℕ × RetainedPublication) × List ℕ → Type 0 = λ x. IsRetained x.0 × AreBytes x.1 in
+    then_if (qos_at bytes) _ (λ x. Unit {0} × AreBytes x.1) Q (a_qos bytes fits) (λ qos a.
     then_if (topic_at qos.1) _ (λ x. Splits qos.1 (text x.0) x.1 × (is_topic x.0 ≡ true)) Q (topic_found qos.1 a.1) (λ topic b.
-    then_if (long_number_at topic.1) _ (λ x. Unit {0} × IsBytes x.1) Q (a_long_number topic.1 b.0.left) (λ len c.
-    then_if (front_at len.0 len.1) _ (λ x. Unit {0} × IsBytes x.1) Q (a_front len.0 len.1 c.1) (λ payload d.
+    then_if (long_number_at topic.1) _ (λ x. Unit {0} × AreBytes x.1) Q (a_long_number topic.1 b.0.left) (λ len c.
+    then_if (front_at len.0 len.1) _ (λ x. Unit {0} × AreBytes x.1) Q (a_front len.0 len.1 c.1) (λ payload d.
     then_if (retainable (topic.0, record { qos = qos.0; payload = payload.0 })) _ IsRetained Q (retainable_found _ b.1) (λ row e. (e, d.1))))))
 
 all_sound : (window : ℕ) (rows : Sessions) → AllByRecursion (IsRow window) rows → AllSound rows
@@ -200,29 +200,29 @@ topics_after front (row ∷ content) h = (h.0, topics_after (front ++ row ∷ []
 a_size : IsFound size_at IsWindowSize
 unfolding size_at
 a_size bytes fits =
-    let Q : ℕ × List ℕ → Type 0 = λ x. IsWindowSize x.0 × IsBytes x.1 in
-    then_if (byte_at bytes) _ (λ x. Unit {0} × IsBytes x.1) Q (a_byte bytes fits) (λ size a.
+    let Q : ℕ × List ℕ → Type 0 = λ x. IsWindowSize x.0 × AreBytes x.1 in
+    then_if (byte_at bytes) _ (λ x. Unit {0} × AreBytes x.1) Q (a_byte bytes fits) (λ size a.
     check_if (is_window_size size.0) _ _ Q (λ test. (test, a.1)))
 
 a_head : IsFound head_at IsWindowSize
 unfolding head_at
 a_head bytes fits =
-    let Q : ℕ × List ℕ → Type 0 = λ x. IsWindowSize x.0 × IsBytes x.1 in
-    then_if (byte_at bytes) _ (λ x. Unit {0} × IsBytes x.1) Q (a_byte bytes fits) (λ form a.
+    let Q : ℕ × List ℕ → Type 0 = λ x. IsWindowSize x.0 × AreBytes x.1 in
+    then_if (byte_at bytes) _ (λ x. Unit {0} × AreBytes x.1) Q (a_byte bytes fits) (λ form a.
     check_if ((form.0 == 1) || (form.0 == 2)) _ _ Q (λ test. by (form.0 == 1) form.1 a.1))
   where
-    by : (b : Bool) (rest : List ℕ) → IsBytes rest → IfOk (if b then Ok (16, rest) else size_at rest) (λ x. IsWindowSize x.0 × IsBytes x.1)
+    by : (b : Bool) (rest : List ℕ) → AreBytes rest → IfOk (if b then Ok (16, rest) else size_at rest) (λ x. IsWindowSize x.0 × AreBytes x.1)
     by true rest fits = (refl, fits)
     by false rest fits = a_size rest fits
 
 -- ---- the broker
 
-content_found : (window : ℕ) → IsWindowSize window → (bytes : List ℕ) → IsBytes bytes → IfOk (content_at window bytes) IsUsualState
+content_found : (window : ℕ) → IsWindowSize window → (bytes : List ℕ) → AreBytes bytes → IfOk (content_at window bytes) IsUsualState
 content_found window size bytes fits =
     let wide = no_more window size in
-    then_if (counted_at number_at row_follows (row_at window) 4096 bytes) _ (λ x. AreRead row_follows (IsRow window) 4096 x.0 × IsBytes x.1) IsUsualState
+    then_if (counted_at number_at row_follows (row_at window) 4096 bytes) _ (λ x. AreRead row_follows (IsRow window) 4096 x.0 × AreBytes x.1) IsUsualState
     (counted_found number_at row_follows (row_at window) (IsRow window) 4096 a_number (a_row window (omega (arith, wide))) bytes fits) (λ sessions b.
-    then_if (counted_at number_at topic_follows retained_at 16384 sessions.1) _ (λ x. AreRead topic_follows IsRetained 16384 x.0 × IsBytes x.1) IsUsualState
+    then_if (counted_at number_at topic_follows retained_at 16384 sessions.1) _ (λ x. AreRead topic_follows IsRetained 16384 x.0 × AreBytes x.1) IsUsualState
     (counted_found number_at topic_follows retained_at IsRetained 16384 a_number a_topic_row sessions.1 b.1) (λ retained c.
     seq_if (ended retained.1) _ (retained.1 ≡ []) IsUsualState (ended_found retained.1) (λ e.
     let rows = sessions_are sessions.0 b.0.follow in (
@@ -241,5 +241,5 @@ content_found window size bytes fits =
 pub thawed_is_in_range : ThawedIsInRange
 unfolding broker_at
 thawed_is_in_range bytes fits =
-    then_if (head_at bytes) _ (λ x. IsWindowSize x.0 × IsBytes x.1) IsUsualState (a_head bytes fits) (λ head a.
+    then_if (head_at bytes) _ (λ x. IsWindowSize x.0 × AreBytes x.1) IsUsualState (a_head bytes fits) (λ head a.
     content_found head.0 a.0 head.1 a.1)

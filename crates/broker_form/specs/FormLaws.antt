@@ -1,7 +1,7 @@
 -- A frozen broker is thawed as that broker; what is thawed is in its ranges, and is frozen to the
 -- same bytes.
 use Rattle.std.specs.Prelude.{◌≡◌, ℕ, ◌⊎◌, List, Some, IfOk}
-use Rattle.session_base.specs.FormLaws.{AreBytes}
+use Rattle.packet_base.specs.Reading.{AreBytes}
 use Rattle.broker_spec.specs.Commands.{usual_limits}
 use Rattle.broker_spec.specs.Window.{IsWindowSize, narrow_window}
 use Rattle.broker_base.specs.State.{State}

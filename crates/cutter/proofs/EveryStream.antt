@@ -10,7 +10,8 @@ use Rattle.packet.specs.Verdict.{verdict}
 use Rattle.packet.proofs.PacketReads as reads
 use Rattle.packet.proofs.PacketReads.{verdict_found, verdict_again}
 use Rattle.cutter.specs.Stream.{HasNoFront, CutsInto}
-use Rattle.cutter.specs.Laws.{AreBytes, EveryStreamIsCut, NoPacketIsLeft, CuttingsAgree}
+use Rattle.packet.specs.packet_base.Reading.{AreBytes}
+use Rattle.cutter.specs.Laws.{EveryStreamIsCut, NoPacketIsLeft, CuttingsAgree}
 use Rattle.cutter.proofs.OneWay.{Begins, ran-begins, one-way}
 
 -- ---- if the verdict is no packet, there is none at the front

@@ -1,7 +1,8 @@
 -- The laws of streams that `src/laws.rt` proves.
-use Rattle.std.specs.Prelude.{◌≡◌, ◌<◌, ℕ, false, List, [], ◌∷◌, ◌++◌, get_or, Option, Some, None}
+use Rattle.std.specs.Prelude.{◌≡◌, false, ℕ, List, [], ◌∷◌, ◌++◌, Option, Some, None}
 use Rattle.std.specs.Prelude.{Result, Ok}
 use Rattle.packet.specs.declared.packet.Packet.{Packet}
+use Rattle.packet.specs.packet_base.Reading.{AreBytes}
 use Rattle.cutter.specs.declared.error.CutError.{CutError}
 use Rattle.cutter.specs.Stream.{Stream, CutsInto, Takes}
 
@@ -31,10 +32,6 @@ abbrev pub PacketsOfTheStream : Type 0
 PacketsOfTheStream = (fed : List ℕ) (given : List Packet) (s : Stream) → Ran fed given s
     → (packets : List Packet) (rest : List ℕ) → CutsInto fed packets rest
     → (later : List Packet) × (packets ≡ given ++ later)
-
--- each number is a byte
-abbrev pub AreBytes : List ℕ → Type 0
-AreBytes bytes = (i : ℕ) → get_or bytes i 0 < 256
 
 -- every list of bytes is cut into packets and a rest that begins with no packet
 abbrev pub EveryStreamIsCut : Type 0

@@ -12,10 +12,9 @@ use Rattle.packet_base.specs.declared.stop.Stop.{Stop}
 use Rattle.packet_base.specs.declared.stop.Stop.TheVariants as stops
 use Rattle.packet_base.specs.declared.header.Header.{Header}
 use Rattle.packet_base.specs.Header.{header_of}
-use Rattle.packet_base.specs.Reading.{length_at}
+use Rattle.packet_base.specs.Reading.{AreBytes, length_at}
 use Rattle.packet_base.specs.Outcome.{StopsBy}
 use Rattle.packet_base.proofs.LengthForms.{length_left}
-use Rattle.packet_base.proofs.FieldsFound.{IsBytes}
 use Rattle.packet.specs.declared.packet.Packet.{Packet}
 use Rattle.packet.specs.declared.decoding.Step.{Step}
 use Rattle.packet.specs.declared.decoding.Step.TheVariants as steps
@@ -51,7 +50,7 @@ verdict_whole first bytes rest front after h n p said len small there is_front i
     rw (said, len, le-leb _ _ small, le-leb _ _ there, whole, left) refl
 
 -- a packet that was read is spelled so
-pub is_found : (bytes : List ℕ) (result : Result Step DecodeFault) → IsBytes bytes → Decodes bytes result → IfOk result (IsSpelledSo bytes)
+pub is_found : (bytes : List ℕ) (result : Result Step DecodeFault) → AreBytes bytes → Decodes bytes result → IfOk result (IsSpelledSo bytes)
 is_found bytes (Ok (steps.Whole p len)) fits given =
     let begins = IfOk-at_ok (λ x. Begins bytes x.0 x.1) given (verdict_found bytes fits) in
     let front : begins.front ≡ take len bytes =

@@ -6,9 +6,9 @@ use Rattle.packet_base.specs.declared.header.DeliveryFlags.{DeliveryFlags}
 use Rattle.packet_base.specs.declared.header.Header.{Header}
 use Rattle.packet_base.specs.declared.header.Header.TheVariants as headers
 use Rattle.packet_base.specs.Spelling.{number, IsId}
-use Rattle.packet_base.specs.Reading.{◌>>=◌, ended}
+use Rattle.packet_base.specs.Reading.{AreBytes, ◌>>=◌, ended}
 use Rattle.packet_base.proofs.Steps.{then_if, seq_if}
-use Rattle.packet_base.proofs.FieldsFound.{IsBytes, ended_found}
+use Rattle.packet_base.proofs.FieldsFound.{ended_found}
 use Rattle.packet.specs.declared.packet.Packet.{Packet}
 use Rattle.packet.specs.declared.packet.Packet.TheVariants as packets
 use Rattle.packet.specs.declared.publish.Publish.{Publish}
@@ -40,7 +40,7 @@ header_said : (flags : DeliveryFlags) (retain : Bool) {bytes : List ℕ} (p : Pu
 header_said flags retain p is =
     ap (λ (f : DeliveryFlags). headers.Publish f p.retain) is.flags_said ∙ ap (λ (b : Bool). headers.Publish flags b) is.retain_said
 
-pub body_found : (h : Header) (bytes : List ℕ) → IsBytes bytes → IfOk (body_of h bytes) (IsBody h bytes)
+pub body_found : (h : Header) (bytes : List ℕ) → AreBytes bytes → IfOk (body_of h bytes) (IsBody h bytes)
 body_found headers.Connect bytes fits =
     then_if (connect_of bytes) _ (λ c. (bytes ≡ connect c) × FitsConnect c) (IsBody headers.Connect bytes) (connect_found bytes fits)
     (λ c x. record { said = refl; spelled = x.0; fits = x.1; listed = tt })

@@ -3,9 +3,9 @@ use Rattle.std.proofs.Common.{◌≡◌, ℕ, ◌<◌, true, false, eqb, List, [
 use Rattle.std.specs.Prelude.{IfOk}
 use Rattle.std.proofs.lemmas.Bool.{eqb-true}
 use Rattle.packet_base.specs.declared.refusal_code.RefusalCode.TheVariants as codes
-use Rattle.packet_base.specs.Reading.{byte_at, ended}
+use Rattle.packet_base.specs.Reading.{AreBytes, byte_at, ended}
 use Rattle.packet_base.proofs.Steps.{then_if, seq_if, cond_if}
-use Rattle.packet_base.proofs.FieldsFound.{IsBytes, Splits, Splits-then, Splits-all, byte_found, ended_found}
+use Rattle.packet_base.proofs.FieldsFound.{Splits, Splits-then, Splits-all, byte_found, ended_found}
 use Rattle.packet.specs.declared.connack.Connack.{Connack}
 use Rattle.packet.specs.declared.connack.Connack.TheVariants as connacks
 use Rattle.packet.specs.Connack.{connack, coded, answer_of, connack_of}
@@ -31,7 +31,7 @@ answer_found present code =
     (λ one. cond_if (eqb code 0) _ _ Q (two present code 1 0 one) (λ _. tt))
     (λ _. cond_if (eqb present 0) _ _ Q (coded_found present code) (λ _. tt))
 
-pub connack_found : (body : List ℕ) → IsBytes body → IfOk (connack_of body) (λ c. body ≡ connack c)
+pub connack_found : (body : List ℕ) → AreBytes body → IfOk (connack_of body) (λ c. body ≡ connack c)
 unfolding connack_of
 connack_found body fits =
     let Q : Connack → Type 0 = λ c. body ≡ connack c in

@@ -7,9 +7,9 @@ use Rattle.std.proofs.lemmas.Bool.Decides.{Decides-eqb}
 use Rattle.std.proofs.lemmas.List.{append-nil}
 use Rattle.std.proofs.lemmas.Slice.Eq.{starts_is}
 use Rattle.packet_base.specs.Spelling.{number, text, bit}
-use Rattle.packet_base.specs.Reading.{byte_at, number_at, text_at, ended, is_text}
+use Rattle.packet_base.specs.Reading.{AreBytes, byte_at, number_at, text_at, ended, is_text}
 use Rattle.packet_base.proofs.Steps.{then_if, seq_if, check_if}
-use Rattle.packet_base.proofs.FieldsFound.{IsBytes, IsBytes-drop, Splits, Splits-then, byte_found, number_found, text_found, ended_found}
+use Rattle.packet_base.proofs.FieldsFound.{AreBytes-drop, Splits, Splits-then, byte_found, number_found, text_found, ended_found}
 use Rattle.packet_base.proofs.FieldsAgain.{number_again, text_again}
 use Rattle.packet.specs.declared.connect.Connect.{Connect}
 use Rattle.packet.specs.ClientId.{has_client_length, is_client}
@@ -31,10 +31,10 @@ clean_found flags =
     check_if (ltb flags 4) _ _ P (λ small.
     clean_flags flags (eqb-true _ _ even) (ltb-true _ _ small)))
 
-protocol_found : (body : List ℕ) → IsBytes body → starts_with nat_eq body protocol ≡ true → Splits body protocol (drop 6 body)
+protocol_found : (body : List ℕ) → AreBytes body → starts_with nat_eq body protocol ≡ true → Splits body protocol (drop 6 body)
 protocol_found body fits named = record {
   parts = (starts_is Decides-eqb body protocol (starts_with nat_eq body protocol) refl).0 named;
-  left = IsBytes-drop 6 body fits;
+  left = AreBytes-drop 6 body fits;
 }
 
 -- all fields one after another
@@ -48,7 +48,7 @@ whole body rest l2 l3 client level flags keep_alive clean a b c d is_level is_fl
     let two : level ∷ flags ∷ [] ≡ 4 ∷ 2 * bit clean ∷ [] = ap (λ (x : ℕ). x ∷ flags ∷ []) is_level ∙ ap (λ (x : ℕ). 4 ∷ x ∷ []) is_flags in
     abcd.parts ∙ append-nil _ ∙ ap front two
 
-pub connect_found : (body : List ℕ) → IsBytes body → IfOk (connect_of body) (λ c. (body ≡ connect c) × FitsConnect c)
+pub connect_found : (body : List ℕ) → AreBytes body → IfOk (connect_of body) (λ c. (body ≡ connect c) × FitsConnect c)
 unfolding connect_of
 connect_found body fits =
     let Q : Connect → Type 0 = λ c. (body ≡ connect c) × FitsConnect c in

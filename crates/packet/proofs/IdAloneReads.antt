@@ -3,13 +3,13 @@ use Rattle.std.proofs.Common.{◌≡◌, ℕ, ◌^◌, ◌<◌, List, [], Ok, re
 use Rattle.std.specs.Prelude.{IfOk}
 use Rattle.std.proofs.lemmas.List.{append-nil}
 use Rattle.packet_base.specs.Spelling.{number, IsId}
-use Rattle.packet_base.specs.Reading.{id_at, ended}
+use Rattle.packet_base.specs.Reading.{AreBytes, id_at, ended}
 use Rattle.packet_base.proofs.Steps.{then_if, seq_if}
-use Rattle.packet_base.proofs.FieldsFound.{IsBytes, Splits, Splits-all, id_found, ended_found}
+use Rattle.packet_base.proofs.FieldsFound.{Splits, Splits-all, id_found, ended_found}
 use Rattle.packet_base.proofs.FieldsAgain.{id_again}
 use Rattle.packet.specs.IdAlone.{id_alone_of}
 
-pub id_alone_found : (body : List ℕ) → IsBytes body → IfOk (id_alone_of body) (λ id. (body ≡ number id) × IsId id)
+pub id_alone_found : (body : List ℕ) → AreBytes body → IfOk (id_alone_of body) (λ id. (body ≡ number id) × IsId id)
 unfolding id_alone_of
 id_alone_found body fits =
     let Q : ℕ → Type 0 = λ id. (body ≡ number id) × IsId id in

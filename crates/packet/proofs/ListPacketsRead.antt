@@ -6,11 +6,11 @@ use Rattle.std.specs.List.{flat_map, All}
 use Rattle.std.proofs.lemmas.Bool.{eqb-true}
 use Rattle.packet_base.specs.topics.Text.{is_filter}
 use Rattle.packet_base.specs.Spelling.{number, text}
-use Rattle.packet_base.specs.Reading.{byte_at, id_at}
+use Rattle.packet_base.specs.Reading.{AreBytes, byte_at, id_at}
 use Rattle.packet_base.specs.TopicFields.{filter_at}
 use Rattle.packet_base.specs.Lists.{list_of}
 use Rattle.packet_base.proofs.Steps.{then_if, cond_if}
-use Rattle.packet_base.proofs.FieldsFound.{IsBytes, Splits, Splits-then, byte_found, id_found, filter_found}
+use Rattle.packet_base.proofs.FieldsFound.{Splits, Splits-then, byte_found, id_found, filter_found}
 use Rattle.packet_base.proofs.FieldsAgain.{id_again, filter_again}
 use Rattle.packet_base.proofs.ListsRead.{IsItem, list_found, list_again}
 use Rattle.packet.specs.declared.qos.QoS.{QoS}
@@ -29,7 +29,7 @@ use Rattle.packet.proofs.QoSReads.{qos_found, qos_again}
 
 -- ---- items
 
-subscription_found : (bytes : List ℕ) → IsBytes bytes → IfOk (subscription_at bytes) (λ x. Splits bytes (subscription x.0) x.1 × FitsSubscription x.0)
+subscription_found : (bytes : List ℕ) → AreBytes bytes → IfOk (subscription_at bytes) (λ x. Splits bytes (subscription x.0) x.1 × FitsSubscription x.0)
 unfolding subscription_at
 subscription_found bytes fits =
     let Q : Subscription × List ℕ → Type 0 = λ x. Splits bytes (subscription x.0) x.1 × FitsSubscription x.0 in
@@ -57,7 +57,7 @@ granted_of_found byte =
     cond_if (eqb byte 0x80) _ _ Q (eqb-true byte 0x80) (λ _.
     then_if (qos_of byte) _ (λ qos. byte ≡ qos_number qos) Q (qos_found byte) (λ qos is. is))
 
-granted_found : (bytes : List ℕ) → IsBytes bytes → IfOk (granted_at bytes) (λ x. Splits bytes (granted x.0) x.1 × Unit {0})
+granted_found : (bytes : List ℕ) → AreBytes bytes → IfOk (granted_at bytes) (λ x. Splits bytes (granted x.0) x.1 × Unit {0})
 unfolding granted_at
 granted_found bytes fits =
     let Q : SubackCode × List ℕ → Type 0 = λ x. Splits bytes (granted x.0) x.1 × Unit {0} in
@@ -87,7 +87,7 @@ codes = record { found = granted_found; again = granted_again; some = λ code. o
 id_then : (body rest items : List ℕ) (id : ℕ) → Splits body (number id) rest → rest ≡ items → body ≡ number id ++ items
 id_then body rest items id h is = h.parts ∙ ap (λ (x : List ℕ). number id ++ x) is
 
-pub subscribe_found : (body : List ℕ) → IsBytes body → IfOk (subscribe_of body) (λ s. (body ≡ subscribe s) × FitsSubscribe s × (0 < length s.filters))
+pub subscribe_found : (body : List ℕ) → AreBytes body → IfOk (subscribe_of body) (λ s. (body ≡ subscribe s) × FitsSubscribe s × (0 < length s.filters))
 unfolding subscribe_of
 subscribe_found body fits =
     let Q : Subscribe → Type 0 = λ s. (body ≡ subscribe s) × FitsSubscribe s × (0 < length s.filters) in
@@ -104,7 +104,7 @@ subscribe_again s fits some =
       list_again subscription_at subscription FitsSubscription subscriptions s.filters fits.1 some,
     ) refl
 
-pub unsubscribe_found : (body : List ℕ) → IsBytes body → IfOk (unsubscribe_of body) (λ u. (body ≡ unsubscribe u) × FitsUnsubscribe u × (0 < length u.filters))
+pub unsubscribe_found : (body : List ℕ) → AreBytes body → IfOk (unsubscribe_of body) (λ u. (body ≡ unsubscribe u) × FitsUnsubscribe u × (0 < length u.filters))
 unfolding unsubscribe_of
 unsubscribe_found body fits =
     let Q : Unsubscribe → Type 0 = λ u. (body ≡ unsubscribe u) × FitsUnsubscribe u × (0 < length u.filters) in
@@ -121,7 +121,7 @@ unsubscribe_again u fits some =
       list_again filter_at text (λ filter. IsTrue (is_filter filter)) names u.filters fits.1 some,
     ) refl
 
-pub suback_found : (body : List ℕ) → IsBytes body → IfOk (suback_of body) (λ s. (body ≡ suback s) × FitsSuback s × (0 < length s.codes))
+pub suback_found : (body : List ℕ) → AreBytes body → IfOk (suback_of body) (λ s. (body ≡ suback s) × FitsSuback s × (0 < length s.codes))
 unfolding suback_of
 suback_found body fits =
     let Q : Suback → Type 0 = λ s. (body ≡ suback s) × FitsSuback s × (0 < length s.codes) in

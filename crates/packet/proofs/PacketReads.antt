@@ -6,9 +6,9 @@ use Rattle.std.proofs.lemmas.List.{take_at, drop_at, length-append, length-take,
 use Rattle.packet_base.specs.declared.header.Header.{Header}
 use Rattle.packet_base.specs.Header.{first_byte, header_of}
 use Rattle.packet_base.specs.Spelling.{IsLength}
-use Rattle.packet_base.specs.Reading.{length_at}
+use Rattle.packet_base.specs.Reading.{AreBytes, length_at}
 use Rattle.packet_base.proofs.Steps.{then_if, check_if}
-use Rattle.packet_base.proofs.FieldsFound.{IsBytes, IsBytes-take}
+use Rattle.packet_base.proofs.FieldsFound.{AreBytes-take}
 use Rattle.packet_base.proofs.LengthForms.{Heads, length_found, length_again, short_form}
 use Rattle.packet_base.proofs.HeaderReads.{header_found, header_again}
 use Rattle.packet.specs.declared.packet.Packet.{Packet}
@@ -39,7 +39,7 @@ made first bytes h n after p said heads small there body_is =
       whole = (body_is.fits, body_is.listed, omega (arith, len, small));
     }
 
-pub verdict_found : (bytes : List ℕ) → IsBytes bytes → IfOk (verdict bytes) (λ x. Begins bytes x.0 x.1)
+pub verdict_found : (bytes : List ℕ) → AreBytes bytes → IfOk (verdict bytes) (λ x. Begins bytes x.0 x.1)
 unfolding verdict
 verdict_found [] fits = tt
 verdict_found (first ∷ bytes) fits =
@@ -48,7 +48,7 @@ verdict_found (first ∷ bytes) fits =
     then_if (length_at 3 bytes) _ (λ x. Heads bytes x.0 x.1) Q (length_found 3 bytes (λ i. fits (suc i))) (λ len heads.
     check_if (leb len.0 max_body) _ _ Q (λ small.
     check_if (leb len.0 (length len.1)) _ _ Q (λ there.
-    then_if (body_of h (take len.0 len.1)) _ (IsBody h (take len.0 len.1)) Q (body_found h (take len.0 len.1) (IsBytes-take len.0 len.1 heads.left)) (λ p body_is.
+    then_if (body_of h (take len.0 len.1)) _ (IsBody h (take len.0 len.1)) Q (body_found h (take len.0 len.1) (AreBytes-take len.0 len.1 heads.left)) (λ p body_is.
     made first bytes h len.0 len.1 p said heads (leb-true _ _ small) (leb-true _ _ there) body_is)))))
 
 pub verdict_again : (p : Packet) (front rest : List ℕ) → IsPacket p → Spells p front → verdict (front ++ rest) ≡ Ok (p, rest)

@@ -5,10 +5,10 @@ use Rattle.packet_base.specs.topics.Text.{is_topic}
 use Rattle.packet_base.specs.declared.header.DeliveryFlags.{DeliveryFlags}
 use Rattle.packet_base.specs.declared.header.DeliveryFlags.TheVariants as flags
 use Rattle.packet_base.specs.Spelling.{number, text}
-use Rattle.packet_base.specs.Reading.{id_at}
+use Rattle.packet_base.specs.Reading.{AreBytes, id_at}
 use Rattle.packet_base.specs.TopicFields.{topic_at}
 use Rattle.packet_base.proofs.Steps.{then_if}
-use Rattle.packet_base.proofs.FieldsFound.{IsBytes, Splits, Splits-then, id_found, topic_found}
+use Rattle.packet_base.proofs.FieldsFound.{Splits, Splits-then, id_found, topic_found}
 use Rattle.packet_base.proofs.FieldsAgain.{id_again, topic_again}
 use Rattle.packet.specs.declared.delivery.Delivery.{Delivery}
 use Rattle.packet.specs.declared.delivery.Delivery.TheVariants as deliveries
@@ -22,7 +22,7 @@ record IsDelivery (f : DeliveryFlags) (bytes : List ℕ) (d : Delivery) (rest : 
   said : delivery_flags d ≡ f
   fits : FitsDelivery d
 
-delivery_found : (f : DeliveryFlags) (bytes : List ℕ) → IsBytes bytes → IfOk (delivery_at f bytes) (λ x. IsDelivery f bytes x.0 x.1)
+delivery_found : (f : DeliveryFlags) (bytes : List ℕ) → AreBytes bytes → IfOk (delivery_at f bytes) (λ x. IsDelivery f bytes x.0 x.1)
 unfolding delivery_at
 delivery_found flags.AtMostOnce bytes fits = record { splits = record { parts = refl; left = fits }; said = refl; fits = tt }
 delivery_found (flags.AtLeastOnce dup) bytes fits =
@@ -47,7 +47,7 @@ pub record IsPublish (f : DeliveryFlags) (retain : Bool) (body : List ℕ) (p : 
   pub retain_said : p.retain ≡ retain
   pub fits : FitsPublish p
 
-pub publish_found : (f : DeliveryFlags) (retain : Bool) (body : List ℕ) → IsBytes body → IfOk (publish_of f retain body) (IsPublish f retain body)
+pub publish_found : (f : DeliveryFlags) (retain : Bool) (body : List ℕ) → AreBytes body → IfOk (publish_of f retain body) (IsPublish f retain body)
 unfolding publish_of
 publish_found f retain body fits =
     let Q : Publish → Type 0 = IsPublish f retain body in

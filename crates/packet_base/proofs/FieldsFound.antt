@@ -9,18 +9,14 @@ use Rattle.std.specs.Str.{is_utf8}
 use Rattle.topics.specs.declared.malformed.MalformedKind.{MalformedKind}
 use Rattle.topics.specs.Text.{has, topic_fault, filter_fault, is_topic, is_filter}
 use Rattle.packet_base.specs.Spelling.{number, text}
-use Rattle.packet_base.specs.Reading.{◌>>◌, byte_at, front_at, number_at, id_at, text_of, text_at, ended, is_text}
+use Rattle.packet_base.specs.Reading.{AreBytes, ◌>>◌, byte_at, front_at, number_at, id_at, text_of, text_at, ended, is_text}
 use Rattle.packet_base.specs.TopicFields.{faultless, topic_of, topic_at, filter_of, filter_at}
 use Rattle.packet_base.proofs.Steps.{then_if, check_if, cond_if}
-
--- each number is a byte
-abbrev pub IsBytes : List ℕ → Type 0
-IsBytes bytes = (i : ℕ) → get_or bytes i 0 < 256
 
 -- the front is before the rest
 pub record Splits (bytes front rest : List ℕ) : Type 0 where
   pub parts : bytes ≡ front ++ rest
-  pub left : IsBytes rest
+  pub left : AreBytes rest
 
 pub Splits-then : (a x b y c : List ℕ) → Splits a x b → Splits b y c → Splits a (x ++ y) c
 Splits-then a x b y c p q = record {
@@ -32,40 +28,40 @@ Splits-then a x b y c p q = record {
 pub Splits-all : (bytes front : List ℕ) → Splits bytes front [] → bytes ≡ front
 Splits-all bytes front s = s.parts ∙ append-nil front
 
-pub IsBytes-drop : (n : ℕ) (bytes : List ℕ) → IsBytes bytes → IsBytes (drop n bytes)
-IsBytes-drop n bytes fits i = rw get_or-drop (fits (n + i))
+pub AreBytes-drop : (n : ℕ) (bytes : List ℕ) → AreBytes bytes → AreBytes (drop n bytes)
+AreBytes-drop n bytes fits i = rw get_or-drop (fits (n + i))
 
-pub IsBytes-take : (n : ℕ) (bytes : List ℕ) → IsBytes bytes → IsBytes (take n bytes)
-IsBytes-take n bytes fits i =
+pub AreBytes-take : (n : ℕ) (bytes : List ℕ) → AreBytes bytes → AreBytes (take n bytes)
+AreBytes-take n bytes fits i =
     elim (cases_lt i n) [
       | inl below ↦ rw (get_or-take n bytes i 0 below) (fits i)
       | inr past ↦ rw (get_or_past (take n bytes) i 0 (omega (arith, length-take n bytes))) (omega arith)
     ]
 
-pub byte_found : (bytes : List ℕ) → IsBytes bytes → IfOk (byte_at bytes) (λ x. Splits bytes (x.0 ∷ []) x.1 × (x.0 < 256))
+pub byte_found : (bytes : List ℕ) → AreBytes bytes → IfOk (byte_at bytes) (λ x. Splits bytes (x.0 ∷ []) x.1 × (x.0 < 256))
 byte_found [] fits = tt
 byte_found (b ∷ rest) fits = (record { parts = refl; left = λ i. fits (suc i) }, fits 0)
 
-pub front_found : (len : ℕ) (bytes : List ℕ) → IsBytes bytes
-    → IfOk (front_at len bytes) (λ x. Splits bytes x.0 x.1 × (length x.0 ≡ len) × IsBytes x.0)
+pub front_found : (len : ℕ) (bytes : List ℕ) → AreBytes bytes
+    → IfOk (front_at len bytes) (λ x. Splits bytes x.0 x.1 × (length x.0 ≡ len) × AreBytes x.0)
 front_found len bytes fits =
-    let Q : List ℕ × List ℕ → Type 0 = λ x. Splits bytes x.0 x.1 × (length x.0 ≡ len) × IsBytes x.0 in
+    let Q : List ℕ × List ℕ → Type 0 = λ x. Splits bytes x.0 x.1 × (length x.0 ≡ len) × AreBytes x.0 in
     cond_if (ltb (length bytes) len) _ _ Q (λ t. tt) (λ t.
     let long : len ≤ length bytes = ltb-false _ _ t in (
-      record { parts = sym (take-append-drop len bytes); left = IsBytes-drop len bytes fits },
+      record { parts = sym (take-append-drop len bytes); left = AreBytes-drop len bytes fits },
       omega (arith, length-take len bytes),
-      IsBytes-take len bytes fits,
+      AreBytes-take len bytes fits,
     ))
 
-pub number_found : (bytes : List ℕ) → IsBytes bytes → IfOk (number_at bytes) (λ x. Splits bytes (number x.0) x.1 × (x.0 < 2 ^ 16))
+pub number_found : (bytes : List ℕ) → AreBytes bytes → IfOk (number_at bytes) (λ x. Splits bytes (number x.0) x.1 × (x.0 < 2 ^ 16))
 unfolding number_at
 number_found bytes fits =
     let Q : ℕ × List ℕ → Type 0 = λ x. Splits bytes (number x.0) x.1 × (x.0 < 2 ^ 16) in
-    then_if (front_at 2 bytes) _ (λ x. Splits bytes x.0 x.1 × (length x.0 ≡ 2) × IsBytes x.0) Q (front_found 2 bytes fits) (λ x h.
+    then_if (front_at 2 bytes) _ (λ x. Splits bytes x.0 x.1 × (length x.0 ≡ 2) × AreBytes x.0) Q (front_found 2 bytes fits) (λ x h.
     let low : from_be_bytes w16 x.0 < 2 ^ 16 = omega (arith, h.2 0, h.2 1) in
     (subst (λ (front : List ℕ). Splits bytes front x.1) (sym (be_bytes_2 x.0 _ h.1 h.2 refl)) h.0, low))
 
-pub id_found : (bytes : List ℕ) → IsBytes bytes → IfOk (id_at bytes) (λ x. Splits bytes (number x.0) x.1 × (x.0 < 2 ^ 16) × (0 < x.0))
+pub id_found : (bytes : List ℕ) → AreBytes bytes → IfOk (id_at bytes) (λ x. Splits bytes (number x.0) x.1 × (x.0 < 2 ^ 16) × (0 < x.0))
 unfolding id_at
 id_found bytes fits =
     let Q : ℕ × List ℕ → Type 0 = λ x. Splits bytes (number x.0) x.1 × (x.0 < 2 ^ 16) × (0 < x.0) in
@@ -77,13 +73,13 @@ text_of_found bytes =
     let Q : List ℕ → Type 0 = λ x. (x ≡ bytes) × (is_text x ≡ true) in
     check_if (is_text bytes) _ _ Q (λ t. (refl, t))
 
-pub text_found : (bytes : List ℕ) → IsBytes bytes
+pub text_found : (bytes : List ℕ) → AreBytes bytes
     → IfOk (text_at bytes) (λ x. Splits bytes (text x.0) x.1 × (length x.0 < 2 ^ 16) × (is_text x.0 ≡ true))
 unfolding text_at
 text_found bytes fits =
     let Q : List ℕ × List ℕ → Type 0 = λ x. Splits bytes (text x.0) x.1 × (length x.0 < 2 ^ 16) × (is_text x.0 ≡ true) in
     then_if (number_at bytes) _ (λ x. Splits bytes (number x.0) x.1 × (x.0 < 2 ^ 16)) Q (number_found bytes fits) (λ n h.
-    then_if (front_at n.0 n.1) _ (λ x. Splits n.1 x.0 x.1 × (length x.0 ≡ n.0) × IsBytes x.0) Q (front_found n.0 n.1 h.0.left) (λ x k.
+    then_if (front_at n.0 n.1) _ (λ x. Splits n.1 x.0 x.1 × (length x.0 ≡ n.0) × AreBytes x.0) Q (front_found n.0 n.1 h.0.left) (λ x k.
     then_if (text_of x.0) _ (λ y. (y ≡ x.0) × (is_text y ≡ true)) Q (text_of_found x.0) (λ y t.
     let counted : length y ≡ n.0 = ap length t.0 ∙ k.1 in
     let both : Splits bytes (number n.0 ++ x.0) x.1 = Splits-then bytes (number n.0) n.1 x.0 x.1 h.0 k.0 in
@@ -107,7 +103,7 @@ passed_found : (bytes : List ℕ) (fault : Option MalformedKind) → IfOk (fault
 passed_found bytes None = (refl, refl)
 passed_found bytes (Some kind) = tt
 
-pub topic_found : (bytes : List ℕ) → IsBytes bytes → IfOk (topic_at bytes) (λ x. Splits bytes (text x.0) x.1 × (is_topic x.0 ≡ true))
+pub topic_found : (bytes : List ℕ) → AreBytes bytes → IfOk (topic_at bytes) (λ x. Splits bytes (text x.0) x.1 × (is_topic x.0 ≡ true))
 unfolding topic_at
 topic_found bytes fits =
     let Q : List ℕ × List ℕ → Type 0 = λ x. Splits bytes (text x.0) x.1 × (is_topic x.0 ≡ true) in
@@ -117,7 +113,7 @@ topic_found bytes fits =
       subst (λ (z : List ℕ). is_topic z ≡ true) (sym t.0) (let good : is_topic x.0 ≡ true = rw (formed_text x.0 h.2, t.1) refl in good),
     )))
 
-pub filter_found : (bytes : List ℕ) → IsBytes bytes → IfOk (filter_at bytes) (λ x. Splits bytes (text x.0) x.1 × (is_filter x.0 ≡ true))
+pub filter_found : (bytes : List ℕ) → AreBytes bytes → IfOk (filter_at bytes) (λ x. Splits bytes (text x.0) x.1 × (is_filter x.0 ≡ true))
 unfolding filter_at
 filter_found bytes fits =
     let Q : List ℕ × List ℕ → Type 0 = λ x. Splits bytes (text x.0) x.1 × (is_filter x.0 ≡ true) in

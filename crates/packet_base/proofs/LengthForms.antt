@@ -5,17 +5,16 @@ use Rattle.std.proofs.lemmas.Bool.{cases_lt, ltb-false, ltb-true, le-ltb, lt-ltb
 use Rattle.std.proofs.Math.Nat.{pow-succ'}
 use Rattle.std.proofs.Math.Dec.{eqb-suc-zero}
 use Rattle.packet_base.specs.Spelling.{IsLength, length_digits, remaining_length}
-use Rattle.packet_base.specs.Reading.{length_at}
+use Rattle.packet_base.specs.Reading.{AreBytes, length_at}
 use Rattle.packet_base.proofs.Steps.{then_if, check_if, cond_if}
 use Rattle.packet_base.proofs.Lengths.{length_longer}
-use Rattle.packet_base.proofs.FieldsFound.{IsBytes}
 
 -- the form of a length is before the rest
 pub record Heads (bytes : List ℕ) (n : ℕ) (rest : List ℕ) : Type 0 where
   pub form : List ℕ
   pub spelled : IsLength form n
   pub parts : bytes ≡ form ++ rest
-  pub left : IsBytes rest
+  pub left : AreBytes rest
 
 longer : (b : ℕ) (bytes : List ℕ) (high : ℕ) (rest : List ℕ) → 128 ≤ b → b < 256 → 0 < high → Heads bytes high rest → Heads (b ∷ bytes) (b - 128 + 128 * high) rest
 longer b bytes high rest more byte some h =
@@ -26,7 +25,7 @@ longer b bytes high rest more byte some h =
     extended b [] high more byte some spelled = absurd spelled
     extended b (c ∷ bs) high more byte some spelled = (more, byte, high, some, omega arith, spelled)
 
-pub length_found : (follow : ℕ) (bytes : List ℕ) → IsBytes bytes → IfOk (length_at follow bytes) (λ x. Heads bytes x.0 x.1)
+pub length_found : (follow : ℕ) (bytes : List ℕ) → AreBytes bytes → IfOk (length_at follow bytes) (λ x. Heads bytes x.0 x.1)
 unfolding length_at
 length_found follow [] fits = tt
 length_found follow (b ∷ rest) fits =

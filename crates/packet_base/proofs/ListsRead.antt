@@ -6,19 +6,20 @@ use Rattle.std.proofs.lemmas.Bool.{eqb-true}
 use Rattle.std.proofs.lemmas.List.{length-append, nil_from_length}
 use Rattle.std.proofs.lemmas.List.Elements.{All-nil, All-cons, All-head, All-tail}
 use Rattle.std.proofs.Math.Dec.{eqb-suc-zero}
+use Rattle.packet_base.specs.Reading.{AreBytes}
 use Rattle.packet_base.specs.Lists.{ItemAt, items_of, items_at, list_of}
 use Rattle.packet_base.proofs.Steps.{then_if, check_if, cond_if}
-use Rattle.packet_base.proofs.FieldsFound.{IsBytes, Splits}
+use Rattle.packet_base.proofs.FieldsFound.{Splits}
 
 -- the front of the bytes that is read as an item is its spelling, each item that is spelled is
 -- read, and it has at least one byte
 pub record IsItem {A : Type 0} (item : ItemAt A) (spelled : A → List ℕ) (Fits : A → Type 0) : Type 0 where
-  pub found : (bytes : List ℕ) → IsBytes bytes → IfOk (item bytes) (λ x. Splits bytes (spelled x.0) x.1 × Fits x.0)
+  pub found : (bytes : List ℕ) → AreBytes bytes → IfOk (item bytes) (λ x. Splits bytes (spelled x.0) x.1 × Fits x.0)
   pub again : (x : A) (rest : List ℕ) → Fits x → item (spelled x ++ rest) ≡ Ok (x, rest)
   pub some : (x : A) → 0 < length (spelled x)
 
 pub items_found : {A : Type 0} (item : ItemAt A) (spelled : A → List ℕ) (Fits : A → Type 0) → IsItem item spelled Fits
-    → (most : ℕ) (bytes : List ℕ) → length bytes ≤ most → IsBytes bytes → IfOk (items_of item most bytes) (λ xs. (bytes ≡ flat_map spelled xs) × All Fits xs)
+    → (most : ℕ) (bytes : List ℕ) → length bytes ≤ most → AreBytes bytes → IfOk (items_of item most bytes) (λ xs. (bytes ≡ flat_map spelled xs) × All Fits xs)
 unfolding items_of
 items_found item spelled Fits is zero bytes few fits = (nil_from_length bytes (omega arith), All-nil Fits)
 items_found {A = A} item spelled Fits is (suc most) bytes few fits =
@@ -51,7 +52,7 @@ items_again item spelled Fits is (x ∷ xs) (suc most) few all =
 
 -- a list with an item
 pub list_found : {A : Type 0} (item : ItemAt A) (spelled : A → List ℕ) (Fits : A → Type 0) → IsItem item spelled Fits
-    → (bytes : List ℕ) → IsBytes bytes → IfOk (list_of item bytes) (λ xs. (bytes ≡ flat_map spelled xs) × All Fits xs × (0 < length xs))
+    → (bytes : List ℕ) → AreBytes bytes → IfOk (list_of item bytes) (λ xs. (bytes ≡ flat_map spelled xs) × All Fits xs × (0 < length xs))
 list_found {A = A} item spelled Fits is bytes fits =
     let Q : List A → Type 0 = λ xs. (bytes ≡ flat_map spelled xs) × All Fits xs × (0 < length xs) in
     then_if (items_at item bytes) _ (λ xs. (bytes ≡ flat_map spelled xs) × All Fits xs) Q (items_found item spelled Fits is (length bytes) bytes (omega arith) fits) (λ xs h.

@@ -6,10 +6,10 @@ use Rattle.std.proofs.lemmas.Nat.{be_bytes_4}
 use Rattle.packet_base.specs.topics.Text.{is_topic, is_filter}
 use Rattle.packet_base.specs.Lists.{ItemAt}
 use Rattle.packet_base.specs.Spelling.{number, text, bit}
-use Rattle.packet_base.specs.Reading.{byte_at, front_at, number_at, id_at}
+use Rattle.packet_base.specs.Reading.{AreBytes, byte_at, front_at, number_at, id_at}
 use Rattle.packet_base.specs.TopicFields.{topic_at, filter_at}
 use Rattle.packet_base.proofs.Steps.{then_if, check_if}
-use Rattle.packet_base.proofs.FieldsFound.{IsBytes, Splits, Splits-then, byte_found, front_found, number_found, id_found, topic_found, filter_found}
+use Rattle.packet_base.proofs.FieldsFound.{Splits, Splits-then, byte_found, front_found, number_found, id_found, topic_found, filter_found}
 use Rattle.packet.specs.QoS.{qos_number, qos_of}
 use Rattle.packet.specs.Spelling.{max_body}
 use Rattle.packet.specs.declared.qos.QoS.{QoS}
@@ -26,7 +26,7 @@ use Rattle.session_base.proofs.Found.{weaker}
 
 -- an item that is read is in front as it is written
 abbrev pub IsSpelled : {A : Type 0} → (A → List ℕ) → ItemAt A → Type 0
-IsSpelled {A} bytes item = (given : List ℕ) → IsBytes given → IfOk (item given) (λ x. Splits given (bytes x.0) x.1)
+IsSpelled {A} bytes item = (given : List ℕ) → AreBytes given → IfOk (item given) (λ x. Splits given (bytes x.0) x.1)
 
 -- ---- numbers
 
@@ -72,7 +72,7 @@ pub long_spelled : IsSpelled long_number long_number_at
 unfolding long_number_at
 long_spelled given fits =
     let Q : ℕ × List ℕ → Type 0 = λ x. Splits given (long_number x.0) x.1 in
-    then_if (front_at 4 given) _ (λ x. Splits given x.0 x.1 × (length x.0 ≡ 4) × IsBytes x.0) Q (front_found 4 given fits) (λ x h.
+    then_if (front_at 4 given) _ (λ x. Splits given x.0 x.1 × (length x.0 ≡ 4) × AreBytes x.0) Q (front_found 4 given fits) (λ x h.
     subst (λ (front : List ℕ). Splits given front x.1) (sym (be_bytes_4 x.0 _ h.1 h.2 refl)) h.0)
 
 -- ---- publications and filters
@@ -94,7 +94,7 @@ publication_spelled given fits =
     then_if (qos_at retain.1) _ (λ x. Splits retain.1 (qos_byte x.0) x.1) Q (qos_spelled retain.1 a.left) (λ qos b.
     then_if (topic_at qos.1) _ (λ x. Splits qos.1 (text x.0) x.1 × (is_topic x.0 ≡ true)) Q (topic_found qos.1 b.left) (λ topic c.
     then_if (long_number_at topic.1) _ (λ x. Splits topic.1 (long_number x.0) x.1) Q (long_spelled topic.1 c.0.left) (λ len d.
-    then_if (front_at len.0 len.1) _ (λ x. Splits len.1 x.0 x.1 × (length x.0 ≡ len.0) × IsBytes x.0) Q (front_found len.0 len.1 d.left) (λ payload e.
+    then_if (front_at len.0 len.1) _ (λ x. Splits len.1 x.0 x.1 × (length x.0 ≡ len.0) × AreBytes x.0) Q (front_found len.0 len.1 d.left) (λ payload e.
     then_if (sized (record { retain = retain.0; qos = qos.0; topic = topic.0; payload = payload.0 })) _
     (λ p. p ≡ record { retain = retain.0; qos = qos.0; topic = topic.0; payload = payload.0 }) Q (sized_is _) (λ p is.
     let body = payload_spelled topic.1 len.0 len.1 payload.0 payload.1 d e.0 e.1 in
@@ -163,7 +163,7 @@ record AreWritten {A : Type 0} (bytes : A → List ℕ) (many : ℕ) (front all 
   spelled : Splits given (flat_map bytes items) rest
 
 items_spelled : {A : Type 0} (follows : List A → A → Bool) (bytes : A → List ℕ) (item : ItemAt A) → IsSpelled bytes item →
-    (many : ℕ) (front : List A) (given : List ℕ) → IsBytes given →
+    (many : ℕ) (front : List A) (given : List ℕ) → AreBytes given →
     IfOk (items_after follows item many front given) (λ x. AreWritten bytes many front x.0 given x.1)
 unfolding items_after
 items_spelled follows bytes item each zero front given fits =

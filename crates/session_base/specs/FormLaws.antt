@@ -1,9 +1,10 @@
 -- What a session is frozen to is read as that session, and what is read is frozen as it stood.
-use Rattle.std.specs.Prelude.{◌≡◌, ℕ, ◌≤◌, ◌<◌, List, ◌++◌, length, get_or, Ok, IfOk}
+use Rattle.std.specs.Prelude.{◌≡◌, ℕ, ◌≤◌, List, ◌++◌, length, Ok, IfOk}
 use Rattle.std.specs.List.{AllByRecursion}
 use Rattle.std.specs.List.Sorted.{IsStrictlySortedBy}
 use Rattle.std.specs.Ordering.{nat_cmp}
 use Rattle.packet_base.specs.Spelling.{IsId}
+use Rattle.packet_base.specs.Reading.{AreBytes}
 use Rattle.lists.specs.Lists.{IsDistinct}
 use Rattle.session_base.specs.KeepingLaws.{AreFiltersApart}
 use Rattle.session_base.specs.OrderLaws.{IsReleasedFirst}
@@ -34,10 +35,6 @@ FrozenIsRead =
     (window : ℕ) → window ≤ max_entries → (s : SessionState) (rest : List ℕ) → HasForm s →
     FitsIn window s →
     state_at window (state_bytes s ++ rest) ≡ Ok (s, rest)
-
--- each number is a byte
-abbrev pub AreBytes : List ℕ → Type 0
-AreBytes bytes = (i : ℕ) → get_or bytes i 0 < 256
 
 -- a session that was read has a form
 abbrev pub ReadHasForm : Type 0
