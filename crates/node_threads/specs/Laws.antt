@@ -1,6 +1,6 @@
 -- What readers may want to know about these definitions.
 use Rattle.std.specs.Prelude.{◌≡◌, ℕ, ◌<◌}
-use Rattle.node_threads.specs.Serving.{port_of}
+use Rattle.streams.specs.Ports.{port_of}
 
 -- No two connections of a node have the same port: neither two of one lane, nor those of two lanes,
 -- whose numbers are below 256.

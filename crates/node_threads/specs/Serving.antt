@@ -1,11 +1,12 @@
 -- What a lane reports of a connection.
-use Rattle.std.specs.Prelude.{◌≡◌, ℕ, ◌+◌, ◌*◌, ◌^◌, List, [], ◌∷◌, ◌++◌, Option, None, Some}
+use Rattle.std.specs.Prelude.{◌≡◌, ℕ, ◌+◌, ◌^◌, List, [], ◌∷◌, ◌++◌, Option, None, Some}
 use Rattle.post.specs.node.declared.Item.{Item}
 use Rattle.post.specs.node.declared.Item.TheVariants.{Tick, Cut}
 use Rattle.post.specs.node.declared.Port.{Port}
 use Rattle.post.specs.mailbox.Ends.{Sender}
 use Rattle.streams.specs.connection.declared.ending.Ending.{Ending}
 use Rattle.streams.specs.connection.Hearing.{Hears}
+use Rattle.streams.specs.Ports.{port_of}
 use Rattle.post.specs.Queued.{IsQueued}
 
 -- A lane that had sent these items sent the whole report of one connection, and nothing else. Of a
@@ -13,10 +14,6 @@ use Rattle.post.specs.Queued.{IsQueued}
 pub record SendsWhole (port : Port) (before after : List Item) : Type 0 where
   pub ending : Ending
   pub hears : Hears port before after ending None None
-
--- the port of a lane's connection that comes after this many others
-abbrev pub port_of : ℕ → ℕ → Port
-port_of lane count = record { 0 = 256 * count + lane }
 
 -- A lane that had sent these items sent the whole report of one connection, or nothing if that was
 -- closed at once.

@@ -1,8 +1,8 @@
 // The thread of a lane, and the connections that it serves one after another.
 
-ghost use Rattle.std.specs.Prelude.{◌≡◌, ◌<◌, ◌^◌, IfSome};
+ghost use Rattle.std.specs.Prelude.{◌≡◌, IfSome};
 ghost use Rattle.std.specs.Arc.{arc_value};
-ghost use Rattle.node_threads.specs.Serving.{EndsBy, ReportsOne, SendsRow, SendsWhole, port_of};
+ghost use Rattle.node_threads.specs.Serving.{EndsBy, ReportsOne, SendsRow, SendsWhole};
 
 use crate::lane_reporter::LaneReporter;
 use crate::served_node::ServedNode;
@@ -14,13 +14,10 @@ use std::alloc::Global;
 use std::net::TcpStream;
 use std::sync::{Arc, Wait};
 use std::time::Clock;
-use streams::{Closed, Link, forget};
+use streams::{Closed, Link, forget, port_of};
 
 /// How many connections a lane serves, each at a port of its own.
 const MAX_CONNECTIONS_OF_LANE: u64 = 1 << 56;
-
-/// The ports of a lane's connections are this far apart. A lane's number is below it.
-const PORTS_APART: u64 = 256;
 
 impl<'a, J: NodeNaming, S: Stated<J>, G: Gate> ServedNode<'a, J, S, G> {
     /// Serves one client after another by a lane until it sees the listener closed. Returns the
@@ -131,12 +128,4 @@ impl<'a, J: NodeNaming, S: Stated<J>, G: Gate> Shared<'a, J, S, G> {
     fn forget<R: Wait>(&self, rt: &R, port: Port) {
         forget(self.alloc, self.node.lock(rt).state(), port);
     }
-}
-
-// Returns the port of a lane's connection that comes after this many others.
-fn port_of(lane: u8, count: u64) -> Port
-    requires { count < 2 ^ 56 }
-    ensures { result ≡ port_of lane count }
-{
-    Port(PORTS_APART * count + u64::from(lane))
 }

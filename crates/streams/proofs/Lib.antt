@@ -3,3 +3,4 @@ mod CountsAll
 mod HandedByTap
 pub mod KeepsItsPort
 mod LanesAdded
+mod PortsTell

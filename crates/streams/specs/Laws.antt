@@ -1,7 +1,8 @@
--- What readers may want to know of taps.
-use Rattle.std.specs.Prelude.{◌≡◌, ℕ, List, length, Option}
+-- What readers may want to know of taps and of ports.
+use Rattle.std.specs.Prelude.{◌≡◌, ℕ, ◌<◌, ◌==◌, List, length, Option}
 use Rattle.connection.specs.Life.{Lives}
 use Rattle.node.specs.Growth.{counted}
+use Rattle.streams.specs.Ports.{is_of_lane, port_of}
 use Rattle.streams.specs.Tapping.{HandsNone, HandsOut}
 use Rattle.streams.specs.declared.port_tap.PortTap.{PortTap}
 
@@ -13,3 +14,9 @@ TapsCountAll =
     (handed : List ℕ) (contents : Option (List ℕ)) (left : List ℕ)
     → HandsNone first → Lives HandsOut first start tap handed contents left
     → (tap.handed ≡ counted (length handed)) × (tap.port ≡ first.port)
+
+-- Ports tell their lanes: those of lanes below 64 are of one lane exactly if the lanes are equal.
+abbrev pub PortsTellLanes : Type 0
+PortsTellLanes =
+    (lane other count number : ℕ) → lane < 64 → other < 64 →
+    is_of_lane (port_of lane count) (port_of other number) ≡ (lane == other)

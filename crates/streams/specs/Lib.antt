@@ -1,5 +1,6 @@
 pub mod Laws
 pub mod Listing
+pub mod Ports
 pub mod WriteTokens
 pub mod Tapping
 pub use Rattle.connection.specs as connection

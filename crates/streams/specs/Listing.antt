@@ -7,10 +7,6 @@ use Rattle.node.specs.Lists.{Each}
 use Rattle.streams.specs.declared.link.Link.{Link}
 use Rattle.streams.specs.declared.idle_lanes.IdleLanes.{IdleLanes}
 
--- whether two ports are of one lane
-abbrev pub is_of_lane : Port → Port → Bool
-is_of_lane port other = port.0 % 64 == other.0 % 64
-
 -- the lane of a port is one of these lanes
 abbrev pub is_idle : IdleLanes → Port → Bool
 is_idle lanes port = not (bit_and lanes.0 (2 ^ (port.0 % 64)) == 0)

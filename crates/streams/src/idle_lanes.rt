@@ -12,7 +12,8 @@ use node::Port;
 pub struct IdleLanes(pub u64);
 
 impl IdleLanes {
-    ghost use Rattle.streams.specs.Listing.{is_idle, is_of_lane};
+    ghost use Rattle.streams.specs.Listing.{is_idle};
+    ghost use Rattle.streams.specs.Ports.{is_of_lane};
 
     /// Returns the lanes of these ports, and no others.
     pub fn of(ports: &[Port]) -> IdleLanes

@@ -1,6 +1,7 @@
 use Rattle.std.proofs.Common.{ℕ, ◌∙◌, ap, subst}
 use Rattle.post.specs.node.declared.Port.{Port}
-use Rattle.node_threads.specs.Serving.{ReportsOne, port_of}
+use Rattle.streams.specs.Ports.{port_of}
+use Rattle.node_threads.specs.Serving.{ReportsOne}
 use Rattle.node_threads.specs.Serving.ReportsEach.{begins, goes_on}
 use Rattle.node_threads.proofs.served_node.ServedNode.serve_lane.Goals as goal
 

@@ -1,7 +1,8 @@
 use Rattle.std.proofs.Common.{◌≡◌, take}
 use Rattle.std.specs.List.{list_any}
 use Rattle.node.specs.declared.Port.{Port}
-use Rattle.streams.specs.Listing.{is_idle, is_of_lane}
+use Rattle.streams.specs.Listing.{is_idle}
+use Rattle.streams.specs.Ports.{is_of_lane}
 use Rattle.streams.proofs.idle_lanes.IdleLanes.of.Given as goal
 
 abbrev pub invariant-loop-port : goal.invariant-loop-port

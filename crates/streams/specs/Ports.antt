@@ -1,0 +1,11 @@
+-- The ports of connections, which tell their lanes.
+use Rattle.std.specs.Prelude.{ℕ, ◌+◌, ◌*◌, ◌%◌, ◌==◌, Bool}
+use Rattle.node.specs.declared.Port.{Port}
+
+-- the port of a lane's connection that comes after this many others
+abbrev pub port_of : ℕ → ℕ → Port
+port_of lane count = record { 0 = 256 * count + lane }
+
+-- whether two ports are of one lane
+abbrev pub is_of_lane : Port → Port → Bool
+is_of_lane port other = port.0 % 64 == other.0 % 64
