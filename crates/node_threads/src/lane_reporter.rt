@@ -40,7 +40,7 @@ impl<'e, 'a, J: NodeNaming, S: Stated<J>, G: Gate> Hearer for LaneReporter<'e, '
         let shared = &node.shared;
         let index = self.link.index;
         let entering = shared.admit(rt, self.link.port, size_of(&item));
-        shared.send(rt, &mut self.lane, item);
+        shared.send_and_take(rt, &mut self.lane, item);
         shared.context.node.count_taken(rt, entering);
         node.help(rt, all);
         shared.write_busy(rt, index, true);

@@ -96,7 +96,7 @@ impl<'a, J: NodeNaming, S: Stated<J>, G: Gate> Shared<'a, J, S, G> {
         if now.saturating_sub(last.time) < TICK_MILLIS {
             return last;
         }
-        self.send(rt, lane, Item::Tick(now));
+        self.send_and_take(rt, lane, Item::Tick(now));
         let ticks = last.ticks.saturating_add(1);
         self.cut_in_time(rt, lane, ticks);
         LastTick { time: now, ticks }
@@ -107,7 +107,7 @@ impl<'a, J: NodeNaming, S: Stated<J>, G: Gate> Shared<'a, J, S, G> {
         ensures { SendsOwn self.now.context.node.now.number lane.old.sent lane.new.sent }
     {
         if cuts_after(self.context.node.number, ticks) {
-            self.send(rt, lane, Item::Cut);
+            self.send_and_take(rt, lane, Item::Cut);
         }
     }
 
@@ -117,7 +117,7 @@ impl<'a, J: NodeNaming, S: Stated<J>, G: Gate> Shared<'a, J, S, G> {
     {
         let wants_cut = self.node.lock(rt).state().wants_cut();
         if wants_cut {
-            self.send(rt, lane, Item::Cut);
+            self.send_and_take(rt, lane, Item::Cut);
         }
     }
 
@@ -151,17 +151,17 @@ impl<'a, J: NodeNaming, S: Stated<J>, G: Gate> Shared<'a, J, S, G> {
             return;
         }
         for item in items {
-            self.put_queued(rt, lane, item);
+            self.send_queued(rt, lane, item);
         }
         self.take_all(rt, lane);
     }
 
     // Sends what was queued for the node by its lane.
-    fn put_queued<R: Wait + Clock>(&self, rt: &R, lane: &mut Lane<Item, J>, item: Item)
+    fn send_queued<R: Wait + Clock>(&self, rt: &R, lane: &mut Lane<Item, J>, item: Item)
         requires { IsQueued self.now.context.node.now.number item }
         ensures { SendsOwn self.now.context.node.now.number lane.old.sent lane.new.sent }
     {
-        self.put(rt, lane, item);
+        self.send(rt, lane, item);
     }
 
     // Sleeps until something comes or it is time for a tick, if nothing comes at once.

@@ -19,18 +19,23 @@ use streams::{IdleLanes, Link, MAX_CONNECTIONS};
 const BUSY_CAPACITY: usize = 8;
 
 impl<'a, J: NodeNaming, S: Stated<J>, G: Gate> Shared<'a, J, S, G> {
-    /// Sends an item by a lane, and takes what waits in the inbox, including that item. Once it
-    /// returns the node has taken all that the lane sent, and the lane knows it. What the node
+    /// Sends an item by a lane, and then takes what waits in the inbox, including that item. Once
+    /// it returns the node has taken all that the lane sent, and the lane knows it. What the node
     /// queued for connections is not written yet.
-    pub(crate) fn send<R: Wait + Clock>(&self, rt: &R, lane: &mut Lane<Item, J>, item: Item)
+    pub(crate) fn send_and_take<R: Wait + Clock>(
+        &self,
+        rt: &R,
+        lane: &mut Lane<Item, J>,
+        item: Item,
+    )
         ensures { lane.new ≡ all_met (record lane.old { sent = lane.old.sent ++ item ∷ [] }) }
     {
-        self.put(rt, lane, item);
+        self.send(rt, lane, item);
         self.take_all(rt, lane);
     }
 
     /// Sends an item by a lane. If the inbox is full, takes what waits there first.
-    pub(crate) fn put<R: Wait + Clock>(&self, rt: &R, lane: &mut Lane<Item, J>, item: Item)
+    pub(crate) fn send<R: Wait + Clock>(&self, rt: &R, lane: &mut Lane<Item, J>, item: Item)
         ensures { unmet lane.new ≡ unmet (record lane.old { sent = lane.old.sent ++ item ∷ [] }) }
     {
         let mut unsent = item;

@@ -6,7 +6,7 @@ use Rattle.node_threads.proofs.OwnSendsJoin.{own_cut}
 use Rattle.node_threads.proofs.shared.Shared.cut_by_size.Goals as goal
 
 pub returns-then-wants_cut : goal.returns-then-wants_cut
-returns-then-wants_cut g c = own_cut _ _ _ (ap (λ (lane : Sender Item). lane.sent) c.send.ensures)
+returns-then-wants_cut g c = own_cut _ _ _ (ap (λ (lane : Sender Item). lane.sent) c.send_and_take.ensures)
 
 pub returns-else-wants_cut : goal.returns-else-wants_cut
 returns-else-wants_cut g c = starts

@@ -6,7 +6,7 @@ use Rattle.node_threads.proofs.OwnSendsJoin.{own_cut}
 use Rattle.node_threads.proofs.shared.Shared.cut_in_time.Goals as goal
 
 pub returns-then-cuts_after : goal.returns-then-cuts_after
-returns-then-cuts_after g c = own_cut _ _ _ (ap (λ (lane : Sender Item). lane.sent) c.send.ensures)
+returns-then-cuts_after g c = own_cut _ _ _ (ap (λ (lane : Sender Item). lane.sent) c.send_and_take.ensures)
 
 pub returns-else-cuts_after : goal.returns-else-cuts_after
 returns-else-cuts_after g c = starts

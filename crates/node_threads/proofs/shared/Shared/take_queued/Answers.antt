@@ -12,5 +12,5 @@ loop-item-init g c = record { queued = search rules; own = starts }
 pub loop-item-preserved : goal.loop-item-preserved
 loop-item-preserved g c = record {
   queued = search rules;
-  own = own_join _ _ _ _ c.loop-item.invariant.own c.put_queued.ensures;
+  own = own_join _ _ _ _ c.loop-item.invariant.own c.send_queued.ensures;
 }

@@ -11,5 +11,5 @@ returns-then-saturating_sub-lt-TICK_MILLIS g c = starts
 pub returns : goal.returns
 returns g c =
     own_join _ _ _ _
-    (own_tick _ c.now-now.result _ _ (ap (λ (lane : Sender Item). lane.sent) c.send.ensures))
+    (own_tick _ c.now-now.result _ _ (ap (λ (lane : Sender Item). lane.sent) c.send_and_take.ensures))
     c.cut_in_time.ensures

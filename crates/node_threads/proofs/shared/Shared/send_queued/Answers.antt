@@ -2,7 +2,7 @@ use Rattle.std.proofs.Common.{ap}
 use Rattle.post.specs.mailbox.Ends.{Sender}
 use Rattle.post.specs.node.declared.Item.{Item}
 use Rattle.node_threads.proofs.OwnSendsJoin.{own_queued}
-use Rattle.node_threads.proofs.shared.Shared.put_queued.Goals as goal
+use Rattle.node_threads.proofs.shared.Shared.send_queued.Goals as goal
 
 pub returns : goal.returns
-returns g c = own_queued _ c.args.item _ _ c.requires (ap (λ (lane : Sender Item). lane.sent) c.put.ensures)
+returns g c = own_queued _ c.args.item _ _ c.requires (ap (λ (lane : Sender Item). lane.sent) c.send.ensures)

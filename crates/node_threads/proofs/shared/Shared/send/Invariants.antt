@@ -1,6 +1,6 @@
 use Rattle.std.proofs.Common.{◌≡◌}
 use Rattle.post.specs.mailbox.Ends.{unmet}
-use Rattle.node_threads.proofs.shared.Shared.put.Given as goal
+use Rattle.node_threads.proofs.shared.Shared.send.Given as goal
 
 abbrev pub invariant-loop : goal.invariant-loop
 invariant-loop g l = record {
