@@ -99,8 +99,8 @@ impl<'a, J: NodeNaming, S: Stated<J>, G: Gate> Shared<'a, J, S, G> {
     }
 
     // Takes items under one lock, at most as many as the permit allows. Returns whether more may
-    // wait. What the node has for others is handed on while the lock is held, so that it keeps the
-    // order of the node's steps. The status is shown then, too.
+    // wait. What the node has for others is queued for them while the lock is held, so that it
+    // keeps the order of the node's steps. The status is shown then, too.
     fn take_locked<R: Wait>(&self, rt: &R, permit: &Permit<'_>, lane: &mut Lane<Item, J>) -> bool
         ensures more { result ≡ true → lane.new ≡ lane.old }
         ensures none { result ≡ false → lane.new ≡ all_met lane.old }
@@ -114,7 +114,7 @@ impl<'a, J: NodeNaming, S: Stated<J>, G: Gate> Shared<'a, J, S, G> {
         }
         let (more, given) = take_up_to(rt, self.alloc, state, permit, lane);
         self.context.node.show(rt, state.status());
-        self.context.cluster.hand_on(rt, state, given);
+        self.context.cluster.queue_given(rt, state, given);
         // The node's own thread has the log cut.
         if state.wants_cut() {
             self.context.node.wake(rt);

@@ -8,7 +8,7 @@ use Rattle.node.specs.declared.Item.{Item}
 use Rattle.node.specs.declared.Item.TheVariants.{Peer}
 use Rattle.node.specs.Lists.{Each}
 use Rattle.master.proofs.of_lists.OfEach.{each_append}
-use Rattle.post.specs.Carrying.{Addressed}
+use Rattle.post.specs.Queuing.{Addressed}
 use Rattle.post.specs.Queued.{IsQueued, WasAnswered}
 use Rattle.post.specs.Queued.MayQueue.{of_master}
 use Rattle.post.specs.Waiting.{Waiting, Waits, has_room, is_of_node, of_nodes}

@@ -1,11 +1,11 @@
 pub mod Refusals
-pub mod Carrying
 pub mod Given
 pub mod Laws
 pub mod Mastering
 pub mod Numbers
 pub mod Primaries
 pub mod Queued
+pub mod Queuing
 pub mod Superseding
 pub mod Waiting
 pub mod Waking

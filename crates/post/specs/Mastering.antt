@@ -10,7 +10,7 @@ use Rattle.node.specs.declared.Body.{Body}
 use Rattle.node.specs.declared.Body.TheVariants.{Activate}
 use Rattle.node.specs.declared.Config.{Config}
 use Rattle.node.specs.Effect.TheVariants.{To}
-use Rattle.post.specs.Carrying.{Addressed}
+use Rattle.post.specs.Queuing.{Addressed}
 use Rattle.post.specs.Given.{WasGiven}
 
 -- what the master answers to a message of a node: only an Activate gets an answer

@@ -6,12 +6,12 @@ ghost use Rattle.master.specs.lists.Lists.{has_id};
 ghost use Rattle.post.specs.Mastering.{MayGet};
 ghost use Rattle.post.specs.Numbers.{are_nodes, is_node, numbers_of};
 
-use crate::carrier::{Carrier, Given, carry_all};
 use crate::choosing::{Shown, primary_of};
 use crate::messaging_master::{Answer, MessagingMaster};
 use crate::order_error::OrderError;
 use crate::outgoing::Outgoing;
 use crate::peer::Peer;
+use crate::queuing::{Given, Receivers, queue_all};
 use ballot::MASTER;
 use master::{AssignError, config_of};
 use node::{Config, Memory, NodeNaming, NodeState, OpeningError, Status};
@@ -187,13 +187,13 @@ impl Cluster {
         self.nodes.iter().find(|node| node.number == number)
     }
 
-    /// Delivers what steps of a node gave for others, in order. `giver` is that node's state, as
+    /// Queues what steps of a node gave for others, in order. `giver` is that node's state, as
     /// evidence that the caller has its lock: so messages keep the order of the steps. A message
     /// for a number that no node has is lost. A message of a node wakes nobody: the caller has it
     /// taken, or calls [`Cluster::wake_urgent`], once it has released the lock.
-    pub fn hand_on<J: NodeNaming, R: Wait>(&self, rt: &R, giver: &NodeState<J>, given: Given) {
+    pub fn queue_given<J: NodeNaming, R: Wait>(&self, rt: &R, giver: &NodeState<J>, given: Given) {
         let _ = giver;
-        carry_all(rt, &mut Round { cluster: self }, given);
+        queue_all(rt, &mut Round { cluster: self }, given);
     }
 
     /// Wakes the own thread of each node for which something urgent waits.
@@ -267,11 +267,11 @@ struct Round<'a> {
     cluster: &'a Cluster,
 }
 
-impl<'a> Carrier for Round<'a> {
-    // It carries into outboxes under their locks, of which no clause says anything: see `Outbox`.
-    ghost carries = { λ _ _ _ _. Unit {0} };
+impl<'a> Receivers for Round<'a> {
+    // It queues in outboxes under their locks, of which no clause says anything: see `Outbox`.
+    ghost queues = { λ _ _ _ _. Unit {0} };
 
-    fn carry<R: Wait>(&mut self, rt: &R, outgoing: Outgoing) {
+    fn queue<R: Wait>(&mut self, rt: &R, outgoing: Outgoing) {
         let cluster = self.cluster;
         if outgoing.receiver() == MASTER {
             cluster.ask_master(rt, outgoing);

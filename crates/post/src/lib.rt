@@ -3,7 +3,6 @@
 //! waker for the thread that takes them.
 #![tactic(auto)]
 
-mod carrier;
 mod choosing;
 mod cluster;
 mod laws;
@@ -12,14 +11,15 @@ mod order_error;
 mod outbox;
 mod outgoing;
 mod peer;
+mod queuing;
 mod superseding;
 mod waker;
 mod waking;
 
-pub use carrier::{Carrier, Given, carry_all};
 pub use cluster::Cluster;
 pub use laws::{later_commits_suffice, later_counts_suffice};
 pub use master::Idle;
 pub use order_error::OrderError;
 pub use outgoing::Outgoing;
 pub use peer::{Entering, Peer};
+pub use queuing::{Given, Receivers, queue_all};

@@ -29,7 +29,7 @@ pub(crate) struct Answer {
 }
 
 impl Model for Answer {
-    ghost use Rattle.post.specs.Carrying.{Addressed};
+    ghost use Rattle.post.specs.Queuing.{Addressed};
     ghost use Rattle.post.specs.Queued.{WasAnswered};
 
     ghost Value = { Addressed };

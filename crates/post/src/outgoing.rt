@@ -24,7 +24,7 @@ pub struct Outgoing {
 
 impl Model for Outgoing {
     ghost use Rattle.node.specs.Effect.TheVariants.{To};
-    ghost use Rattle.post.specs.Carrying.{Addressed};
+    ghost use Rattle.post.specs.Queuing.{Addressed};
     ghost use Rattle.post.specs.Given.{WasGiven};
 
     ghost Value = { Addressed };

@@ -1,6 +1,6 @@
 use Rattle.std.specs.Prelude.{is_ok}
 use Rattle.std.proofs.Common.{ap}
-use Rattle.post.specs.Carrying.{Addressed}
+use Rattle.post.specs.Queuing.{Addressed}
 use Rattle.post.proofs.OutboxKept.{queued_answer}
 use Rattle.post.proofs.outbox.Outbox.assign.Goals as goal
 

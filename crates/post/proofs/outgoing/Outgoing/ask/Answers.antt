@@ -1,6 +1,6 @@
 use Rattle.std.proofs.Common.{ℕ, ◌∙◌, ap, subst}
 use Rattle.node.specs.Effect.TheVariants.{To}
-use Rattle.post.specs.Carrying.{Addressed}
+use Rattle.post.specs.Queuing.{Addressed}
 use Rattle.post.specs.Queued.{WasGiven}
 use Rattle.post.proofs.outgoing.Outgoing.ask.Goals as goal
 

@@ -1,6 +1,6 @@
 use Rattle.std.proofs.Common.{ℕ, ◌∙◌, ap, subst}
 use Rattle.node.specs.declared.Item.TheVariants.{Peer}
-use Rattle.post.specs.Carrying.{Addressed}
+use Rattle.post.specs.Queuing.{Addressed}
 use Rattle.post.specs.Queued.{IsPosted}
 use Rattle.post.specs.Queued.IsPosted.{of_node}
 use Rattle.post.proofs.outgoing.Outgoing.queue_in.Goals as goal

@@ -18,13 +18,13 @@ messages_of (To receiver message ∷ effects) =
     record { receiver = receiver; message = message } ∷ messages_of effects
 messages_of (Out place output ∷ effects) = messages_of effects
 
--- these messages were carried, one after another, each once, and nothing else
-pub data CarriesAll {X : Type 0} (carries : X → ℕ → Message Command → X → Type 0) (before : X)
+-- these messages were queued, one after another, each once, and nothing else
+pub data QueuesAll {X : Type 0} (queues : X → ℕ → Message Command → X → Type 0) (before : X)
     : List Addressed → X → Type 0 where
   -- no message
-  none : CarriesAll carries before [] before
+  none : QueuesAll queues before [] before
   -- one more message
   one_more : {messages : List Addressed} {between : X} (addressed : Addressed) (after : X)
-      → CarriesAll carries before messages between
-      → carries between addressed.receiver addressed.message after
-      → CarriesAll carries before (messages ++ addressed ∷ []) after
+      → QueuesAll queues before messages between
+      → queues between addressed.receiver addressed.message after
+      → QueuesAll queues before (messages ++ addressed ∷ []) after

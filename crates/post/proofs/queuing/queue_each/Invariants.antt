@@ -1,11 +1,11 @@
 use Rattle.std.specs.Vec.Iter.{into_iter_items}
 use Rattle.node.specs.Lists.{Each}
-use Rattle.post.specs.Carrying.{CarriesAll, messages_of}
+use Rattle.post.specs.Queuing.{QueuesAll, messages_of}
 use Rattle.post.specs.Queued.{WasGiven}
-use Rattle.post.proofs.carrier.carry_each.Given as goal
+use Rattle.post.proofs.queuing.queue_each.Given as goal
 
 abbrev pub invariant-loop-effect : goal.invariant-loop-effect
 invariant-loop-effect g l = record {
   given : Each WasGiven (into_iter_items l.effect-iterator);
-  carried : CarriesAll g.C.Carrier.carries l.initial.carrier (messages_of l.yielded) l.carrier;
+  queued : QueuesAll g.C.Receivers.queues l.initial.receivers (messages_of l.yielded) l.receivers;
 }

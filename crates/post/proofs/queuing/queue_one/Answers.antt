@@ -1,0 +1,20 @@
+use Rattle.std.proofs.Common.{[], ◌∷◌, sym, subst}
+use Rattle.node.specs.Command.{Command}
+use Rattle.node.specs.Output.{Output}
+use Rattle.node.specs.Effect.{Effect}
+use Rattle.post.specs.Queuing.{Addressed, QueuesAll, messages_of}
+use Rattle.post.specs.Queuing.QueuesAll.{none, one_more}
+use Rattle.post.proofs.queuing.queue_one.Goals as goal
+
+pub returns-in-To : goal.returns-in-To
+returns-in-To g c =
+    subst (λ (effect : Effect Command Output). QueuesAll g.C.Receivers.queues c.args.receivers.now (messages_of (effect ∷ [])) c.queue.new.self)
+    (sym c.in-To.is)
+    (subst (λ (addressed : Addressed). QueuesAll g.C.Receivers.queues c.args.receivers.now (addressed ∷ []) c.queue.new.self)
+    c.new.ensures
+    (one_more c.new.result c.queue.new.self none c.queue.ensures))
+
+pub returns : goal.returns
+returns g c =
+    subst (λ (effect : Effect Command Output). QueuesAll g.C.Receivers.queues c.args.receivers.now (messages_of (effect ∷ [])) c.args.receivers.now)
+    (sym c.in-Out.is) none

@@ -1,0 +1,92 @@
+// What steps of a node gave for others, queued message by message in order.
+
+ghost use Rattle.std.specs.Prelude.{◌≡◌, [], ◌∷◌};
+ghost use Rattle.node.specs.Lists.{Each};
+ghost use Rattle.post.specs.Queuing.{QueuesAll, messages_of};
+ghost use Rattle.post.specs.Queued.{WasGiven};
+
+use crate::outgoing::Outgoing;
+use node::{Command, Effect, Output};
+use std::marker::Model;
+use std::sync::Wait;
+
+/// What steps of a node gave, in order. It cannot be dropped: only [`queue_all`] and
+/// [`Cluster::queue_given`] take it, so the code that has it queues it.
+///
+/// [`Cluster::queue_given`]: crate::Cluster::queue_given
+pub struct Given {
+    effects: Vec<Effect<Command, Output>>,
+}
+
+impl Model for Given {
+    ghost use Rattle.std.specs.Prelude.{List};
+    ghost use Rattle.node.specs.Command.{Command};
+    ghost use Rattle.node.specs.Output.{Output};
+    ghost use Rattle.node.specs.Effect.{Effect};
+    ghost use Rattle.node.specs.Lists.{Each};
+    ghost use Rattle.post.specs.Given.{WasGiven};
+
+    ghost Value = { List (Effect Command Output) };
+
+    ghost view = { λ given. given.effects.items };
+
+    ghost invariant = { λ given. Each WasGiven given.effects.items };
+}
+
+impl Given {
+    /// Returns what steps of a node gave.
+    pub fn new(effects: Vec<Effect<Command, Output>>) -> Given
+        requires { Each WasGiven effects.items }
+        ensures { result ≡ effects.items }
+    {
+        Given { effects }
+    }
+}
+
+/// The receivers of messages: nodes, for which they are queued, and the master, which answers them.
+pub trait Receivers {
+    ghost use Rattle.std.specs.Prelude.{ℕ};
+    ghost use Rattle.node.specs.Command.{Command};
+    ghost use Rattle.node.specs.Message.{Message};
+
+    // The state before a call, the receiver of the message, the message, and the state after it.
+    ghost queues: { Self → ℕ → Message Command → Self → Type 0 };
+
+    /// Queues a message that a step of a node gave for its receiver.
+    fn queue<R: Wait>(&mut self, rt: &R, outgoing: Outgoing)
+        ensures { queues self.old outgoing.receiver outgoing.message self.new };
+}
+
+/// Queues all that steps of a node gave for others, in order, each message once. Outputs are for no
+/// other node.
+pub fn queue_all<C: Receivers, R: Wait>(rt: &R, receivers: &mut C, given: Given)
+    ensures { QueuesAll C.queues receivers.old (messages_of given) receivers.new }
+{
+    let Given { effects } = given;
+    queue_each(rt, receivers, effects);
+}
+
+// Queues what each of these effects has for another node.
+fn queue_each<C: Receivers, R: Wait>(
+    rt: &R,
+    receivers: &mut C,
+    effects: Vec<Effect<Command, Output>>,
+)
+    requires { Each WasGiven effects.items }
+    ensures { QueuesAll C.queues receivers.old (messages_of effects.items) receivers.new }
+{
+    for effect in effects {
+        queue_one(rt, receivers, effect);
+    }
+}
+
+// Queues what one effect has for another node.
+fn queue_one<C: Receivers, R: Wait>(rt: &R, receivers: &mut C, effect: Effect<Command, Output>)
+    requires { WasGiven effect }
+    ensures { QueuesAll C.queues receivers.old (messages_of (effect ∷ [])) receivers.new }
+{
+    match effect {
+        Effect::To(receiver, message) => receivers.queue(rt, Outgoing::new(receiver, message)),
+        Effect::Out(_, _) => {}
+    }
+}
