@@ -33,7 +33,7 @@ impl<'a, J: NodeNaming, S: Stated<J>, G: Gate> ServedNode<'a, J, S, G> {
     fn help_each<R: Wait + Clock>(&self, rt: &R, all: &[ServedNode<'a, J, S, G>]) -> bool {
         let mut had_one = false;
         for node in all {
-            if node.shared.context.node.wants_help(rt) && node.try_turn(rt) {
+            if node.shared.context.peer.wants_help(rt) && node.try_turn(rt) {
                 had_one = true;
                 self.write_for(rt, node);
             }
@@ -48,7 +48,7 @@ impl<'a, J: NodeNaming, S: Stated<J>, G: Gate> ServedNode<'a, J, S, G> {
             return false;
         };
         // It is this node's, which no clause says: see `OwnLane`.
-        if own.number() == self.shared.context.node.number {
+        if own.number() == self.shared.context.peer.number {
             self.shared.take_queued_by(rt, &mut own);
         }
         true
@@ -56,7 +56,7 @@ impl<'a, J: NodeNaming, S: Stated<J>, G: Gate> ServedNode<'a, J, S, G> {
 
     // Writes what another node queued for its connections, and waits for no socket.
     fn write_for<R: Wait>(&self, rt: &R, node: &ServedNode<'a, J, S, G>) {
-        if node.shared.context.node.number != self.shared.context.node.number {
+        if node.shared.context.peer.number != self.shared.context.peer.number {
             node.shared.write_busy(rt, 0, false);
         }
     }

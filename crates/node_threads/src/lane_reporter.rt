@@ -14,7 +14,7 @@ use streams::Link;
 /// A connection's lane. What is reported to it is what the lane sent.
 #[derive(Drop)]
 pub(crate) struct LaneReporter<'e, 'a, J: NodeNaming, S: Stated<J>, G: Gate> {
-    pub(crate) node: &'e ServedNode<'a, J, S, G>,
+    pub(crate) served: &'e ServedNode<'a, J, S, G>,
     pub(crate) all: &'e [ServedNode<'a, J, S, G>],
     pub(crate) link: &'e Arc<Link, Global>,
     pub(crate) lane: Lane<Item, J>,
@@ -27,22 +27,22 @@ impl<'e, 'a, J: NodeNaming, S: Stated<J>, G: Gate> Hearer for LaneReporter<'e, '
     ghost lets = { λ _ _. Unit {0} };
 
     fn now<R: Clock>(&self, rt: &R) -> u64 {
-        let node = self.node;
-        node.shared.context.now(rt)
+        let served = self.served;
+        served.shared.context.now(rt)
     }
 
     // Bytes are reported once the node takes more of them, and count as in transit until it has
     // taken them. Then nodes for which something was queued have their turns. After that, what this
     // node queued is written, to this connection first.
     fn report<R: Wait + Clock>(&mut self, rt: &R, item: Item) {
-        let node = self.node;
+        let served = self.served;
         let all = self.all;
-        let shared = &node.shared;
+        let shared = &served.shared;
         let index = self.link.index;
         let entering = shared.admit(rt, self.link.port, size_of(&item));
         shared.send_and_take(rt, &mut self.lane, item);
-        shared.context.node.count_taken(rt, entering);
-        node.help(rt, all);
+        shared.context.peer.count_taken(rt, entering);
+        served.help(rt, all);
         shared.write_busy(rt, index, true);
     }
 
@@ -53,8 +53,8 @@ impl<'e, 'a, J: NodeNaming, S: Stated<J>, G: Gate> Hearer for LaneReporter<'e, '
         let Ok(link) = Arc::try_clone(self.link) else {
             return false;
         };
-        let node = self.node;
-        let shared = &node.shared;
+        let served = self.served;
+        let shared = &served.shared;
         let standing = shared.node.lock(rt).state().standing(self.link.port);
         let listener = shared.context.listener;
         listener.list(rt, link);

@@ -1,4 +1,4 @@
-// What a node's threads use: its listener, the node itself and the other nodes.
+// What a node's threads use: its listener, the node as others see it, and the other nodes.
 
 ghost use Rattle.std.specs.Prelude.{◌≡◌, IfSome};
 
@@ -36,11 +36,11 @@ impl<'a> NodeContexts<'a> {
     }
 }
 
-/// What a node's threads use: its listener, the node itself and the other nodes.
+/// What a node's threads use: its listener, the node as others see it, and the other nodes.
 #[derive(Clone, Copy)]
 pub(crate) struct NodeContext<'a> {
     pub(crate) cluster: &'a Cluster,
-    pub(crate) node: &'a Peer,
+    pub(crate) peer: &'a Peer,
     pub(crate) listener: &'a Listener,
     start: Instant,
 }
@@ -55,10 +55,10 @@ impl<'a> NodeContext<'a> {
     ) -> Option<NodeContext<'a>>
         ensures { IfSome result (λ context. context.listener.now.number ≡ listener.now.number) }
     {
-        let node = cluster.node(listener.number)?;
+        let peer = cluster.node(listener.number)?;
         Some(NodeContext {
             cluster,
-            node,
+            peer,
             listener,
             start,
         })

@@ -61,7 +61,7 @@ impl<'a, J: NodeNaming, S: Stated<J>, G: Gate> ServedNode<'a, J, S, G> {
     fn do_own_turn<R: Wait + Clock>(&self, rt: &R, last: LastTick) -> LastTick {
         let mut own = self.own.lock(rt);
         // It is this node's, which no clause says: see `OwnLane`.
-        if own.number() != self.shared.context.node.number {
+        if own.number() != self.shared.context.peer.number {
             return last;
         }
         self.shared.do_turn_by(rt, &mut own, last)
@@ -72,7 +72,7 @@ impl<'a, J: NodeNaming, S: Stated<J>, G: Gate> Shared<'a, J, S, G> {
     // Does the node's turn by its own lane: takes what was queued for the node, gives it the time
     // and has its log cut, if that is due. Returns when the node got the time last.
     fn do_turn_by<R: Wait + Clock>(&self, rt: &R, own: &mut OwnLane<J>, last: LastTick) -> LastTick
-        requires { own.old.number ≡ self.now.context.node.now.number }
+        requires { own.old.number ≡ self.now.context.peer.now.number }
     {
         self.take_queued(rt, &mut own.lane);
         let last = self.tick(rt, &mut own.lane, last);
@@ -82,7 +82,7 @@ impl<'a, J: NodeNaming, S: Stated<J>, G: Gate> Shared<'a, J, S, G> {
 
     /// Takes what was queued for the node up to now, by the node's own lane.
     pub(crate) fn take_queued_by<R: Wait + Clock>(&self, rt: &R, own: &mut OwnLane<J>)
-        requires { own.old.number ≡ self.now.context.node.now.number }
+        requires { own.old.number ≡ self.now.context.peer.now.number }
     {
         self.take_queued(rt, &mut own.lane);
     }
@@ -90,7 +90,7 @@ impl<'a, J: NodeNaming, S: Stated<J>, G: Gate> Shared<'a, J, S, G> {
     // Gives the node the time, if it is due, and then has the log cut, if that is due. Returns when
     // the node got the time last.
     fn tick<R: Wait + Clock>(&self, rt: &R, lane: &mut Lane<Item, J>, last: LastTick) -> LastTick
-        ensures { SendsOwn self.now.context.node.now.number lane.old.sent lane.new.sent }
+        ensures { SendsOwn self.now.context.peer.now.number lane.old.sent lane.new.sent }
     {
         let now = self.context.now(rt);
         if now.saturating_sub(last.time) < TICK_MILLIS {
@@ -104,16 +104,16 @@ impl<'a, J: NodeNaming, S: Stated<J>, G: Gate> Shared<'a, J, S, G> {
 
     // Has the log cut, if a cut is due after this many ticks.
     fn cut_in_time<R: Wait + Clock>(&self, rt: &R, lane: &mut Lane<Item, J>, ticks: u64)
-        ensures { SendsOwn self.now.context.node.now.number lane.old.sent lane.new.sent }
+        ensures { SendsOwn self.now.context.peer.now.number lane.old.sent lane.new.sent }
     {
-        if cuts_after(self.context.node.number, ticks) {
+        if cuts_after(self.context.peer.number, ticks) {
             self.send_and_take(rt, lane, Item::Cut);
         }
     }
 
     // Has the log cut, if what the node took since the last cut is large enough.
     fn cut_by_size<R: Wait + Clock>(&self, rt: &R, lane: &mut Lane<Item, J>)
-        ensures { SendsOwn self.now.context.node.now.number lane.old.sent lane.new.sent }
+        ensures { SendsOwn self.now.context.peer.now.number lane.old.sent lane.new.sent }
     {
         let wants_cut = self.node.lock(rt).state().wants_cut();
         if wants_cut {
@@ -144,9 +144,9 @@ impl<'a, J: NodeNaming, S: Stated<J>, G: Gate> Shared<'a, J, S, G> {
     // Takes all that other nodes and the master queued for the node up to now. If that is
     // something, takes items until the inbox is empty.
     fn take_queued<R: Wait + Clock>(&self, rt: &R, lane: &mut Lane<Item, J>)
-        ensures { SendsOwn self.now.context.node.now.number lane.old.sent lane.new.sent }
+        ensures { SendsOwn self.now.context.peer.now.number lane.old.sent lane.new.sent }
     {
-        let items = self.context.node.take_waiting(rt, self.alloc);
+        let items = self.context.peer.take_waiting(rt, self.alloc);
         if items.is_empty() {
             return;
         }
@@ -158,8 +158,8 @@ impl<'a, J: NodeNaming, S: Stated<J>, G: Gate> Shared<'a, J, S, G> {
 
     // Sends what was queued for the node by its lane.
     fn send_queued<R: Wait + Clock>(&self, rt: &R, lane: &mut Lane<Item, J>, item: Item)
-        requires { IsQueued self.now.context.node.now.number item }
-        ensures { SendsOwn self.now.context.node.now.number lane.old.sent lane.new.sent }
+        requires { IsQueued self.now.context.peer.now.number item }
+        ensures { SendsOwn self.now.context.peer.now.number lane.old.sent lane.new.sent }
     {
         self.send(rt, lane, item);
     }
@@ -169,17 +169,17 @@ impl<'a, J: NodeNaming, S: Stated<J>, G: Gate> Shared<'a, J, S, G> {
         if self.comes_at_once(rt) {
             return;
         }
-        let is_wanted = self.context.node.doze(rt) || self.context.listener.is_closed(rt);
+        let is_wanted = self.context.peer.doze(rt) || self.context.listener.is_closed(rt);
         if !is_wanted {
             let tick = Duration::from_millis(TICK_MILLIS);
-            self.context.node.sleep(rt, tick);
+            self.context.peer.sleep(rt, tick);
         }
     }
 
     // Watches for a while whether other nodes have something for the node. Returns whether they do.
     fn comes_at_once<R: Wait>(&self, rt: &R) -> bool {
         for _ in 0..LOOKS {
-            if self.context.node.is_wanted(rt) {
+            if self.context.peer.is_wanted(rt) {
                 return true;
             }
             pause();

@@ -23,7 +23,7 @@ impl<'a, J: NodeNaming, S: Stated<J>, G: Gate> Shared<'a, J, S, G> {
             return None;
         }
         for _ in rt.forever() {
-            if let Some(entering) = self.context.node.admit(rt, bytes) {
+            if let Some(entering) = self.context.peer.admit(rt, bytes) {
                 return Some(entering);
             }
             if self.is_over(rt, port) {

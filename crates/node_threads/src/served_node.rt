@@ -66,7 +66,7 @@ impl<'a, J: NodeNaming, G: Gate> ServedNode<'a, J, NodeState<J>, G> {
             inbox,
             core,
         } = opened;
-        context.node.show(rt, core.status());
+        context.peer.show(rt, core.status());
         let (receiver, lanes) = inbox.named::<J>(number, LANES)?;
         let (own, lane_slots) = lane_slots_of(alloc, number, lanes)?;
         let node = Node::start(alloc, NodeState::new(receiver, core), gate)?;

@@ -97,7 +97,7 @@ impl<'a, J: NodeNaming, S: Stated<J>, G: Gate> ServedNode<'a, J, S, G> {
         ensures { SendsWhole (arc_value link.now).port lane.sent result.sent }
     {
         let mut reporter = LaneReporter {
-            node: self,
+            served: self,
             all,
             link,
             lane,

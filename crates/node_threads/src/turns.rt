@@ -113,11 +113,11 @@ impl<'a, J: NodeNaming, S: Stated<J>, G: Gate> Shared<'a, J, S, G> {
             return true;
         }
         let (more, given) = take_up_to(rt, self.alloc, state, permit, lane);
-        self.context.node.show(rt, state.status());
+        self.context.peer.show(rt, state.status());
         self.context.cluster.queue_given(rt, state, given);
         // The node's own thread has the log cut.
         if state.wants_cut() {
-            self.context.node.wake(rt);
+            self.context.peer.wake(rt);
         }
         more
     }

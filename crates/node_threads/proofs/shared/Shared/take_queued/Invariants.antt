@@ -6,6 +6,6 @@ use Rattle.node_threads.proofs.shared.Shared.take_queued.Given as goal
 
 abbrev pub invariant-loop-item : goal.invariant-loop-item
 invariant-loop-item g l = record {
-  queued : Each (IsQueued l.self.context.node.now.number) (into_iter_items l.item-iterator);
-  own : SendsOwn l.self.context.node.now.number l.initial.lane.sent l.lane.sent;
+  queued : Each (IsQueued l.self.context.peer.now.number) (into_iter_items l.item-iterator);
+  own : SendsOwn l.self.context.peer.now.number l.initial.lane.sent l.lane.sent;
 }
