@@ -103,7 +103,7 @@ impl<'a, J: NodeNaming, S: Stated<J>, G: Gate> Shared<'a, J, S, G> {
         requires { IsTokenOf (arc_value link.now).port token }
         ensures { IfSome result (λ blocked. IsTokenOf (arc_value link.now).port blocked) }
     {
-        let token = self.write(rt, link, token, false)?;
+        let token = self.write_until_blocked(rt, link, token, false)?;
         let standing = self.node.lock(rt).state().standing(link.port);
         if standing == Standing::Closed {
             link.end(token);

@@ -37,7 +37,7 @@ impl<'a, J: NodeNaming, S: Stated<J>, G: Gate> Shared<'a, J, S, G> {
         let Some(token) = link.take_token(rt) else {
             return;
         };
-        match self.write(rt, link, token, waits) {
+        match self.write_until_blocked(rt, link, token, waits) {
             Some(token) => self.hand_blocked(rt, link, token),
             None => {}
         }
@@ -46,7 +46,7 @@ impl<'a, J: NodeNaming, S: Stated<J>, G: Gate> Shared<'a, J, S, G> {
     /// Writes what a full socket left over and what was queued, until nothing more is, and returns
     /// the token to its connection. Returns the token to the caller if the socket is full. A stream
     /// that takes no more is ended, and its token with it.
-    pub(crate) fn write<R: Wait>(
+    pub(crate) fn write_until_blocked<R: Wait>(
         &self,
         rt: &R,
         link: &Arc<Link, Global>,
@@ -58,7 +58,7 @@ impl<'a, J: NodeNaming, S: Stated<J>, G: Gate> Shared<'a, J, S, G> {
     {
         let mut token = token;
         for _ in rt.forever() {
-            match self.write_so(rt, link, &mut token, waits) {
+            match self.write_waiting(rt, link, &mut token, waits) {
                 Flow::Open => match link.put_back(rt, token) {
                     Some(kept) => token = kept,
                     None => return None,
@@ -73,8 +73,8 @@ impl<'a, J: NodeNaming, S: Stated<J>, G: Gate> Shared<'a, J, S, G> {
         unreachable!()
     }
 
-    // Writes once, waiting for a full socket or not.
-    fn write_so<R: Wait>(
+    // Writes once. `waits` says whether it waits for a full socket.
+    fn write_waiting<R: Wait>(
         &self,
         rt: &R,
         link: &Arc<Link, Global>,
