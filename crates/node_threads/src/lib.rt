@@ -5,6 +5,7 @@
 //! node's own thread takes it, which also takes what the master has for it.
 #![tactic(auto)]
 
+mod admitting;
 mod blocked_writer;
 mod helping;
 mod lane_reporter;
@@ -13,7 +14,6 @@ mod node_context;
 mod opened;
 mod own_lane;
 mod own_thread;
-mod room;
 mod served_node;
 mod serving;
 mod shared;

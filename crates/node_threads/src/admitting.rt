@@ -10,7 +10,7 @@ use std::thread;
 use std::time::{Clock, Duration};
 
 /// How long a thread sleeps before it asks again whether the node takes more, in milliseconds.
-const ROOM_MILLIS: u64 = 1;
+const ADMIT_LOOK_MILLIS: u64 = 1;
 
 impl<'a, J: NodeNaming, S: Stated<J>, G: Gate> Shared<'a, J, S, G> {
     /// Waits until the node takes this many more bytes from its clients, and counts them as in
@@ -29,7 +29,7 @@ impl<'a, J: NodeNaming, S: Stated<J>, G: Gate> Shared<'a, J, S, G> {
             if self.is_over(rt, port) {
                 return None;
             }
-            thread::sleep(rt, Duration::from_millis(ROOM_MILLIS));
+            thread::sleep(rt, Duration::from_millis(ADMIT_LOOK_MILLIS));
         }
         unreachable!()
     }
