@@ -53,7 +53,8 @@ impl<'a, J: NodeNaming, S: Stated<J>, G: Gate> Shared<'a, J, S, G> {
         }
     }
 
-    // Keeps a connection for that thread's next round. If there is no memory for it, it is ended.
+    // Keeps a connection for that thread's next round, and returns whether it is kept. If there is
+    // no memory for it, it is ended.
     fn keep_blocked<R: Wait>(&self, rt: &R, link: &Arc<Link, Global>, token: WriteToken) -> bool
         requires { IsTokenOf (arc_value link.now).port token }
     {
