@@ -147,8 +147,7 @@ impl Outbox {
             → refusal master.old config ≡ Some ballots_spent }
 
         // If it is refused, or memory runs out, nothing changes.
-        ensures same { OnErr result (self.new ≡ self.old) }
-        ensures master { OnErr result (master.new ≡ master.old) }
+        ensures same { OnErr result ((self.new ≡ self.old) × (master.new ≡ master.old)) }
     {
         if self.items.reserve(1).is_err() {
             return Err(OrderError::Memory);
