@@ -8,44 +8,42 @@ use topics::MalformedKind;
 // A text that repeats a part this many times, and its fault.
 type Row<'a> = (&'a str, usize, Option<MalformedKind>);
 
-// The index of a row, and the fault of its text.
-type Other = (usize, Option<MalformedKind>);
-
-// Returns the fault of a row's text as a Topic Filter; `Memory` also if there is none for the text.
-fn fault_of_filter(alloc: Global, row: Row<'_>) -> Option<MalformedKind> {
-    let (part, count, _) = row;
+// Returns the fault, as a Topic Filter, of a text that repeats a part; `Memory` also if there is
+// none for the text.
+fn fault_of_filter(alloc: Global, part: &str, count: usize) -> Option<MalformedKind> {
     match part.repeat(alloc, count) {
         Ok(text) => filter_fault(alloc, &text),
         Err(_) => Some(MalformedKind::Memory),
     }
 }
 
-// Returns the fault of a row's text as a Topic Name; `Memory` also if there is none for the text.
-fn fault_of_topic(alloc: Global, row: Row<'_>) -> Option<MalformedKind> {
-    let (part, count, _) = row;
+// Returns its fault as a Topic Name.
+fn fault_of_topic(alloc: Global, part: &str, count: usize) -> Option<MalformedKind> {
     match part.repeat(alloc, count) {
         Ok(text) => topic_fault(alloc, &text),
         Err(_) => Some(MalformedKind::Memory),
     }
 }
 
-// Returns the first row that is another fault as a Topic Filter.
-fn other_filter(alloc: Global, rows: &[Row<'_>]) -> Option<Other> {
-    for (at, row) in rows.iter().enumerate() {
-        let fault = fault_of_filter(alloc, *row);
-        if fault != row.2 {
-            return Some((at, fault));
+// Returns the first row that is another fault as a Topic Filter, with that fault.
+fn other_filter<'a>(alloc: Global, rows: &[Row<'a>]) -> Option<Row<'a>> {
+    for row in rows {
+        let (part, count, wanted) = *row;
+        let fault = fault_of_filter(alloc, part, count);
+        if fault != wanted {
+            return Some((part, count, fault));
         }
     }
     None
 }
 
-// Returns the first row that is another fault as a Topic Name.
-fn other_topic(alloc: Global, rows: &[Row<'_>]) -> Option<Other> {
-    for (at, row) in rows.iter().enumerate() {
-        let fault = fault_of_topic(alloc, *row);
-        if fault != row.2 {
-            return Some((at, fault));
+// Returns the first row that is another fault as a Topic Name, with that fault.
+fn other_topic<'a>(alloc: Global, rows: &[Row<'a>]) -> Option<Row<'a>> {
+    for row in rows {
+        let (part, count, wanted) = *row;
+        let fault = fault_of_topic(alloc, part, count);
+        if fault != wanted {
+            return Some((part, count, fault));
         }
     }
     None

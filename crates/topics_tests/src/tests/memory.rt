@@ -61,15 +61,15 @@ const NO_TOPICS: &[(&str, MalformedKind)] = &[
     ("/////////////////////////////////", MalformedKind::TooDeep),
 ];
 
-// The index of a row, and the fault of its text.
-type Other = (usize, Option<MalformedKind>);
+// A text, and its fault.
+type Other = (&'static str, Option<MalformedKind>);
 
 // Returns the first text that has another fault as a Topic Filter.
 fn other_filter(alloc: Global) -> Option<Other> {
-    for (at, (text, kind)) in NO_FILTERS.iter().enumerate() {
+    for (text, kind) in NO_FILTERS {
         let fault = filter_fault(alloc, text);
         if fault != Some(*kind) {
-            return Some((at, fault));
+            return Some((*text, fault));
         }
     }
     None
@@ -77,10 +77,10 @@ fn other_filter(alloc: Global) -> Option<Other> {
 
 // Returns the first text that has another fault as a Topic Name.
 fn other_topic(alloc: Global) -> Option<Other> {
-    for (at, (text, kind)) in NO_TOPICS.iter().enumerate() {
+    for (text, kind) in NO_TOPICS {
         let fault = topic_fault(alloc, text);
         if fault != Some(*kind) {
-            return Some((at, fault));
+            return Some((*text, fault));
         }
     }
     None
