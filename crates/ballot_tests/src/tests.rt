@@ -6,5 +6,6 @@ mod cutting;
 mod memory;
 mod opening;
 mod pairs;
+mod refusals;
 mod replicas;
 mod stories;

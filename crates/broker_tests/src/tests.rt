@@ -7,4 +7,5 @@ pub(crate) mod forms;
 mod handshakes;
 mod publications;
 pub(crate) mod queues;
+mod refusals;
 pub(crate) mod windows;

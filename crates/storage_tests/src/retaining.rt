@@ -78,10 +78,21 @@ fn a_store_keeps_16384_topics(rt: HostRuntime) {
     assert_eq!(rt; first_fault(rt.alloc(), &mut store, AT_THE_LIMIT), None);
 }
 
+// Why nothing is kept, with the numbers of docs/REFUSALS.md.
+const REFUSALS: &[(RetainedError, u8, &str)] = &[
+    (RetainedError::RetainedFull, 16, "too many retained topics"),
+    (RetainedError::Memory, 12, "out of memory"),
+];
+
 #[test]
-fn the_refusal_has_its_number(rt: HostRuntime) -> Result<(), Fail> {
-    assert_eq!(rt; RetainedError::RetainedFull.number(), 16);
-    let text = format!(in rt.alloc(); "{}", RetainedError::RetainedFull)?;
-    assert_eq!(rt; text.as_str(), "too many retained topics");
+fn refusals_have_their_numbers_and_texts(rt: HostRuntime) -> Result<(), Fail> {
+    for (error, number, text) in REFUSALS {
+        let printed = format!(in rt.alloc(); "{error}")?;
+        assert_eq!(rt;
+            (error.number(), printed.as_str()),
+            (*number, *text),
+            "{error:?}"
+        );
+    }
     Ok(())
 }

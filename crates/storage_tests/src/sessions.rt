@@ -145,11 +145,22 @@ fn a_queue_takes_4096_entries(rt: HostRuntime) {
     assert_eq!(rt; first_undone(rt.alloc(), QUEUE_IS_FULL), None);
 }
 
+// Why nothing is queued, with the numbers of docs/REFUSALS.md.
+const REFUSALS: &[(EnqueueError, u8, &str)] = &[
+    (EnqueueError::QueueFull, 15, "the session's queue is full"),
+    (EnqueueError::Memory, 12, "out of memory"),
+];
+
 #[test]
-fn the_refusal_has_its_number(rt: HostRuntime) -> Result<(), Fail> {
-    assert_eq!(rt; EnqueueError::QueueFull.number(), 15);
-    let text = format!(in rt.alloc(); "{}", EnqueueError::QueueFull)?;
-    assert_eq!(rt; text.as_str(), "the session's queue is full");
+fn refusals_have_their_numbers_and_texts(rt: HostRuntime) -> Result<(), Fail> {
+    for (error, number, text) in REFUSALS {
+        let printed = format!(in rt.alloc(); "{error}")?;
+        assert_eq!(rt;
+            (error.number(), printed.as_str()),
+            (*number, *text),
+            "{error:?}"
+        );
+    }
     Ok(())
 }
 

@@ -5,16 +5,36 @@ use packet::PacketId;
 use std::test::Fail;
 use topics::MalformedKind;
 
-// Each refusal has its number in the table of refusals.
+// Each refusal, with the number that docs/REFUSALS.md gives it and what a user is told.
+const REFUSALS: &[(ClientError, u8, &str)] = &[
+    (ClientError::TooLarge, 4, "packet too large"),
+    (ClientError::Protocol, 11, "packet out of its place"),
+    (ClientError::Memory, 12, "out of memory"),
+    (ClientError::NotActive, 18, "not connected"),
+    (
+        ClientError::WindowFull,
+        22,
+        "too many publications under way",
+    ),
+    (ClientError::SessionLost, 23, "session lost"),
+    (
+        ClientError::Malformed(MalformedKind::Flags),
+        2,
+        "malformed packet: flags of the fixed header",
+    ),
+];
+
 #[test]
-fn refusals_have_their_numbers(rt: HostRuntime) {
-    assert_eq!(rt; ClientError::TooLarge.number(), 4);
-    assert_eq!(rt; ClientError::Protocol.number(), 11);
-    assert_eq!(rt; ClientError::Memory.number(), 12);
-    assert_eq!(rt; ClientError::NotActive.number(), 18);
-    assert_eq!(rt; ClientError::WindowFull.number(), 22);
-    assert_eq!(rt; ClientError::SessionLost.number(), 23);
-    assert_eq!(rt; ClientError::Malformed(MalformedKind::Flags).number(), 2);
+fn refusals_have_their_numbers_and_texts(rt: HostRuntime) -> Result<(), Fail> {
+    for (error, number, text) in REFUSALS {
+        let printed = format!(in rt.alloc(); "{error}")?;
+        assert_eq!(rt;
+            (error.number(), printed.as_str()),
+            (*number, *text),
+            "{error:?}"
+        );
+    }
+    Ok(())
 }
 
 // A request differs from one of the other kind, and from one with another identifier.
@@ -24,15 +44,4 @@ fn requests_are_compared(rt: HostRuntime) {
     assert_ne!(rt; Request::Subscribes(one), Request::Unsubscribes(one));
     assert_ne!(rt; Request::Subscribes(one), Request::Subscribes(two));
     assert_ne!(rt; Stage::Opened, Stage::Online);
-}
-
-// What a fault says to a user.
-#[test]
-fn refusals_have_their_texts(rt: HostRuntime) -> Result<(), Fail> {
-    let text = format!(in rt.alloc(); "{}; {}", ClientError::WindowFull, ClientError::NotActive)?;
-    assert_eq!(rt;
-        text.as_str(),
-        "too many publications under way; not connected"
-    );
-    Ok(())
 }

@@ -173,6 +173,8 @@ fn faults_have_their_texts(rt: HostRuntime) {
     assert!(rt; is_told(alloc, JobError::Clock, text, 1), "{text}");
     let text = "vbroker: too few threads could be started: a node needs 63\n";
     assert!(rt; is_told(alloc, JobError::Threads, text, 1), "{text}");
+    let text = "vbroker: too few files can be open at once: 38 more are needed (ulimit -n)\n";
+    assert!(rt; is_told(alloc, JobError::Files(38), text, 1), "{text}");
     let text = "vbroker: the words of the command line could not be read; try vbroker --help\n";
     assert!(rt; is_told(alloc, JobError::Words, text, 2), "{text}");
     let text = "vbroker: script line 3\n";

@@ -2,6 +2,7 @@
 
 use command_line::{NodeTable, TableFault, table};
 use std::alloc::{AllocError, Global};
+use std::test::Fail;
 
 const NODE_1: &str = "[[node]]\nid = 1\nlisten = \"h:1\"\n";
 
@@ -133,4 +134,23 @@ fn tables_are_read(rt: HostRuntime) {
         let is_so = is_so(rt.alloc(), members, *last, *twice, *is_read);
         assert!(rt; is_so, "{members}, {last}, {twice}");
     }
+}
+
+// Why a text is no table, with the numbers of docs/REFUSALS.md.
+const FAULTS: &[(TableFault, u8, &str)] = &[
+    (TableFault::Shape, 10, "table of nodes"),
+    (TableFault::Memory, 12, "out of memory"),
+];
+
+#[test]
+fn faults_have_their_numbers_and_texts(rt: HostRuntime) -> Result<(), Fail> {
+    for (fault, number, text) in FAULTS {
+        let printed = format!(in rt.alloc(); "{fault}")?;
+        assert_eq!(rt;
+            (fault.number(), printed.as_str()),
+            (*number, *text),
+            "{fault:?}"
+        );
+    }
+    Ok(())
 }

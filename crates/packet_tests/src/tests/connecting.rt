@@ -221,31 +221,52 @@ fn a_text_that_is_no_client_identifier_is_refused(rt: HostRuntime) {
     }
 }
 
-const MALFORMED: DecodeFault = DecodeFault::Malformed(MalformedKind::Shape);
+// Faults of reading, with the number that docs/REFUSALS.md gives them; a refused CONNECT has none.
+const UNREAD: &[(DecodeFault, Option<u8>, &str)] = &[
+    (
+        DecodeFault::Malformed(MalformedKind::Shape),
+        Some(10),
+        "malformed packet: shape of the packet",
+    ),
+    (
+        DecodeFault::Refused(RefusalCode::IdentifierRejected),
+        None,
+        "connection refused: identifier rejected",
+    ),
+];
 
-const REFUSED: DecodeFault = DecodeFault::Refused(RefusalCode::IdentifierRejected);
+// Those of writing.
+const UNWRITTEN: &[(EncodeFault, u8, &str)] = &[
+    (EncodeFault::TooLarge, 4, "packet too large"),
+    (EncodeFault::Memory, 12, "out of memory"),
+];
 
 #[test]
-fn refusals_have_their_numbers(rt: HostRuntime) {
-    assert_eq!(rt; MALFORMED.number(), Some(10));
-    assert_eq!(rt; REFUSED.number(), None);
-    assert_eq!(rt; EncodeFault::TooLarge.number(), 4);
-    assert_eq!(rt; EncodeFault::Memory.number(), 12);
+fn faults_have_their_numbers_and_texts(rt: HostRuntime) -> Result<(), Fail> {
+    for (fault, number, text) in UNREAD {
+        let printed = format!(in rt.alloc(); "{fault}")?;
+        assert_eq!(rt;
+            (fault.number(), printed.as_str()),
+            (*number, *text),
+            "{fault:?}"
+        );
+    }
+    for (fault, number, text) in UNWRITTEN {
+        let printed = format!(in rt.alloc(); "{fault}")?;
+        assert_eq!(rt;
+            (fault.number(), printed.as_str()),
+            (*number, *text),
+            "{fault:?}"
+        );
+    }
+    Ok(())
+}
+
+#[test]
+fn levels_of_service_are_ordered(rt: HostRuntime) {
     assert_eq!(rt; QoS::ExactlyOnce.number(), 2);
     assert!(rt;
         QoS::AtMostOnce < QoS::AtLeastOnce,
         "QoS 0 comes before QoS 1"
     );
-}
-
-#[test]
-fn refusals_have_their_texts(rt: HostRuntime) -> Result<(), Fail> {
-    let text = format!(in rt.alloc(); "{}; {}", MALFORMED, REFUSED)?;
-    assert_eq!(rt;
-        text.as_str(),
-        "malformed packet: shape of the packet; connection refused: identifier rejected"
-    );
-    let text = format!(in rt.alloc(); "{}; {}", EncodeFault::TooLarge, EncodeFault::Memory)?;
-    assert_eq!(rt; text.as_str(), "packet too large; out of memory");
-    Ok(())
 }

@@ -4,6 +4,7 @@ use super::spelling::write;
 use cutter::{CutError, Cutter};
 use packet::DecodeFault;
 use std::alloc::Global;
+use std::test::Fail;
 use topics::MalformedKind;
 
 /// CONNECT of client `a`, PUBLISH of `x` at QoS 2 on `t/1`, PINGREQ (MQTT 3.1, 3.3, 3.12).
@@ -151,5 +152,24 @@ fn other_answer_of_fresh(alloc: Global) -> Option<usize> {
 #[test]
 fn a_fault_after_good_packets_stays(rt: HostRuntime) {
     assert_eq!(rt; other_answer_of_fresh(rt.alloc()), None);
-    assert_eq!(rt; FAULT.number(), Some(1));
+}
+
+// Why no packet comes from a stream, with the numbers of docs/REFUSALS.md.
+const FAULTS: &[(CutError, Option<u8>, &str)] = &[
+    (FAULT, Some(1), "malformed packet: reserved packet type"),
+    (CutError::Memory, Some(12), "out of memory"),
+    (CutError::Failed, Some(13), "the stream has failed before"),
+];
+
+#[test]
+fn faults_of_a_stream_have_their_texts(rt: HostRuntime) -> Result<(), Fail> {
+    for (fault, number, text) in FAULTS {
+        let printed = format!(in rt.alloc(); "{fault}")?;
+        assert_eq!(rt;
+            (fault.number(), printed.as_str()),
+            (*number, *text),
+            "{fault:?}"
+        );
+    }
+    Ok(())
 }

@@ -46,12 +46,40 @@ fn lengths_are_those_of_the_standard(rt: HostRuntime) {
     }
 }
 
-// MQTT 3.2.2.3, table 3.1.
+// The codes of MQTT 3.2.2.3, table 3.1, and what a user is told.
+const CODES: &[(RefusalCode, u8, &str)] = &[
+    (
+        RefusalCode::ProtocolVersion,
+        1,
+        "unacceptable protocol version",
+    ),
+    (RefusalCode::IdentifierRejected, 2, "identifier rejected"),
+    (RefusalCode::ServerUnavailable, 3, "server unavailable"),
+    (
+        RefusalCode::BadUserNameOrPassword,
+        4,
+        "bad user name or password",
+    ),
+    (RefusalCode::NotAuthorized, 5, "not authorized"),
+];
+
 #[test]
-fn a_code_and_an_identifier_have_their_words(rt: HostRuntime) -> Result<(), Fail> {
-    let code = RefusalCode::NotAuthorized;
-    assert_eq!(rt; code.number(), 5);
-    let text = format!(in rt.alloc(); "{} {}", code, PacketId::new(7))?;
-    assert_eq!(rt; text.as_str(), "not authorized 7");
+fn codes_have_their_numbers_and_texts(rt: HostRuntime) -> Result<(), Fail> {
+    for (code, number, text) in CODES {
+        let printed = format!(in rt.alloc(); "{code}")?;
+        assert_eq!(rt;
+            (code.number(), printed.as_str()),
+            (*number, *text),
+            "{code:?}"
+        );
+    }
+    Ok(())
+}
+
+// The least and the greatest (MQTT 2.3.1).
+#[test]
+fn identifiers_are_printed_by_their_digits(rt: HostRuntime) -> Result<(), Fail> {
+    let printed = format!(in rt.alloc(); "{} {}", PacketId::new(1), PacketId::new(65_535))?;
+    assert_eq!(rt; printed.as_str(), "1 65535");
     Ok(())
 }
