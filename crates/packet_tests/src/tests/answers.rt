@@ -27,15 +27,15 @@ pub fn answer_to(alloc: Global, bytes: &[u8]) -> Answer {
     }
 }
 
-/// The index of a row, and what its bytes are.
-pub type Other = (usize, Answer);
+/// A row: what its bytes are, in words; the bytes; and the answer.
+pub type Row<'a> = (&'a str, &'a [u8], Answer);
 
-/// Finds the first row whose bytes are something else.
-pub fn other_answer(alloc: Global, rows: &[(&[u8], Answer)]) -> Option<Other> {
-    for (row, (bytes, wanted)) in rows.iter().enumerate() {
+/// Finds the first row whose bytes have another answer: its words, and that answer.
+pub fn other_answer<'a>(alloc: Global, rows: &[Row<'a>]) -> Option<(&'a str, Answer)> {
+    for (words, bytes, wanted) in rows {
         let answer = answer_to(alloc, bytes);
         if answer != *wanted {
-            return Some((row, answer));
+            return Some((*words, answer));
         }
     }
     None

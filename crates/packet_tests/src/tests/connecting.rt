@@ -12,9 +12,9 @@ const CONNECT: [u8; 15] = [
     0x10, 0x0D, 0x00, 0x04, 0x4D, 0x51, 0x54, 0x54, 0x04, 0x00, 0x00, 0x3C, 0x00, 0x01, 0x61,
 ];
 
-// Returns the first front of the bytes that is not less than a packet, by its length, and what it
+// Returns the length of the first front of the bytes that is not less than a packet, and what it
 // is.
-fn finished_front(alloc: Global, bytes: &[u8]) -> Option<Other> {
+fn finished_front(alloc: Global, bytes: &[u8]) -> Option<(usize, Answer)> {
     for len in 0..bytes.len() {
         let answer = answer_to(alloc, &bytes[..len]);
         if answer != Answer::More {
@@ -44,12 +44,12 @@ fn changed(at: usize, byte: u8) -> [u8; 15] {
 // An index of that CONNECT, the byte there, and what it is then.
 type Change = (usize, u8, Answer);
 
-// Returns the first row whose CONNECT is answered otherwise.
-fn other_change(alloc: Global, rows: &[Change]) -> Option<Other> {
-    for (row, (at, byte, wanted)) in rows.iter().enumerate() {
+// Returns the first change whose CONNECT is something else, with what it is.
+fn other_change(alloc: Global, rows: &[Change]) -> Option<Change> {
+    for (at, byte, wanted) in rows {
         let answer = answer_to(alloc, &changed(*at, *byte));
         if answer != *wanted {
-            return Some((row, answer));
+            return Some((*at, *byte, answer));
         }
     }
     None
@@ -65,7 +65,8 @@ const MALFORMED_CHANGES: &[Change] = &[
     (0, 0x00, Answer::Malformed(MalformedKind::PacketType)),
 ];
 
-const NO_FLAGS: &[(&[u8], Answer)] = &[(
+const NO_FLAGS: &[Row<'static>] = &[(
+    "a CONNECT that ends after its protocol level",
     &[0x10, 0x07, 0, 4, 0x4D, 0x51, 0x54, 0x54, 3],
     Answer::Malformed(MalformedKind::Shape),
 )];
@@ -81,7 +82,8 @@ const REFUSED_CHANGES: &[Change] = &[
     (9, 0x80, Answer::Refused(RefusalCode::NotAuthorized)),
 ];
 
-const NO_CLIENT: &[(&[u8], Answer)] = &[(
+const NO_CLIENT: &[Row<'static>] = &[(
+    "an empty Client Identifier that asks for a kept session (3.1.3.1)",
     &[
         0x10, 0x0C, 0, 4, 0x4D, 0x51, 0x54, 0x54, 4, 0, 0, 0x3C, 0, 0,
     ],
@@ -131,16 +133,19 @@ fn a_connack_is_written_and_read(rt: HostRuntime) {
     assert_eq!(rt; other_spelling(rt.alloc(), CONNACKS), None);
 }
 
-const NO_CONNACKS: &[(&[u8], Answer)] = &[
+const NO_CONNACKS: &[Row<'static>] = &[
     (
+        "session present with code 1 (3.2.2.2)",
         &[0x20, 0x02, 0x01, 0x01],
         Answer::Malformed(MalformedKind::Shape),
     ),
     (
+        "a reserved flag (3.2.2.1)",
         &[0x20, 0x02, 0x02, 0x00],
         Answer::Malformed(MalformedKind::Shape),
     ),
     (
+        "code 6, which is reserved (3.2.2.3)",
         &[0x20, 0x02, 0x00, 0x06],
         Answer::Malformed(MalformedKind::Shape),
     ),

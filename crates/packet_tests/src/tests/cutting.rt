@@ -14,7 +14,7 @@ pub const STREAM: [u8; 27] = [
 ];
 
 // What happened to one try to take a packet.
-#[derive(Clone, Copy, PartialEq)]
+#[derive(Clone, Copy, Debug, PartialEq, Eq)]
 enum Taken {
     One,
     NoMore,
@@ -126,24 +126,37 @@ fn a_stream_byte_by_byte_gives_its_packets(rt: HostRuntime) {
 // Packet type 15 is reserved (MQTT 2.2.1).
 const FAULT: CutError = CutError::Decode(DecodeFault::Malformed(MalformedKind::PacketType));
 
-// Returns the first step that is not so: the answers are, in turn, three packets, the fault, and
-// that there is a fault already.
-fn other_answer_of(cutter: &mut Cutter, out: &mut Vec<u8>) -> Option<usize> {
-    let steps = [
-        cutter.feed(&STREAM).is_ok(),
-        cutter.feed(&[0xF0, 0x00]).is_ok(),
-        take(cutter, out) == Taken::One,
-        take(cutter, out) == Taken::One,
-        take(cutter, out) == Taken::One,
-        take(cutter, out) == Taken::Fault(FAULT),
-        take(cutter, out) == Taken::Fault(CutError::Failed),
-        cutter.feed(&[0xC0]).err() == Some(CutError::Failed),
-    ];
-    steps.iter().position(|is_so| !*is_so)
+// What comes of the stream and the fault after it, in turn.
+const TAKEN: &[(&str, Taken)] = &[
+    ("CONNECT", Taken::One),
+    ("PUBLISH", Taken::One),
+    ("PINGREQ", Taken::One),
+    ("the fault", Taken::Fault(FAULT)),
+    ("that there was a fault", Taken::Fault(CutError::Failed)),
+];
+
+// Returns the first step that is not so, in words, and what came instead.
+fn other_answer_of(cutter: &mut Cutter, out: &mut Vec<u8>) -> Option<(&'static str, Taken)> {
+    for piece in [STREAM.as_slice(), [0xF0, 0x00].as_slice()] {
+        if let Err(fault) = cutter.feed(piece) {
+            return Some(("the bytes are taken", Taken::Fault(fault)));
+        }
+    }
+    for (words, wanted) in TAKEN {
+        let taken = take(cutter, out);
+        if taken != *wanted {
+            return Some((*words, taken));
+        }
+    }
+    match cutter.feed(&[0xC0]) {
+        Err(CutError::Failed) => None,
+        Err(fault) => Some(("no more is taken", Taken::Fault(fault))),
+        Ok(()) => Some(("no more is taken", Taken::NoMore)),
+    }
 }
 
-// Returns the first step that is not so of a fresh cutter.
-fn other_answer_of_fresh(alloc: Global) -> Option<usize> {
+// Returns the first step that is not so of a fresh cutter, and what came instead.
+fn other_answer_of_fresh(alloc: Global) -> Option<(&'static str, Taken)> {
     let mut cutter = Cutter::new(alloc);
     let mut out = Vec::new(alloc);
     other_answer_of(&mut cutter, &mut out)
