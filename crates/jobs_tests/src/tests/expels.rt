@@ -1,10 +1,7 @@
 // The order to end the session of a client.
 
 use super::hand::text_of;
-use super::orders::{Given, first_missed};
-use command_line::Subscribe;
-use jobs::{JobError, subscribe};
-use packet::QoS;
+use super::orders::{Given, Written, first_missed, hears};
 use std::io::{PipeWriter, Write};
 use std::net::{Net, TcpStream};
 use std::thread;
@@ -42,28 +39,8 @@ const ANSWERS: &str = "expel b\n\
     refused 6\n\
     bye\n";
 
-// Says whether a `sub` whose session is ended while it waits reports that its session is lost. It
-// comes once the node may serve.
-fn is_lost<R>(rt: &R, address: &str) -> bool
-where
-    R: Clock + AllocGlobal + Net<Stream = TcpStream>,
-{
-    thread::sleep(rt, Duration::from_millis(500));
-    let mut addresses = Vec::new(rt.alloc());
-    if addresses.push(address).is_err() {
-        return false;
-    }
-    let job = Subscribe {
-        id: "meter",
-        filter: "t/#",
-        qos: QoS::ExactlyOnce,
-        count: 1,
-        tries: 10,
-        addresses,
-    };
-    let mut output = Vec::new(rt.alloc());
-    matches!(subscribe(rt, &job, &mut output), Err(JobError::Lost)) && output.is_empty()
-}
+// What a `sub` writes whose session is ended while it waits (docs/MANUAL.md).
+const LOST: &str = "vbroker: lost\n";
 
 // Gives these lines after this many milliseconds. Says whether that succeeds.
 fn gives<R: Clock>(rt: &R, orders: &mut PipeWriter, after: u64, lines: &str) -> bool {
@@ -79,20 +56,33 @@ fn orders_all<R: Clock>(rt: &R, orders: PipeWriter) -> bool {
         && gives(rt, &mut orders, 1_000, LAST)
 }
 
-/// Says whether the orders are given, and the client reports that its session is lost.
-pub(super) fn talks<R>(rt: &R, orders: PipeWriter, address: &str) -> bool
+/// Gives the orders while a `sub` waits, which comes once the node may serve, and takes down what
+/// it writes. Says whether the orders are given.
+pub(super) fn talks<R>(rt: &R, orders: PipeWriter, address: &str, heard: &mut Vec<u8>) -> bool
 where
     R: Threads + Clock + Sync + AllocGlobal + Net<Stream = TcpStream>,
 {
-    let (ordered, lost) = thread::join(rt, || orders_all(rt, orders), || is_lost(rt, address));
-    ordered && lost
+    let (are_given, ()) = thread::join(
+        rt,
+        || orders_all(rt, orders),
+        || {
+            thread::sleep(rt, Duration::from_millis(500));
+            hears(rt, address, heard);
+        },
+    );
+    are_given
 }
 
 #[test]
 fn clients_are_expelled(rt: HostRuntime) {
     let mut output = Vec::new(rt.alloc());
-    let missed = first_missed(&rt, Given::Expels, &mut output);
-    let came = text_of(output.as_slice());
-    assert_eq!(rt; missed, None, "{came}");
-    assert_eq!(rt; came, ANSWERS);
+    let mut written = Written::new(rt.alloc());
+    let missed = first_missed(&rt, Given::Expels, &mut output, &mut written);
+    let came = (
+        text_of(output.as_slice()),
+        text_of(written.heard.as_slice()),
+        text_of(written.told.as_slice()),
+    );
+    assert_eq!(rt; missed, None, "{came:?}");
+    assert_eq!(rt; came, (ANSWERS, LOST, ""));
 }

@@ -3,7 +3,7 @@
 use super::expels::talks;
 use super::hand::text_of;
 use command_line::{Publish, Subscribe};
-use jobs::{publish, serve_table, subscribe};
+use jobs::{JobError, print_fault, publish, serve_table, subscribe};
 use packet::QoS;
 use std::alloc::{AllocError, Global};
 use std::io::{BufReader, PipeReader, PipeWriter, Write};
@@ -62,8 +62,8 @@ where
     Ok(TcpListener::bind(rt, "127.0.0.1:0")?.local_addr()?.port())
 }
 
-// Serves the nodes of a table, with orders that come by a pipe, and writes what they answer. Says
-// whether that succeeds.
+// Serves the nodes of a table, with orders that come by a pipe, and writes what they answer, and
+// their fault. Says whether there is none.
 fn serve<R>(rt: &R, table: &str, orders: PipeReader, output: &mut Vec<u8>) -> bool
 where
     R: Threads + Wait + Clock + Sync + AllocGlobal,
@@ -86,17 +86,43 @@ where
     R: Net<Listener = TcpListener, Stream = TcpStream>,
 {
     let mut faults = Vec::new(rt.alloc());
-    serve_table(rt, table, input, output, &mut faults).is_ok()
+    match serve_table(rt, table, input, output, &mut faults) {
+        Ok(()) => true,
+        Err(fault) => {
+            print_fault(output, &fault);
+            false
+        }
+    }
 }
 
-// Says whether `sub` prints what it has to.
-fn prints<R>(rt: &R, address: &str) -> bool
+/// What clients write.
+#[derive(Drop)]
+pub(super) struct Written {
+    /// What `sub` prints, and then its fault.
+    pub(super) heard: Vec<u8>,
+    /// The fault of `pub`.
+    pub(super) told: Vec<u8>,
+}
+
+impl Written {
+    /// Returns that of clients that have not come.
+    pub(super) fn new(alloc: Global) -> Written {
+        Written {
+            heard: Vec::new(alloc),
+            told: Vec::new(alloc),
+        }
+    }
+}
+
+/// Has `sub` wait for a publication, and takes down what it prints and its fault.
+pub(super) fn hears<R>(rt: &R, address: &str, heard: &mut Vec<u8>)
 where
     R: Clock + AllocGlobal + Net<Stream = TcpStream>,
 {
     let mut addresses = Vec::new(rt.alloc());
     if addresses.push(address).is_err() {
-        return false;
+        print_fault(heard, &JobError::Memory);
+        return;
     }
     let job = Subscribe {
         id: "meter",
@@ -106,26 +132,20 @@ where
         tries: 10,
         addresses,
     };
-    is_printed(rt, &job)
+    if let Err(fault) = subscribe(rt, &job, heard) {
+        print_fault(heard, &fault);
+    }
 }
 
-// Says whether `sub` prints what it has to for this job.
-fn is_printed<R>(rt: &R, job: &Subscribe<'_>) -> bool
-where
-    R: Clock + AllocGlobal + Net<Stream = TcpStream>,
-{
-    let mut output = Vec::new(rt.alloc());
-    subscribe(rt, job, &mut output).is_ok() && output.as_slice() == PRINTED.as_bytes()
-}
-
-// Says whether `pub` publishes, once the subscriber may have come.
-fn publishes<R>(rt: &R, address: &str) -> bool
+// Has `pub` publish, once the subscriber may have come, and takes down its fault.
+fn publishes<R>(rt: &R, address: &str, told: &mut Vec<u8>)
 where
     R: Clock + AllocGlobal + Net<Stream = TcpStream>,
 {
     let mut addresses = Vec::new(rt.alloc());
     if addresses.push(address).is_err() {
-        return false;
+        print_fault(told, &JobError::Memory);
+        return;
     }
     let job = Publish {
         id: "switch",
@@ -137,31 +157,39 @@ where
         addresses,
     };
     thread::sleep(rt, Duration::from_millis(1_500));
-    publish(rt, &job).is_ok()
+    if let Err(fault) = publish(rt, &job) {
+        print_fault(told, &fault);
+    }
 }
 
-// Says whether both clients do as they have to.
-fn talk<R>(rt: &R, address: &str) -> bool
+// Has both clients talk, and takes down what they write.
+fn talk<R>(rt: &R, address: &str, written: &mut Written)
 where
     R: Threads + Clock + Sync + AllocGlobal,
     R: Net<Listener = TcpListener, Stream = TcpStream>,
 {
+    let (heard, told) = (&mut written.heard, &mut written.told);
     thread::sleep(rt, Duration::from_millis(500));
-    let (printed, published) = thread::join(rt, || prints(rt, address), || publishes(rt, address));
-    printed && published
+    thread::join(
+        rt,
+        || hears(rt, address, heard),
+        || publishes(rt, address, told),
+    );
 }
 
 // Gives the orders, by a pipe that then ends, and has the clients talk between them. Says whether
-// these do as they have to.
-fn order_all<R>(rt: &R, orders: PipeWriter, address: &str) -> bool
+// the orders are given.
+fn order_all<R>(rt: &R, orders: PipeWriter, address: &str, written: &mut Written) -> bool
 where
     R: Threads + Clock + Sync + AllocGlobal,
     R: Net<Listener = TcpListener, Stream = TcpStream>,
 {
     let mut orders = orders;
-    orders.write_all(FIRST.as_bytes()).is_ok()
-        && talk(rt, address)
-        && orders.write_all(THEN.as_bytes()).is_ok()
+    if orders.write_all(FIRST.as_bytes()).is_err() {
+        return false;
+    }
+    talk(rt, address, written);
+    orders.write_all(THEN.as_bytes()).is_ok()
 }
 
 /// Which orders are given, and what clients do meanwhile.
@@ -174,21 +202,27 @@ pub(super) enum Given {
 }
 
 impl Given {
-    // Says whether all do as they have to.
-    fn is_done<R>(self, rt: &R, orders: PipeWriter, address: &str) -> bool
+    // Says whether the orders are given.
+    fn is_done<R>(self, rt: &R, orders: PipeWriter, address: &str, written: &mut Written) -> bool
     where
         R: Threads + Clock + Sync + AllocGlobal,
         R: Net<Listener = TcpListener, Stream = TcpStream>,
     {
         match self {
-            Given::Orders => order_all(rt, orders, address),
-            Given::Expels => talks(rt, orders, address),
+            Given::Orders => order_all(rt, orders, address, written),
+            Given::Expels => talks(rt, orders, address, &mut written.heard),
         }
     }
 }
 
-/// Returns what is not so of nodes on a port that is free, with these orders and clients.
-pub(super) fn first_missed<R>(rt: &R, given: Given, output: &mut Vec<u8>) -> Option<&'static str>
+/// Returns what is not so of nodes on a port that is free, with these orders and clients. Takes
+/// down what the nodes answer, and what the clients write.
+pub(super) fn first_missed<R>(
+    rt: &R,
+    given: Given,
+    output: &mut Vec<u8>,
+    written: &mut Written,
+) -> Option<&'static str>
 where
     R: Files + Threads + Wait + Clock + Sync + AllocGlobal,
     R: Net<Listener = TcpListener, Stream = TcpStream>,
@@ -197,18 +231,18 @@ where
         return Some("a port is free");
     };
     match Served::new(rt.alloc(), port) {
-        Ok(served) => missed_with(rt, &served, given, output),
+        Ok(served) => missed_with(rt, &served, given, output, written),
         Err(_) => Some("there is memory for a table"),
     }
 }
 
-// Returns what is not so: the nodes of this table are served, and orders and clients are as they
-// have to be.
+// Returns what is not so: the nodes of this table are served, and the orders given.
 fn missed_with<R>(
     rt: &R,
     served: &Served,
     given: Given,
     output: &mut Vec<u8>,
+    written: &mut Written,
 ) -> Option<&'static str>
 where
     R: Files + Threads + Wait + Clock + Sync + AllocGlobal,
@@ -217,23 +251,28 @@ where
     let Ok((input, orders)) = io::pipe(rt) else {
         return Some("there is a pipe");
     };
-    let (is_served, talked) = thread::join(
+    let (is_served, are_given) = thread::join(
         rt,
         || serve(rt, served.table.as_str(), input, output),
-        || given.is_done(rt, orders, served.address.as_str()),
+        || given.is_done(rt, orders, served.address.as_str(), written),
     );
-    match (is_served, talked) {
+    match (is_served, are_given) {
         (true, true) => None,
         (false, _) => Some("the nodes are served"),
-        (true, false) => Some("the orders are given, and the clients do as they have to"),
+        (true, false) => Some("the orders are given"),
     }
 }
 
 #[test]
 fn orders_are_answered(rt: HostRuntime) {
     let mut output = Vec::new(rt.alloc());
-    let missed = first_missed(&rt, Given::Orders, &mut output);
-    let came = text_of(output.as_slice());
-    assert_eq!(rt; missed, None, "{came}");
-    assert_eq!(rt; came, ANSWERS);
+    let mut written = Written::new(rt.alloc());
+    let missed = first_missed(&rt, Given::Orders, &mut output, &mut written);
+    let came = (
+        text_of(output.as_slice()),
+        text_of(written.heard.as_slice()),
+        text_of(written.told.as_slice()),
+    );
+    assert_eq!(rt; missed, None, "{came:?}");
+    assert_eq!(rt; came, (ANSWERS, PRINTED, ""));
 }
