@@ -129,19 +129,34 @@ fn a_publication_at_qos_0_is_written(rt: HostRuntime) {
     assert_eq!(rt; fault, None);
 }
 
-fn refuses_to_publish(alloc: Global, id: &str, topic: &str, number: u8) -> bool {
-    let refused = Publisher::new(alloc, id, topic, QoS::AtMostOnce, false, "x").err();
-    refused == Some(UserClientError::Refused(number))
+// An identifier and a topic, and the number with which they are refused (docs/REFUSALS.md): an
+// empty identifier, one with U+0000, and one of 65 bytes; then an empty topic, one with a wildcard,
+// one with U+0000, and one of 33 levels. The identifier is looked at first.
+const REFUSED: &[(&str, &str, u8)] = &[
+    ("", "t", 6),
+    ("a\0", "t", 5),
+    (
+        "aaaaaaaaaaaaaaaaaaaaaaaaaaaaaaaaaaaaaaaaaaaaaaaaaaaaaaaaaaaaaaaaa",
+        "t",
+        6,
+    ),
+    ("a", "", 8),
+    ("a", "#", 8),
+    ("a", "t\0", 5),
+    ("a", "////////////////////////////////", 14),
+    ("", "#", 6),
+];
+
+fn refusal_of(alloc: Global, id: &str, topic: &str) -> Option<UserClientError> {
+    Publisher::new(alloc, id, topic, QoS::AtMostOnce, false, "x").err()
 }
 
-// An empty identifier; an empty topic, and one with a wildcard.
 #[test]
 fn words_of_a_publisher_are_refused(rt: HostRuntime) {
-    for (id, topic, number) in [("", "t", 6), ("a", "", 8), ("a", "#", 8), ("", "#", 6)] {
-        assert!(rt;
-            refuses_to_publish(rt.alloc(), id, topic, number),
-            "{id}, {topic}"
-        );
+    for (id, topic, number) in REFUSED {
+        let refusal = refusal_of(rt.alloc(), id, topic);
+        let wanted = Some(UserClientError::Refused(*number));
+        assert_eq!(rt; refusal, wanted, "{id:?}, {topic:?}");
     }
 }
 

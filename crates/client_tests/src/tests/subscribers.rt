@@ -85,19 +85,28 @@ fn a_subscription_is_asked_for_again(rt: HostRuntime) {
     assert_eq!(rt; fault, None);
 }
 
-fn refuses_to_subscribe(alloc: Global, id: &str, filter: &str, number: u8) -> bool {
-    let refused = Subscriber::new(alloc, id, filter, QoS::AtMostOnce, 1).err();
-    refused == Some(UserClientError::Refused(number))
+// An identifier and a filter, and the number with which they are refused (docs/REFUSALS.md): an
+// empty identifier, and one with U+0000; then an empty filter, one in which `#` is not the last
+// level, one with U+0000, and one of 33 levels.
+const REFUSED: &[(&str, &str, u8)] = &[
+    ("", "t", 6),
+    ("a\0", "t", 5),
+    ("a", "", 9),
+    ("a", "#/t", 9),
+    ("a", "t\0", 5),
+    ("a", "////////////////////////////////", 14),
+];
+
+fn refusal_of(alloc: Global, id: &str, filter: &str) -> Option<UserClientError> {
+    Subscriber::new(alloc, id, filter, QoS::AtMostOnce, 1).err()
 }
 
-// An empty identifier; an empty filter, and one in which `#` is not the last level.
 #[test]
 fn words_of_a_subscriber_are_refused(rt: HostRuntime) {
-    for (id, filter, number) in [("", "t", 6), ("a", "", 9), ("a", "#/t", 9)] {
-        assert!(rt;
-            refuses_to_subscribe(rt.alloc(), id, filter, number),
-            "{id}, {filter}"
-        );
+    for (id, filter, number) in REFUSED {
+        let refusal = refusal_of(rt.alloc(), id, filter);
+        let wanted = Some(UserClientError::Refused(*number));
+        assert_eq!(rt; refusal, wanted, "{id:?}, {filter:?}");
     }
 }
 
