@@ -1,7 +1,6 @@
 // Each expected byte that a client sees is derived from MQTT 3.1.1.
 
 mod connections;
-mod entries;
 mod expelling;
 pub(crate) mod forms;
 mod handshakes;

@@ -1,5 +1,6 @@
 // A session, worked by hand from MQTT 3.1.1.
 
+mod entries;
 mod memory;
 mod row;
 

@@ -1,7 +1,7 @@
 // Entries in flight: their copies.
 
 use packet::{Payload, QoS};
-use session_base::*;
+use session_base::{Awaits, Publication};
 use std::alloc::Global;
 use topics::TopicName;
 
@@ -54,16 +54,12 @@ fn missed_by(alloc: Global, sent: &Awaits) -> Option<&'static str> {
     }
 }
 
-// Returns the first of these that is not so, that there is a publication among them.
-fn missed_copy(alloc: Global) -> Option<&'static str> {
-    match publication(alloc, "x") {
-        Some(sent) => missed_by(alloc, &Awaits::Pubrec(sent)),
-        None => Some("there is memory for a publication"),
-    }
-}
-
 // A copy equals its original, and nothing that differs in a part.
 #[test]
 fn copies_are_equal(rt: HostRuntime) {
-    assert_eq!(rt; missed_copy(rt.alloc()), None);
+    let missed = match publication(rt.alloc(), "x") {
+        Some(sent) => missed_by(rt.alloc(), &Awaits::Pubrec(sent)),
+        None => Some("there is memory for a publication"),
+    };
+    assert_eq!(rt; missed, None);
 }
