@@ -126,9 +126,24 @@ fn config_of(alloc: Global, members: &[u8], primary: u8) -> Option<Config> {
     })
 }
 
-/// The index of a row that does not hold, the index after the last one if a step ran out of memory;
-/// how many messages were sent then, how many commands are agreed, and which ballot is active.
-pub type Fault = (usize, u64, u64, u64);
+/// A row that does not hold, and what the world shows then.
+#[derive(Clone, Copy, Debug, PartialEq, Eq)]
+pub struct Fault {
+    /// The index of the row, the one after the last if a step ran out of memory.
+    pub row: usize,
+    /// How many messages were sent, how many commands are agreed, and which ballot is active.
+    pub messages: u64,
+    pub agreed: u64,
+    pub ballot: u64,
+}
+
+/// What is told of a table whose world does not open.
+pub const UNOPENED: Fault = Fault {
+    row: 0,
+    messages: 0,
+    agreed: 0,
+    ballot: 0,
+};
 
 /// Returns the first of these tables that has a row which does not hold, and the first such row.
 pub fn fault_in(alloc: Global, tables: &[Table]) -> Option<(&'static str, Fault)> {
@@ -148,7 +163,7 @@ fn fault_of(alloc: Global, nodes: u8, members: &[u8], rows: &[Row]) -> Option<Fa
             drop(world);
             fault
         }
-        None => Some((0, 0, 0, 0)),
+        None => Some(UNOPENED),
     }
 }
 
@@ -167,8 +182,13 @@ fn first_fault(alloc: Global, world: &mut World, rows: &[Row]) -> Option<Fault> 
 }
 
 /// Returns what this world shows at a row.
-pub fn fault_at(world: &World, at: usize) -> Fault {
-    (at, world.messages(), world.agreed_len(), world.active().0)
+pub fn fault_at(world: &World, row: usize) -> Fault {
+    Fault {
+        row,
+        messages: world.messages(),
+        agreed: world.agreed_len(),
+        ballot: world.active().0,
+    }
 }
 
 /// Says whether a row holds for a world.

@@ -1,8 +1,8 @@
 // A primary of a ballot that is over.
 
 use crate::tests::row::{
-    Action, Fault, NOTHING, PRESENT_AND_PUBLISH, PUBREC, Row, Said, Table, fault_at, fault_in,
-    is_right, opened,
+    Action, Fault, NOTHING, PRESENT_AND_PUBLISH, PUBREC, Row, Said, Table, UNOPENED, fault_at,
+    fault_in, is_right, opened,
 };
 use std::alloc::Global;
 use world::World;
@@ -108,7 +108,7 @@ fn first_pubrel_from_the_opening(alloc: Global) -> Option<(&'static str, Fault)>
             drop(world);
             fault
         }
-        None => Some(("no world opens", (0, 0, 0, 0))),
+        None => Some(("no world opens", UNOPENED)),
     }
 }
 

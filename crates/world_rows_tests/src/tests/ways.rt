@@ -238,7 +238,7 @@ fn is_back_by(world: &mut World, way: &[Event], client: &ClientId) -> Option<boo
 fn is_idle(world: &World, members: &[u8], client: &ClientId) -> bool {
     match world.escape(members, client) {
         Ok(_) => false,
-        Err(error) => error == EscapeError::Idle && error.number() == 24,
+        Err(error) => error == EscapeError::Idle,
     }
 }
 
