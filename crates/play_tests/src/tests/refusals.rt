@@ -4,7 +4,7 @@ use crate::tests::hand::outcome_of;
 use crate::tests::reading::bad_line;
 use play::PlayError;
 use script::ScriptFault;
-use std::alloc::{AllocError, Global};
+use std::alloc::Global;
 use std::test::Fail;
 
 // First lines that open no world.
@@ -182,16 +182,29 @@ fn lines_that_are_no_text_are_refused(rt: HostRuntime) {
     }
 }
 
-fn told(alloc: Global) -> Result<String, AllocError> {
-    let line = ScriptFault::Line(7);
-    let memory = ScriptFault::Memory;
-    format!(in alloc; "{line}; {memory}")
-}
+// Why a text is no script, and why a script is not played to its end.
+const UNREAD: &[(ScriptFault, &str)] = &[
+    (ScriptFault::Line(7), "script line 7"),
+    (ScriptFault::Memory, "out of memory"),
+];
+
+const UNPLAYED: &[(PlayError, &str)] = &[
+    (PlayError::Line(7), "script line 7"),
+    (PlayError::Memory, "out of memory"),
+    (PlayError::Losses, "the world ran out of memory"),
+    (PlayError::Idle, "no way out"),
+];
 
 #[test]
-fn a_refusal_has_its_text(rt: HostRuntime) -> Result<(), Fail> {
-    let text = told(rt.alloc())?;
-    assert_eq!(rt; text.as_str(), "script line 7; out of memory");
+fn refusals_have_their_texts(rt: HostRuntime) -> Result<(), Fail> {
+    for (fault, text) in UNREAD {
+        let printed = format!(in rt.alloc(); "{fault}")?;
+        assert_eq!(rt; printed.as_str(), *text);
+    }
+    for (error, text) in UNPLAYED {
+        let printed = format!(in rt.alloc(); "{error}")?;
+        assert_eq!(rt; printed.as_str(), *text);
+    }
     Ok(())
 }
 
