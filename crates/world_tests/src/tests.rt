@@ -7,3 +7,4 @@ mod long;
 mod memory;
 mod opening;
 mod piped;
+mod refusals;

@@ -4,6 +4,7 @@ use ballot::{Config, OpeningError};
 use machine::{Tally, TallyCommand};
 use master::{Event, Group, Idle};
 use std::alloc::Global;
+use std::test::Fail;
 
 // Says whether an event is idle.
 fn is_idle(group: &mut Group<Tally>, event: &Event<TallyCommand>) -> bool {
@@ -51,7 +52,16 @@ pub fn is_idle_where_nothing_can_happen(group: &mut Group<Tally>) -> Option<usiz
 #[test]
 fn what_cannot_happen_is_idle(rt: HostRuntime) {
     assert_eq!(rt; first_fault(rt.alloc(), 2, &[1, 2], Run::IsIdle), None);
-    assert_eq!(rt; Idle.number(), 24);
+}
+
+#[test]
+fn idle_has_its_number_and_text(rt: HostRuntime) -> Result<(), Fail> {
+    let printed = format!(in rt.alloc(); "{}", Idle)?;
+    assert_eq!(rt;
+        (Idle.number(), printed.as_str()),
+        (24, "an event that cannot happen now")
+    );
+    Ok(())
 }
 
 // Says whether a group is refused for its members; none if there was no memory for the question.
