@@ -1,0 +1,17 @@
+-- What is kept of the end of one more node.
+use Rattle.std.specs.Prelude.{◌≡◌, [], ◌∷◌, ◌++◌, Some}
+use Rattle.std.specs.Option.{option_or}
+use Rattle.node_threads.specs.declared.served_node.NodeReport.{NodeReport}
+use Rattle.server.specs.declared.outcome.Outcome.{Outcome}
+use Rattle.server.specs.declared.serve_error.ServeError.{ServeError}
+
+-- its report is added to the others
+abbrev pub Adds : NodeReport → Outcome → Outcome → Type 0
+Adds report old new =
+    (new.reports.items ≡ old.reports.items ++ report ∷ []) × (new.failure ≡ old.failure)
+
+-- it was not served, by this cause, which is kept if it is the first
+abbrev pub Fails : ServeError → Outcome → Outcome → Type 0
+Fails cause old new =
+    (new.reports.items ≡ old.reports.items)
+    × (new.failure ≡ option_or old.failure (Some cause))
