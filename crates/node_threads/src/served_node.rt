@@ -155,6 +155,7 @@ pub fn start_all<'a, J: NodeNaming, R: Wait, G: Gate>(
 {
     let mut nodes = Vec::with_capacity(alloc, opened.len())?;
     for one in opened {
+        // It was opened for a listener, and is one of the cluster's nodes. No clause says so.
         let context = contexts.context_of(one.number).ok_or(Memory)?;
         nodes.push(ServedNode::start(rt, alloc, context, config, one, gate)?)?;
     }
@@ -175,6 +176,7 @@ fn lane_slots_of<J: NodeNaming>(
     let mut slots = Vec::with_capacity(alloc, THREADS)?;
     let mut lanes = lanes.into_iter();
     let Some(own) = lanes.next() else {
+        // This does not come: an inbox has as many lanes as it was named with, `LANES`.
         return Err(Memory);
     };
     // The slots of the node's own thread, and of the thread that continues with full sockets, have

@@ -48,6 +48,8 @@ impl<'a, J: NodeNaming, G: Gate> Shared<'a, J, NodeState<J>, G> {
     {
         let Shared { node, .. } = self;
         if !node.has_all(lanes) {
+            // This does not come: each thread puts its lane back, and there is room for all. But
+            // the slots were under a lock, and no clause is about what is there.
             return Err(Memory);
         }
         Ok(node.close(rt, lanes))

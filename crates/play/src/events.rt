@@ -63,6 +63,7 @@ fn call(line: &ScriptLine) -> Result<Event, PlayError>
         ScriptLine::Unsubscribe(client, filter) => {
             Ok(Event::Unsubscribe(client.clone()?, filter.clone()?))
         }
+        // This does not come: `event_of` does every other line itself.
         _ => Err(PlayError::Memory),
     }
 }

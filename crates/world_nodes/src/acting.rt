@@ -135,6 +135,7 @@ impl Nodes {
         let (previous, previous_members) = self.master.active();
         let previous_members = Members::from_slice(self.alloc, previous_members)?;
         let Ok(ballot) = self.master.assign(given) else {
+            // This does not come: the master gives what it does not refuse.
             return Err(Memory);
         };
         self.counters.begin(ballot);

@@ -52,6 +52,7 @@ fn machine_of(alloc: Global, base: u64, snapshot: &[u8]) -> Result<BrokerMachine
     }
     match BrokerMachine::thaw(alloc, snapshot) {
         Ok(machine) => Ok(machine),
+        // That the bytes have another form does not come: a broker froze them.
         Err(_) => Err(Memory),
     }
 }
@@ -91,6 +92,7 @@ fn welcomes(alloc: Global, machine: &mut BrokerMachine, client: &ClientId) -> Re
         (Command.Connect first_connection client.now false))) }
 {
     let Some(name) = ConnectionName::new(1, 1) else {
+        // This does not come: both numbers are in their ranges.
         return Err(Memory);
     };
     let mut given = Vec::new(alloc);
