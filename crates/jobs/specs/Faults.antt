@@ -17,8 +17,8 @@ use Rattle.play.specs.user_client.declared.user_client_error.UserClientError.The
 use Rattle.jobs.specs.declared.job_error.JobError.{JobError}
 use Rattle.jobs.specs.declared.job_error.JobError.TheVariants as faults
 
--- 1 for file, network and memory, 2 for the command line, 3 for a table, a script or another
--- argument
+-- 1 for file, network, memory, clock and threads, a session that was there and one that was lost; 2
+-- for the command line; 3 for a table, a script or another argument, and no way out
 abbrev pub status_of : JobError → ℕ
 status_of faults.Memory = 1
 status_of faults.Input = 1

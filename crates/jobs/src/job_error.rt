@@ -67,8 +67,9 @@ pub enum JobError {
 }
 
 impl JobError {
-    /// Returns the exit status: 1 for a fault of file, network or memory, 2 for a command line that
-    /// is refused, 3 for a refused table, script or argument.
+    /// Returns the exit status: 1 for a fault of file, network, memory, clock or threads, and for
+    /// `session present` and `lost`; 2 for a command line that is refused; 3 for a refused table,
+    /// script or argument, and if there is no way out.
     pub fn status(&self) -> u8
         ensures { result ≡ status_of self.now }
     {
