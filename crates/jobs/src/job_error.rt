@@ -15,7 +15,7 @@ use user_client::UserClientError;
 #[derive(Debug, Drop, Error)]
 pub enum JobError {
     /// Memory ran out.
-    #[error("out of memory")]
+    #[error("{cause}", cause = Memory)]
     Memory,
     /// Standard input could not be read.
     #[error("standard input could not be read")]
@@ -24,10 +24,10 @@ pub enum JobError {
     #[error("standard output could not be written")]
     Output,
     /// The clock could not be read.
-    #[error("the clock could not be read")]
+    #[error("{cause}", cause = ServeError::Clock)]
     Clock,
     /// Fewer threads could be started than the nodes need.
-    #[error("too few threads could be started: a node needs {count}", count = THREADS)]
+    #[error("{cause}: a node needs {count}", cause = ServeError::Threads, count = THREADS)]
     Threads,
     /// Fewer files can be open at once than the nodes need.
     #[error("too few files can be open at once: {0} more are needed (ulimit -n)")]
@@ -45,11 +45,11 @@ pub enum JobError {
     #[error("config")]
     Config,
     /// A text is no script, by this line of it, counted from 1.
-    #[error("script line {0}")]
+    #[error("{cause}", cause = PlayError::Line(*.0))]
     Script(u64),
     /// A script was played to its end and its transcript was written, but its world ran out of
     /// memory.
-    #[error("out of memory: the transcript shows a world that lost something")]
+    #[error("{cause}: the transcript shows a world that lost something", cause = Memory)]
     Losses,
     /// The world in which a script ends has no way out for the members and the client that were
     /// named.

@@ -23,8 +23,8 @@ pub enum PlayError {
 impl fmt::Display for PlayError {
     fn fmt<W: fmt::Write>(&self, f: &mut fmt::Formatter<W>) -> fmt::Result {
         match self {
-            PlayError::Line(number) => write!(f, "script line {number}"),
-            PlayError::Memory => write!(f, "out of memory"),
+            PlayError::Line(number) => ScriptFault::Line(*number).fmt(f),
+            PlayError::Memory => Memory.fmt(f),
             PlayError::Losses => write!(f, "the world ran out of memory"),
             PlayError::Idle => write!(f, "no way out"),
         }
