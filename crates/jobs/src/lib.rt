@@ -9,6 +9,7 @@ mod refusing;
 mod scripts;
 mod serving;
 mod talking;
+mod word_fault;
 
 pub use job_error::JobError;
 pub use performing::{perform, print_fault};

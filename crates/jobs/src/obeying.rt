@@ -7,9 +7,10 @@ ghost use Rattle.jobs.specs.declared.obeying.Order.TheVariants as orders;
 
 use crate::job_error::JobError;
 use crate::scripts::client_of;
+use crate::word_fault::WordFault;
 use command_line::ListeningNode;
 use packet::ClientId;
-use server::{Cluster, Config, Idle, MAX_NODE, Members, Memory, ProposeError, Status};
+use server::{Cluster, Config, Idle, MAX_NODE, Members, ProposeError, Status};
 use std::alloc::Global;
 use std::io::{BufRead, ErrorKind, Write};
 use std::sync::Wait;
@@ -48,16 +49,18 @@ where
         match next_order(rt.alloc(), input)? {
             Ok(Order::Quit) => return Ok(()),
             Ok(order) => answer(rt, cluster, nodes, order, output),
-            Err(number) => refuse(output, number),
+            Err(fault) => refuse(output, fault.number()),
         }
         let _ = output.flush();
     }
     unreachable!()
 }
 
-// Returns what the next line orders, or the number by which it is refused. The end of the input
-// orders to quit.
-fn next_order<I: BufRead>(alloc: Global, input: &mut I) -> Result<Result<Order, u8>, JobError> {
+// Returns what the next line orders, or why it is refused. The end of the input orders to quit.
+fn next_order<I: BufRead>(
+    alloc: Global,
+    input: &mut I,
+) -> Result<Result<Order, WordFault>, JobError> {
     let mut line = String::new(alloc);
     match input.read_line(&mut line) {
         Ok(0) => Ok(Ok(Order::Quit)),
@@ -67,15 +70,15 @@ fn next_order<I: BufRead>(alloc: Global, input: &mut I) -> Result<Result<Order, 
             ErrorKind::OutOfMemory => {
                 // The rest of the line is no order.
                 input.skip_until(b'\n').ok().ok_or(JobError::Input)?;
-                Ok(Err(Memory.number()))
+                Ok(Err(WordFault::Memory))
             }
             _ => Err(JobError::Input),
         },
     }
 }
 
-// Returns what a line orders, or the number by which it is refused.
-fn order_of(alloc: Global, line: &str) -> Result<Order, u8> {
+// Returns what a line orders, or why it is refused.
+fn order_of(alloc: Global, line: &str) -> Result<Order, WordFault> {
     if let Some(client) = line.strip_prefix("expel ") {
         return expel_of(alloc, client);
     }
@@ -92,14 +95,14 @@ fn order_of(alloc: Global, line: &str) -> Result<Order, u8> {
     }
 }
 
-// Returns the refusal of a line that is no order, and of a crash of a node that does not run.
-fn no_order() -> u8 {
-    Idle.number()
+// Returns the refusal of a line that is no order.
+fn no_order() -> WordFault {
+    WordFault::Refused(Idle.number())
 }
 
-// Returns the order to end the session of the client with this identifier, or the number by which
-// the identifier is refused.
-fn expel_of(alloc: Global, client: &str) -> Result<Order, u8>
+// Returns the order to end the session of the client with this identifier, or why the identifier is
+// refused.
+fn expel_of(alloc: Global, client: &str) -> Result<Order, WordFault>
     ensures order { IfOk result (λ order. order ≡ orders.Expel client.now) }
     ensures sound { OnOk result (client_fault client.now ≡ None) }
     ensures refused { IfErr result (IsRefusedBy client.now) }
@@ -109,7 +112,7 @@ fn expel_of(alloc: Global, client: &str) -> Result<Order, u8>
 
 // Returns the number that a word says. A number above 255 counts as 255, which no node has. A sign
 // is not part of a number.
-fn number_of(word: &str) -> Result<u8, u8> {
+fn number_of(word: &str) -> Result<u8, WordFault> {
     if word.starts_with('+') {
         return Err(no_order());
     }
@@ -119,18 +122,18 @@ fn number_of(word: &str) -> Result<u8, u8> {
     }
 }
 
-/// Returns the numbers of a word, with commas between them, or the number by which it is refused.
-pub(crate) fn members_of(alloc: Global, word: &str) -> Result<Members, u8> {
+/// Returns the numbers of a word, with commas between them, or why it is refused.
+pub(crate) fn members_of(alloc: Global, word: &str) -> Result<Members, WordFault> {
     let mut numbers = Vec::new(alloc);
     for part in word.split(',') {
         let number = number_of(part)?;
         if numbers.push(number).is_err() {
-            return Err(Memory.number());
+            return Err(WordFault::Memory);
         }
     }
     match Members::from_slice(alloc, numbers.as_slice()) {
         Ok(members) => Ok(members),
-        Err(error) => Err(error.number()),
+        Err(_) => Err(WordFault::Memory),
     }
 }
 
@@ -153,7 +156,8 @@ where
             Ok(true) => {
                 let _ = writeln!(output, "crashed {number}");
             }
-            Ok(false) => refuse(output, no_order()),
+            // The node does not run.
+            Ok(false) => refuse(output, Idle.number()),
             Err(error) => refuse(output, error.number()),
         },
         Order::Expel(client) => expel(rt, cluster, &client, output),

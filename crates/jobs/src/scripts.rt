@@ -12,10 +12,11 @@ ghost use Rattle.jobs.specs.Transcripts.{Prints, PrintsWay};
 use crate::job_error::JobError;
 use crate::obeying::members_of;
 use crate::reading::{bytes_of, rest_of};
+use crate::word_fault::WordFault;
 use command_line::{Escape, Play};
 use packet::ClientId;
 use play::{PlayError, escape, play};
-use server::{Memory, OpeningError};
+use server::OpeningError;
 use std::alloc::Global;
 use std::io::{BufRead, Write};
 use std::rt::Files;
@@ -53,26 +54,28 @@ fn print_way<O: Write>(
 ) -> Result<(), JobError> {
     let members = match members_of(alloc, job.members) {
         Ok(members) => members,
-        Err(number) if number == Memory.number() => return Err(JobError::Memory),
-        Err(_) => return Err(JobError::Refused(OpeningError::BadMembers.number())),
+        Err(WordFault::Memory) => return Err(JobError::Memory),
+        Err(WordFault::Refused(_)) => {
+            return Err(JobError::Refused(OpeningError::BadMembers.number()));
+        }
     };
     let client = match client_of(alloc, job.client) {
         Ok(client) => client,
-        Err(number) if number == Memory.number() => return Err(JobError::Memory),
-        Err(number) => return Err(JobError::Refused(number)),
+        Err(WordFault::Memory) => return Err(JobError::Memory),
+        Err(WordFault::Refused(number)) => return Err(JobError::Refused(number)),
     };
     escape_text(alloc, text, members.as_slice(), &client, output)
 }
 
-/// Returns the client with this identifier, or the number by which it is refused.
-pub(crate) fn client_of(alloc: Global, word: &str) -> Result<ClientId, u8>
+/// Returns the client with this identifier, or why it is refused.
+pub(crate) fn client_of(alloc: Global, word: &str) -> Result<ClientId, WordFault>
     ensures value { IfOk result (λ client. client ≡ word.now) }
     ensures sound { OnOk result (client_fault word.now ≡ None) }
     ensures refused { IfErr result (IsRefusedBy word.now) }
 {
     match ClientId::new(alloc, word) {
         Ok(client) => Ok(client),
-        Err(fault) => Err(fault.number()),
+        Err(kind) => Err(WordFault::from(kind)),
     }
 }
 

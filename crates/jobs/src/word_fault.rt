@@ -1,0 +1,41 @@
+// Why a word of an order, or of the command line, is refused.
+
+ghost use Rattle.std.specs.Prelude.{◌≡◌};
+ghost use Rattle.jobs.specs.Orders.{refused_number};
+
+use server::Memory;
+use topics::MalformedKind;
+
+/// Why a word of an order, or of the command line, is refused.
+#[derive(Clone, Copy)]
+pub(crate) enum WordFault {
+    /// It does not say what it should. This is the number of the refusal.
+    Refused(u8),
+    /// Memory ran out.
+    Memory,
+}
+
+impl WordFault {
+    /// Returns the number of this refusal, the same in every program and document of this broker.
+    pub(crate) fn number(self) -> u8
+        ensures { result ≡ refused_number self }
+    {
+        match self {
+            WordFault::Refused(number) => number,
+            WordFault::Memory => Memory.number(),
+        }
+    }
+}
+
+impl From<MalformedKind> for WordFault {
+    ghost use Rattle.jobs.specs.Orders.{fault_of};
+
+    ghost from_gives = { λ kind fault. fault ≡ fault_of kind };
+
+    fn from(kind: MalformedKind) -> WordFault {
+        match kind {
+            MalformedKind::Memory => WordFault::Memory,
+            other => WordFault::Refused(other.number()),
+        }
+    }
+}
