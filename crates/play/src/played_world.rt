@@ -78,7 +78,7 @@ impl PlayedWorld {
             (names_of self.new.recipients.items ≡ names_of self.old.recipients.items) }
         ensures memory { OnErr result (IsErrOf result PlayError.Memory) }
     {
-        let came = self.happens(line)?;
+        let came = self.happen(line)?;
         self.write_line(index, came, transcript)?;
         write_all_new(
             self.alloc,
@@ -89,7 +89,7 @@ impl PlayedWorld {
     }
 
     // Does what a line asks for, if it can happen.
-    fn happens(&mut self, line: &ScriptLine) -> Result<Result<(), Idle>, PlayError>
+    fn happen(&mut self, line: &ScriptLine) -> Result<Result<(), Idle>, PlayError>
         ensures comes { IfOk result (λ result.
             Comes line.now self.old.world result self.new.world) }
         ensures recipients { self.new.recipients.items ≡ self.old.recipients.items }
