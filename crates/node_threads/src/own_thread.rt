@@ -35,7 +35,7 @@ struct LastTick {
 
 impl<'a, J: NodeNaming, S: Stated<J>, G: Gate> ServedNode<'a, J, S, G> {
     /// Works as the node's own thread until it sees the listener closed. Returns the witness.
-    pub(crate) fn keep_going<R: Wait + Clock>(&self, rt: &R) -> Closed
+    pub(crate) fn run_own_thread<R: Wait + Clock>(&self, rt: &R) -> Closed
         ensures { result ≡ self.now.number }
     {
         let shared = &self.shared;

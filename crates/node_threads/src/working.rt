@@ -119,7 +119,7 @@ impl<'a, J: NodeNaming, S: Stated<J>, G: Gate> ServedNode<'a, J, S, G> {
         ensures { result ≡ self.now.number }
     {
         if index == 0 {
-            self.keep_going(rt)
+            self.run_own_thread(rt)
         } else {
             self.shared.write_blocked(rt)
         }
