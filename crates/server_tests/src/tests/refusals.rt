@@ -1,21 +1,18 @@
-// Listeners that are not served.
+// What is refused: listeners that are not served; and how each refusal is told.
 
 use super::nodes::{listen_all, opening};
-use server::{ServeError, serve_while};
+use server::{OrderError, ServeError, serve_while};
 use std::net::{Net, TcpListener, TcpStream};
 use std::sync::Wait;
+use std::test::Fail;
 use std::thread::Threads;
 use std::time::Clock;
 
 // Whether nothing is served at listeners of these numbers, since no nodes may have them.
 fn are_refused<R>(rt: &R, numbers: &[u8]) -> bool
 where
-    R: AllocGlobal
-        + Threads
-        + Wait
-        + Clock
-        + Sync
-        + Net<Listener = TcpListener, Stream = TcpStream>,
+    R: AllocGlobal + Threads + Wait + Clock + Sync,
+    R: Net<Listener = TcpListener, Stream = TcpStream>,
 {
     let Ok(config) = opening(rt.alloc(), &[1]) else {
         return false;
@@ -31,4 +28,23 @@ fn numbers_of_listeners_are_refused(rt: HostRuntime) {
     for numbers in [[1, 1].as_slice(), [1, 16].as_slice(), [0, 1].as_slice()] {
         assert!(rt; are_refused(&rt, numbers), "{numbers:?}");
     }
+}
+
+// Why nodes are not served.
+const SERVING: &[(ServeError, &str)] = &[
+    (ServeError::BadMembers, "members or primary of the ballot"),
+    (ServeError::Memory, "out of memory"),
+    (ServeError::Clock, "the clock could not be read"),
+    (ServeError::Threads, "too few threads could be started"),
+];
+
+#[test]
+fn refusals_have_their_texts(rt: HostRuntime) -> Result<(), Fail> {
+    for (error, text) in SERVING {
+        let printed = format!(in rt.alloc(); "{error}")?;
+        assert_eq!(rt; printed.as_str(), *text);
+    }
+    let printed = format!(in rt.alloc(); "{}", OrderError::Memory)?;
+    assert_eq!(rt; printed.as_str(), "out of memory");
+    Ok(())
 }
