@@ -24,12 +24,8 @@ trait Watched: Gate {
 // is the primary. The last one is that each node took what was sent to it.
 fn missed_at<R, G>(rt: &R, members: &[u8], gate: &G) -> Missed
 where
-    R: AllocGlobal
-        + Threads
-        + Wait
-        + Clock
-        + Sync
-        + Net<Listener = TcpListener, Stream = TcpStream>,
+    R: AllocGlobal + Threads + Wait + Clock + Sync,
+    R: Net<Listener = TcpListener, Stream = TcpStream>,
     G: Watched + Sync,
 {
     let mut listeners = Vec::new(rt.alloc());
@@ -199,12 +195,19 @@ enum Load {
 pub(super) struct Bar {
     shut: Mutex<bool>,
     load: Load,
+    // How many places were open while it was shut, if that was looked at.
+    open: Mutex<Option<u64>>,
 }
 
 impl Bar {
     /// Shuts or opens it.
     pub(super) fn set<R: Wait>(&self, rt: &R, shut: bool) {
         *self.shut.lock(rt) = shut;
+    }
+
+    /// Notes how many places are open, so that a test that fails shows it.
+    pub(super) fn note<R: Wait>(&self, rt: &R, open: Option<u64>) {
+        *self.open.lock(rt) = open;
     }
 
     // Returns the first step of `holds` that is not so for a subscriber and a publisher.
@@ -275,7 +278,10 @@ fn what_waits_for_a_held_member_is_bounded(rt: HostRuntime) {
         let bar = Bar {
             shut: Mutex::new(false),
             load,
+            open: Mutex::new(None),
         };
-        assert_eq!(rt; missed_at(&rt, &[1, 2, 3], &bar), None, "{load:?}");
+        let missed = missed_at(&rt, &[1, 2, 3], &bar);
+        let open = *bar.open.lock(&rt);
+        assert_eq!(rt; missed, None, "{load:?}, places open: {open:?}");
     }
 }

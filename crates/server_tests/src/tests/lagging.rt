@@ -38,11 +38,12 @@ fn waits<R: Wait + Clock>(
     bar.set(rt, true);
     let is_sent = (0..3u8).all(|_| flood.is_sent(stream));
     let open = crowded_places(rt, cluster);
+    bar.note(rt, open);
     bar.set(rt, false);
     if !is_sent {
         return Some("all PINGREQ are sent");
     }
-    if open <= 4_096 || open > 37_000 {
+    if !open.is_some_and(|open| open > 4_096 && open <= 37_000) {
         return Some("4,097 to 37,000 places are open");
     }
     unless(
@@ -53,9 +54,9 @@ fn waits<R: Wait + Clock>(
 
 // Returns how many places are open a second and a half after more than 4,096 were, or after at most
 // 30 seconds: other work on the machine may slow the node down.
-fn crowded_places<R: Wait + Clock>(rt: &R, cluster: &Cluster) -> u64 {
+fn crowded_places<R: Wait + Clock>(rt: &R, cluster: &Cluster) -> Option<u64> {
     for _ in 0..300u16 {
-        if open_places(rt, cluster) > 4_096 {
+        if open_places(rt, cluster).is_some_and(|open| open > 4_096) {
             break;
         }
         thread::sleep(rt, Duration::from_millis(100));
@@ -64,12 +65,11 @@ fn crowded_places<R: Wait + Clock>(rt: &R, cluster: &Cluster) -> u64 {
     open_places(rt, cluster)
 }
 
-// Returns how many places of the primary's log are not known to be held by all.
-fn open_places<R: Wait + Clock>(rt: &R, cluster: &Cluster) -> u64 {
-    match cluster.status(rt, 1) {
-        Some(status) => status.held.saturating_sub(status.committed),
-        None => u64::MAX,
-    }
+// Returns how many places of the primary's log are not known to be held by all; none if it has no
+// status.
+fn open_places<R: Wait + Clock>(rt: &R, cluster: &Cluster) -> Option<u64> {
+    let status = cluster.status(rt, 1)?;
+    Some(status.held.saturating_sub(status.committed))
 }
 
 /// Returns the first step that is not so: of 150 MB that a client sends while a member is held, no
@@ -108,6 +108,7 @@ fn holding_back<R: Wait + Clock>(
     let is_limited = waits_to_write(stream, 1_000);
     let is_sent = (0..150u8).all(|_| stream.write_all(large).is_ok());
     let open = open_places(rt, cluster);
+    bar.note(rt, open);
     bar.set(rt, false);
     if !is_limited {
         return Some("the socket takes a limit for writes");
@@ -115,5 +116,8 @@ fn holding_back<R: Wait + Clock>(
     if is_sent {
         return Some("not all bytes are read");
     }
-    unless(open > 32 && open <= 72, "33 to 72 places are open")
+    unless(
+        open.is_some_and(|open| open > 32 && open <= 72),
+        "33 to 72 places are open",
+    )
 }
