@@ -65,12 +65,8 @@ fn logs_are_cut(rt: HostRuntime) {
 // Returns the first step of a row that is not so with nodes of its own.
 fn missed_with<R>(rt: &R, row: &Row) -> Missed
 where
-    R: AllocGlobal
-        + Threads
-        + Wait
-        + Clock
-        + Sync
-        + Net<Listener = TcpListener, Stream = TcpStream>,
+    R: AllocGlobal + Threads + Wait + Clock + Sync,
+    R: Net<Listener = TcpListener, Stream = TcpStream>,
 {
     let mut listeners = Vec::new(rt.alloc());
     if listen_all(rt, row.members, &mut listeners) {

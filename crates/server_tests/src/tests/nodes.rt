@@ -48,12 +48,8 @@ where
 /// own, and the step of it that is not so.
 pub(super) fn fault_in<R>(rt: &R, tables: &[Table]) -> Option<(&'static str, &'static str)>
 where
-    R: AllocGlobal
-        + Threads
-        + Wait
-        + Clock
-        + Sync
-        + Net<Listener = TcpListener, Stream = TcpStream>,
+    R: AllocGlobal + Threads + Wait + Clock + Sync,
+    R: Net<Listener = TcpListener, Stream = TcpStream>,
 {
     for table in tables {
         if let Some(step) = missed_with(rt, table.members, table.row) {
@@ -67,12 +63,8 @@ where
 /// Node 1 is the primary.
 pub(super) fn missed_with<R>(rt: &R, members: &[u8], row: Row) -> Missed
 where
-    R: AllocGlobal
-        + Threads
-        + Wait
-        + Clock
-        + Sync
-        + Net<Listener = TcpListener, Stream = TcpStream>,
+    R: AllocGlobal + Threads + Wait + Clock + Sync,
+    R: Net<Listener = TcpListener, Stream = TcpStream>,
 {
     let mut listeners = Vec::new(rt.alloc());
     if listen_all(rt, members, &mut listeners) {
@@ -85,12 +77,8 @@ where
 // Returns the first step of a row that is not so with the nodes of these listeners.
 fn serve<R>(rt: &R, members: &[u8], listeners: &[Listener], row: Row) -> Missed
 where
-    R: AllocGlobal
-        + Threads
-        + Wait
-        + Clock
-        + Sync
-        + Net<Listener = TcpListener, Stream = TcpStream>,
+    R: AllocGlobal + Threads + Wait + Clock + Sync,
+    R: Net<Listener = TcpListener, Stream = TcpStream>,
 {
     let Ok(config) = opening(rt.alloc(), members) else {
         return Some("there is memory for a ballot");
