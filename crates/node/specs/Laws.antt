@@ -1,5 +1,6 @@
 -- Which bytes that a node took are counted, and after which ticks its log is cut.
 use Rattle.std.specs.Prelude.{◌≡◌, ℕ, ◌+◌, ◌<◌, ◌≤◌, List, true}
+use Rattle.world_base.specs.LawfulConfig.{max_node}
 use Rattle.node.specs.Counting.{Counts, Taken, bytes_behind, committed_of}
 use Rattle.node.specs.Crowding.{Taking}
 use Rattle.node.specs.Cutting.{cuts_after}
@@ -10,11 +11,10 @@ OpenBytesAreCounted =
     (all : List Taken) (taking : Taking) → Counts all taking →
     bytes_behind (committed_of taking.status) all ≤ taking.earlier + taking.later
 
--- No two nodes, whose numbers are at most 15 (`max_node` of `ballot_base`), have their logs cut
--- after the same tick.
+-- No two nodes, whose numbers are at most `max_node`, have their logs cut after the same tick.
 abbrev pub CutsComeApart : Type 0
 CutsComeApart =
-    (node other ticks : ℕ) → node ≤ 15 → other ≤ 15 →
+    (node other ticks : ℕ) → node ≤ max_node → other ≤ max_node →
     cuts_after node ticks ≡ true → cuts_after other ticks ≡ true → node ≡ other
 
 -- a cut of a node, fewer than 50 ticks after this many

@@ -77,7 +77,7 @@ impl Intake {
         self.status
     }
 
-    /// Counts bytes as in transit to the node, if it takes more.
+    /// Counts bytes as in transit to the node, if it takes more. Returns whether it does.
     pub fn admit(&mut self, bytes: u64) -> bool
         requires { bytes ≤ PIECE_BYTES }
         ensures admits { result ≡ admits self.old }

@@ -42,7 +42,7 @@ impl<'n> Model for Permit<'n> {
 impl<'n> Permit<'n> {
     /// Returns a permit without a gate.
     pub(crate) fn free() -> Permit<'n>
-        ensures { result ≡ record { taking = None; most = 16; is_open = true } }
+        ensures { result ≡ record { taking = None; most = MAX_AT_ONCE; is_open = true } }
     {
         Permit {
             taking: None,
