@@ -4,8 +4,8 @@ use Rattle.std.specs.Io.KnownBytes.{Appends}
 use Rattle.node_base.specs.Counted.{counted_once}
 use Rattle.world_base.specs.declared.Handed.{Handed}
 use Rattle.world_base.specs.declared.Handed.TheVariants as answers
-use Rattle.connection.specs.declared.wrote.Wrote.{Wrote}
-use Rattle.connection.specs.declared.wrote.Wrote.TheVariants as wrotes
+use Rattle.connection.specs.declared.left_write.LeftWrite.{LeftWrite}
+use Rattle.connection.specs.declared.left_write.LeftWrite.TheVariants as left_writes
 use Rattle.connection.specs.declared.flow.Flow.{Flow}
 use Rattle.connection.specs.declared.flow.Flow.TheVariants as flows
 
@@ -16,11 +16,11 @@ pub record Writes (old new : Option (List ℕ)) (bytes left : List ℕ) : Type 0
   pub written : Appends old new taken
 
 -- what is left, by how far a write came
-abbrev pub LeavesSo : Wrote → List ℕ → Type 0
-LeavesSo wrotes.Whole left = left ≡ []
-LeavesSo wrotes.Full left = 0 < length left
-LeavesSo wrotes.Stopped left = 0 < length left
-LeavesSo wrotes.Fault left = 0 < length left
+abbrev pub LeavesSo : LeftWrite → List ℕ → Type 0
+LeavesSo left_writes.Whole left = left ≡ []
+LeavesSo left_writes.Full left = 0 < length left
+LeavesSo left_writes.Stopped left = 0 < length left
+LeavesSo left_writes.Fault left = 0 < length left
 
 module _ {T : Type 0} where
   -- these bytes are what is handed over with this answer, and they were appended to the list
@@ -56,8 +56,8 @@ RestsSo flows.Stopped rest = Unit {0}
 RestsSo flows.Fault rest = 0 < length rest
 
 -- the count of the device's failed calls: it rises by one if a call failed, and not otherwise
-abbrev pub faults_written : Wrote → ℕ → ℕ
-faults_written wrotes.Fault faults = counted_once faults
+abbrev pub faults_written : LeftWrite → ℕ → ℕ
+faults_written left_writes.Fault faults = counted_once faults
 faults_written _ faults = faults
 
 -- the count of faults after all writes of queued bytes

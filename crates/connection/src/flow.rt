@@ -3,10 +3,10 @@
 ghost use Rattle.std.specs.Prelude.{◌≡◌};
 ghost use Rattle.connection.specs.Writing.{Flows, faults_flowed};
 
+use crate::left_write::LeftWrite;
 use crate::outlet::Outlet;
 use crate::tap::Tap;
 use crate::unwritten::Unwritten;
-use crate::wrote::Wrote;
 use node_base::Counted;
 use std::io::Write;
 use std::sync::Wait;
@@ -44,21 +44,21 @@ pub fn write_out<R: Wait, T: Tap, O: Outlet<T>, W: Write>(
     ensures faults { device.new.faults ≡ faults_flowed result device.old.faults }
 {
     match left.write(device) {
-        Wrote::Whole => {}
-        Wrote::Full => return Flow::Blocked,
-        Wrote::Stopped => return Flow::Stopped,
-        Wrote::Fault => return Flow::Fault,
+        LeftWrite::Whole => {}
+        LeftWrite::Full => return Flow::Blocked,
+        LeftWrite::Stopped => return Flow::Stopped,
+        LeftWrite::Fault => return Flow::Fault,
     }
     let Ok(handed) = left.take_from(rt, tap, outlet) else {
         return Flow::Stopped;
     };
     match left.write(device) {
-        Wrote::Whole => match handed {
+        LeftWrite::Whole => match handed {
             Handed::Open => Flow::Open,
             Handed::Closed => Flow::Closed,
         },
-        Wrote::Full => Flow::Blocked,
-        Wrote::Stopped => Flow::Stopped,
-        Wrote::Fault => Flow::Fault,
+        LeftWrite::Full => Flow::Blocked,
+        LeftWrite::Stopped => Flow::Stopped,
+        LeftWrite::Fault => Flow::Fault,
     }
 }

@@ -6,7 +6,7 @@ ghost use Rattle.connection.specs.Inside.{HearsOn, HearsPiece, faults_so_far};
 
 use crate::ending::Ending;
 use crate::hearer::Hearer;
-use node_base::{Counted, PIECE_BYTES, ReadOutcome};
+use node_base::{Counted, OneRead, PIECE_BYTES};
 use std::alloc::Global;
 use std::io::Read;
 use std::sync::Wait;
@@ -89,9 +89,9 @@ fn report_piece<R: Wait + Clock, H: Hearer, D: Read>(
     ensures faults { device.new.faults ≡ faults_so_far result device.old.faults }
 {
     let count = match device.read_piece(room) {
-        ReadOutcome::Bytes(count) => count,
-        ReadOutcome::End => return Err(Ending::End),
-        ReadOutcome::Fault => return Err(Ending::Fault),
+        OneRead::Bytes(count) => count,
+        OneRead::End => return Err(Ending::End),
+        OneRead::Fault => return Err(Ending::Fault),
     };
     let Ok(piece) = Piece::from_slice(alloc, &room[..count]) else {
         return Err(Ending::Memory);

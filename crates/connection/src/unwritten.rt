@@ -3,10 +3,10 @@
 ghost use Rattle.std.specs.Prelude.{◌≡◌, ◌==◌, ◌≤◌, [], drop, length, IfOk, OnErr};
 ghost use Rattle.connection.specs.Writing.{HandsOver, LeavesSo, Writes, faults_written};
 
+use crate::left_write::LeftWrite;
 use crate::outlet::Outlet;
 use crate::tap::Tap;
-use crate::wrote::Wrote;
-use node_base::{Counted, WriteOutcome};
+use node_base::{Counted, OneWrite};
 use std::alloc::{AllocError, Global};
 use std::io::Write;
 use std::marker::Model;
@@ -69,7 +69,7 @@ impl Unwritten {
 
     /// Writes as much as the device takes. A call that was interrupted is repeated. A call that
     /// would have to wait, or did so for too long, means that the device is full.
-    pub fn write<W: Write>(&mut self, device: &mut Counted<W>) -> Wrote
+    pub fn write<W: Write>(&mut self, device: &mut Counted<W>) -> LeftWrite
         ensures writes { Writes
             (W.contents device.old.device) (W.contents device.new.device) self.old self.new }
         ensures leaves { LeavesSo result self.new }
@@ -79,19 +79,19 @@ impl Unwritten {
     {
         for _ in 0..u64::MAX {
             if self.is_empty() {
-                return Wrote::Whole;
+                return LeftWrite::Whole;
             }
             match device.write_piece(self.as_slice()) {
-                WriteOutcome::Bytes(count) => self.skip(count),
-                WriteOutcome::Full => return Wrote::Full,
-                WriteOutcome::Stopped => return Wrote::Stopped,
-                WriteOutcome::Fault => return Wrote::Fault,
+                OneWrite::Bytes(count) => self.skip(count),
+                OneWrite::Full => return LeftWrite::Full,
+                OneWrite::Stopped => return LeftWrite::Stopped,
+                OneWrite::Fault => return LeftWrite::Fault,
             }
         }
         if self.is_empty() {
-            Wrote::Whole
+            LeftWrite::Whole
         } else {
-            Wrote::Stopped
+            LeftWrite::Stopped
         }
     }
 

@@ -3,10 +3,10 @@
 use Rattle.std.specs.Prelude.{ℕ, ◌<◌, ◌≤◌, Option, List, length, take}
 use Rattle.std.specs.Io.KnownBytes.{Appends, Consumes, IsAtEnd, Keeps}
 use Rattle.node_base.specs.Counted.{counted_once}
-use Rattle.node_base.specs.declared.read_outcome.ReadOutcome.{ReadOutcome}
-use Rattle.node_base.specs.declared.read_outcome.ReadOutcome.TheVariants.{Bytes, End, Fault}
-use Rattle.node_base.specs.declared.write_outcome.WriteOutcome.{WriteOutcome}
-use Rattle.node_base.specs.declared.write_outcome.WriteOutcome.TheVariants as writes
+use Rattle.node_base.specs.declared.one_read.OneRead.{OneRead}
+use Rattle.node_base.specs.declared.one_read.OneRead.TheVariants.{Bytes, End, Fault}
+use Rattle.node_base.specs.declared.one_write.OneWrite.{OneWrite}
+use Rattle.node_base.specs.declared.one_write.OneWrite.TheVariants as writes
 
 -- what was added to the device's bytes is a prefix of these bytes, or all of them
 abbrev pub WritesBeginning : Option (List ℕ) → Option (List ℕ) → List ℕ → Type 0
@@ -19,17 +19,17 @@ WritesShort old new bytes =
     (count : ℕ) × (count < length bytes) × Appends old new (take count bytes)
 
 -- the count of failed calls after a read: one that failed is counted
-abbrev pub counted_read : ReadOutcome → ℕ → ℕ
+abbrev pub counted_read : OneRead → ℕ → ℕ
 counted_read Fault faults = counted_once faults
 counted_read _ faults = faults
 
 -- the count of faults after a write
-abbrev pub counted_write : WriteOutcome → ℕ → ℕ
+abbrev pub counted_write : OneWrite → ℕ → ℕ
 counted_write writes.Fault faults = counted_once faults
 counted_write _ faults = faults
 
 -- the first bytes of the piece were added to the device's, or none
-abbrev pub WritesPiece : WriteOutcome → Option (List ℕ) → Option (List ℕ) → List ℕ → Type 0
+abbrev pub WritesPiece : OneWrite → Option (List ℕ) → Option (List ℕ) → List ℕ → Type 0
 WritesPiece (writes.Bytes count) old new bytes =
     (count ≤ length bytes) × Appends old new (take count bytes)
 WritesPiece writes.Full old new bytes = Keeps old new
@@ -37,7 +37,7 @@ WritesPiece writes.Stopped old new bytes = Keeps old new
 WritesPiece writes.Fault old new bytes = Keeps old new
 
 -- the piece is what the device gave, from the first byte that was left; its end is no fault
-abbrev pub ReadsPiece : ReadOutcome → Option (List ℕ) → Option (List ℕ) → List ℕ → Type 0
+abbrev pub ReadsPiece : OneRead → Option (List ℕ) → Option (List ℕ) → List ℕ → Type 0
 ReadsPiece (Bytes count) old new room =
     (0 < count) × (count ≤ length room) × Consumes old new (take count room)
 ReadsPiece End old new room = Keeps old new × IsAtEnd new

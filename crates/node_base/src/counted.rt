@@ -6,9 +6,9 @@ ghost use Rattle.node_base.specs.Counted.{Watched, counted_once};
 ghost use Rattle.node_base.specs.Engines.{WritesBeginning, WritesPiece, WritesShort, ReadsPiece, counted_read, counted_write};
 ghost use Rattle.node_base.specs.Inside.{WritesOnce};
 
-use crate::read_outcome::ReadOutcome;
-use crate::write_outcome::WriteOutcome;
-use crate::written::Written;
+use crate::one_read::OneRead;
+use crate::one_write::OneWrite;
+use crate::whole_write::WholeWrite;
 use std::io::{ErrorKind, Read, Write};
 use std::marker::Model;
 
@@ -56,38 +56,38 @@ impl<D> Counted<D> {
 impl<W: Write> Counted<W> {
     /// Writes all bytes and flushes the device, in as many calls as needed. What is written is
     /// always a prefix of `bytes`.
-    pub fn write_whole(&mut self, bytes: &[u8]) -> Written
+    pub fn write_whole(&mut self, bytes: &[u8]) -> WholeWrite
         ensures beginning { WritesBeginning
             (W.contents self.old.device) (W.contents self.new.device) bytes.now }
-        ensures whole { result ≡ Written.Whole → Appends
+        ensures whole { result ≡ WholeWrite.Whole → Appends
             (W.contents self.old.device) (W.contents self.new.device) bytes.now }
-        ensures stopped { result ≡ Written.Stopped → WritesShort
+        ensures stopped { result ≡ WholeWrite.Stopped → WritesShort
             (W.contents self.old.device) (W.contents self.new.device) bytes.now }
 
         // A fault is reported exactly if one more call of the device failed.
-        ensures fault { result ≡ Written.Fault → self.new.faults
+        ensures fault { result ≡ WholeWrite.Fault → self.new.faults
             ≡ counted_once self.old.faults }
-        ensures no_fault { result ≢ Written.Fault → self.new.faults ≡ self.old.faults }
+        ensures no_fault { result ≢ WholeWrite.Fault → self.new.faults ≡ self.old.faults }
     {
         let mut done = 0;
         while done < bytes.len() {
             match self.write_once(&bytes[done..]) {
-                None => return Written::Fault,
-                Some(0) => return Written::Stopped,
+                None => return WholeWrite::Fault,
+                Some(0) => return WholeWrite::Stopped,
                 Some(count) => done += count,
             }
         }
         if self.flush() {
-            Written::Whole
+            WholeWrite::Whole
         } else {
-            Written::Fault
+            WholeWrite::Fault
         }
     }
 
     /// Writes a piece, by one call of the device, which may take a prefix of it. A call that was
     /// interrupted took nothing, and one that would have to wait, or did so for too long, says that
     /// the device is full: neither is a fault.
-    pub fn write_piece(&mut self, bytes: &[u8]) -> WriteOutcome
+    pub fn write_piece(&mut self, bytes: &[u8]) -> OneWrite
         ensures piece { WritesPiece
             result (W.contents self.old.device) (W.contents self.new.device) bytes.now }
 
@@ -95,16 +95,16 @@ impl<W: Write> Counted<W> {
         ensures faults { self.new.faults ≡ counted_write result self.old.faults }
     {
         let error = match self.device.write(bytes) {
-            Ok(0) => return WriteOutcome::Stopped,
-            Ok(count) => return WriteOutcome::Bytes(count),
+            Ok(0) => return OneWrite::Stopped,
+            Ok(count) => return OneWrite::Bytes(count),
             Err(error) => error,
         };
         match error.kind() {
-            ErrorKind::Interrupted => WriteOutcome::Bytes(0),
-            ErrorKind::WouldBlock | ErrorKind::TimedOut => WriteOutcome::Full,
+            ErrorKind::Interrupted => OneWrite::Bytes(0),
+            ErrorKind::WouldBlock | ErrorKind::TimedOut => OneWrite::Full,
             _ => {
                 self.faults = self.faults.saturating_add(1);
-                WriteOutcome::Fault
+                OneWrite::Fault
             }
         }
     }
@@ -138,7 +138,7 @@ impl<W: Write> Counted<W> {
 
 impl<R: Read> Counted<R> {
     /// Reads one piece, by one call of the device, into the front of `room`.
-    pub fn read_piece(&mut self, room: &mut [u8]) -> ReadOutcome
+    pub fn read_piece(&mut self, room: &mut [u8]) -> OneRead
         requires { 0 < length room.old }
         ensures piece { ReadsPiece
             result (R.remaining self.old.device) (R.remaining self.new.device) room.new }
@@ -147,11 +147,11 @@ impl<R: Read> Counted<R> {
         ensures faults { self.new.faults ≡ counted_read result self.old.faults }
     {
         match self.device.read(room) {
-            Ok(0) => ReadOutcome::End,
-            Ok(count) => ReadOutcome::Bytes(count),
+            Ok(0) => OneRead::End,
+            Ok(count) => OneRead::Bytes(count),
             Err(_) => {
                 self.faults = self.faults.saturating_add(1);
-                ReadOutcome::Fault
+                OneRead::Fault
             }
         }
     }

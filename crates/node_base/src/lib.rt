@@ -5,12 +5,12 @@
 
 mod counted;
 mod gate;
-mod read_outcome;
-mod write_outcome;
-mod written;
+mod one_read;
+mod one_write;
+mod whole_write;
 
 pub use counted::{Counted, PIECE_BYTES};
 pub use gate::{Gate, NoGate};
-pub use read_outcome::ReadOutcome;
-pub use write_outcome::WriteOutcome;
-pub use written::Written;
+pub use one_read::OneRead;
+pub use one_write::OneWrite;
+pub use whole_write::WholeWrite;

@@ -9,7 +9,7 @@ ghost use Rattle.user_client.specs.Tracing.{Trace};
 use crate::caller::{Caller, News};
 use crate::servers::Servers;
 use crate::user_client_error::UserClientError;
-use node_base::{Counted, ReadOutcome, Written};
+use node_base::{Counted, OneRead, WholeWrite};
 use std::alloc::Global;
 use std::io::{Read, Write};
 
@@ -49,8 +49,8 @@ fn next_piece<'r, D: Read>(stream: &mut Counted<D>, room: &'r mut [u8]) -> Optio
         return None;
     }
     match stream.read_piece(room) {
-        ReadOutcome::Bytes(count) => room.get(..count),
-        ReadOutcome::End | ReadOutcome::Fault => None,
+        OneRead::Bytes(count) => room.get(..count),
+        OneRead::End | OneRead::Fault => None,
     }
 }
 
@@ -82,5 +82,5 @@ pub(crate) fn send<D: Read + Write>(
 {
     let mut out = Vec::new(alloc);
     caller.outgoing(&mut out)?;
-    Ok(stream.write_whole(out.as_slice()) == Written::Whole)
+    Ok(stream.write_whole(out.as_slice()) == WholeWrite::Whole)
 }

@@ -1,7 +1,7 @@
 // Devices that fail: what is counted of them, and what is written or was read around a fault.
 
 use super::fakes::{Sink, Source};
-use node_base::{Counted, PIECE_BYTES, ReadOutcome, Written};
+use node_base::{Counted, OneRead, PIECE_BYTES, WholeWrite};
 use std::alloc::Global;
 use std::io::ErrorKind;
 use std::test::Fail;
@@ -10,16 +10,16 @@ const TEXT: &[u8] = b"0123456789";
 
 // Which call fails, how the write ends, how many bytes are written, and how many faults are
 // counted.
-type Row = (u64, Written, usize, u64);
+type Row = (u64, WholeWrite, usize, u64);
 
 // Ten bytes at three a call are four writes, and the fifth call is the flush.
 const ROWS: &[Row] = &[
-    (1, Written::Fault, 0, 1),
-    (2, Written::Fault, 3, 1),
-    (3, Written::Fault, 6, 1),
-    (4, Written::Fault, 9, 1),
-    (5, Written::Fault, 10, 1),
-    (6, Written::Whole, 10, 0),
+    (1, WholeWrite::Fault, 0, 1),
+    (2, WholeWrite::Fault, 3, 1),
+    (3, WholeWrite::Fault, 6, 1),
+    (4, WholeWrite::Fault, 9, 1),
+    (5, WholeWrite::Fault, 10, 1),
+    (6, WholeWrite::Whole, 10, 0),
 ];
 
 // Returns a device that takes this many bytes a call.
@@ -28,7 +28,7 @@ fn sink_of(alloc: Global, most: usize, bad_call: u64) -> Counted<Sink> {
 }
 
 // How a write ends, how many bytes are written, and how many faults are counted.
-type Came = (Written, usize, u64);
+type Came = (WholeWrite, usize, u64);
 
 // Writes the text to a device of which one call fails. Returns what came; none if other bytes are
 // written than the first ones of the text.
@@ -55,8 +55,8 @@ fn what_stands_written_is_a_beginning(rt: HostRuntime) {
 #[test]
 fn a_device_that_takes_nothing_stops_the_write(rt: HostRuntime) {
     let mut device = sink_of(rt.alloc(), 0, 0);
-    assert_eq!(rt; device.write_whole(TEXT), Written::Stopped);
-    assert_eq!(rt; device.write_whole(b""), Written::Whole);
+    assert_eq!(rt; device.write_whole(TEXT), WholeWrite::Stopped);
+    assert_eq!(rt; device.write_whole(b""), WholeWrite::Whole);
     assert_eq!(rt; device.faults(), 0);
 }
 
@@ -73,12 +73,12 @@ fn reads(
         return false;
     }
     match device.read_piece(room) {
-        ReadOutcome::Bytes(count) => match room.get(..count) {
+        OneRead::Bytes(count) => match room.get(..count) {
             Some(piece) => arrived.extend_from_slice(piece).is_ok(),
             None => false,
         },
-        ReadOutcome::Fault => call == bad_call,
-        ReadOutcome::End => call > 3,
+        OneRead::Fault => call == bad_call,
+        OneRead::End => call > 3,
     }
 }
 

@@ -2,7 +2,7 @@
 
 /// What [`Counted::read_piece`](crate::Counted::read_piece) found.
 #[derive(Clone, Copy, Debug, PartialEq, Eq)]
-pub enum ReadOutcome {
+pub enum OneRead {
     /// This many bytes, at least one, now at the front of the caller's buffer.
     Bytes(usize),
     /// The end of the input: no byte came, and no fault.

@@ -1,8 +1,8 @@
-// How far a write came.
+// How far a write of what was left came.
 
-/// How far a write came.
+/// How far [`Unwritten::write`](crate::Unwritten::write) came.
 #[derive(Clone, Copy, Debug, PartialEq, Eq)]
-pub enum Wrote {
+pub enum LeftWrite {
     /// All was written.
     Whole,
     /// The device was full: a prefix was written, and the rest is left.

@@ -2,7 +2,7 @@
 
 /// What [`Counted::write_piece`](crate::Counted::write_piece) did.
 #[derive(Clone, Copy, Debug, PartialEq, Eq)]
-pub enum WriteOutcome {
+pub enum OneWrite {
     /// This many bytes were taken, from the first on: none if the call was interrupted.
     Bytes(usize),
     /// The device was full, and took no byte.

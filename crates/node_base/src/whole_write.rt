@@ -2,7 +2,7 @@
 
 /// How [`Counted::write_whole`](crate::Counted::write_whole) ended.
 #[derive(Clone, Copy, Debug, PartialEq, Eq)]
-pub enum Written {
+pub enum WholeWrite {
     /// All bytes were written, and the device was flushed.
     Whole,
     /// The device took no more bytes before all were written.
