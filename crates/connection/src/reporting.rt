@@ -60,10 +60,10 @@ fn report_pieces<R: Wait + Clock, H: Hearer, D: Read>(
     let Ok(mut bytes) = Vec::from_elem(alloc, 0u8, PIECE_BYTES) else {
         return Ending::Memory;
     };
-    let room = bytes.as_mut_slice();
+    let buffer = bytes.as_mut_slice();
     let mut last = opened;
     for _ in rt.forever() {
-        match report_piece(rt, alloc, port, last, device, room, hearer) {
+        match report_piece(rt, alloc, port, last, device, buffer, hearer) {
             Ok(now) => last = now,
             Err(ending) => return ending,
         }
@@ -79,21 +79,21 @@ fn report_piece<R: Wait + Clock, H: Hearer, D: Read>(
     port: Port,
     last: u64,
     device: &mut Counted<D>,
-    room: &mut [u8],
+    buffer: &mut [u8],
     hearer: &mut H,
 ) -> Result<u64, Ending>
-    requires { length room.old ≡ PIECE_BYTES }
+    requires { length buffer.old ≡ PIECE_BYTES }
     ensures hears { HearsPiece port last (H.heard hearer.old) (H.heard hearer.new)
         result (D.remaining device.old.device) (D.remaining device.new.device) }
     ensures read { IfErr result (λ ending. was_let_in ending ≡ true) }
     ensures faults { device.new.faults ≡ faults_so_far result device.old.faults }
 {
-    let count = match device.read_piece(room) {
+    let count = match device.read_piece(buffer) {
         OneRead::Bytes(count) => count,
         OneRead::End => return Err(Ending::End),
         OneRead::Fault => return Err(Ending::Fault),
     };
-    let Ok(piece) = Piece::from_slice(alloc, &room[..count]) else {
+    let Ok(piece) = Piece::from_slice(alloc, &buffer[..count]) else {
         return Err(Ending::Memory);
     };
     let shown = hearer.now(rt);

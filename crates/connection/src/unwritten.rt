@@ -14,7 +14,7 @@ use std::sync::Wait;
 use world_base::{Handed, Memory};
 
 /// How much capacity an empty one keeps for what comes next.
-const ROOM_KEPT: usize = 65_536;
+const CAPACITY_KEPT: usize = 65_536;
 
 /// Bytes that are queued and not yet written, in order. What was written is not moved: its bytes
 /// are counted.
@@ -133,7 +133,7 @@ impl Unwritten {
 fn empty(alloc: Global, bytes: &mut Vec<u8>)
     ensures { bytes.new.items ≡ [] }
 {
-    if bytes.capacity() > ROOM_KEPT {
+    if bytes.capacity() > CAPACITY_KEPT {
         *bytes = Vec::new(alloc);
     } else {
         bytes.clear();

@@ -6,8 +6,8 @@ use Rattle.world_base.specs.declared.item.Item.{Item}
 use Rattle.node.specs.declared.report.Report.{Report}
 
 -- nothing is left over yet, and there is capacity for what an inbox of this many lanes holds
-abbrev pub HasRoom : ℕ → Report → Type 0
-HasRoom lanes report =
+abbrev pub HasCapacity : ℕ → Report → Type 0
+HasCapacity lanes report =
     (length report.taken.items ≡ lanes)
     × (report.left.items ≡ [])
     × (max_items ≤ vec_capacity report.left)

@@ -9,7 +9,7 @@ ghost use Rattle.world_base.specs.lists.Lists.{IsPrefixOf};
 ghost use Rattle.world_base.specs.Stands.{standing_of};
 ghost use Rattle.world_base.specs.Handing.{answer_of, bytes_of, hands_over, idle_ports, listed_at};
 ghost use Rattle.node.specs.Growth.{wants_cut};
-ghost use Rattle.node.specs.Report.{HasRoom, ReportsAll};
+ghost use Rattle.node.specs.Report.{HasCapacity, ReportsAll};
 ghost use Rattle.node.specs.State.{Replays, TakesOne, next_taking};
 
 use crate::growth::{grown, is_large};
@@ -238,11 +238,11 @@ impl<J: NodeNaming> NodeState<J> {
         self,
         rt: &R,
         lanes: &mut [Lane<Item, J>],
-        room: Report,
+        report: Report,
         gate_missed: u64,
     ) -> Report
         requires lanes { AreAllLanes self.taker lanes.old }
-        requires room { HasRoom self.taker.lanes room }
+        requires capacity { HasCapacity self.taker.lanes report }
 
         // What was taken and what is left over are, lane by lane and in order, all that was sent.
         ensures whole { All (ArrivesWhole result.taken.items result.left.items) lanes.new }
@@ -267,7 +267,7 @@ impl<J: NodeNaming> NodeState<J> {
             grown: _grown,
             takings: _takings,
         } = self;
-        let mut report = room;
+        let mut report = report;
         report.base = core.snapshot().0;
         report.gate_missed = gate_missed;
         receiver.settle(rt, lanes, report.taken.as_mut_slice(), &mut report.left);

@@ -1,7 +1,7 @@
 // What happened to the items that were sent to a node.
 
 ghost use Rattle.std.specs.Prelude.{IfOk};
-ghost use Rattle.node.specs.Report.{HasRoom};
+ghost use Rattle.node.specs.Report.{HasCapacity};
 
 use mailbox::MAX_ITEMS;
 use std::alloc::Global;
@@ -23,8 +23,8 @@ pub struct Report {
 impl Report {
     /// Returns an empty report, with capacity for closing a node whose inbox has this many lanes.
     /// The only error is that memory ran out.
-    pub fn with_room(alloc: Global, lanes: usize) -> Result<Report, Memory>
-        ensures { IfOk result (λ report. HasRoom lanes report) }
+    pub fn with_capacity(alloc: Global, lanes: usize) -> Result<Report, Memory>
+        ensures { IfOk result (λ report. HasCapacity lanes report) }
     {
         Ok(Report {
             taken: Vec::from_elem(alloc, 0u64, lanes)?,

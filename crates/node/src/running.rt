@@ -48,24 +48,24 @@ pub struct Node<'g, J: NodeNaming, S: Stated<J>, G: Gate> {
     // The number of takings for which the gate did not open, at most 2^64 - 1.
     missed: Mutex<u64>,
     // The allocated report for its end.
-    room: Report,
+    report: Report,
     naming: PhantomData<J>,
 }
 
 impl<'g, J: NodeNaming, S: Stated<J>, G: Gate> Model for Node<'g, J, S, G> {
     ghost use Rattle.std.specs.Prelude.{is_some, length};
-    ghost use Rattle.node.specs.Report.{HasRoom};
+    ghost use Rattle.node.specs.Report.{HasCapacity};
     ghost use Rattle.node.specs.Running.{Running};
 
     ghost Value = { Running };
 
     ghost view = { λ node. record {
       number = node.number;
-      lanes = length node.room.taken.items;
+      lanes = length node.report.taken.items;
       is_gated = is_some node.gate;
     } };
 
-    ghost invariant = { λ node. HasRoom (length node.room.taken.items) node.room };
+    ghost invariant = { λ node. HasCapacity (length node.report.taken.items) node.report };
 }
 
 impl<'g, J: NodeNaming, G: Gate> Node<'g, J, NodeState<J>, G> {
@@ -81,14 +81,14 @@ impl<'g, J: NodeNaming, G: Gate> Node<'g, J, NodeState<J>, G> {
         ensures gated { IfOk result (λ node. node.is_gated ≡ is_some gate.entry) }
     {
         let number = state.number();
-        let room = Report::with_room(alloc, state.lanes())?;
+        let report = Report::with_capacity(alloc, state.lanes())?;
         Ok(Node {
             state: Mutex::new(state),
             number,
             gate,
             passing: Mutex::new(()),
             missed: Mutex::new(0),
-            room,
+            report,
             naming: PhantomData,
         })
     }
@@ -110,13 +110,13 @@ impl<'g, J: NodeNaming, G: Gate> Node<'g, J, NodeState<J>, G> {
             state,
             number,
             missed,
-            room,
+            report,
             ..
         } = self;
         let state = state.into_inner();
         // They are all its lanes, but no clause is about what was under a lock.
-        if state.number() == number && state.lanes() == room.taken.len() && state.has_all(lanes) {
-            return state.close(rt, lanes, room, missed.into_inner());
+        if state.number() == number && state.lanes() == report.taken.len() && state.has_all(lanes) {
+            return state.close(rt, lanes, report, missed.into_inner());
         }
         for _ in rt.forever() {}
         unreachable!()
@@ -135,7 +135,7 @@ impl<'g, J: NodeNaming, S: Stated<J>, G: Gate> Node<'g, J, S, G> {
     pub fn has_all(&self, lanes: &[Lane<Item, J>]) -> bool
         ensures { IsTrue result ↔ AreItsLanes self.now lanes.now }
     {
-        if lanes.len() != self.room.taken.len() {
+        if lanes.len() != self.report.taken.len() {
             return false;
         }
         for (place, lane) in lanes.iter().enumerate() {

@@ -38,7 +38,7 @@ WritesPiece writes.Fault old new bytes = Keeps old new
 
 -- the piece is what the device gave, from the first byte that was left; its end is no fault
 abbrev pub ReadsPiece : OneRead → Option (List ℕ) → Option (List ℕ) → List ℕ → Type 0
-ReadsPiece (Bytes count) old new room =
-    (0 < count) × (count ≤ length room) × Consumes old new (take count room)
-ReadsPiece End old new room = Keeps old new × IsAtEnd new
-ReadsPiece Fault old new room = Keeps old new
+ReadsPiece (Bytes count) old new buffer =
+    (0 < count) × (count ≤ length buffer) × Consumes old new (take count buffer)
+ReadsPiece End old new buffer = Keeps old new × IsAtEnd new
+ReadsPiece Fault old new buffer = Keeps old new

@@ -137,16 +137,16 @@ impl<W: Write> Counted<W> {
 }
 
 impl<R: Read> Counted<R> {
-    /// Reads one piece, by one call of the device, into the front of `room`.
-    pub fn read_piece(&mut self, room: &mut [u8]) -> OneRead
-        requires { 0 < length room.old }
+    /// Reads one piece, by one call of the device, into the front of `buffer`.
+    pub fn read_piece(&mut self, buffer: &mut [u8]) -> OneRead
+        requires { 0 < length buffer.old }
         ensures piece { ReadsPiece
-            result (R.remaining self.old.device) (R.remaining self.new.device) room.new }
+            result (R.remaining self.old.device) (R.remaining self.new.device) buffer.new }
 
         // A fault is reported exactly if one more call of the device failed.
         ensures faults { self.new.faults ≡ counted_read result self.old.faults }
     {
-        match self.device.read(room) {
+        match self.device.read(buffer) {
             Ok(0) => OneRead::End,
             Ok(count) => OneRead::Bytes(count),
             Err(_) => {

@@ -113,10 +113,10 @@ impl Publisher {
         ensures lost { IfErr result (IsLostBy self.old.caller self.new.caller) }
     {
         let mut stream = Counted::new(stream);
-        let mut room = Vec::from_elem(self.alloc, 0u8, PIECE_BYTES)?;
+        let mut buffer = Vec::from_elem(self.alloc, 0u8, PIECE_BYTES)?;
         self.caller.open()?;
         for _ in 0..u64::MAX {
-            match self.continue_once(&mut stream, room.as_mut_slice())? {
+            match self.continue_once(&mut stream, buffer.as_mut_slice())? {
                 Progress::Waits => {}
                 Progress::Lost => return Ok(false),
                 Progress::Done => {
@@ -132,7 +132,7 @@ impl Publisher {
     fn continue_once<D: Read + Write>(
         &mut self,
         stream: &mut Counted<D>,
-        room: &mut [u8],
+        buffer: &mut [u8],
     ) -> Result<Progress, UserClientError>
         ensures acknowledged { IfOk result (λ progress.
             progress ≡ Progress.Done → IsAcknowledged D.contents self.new) }
@@ -140,7 +140,7 @@ impl Publisher {
         ensures same { self.new.once ≡ self.old.once }
         ensures lost { IfErr result (IsLostBy self.old.caller self.new.caller) }
     {
-        let news = exchange(self.alloc, stream, room, &mut self.caller)?;
+        let news = exchange(self.alloc, stream, buffer, &mut self.caller)?;
         self.go_on(news, stream)
     }
 

@@ -113,10 +113,10 @@ impl Subscriber {
         ensures lost { IfErr result (IsLostBy self.old.caller self.new.caller) }
     {
         let mut stream = Counted::new(stream);
-        let mut room = Vec::from_elem(self.alloc, 0u8, PIECE_BYTES)?;
+        let mut buffer = Vec::from_elem(self.alloc, 0u8, PIECE_BYTES)?;
         self.caller.open()?;
         for _ in 0..u64::MAX {
-            let is_lost = self.continue_once(&mut stream, room.as_mut_slice(), output)?;
+            let is_lost = self.continue_once(&mut stream, buffer.as_mut_slice(), output)?;
             if self.left == 0 {
                 disconnect(self.alloc, &mut stream, &mut self.caller);
                 return Ok(true);
@@ -132,14 +132,14 @@ impl Subscriber {
     fn continue_once<D: Read + Write, W: Write>(
         &mut self,
         stream: &mut Counted<D>,
-        room: &mut [u8],
+        buffer: &mut [u8],
         output: &mut W,
     ) -> Result<bool, UserClientError>
         ensures printed { OnOk result
             (Hears self.old (W.contents output.old) self.new (W.contents output.new)) }
         ensures lost { IfErr result (IsLostBy self.old.caller self.new.caller) }
     {
-        let news = exchange(self.alloc, stream, room, &mut self.caller)?;
+        let news = exchange(self.alloc, stream, buffer, &mut self.caller)?;
         self.go_on(news, output)?;
         Ok(news == News::Lost)
     }

@@ -27,7 +27,7 @@ pub(crate) fn next_stream<S: Servers>(servers: &mut S, opened: u32) -> Option<S:
 pub(crate) fn exchange<D: Read + Write>(
     alloc: Global,
     stream: &mut Counted<D>,
-    room: &mut [u8],
+    buffer: &mut [u8],
     caller: &mut Caller,
 ) -> Result<News, UserClientError>
     ensures trace { OnOk result (Trace caller.old [] caller.new) }
@@ -36,7 +36,7 @@ pub(crate) fn exchange<D: Read + Write>(
     if !send(alloc, stream, caller)? {
         return Ok(News::Lost);
     }
-    match next_piece(stream, room) {
+    match next_piece(stream, buffer) {
         Some(piece) => caller.receive(piece),
         None => Ok(News::Lost),
     }
@@ -44,12 +44,12 @@ pub(crate) fn exchange<D: Read + Write>(
 
 // Returns the next piece that the server sent, at the front of the buffer; None if the connection
 // is lost.
-fn next_piece<'r, D: Read>(stream: &mut Counted<D>, room: &'r mut [u8]) -> Option<&'r [u8]> {
-    if room.is_empty() {
+fn next_piece<'r, D: Read>(stream: &mut Counted<D>, buffer: &'r mut [u8]) -> Option<&'r [u8]> {
+    if buffer.is_empty() {
         return None;
     }
-    match stream.read_piece(room) {
-        OneRead::Bytes(count) => room.get(..count),
+    match stream.read_piece(buffer) {
+        OneRead::Bytes(count) => buffer.get(..count),
         OneRead::End | OneRead::Fault => None,
     }
 }

@@ -64,16 +64,16 @@ fn a_device_that_takes_nothing_stops_the_write(rt: HostRuntime) {
 // give.
 fn reads(
     device: &mut Counted<Source<'_>>,
-    room: &mut [u8],
+    buffer: &mut [u8],
     arrived: &mut Vec<u8>,
     call: u64,
     bad_call: u64,
 ) -> bool {
-    if room.is_empty() {
+    if buffer.is_empty() {
         return false;
     }
-    match device.read_piece(room) {
-        OneRead::Bytes(count) => match room.get(..count) {
+    match device.read_piece(buffer) {
+        OneRead::Bytes(count) => match buffer.get(..count) {
             Some(piece) => arrived.extend_from_slice(piece).is_ok(),
             None => false,
         },
@@ -87,10 +87,10 @@ type Arrived = (bool, usize, u64);
 
 // Reads the text around a fault of this call. Returns what came, if not the whole text arrives, or
 // that fault is not counted.
-fn other_arrival(alloc: Global, room: &mut [u8], bad_call: u64) -> Option<Arrived> {
+fn other_arrival(alloc: Global, buffer: &mut [u8], bad_call: u64) -> Option<Arrived> {
     let mut device = Counted::new(Source::new(TEXT, 4, bad_call));
     let mut arrived = Vec::new(alloc);
-    let read = (1..7u64).all(|call| reads(&mut device, room, &mut arrived, call, bad_call));
+    let read = (1..7u64).all(|call| reads(&mut device, buffer, &mut arrived, call, bad_call));
     let faults = device.faults();
     if read && arrived.as_slice() == TEXT && faults == u64::from(bad_call > 0) {
         None
@@ -100,9 +100,9 @@ fn other_arrival(alloc: Global, room: &mut [u8], bad_call: u64) -> Option<Arrive
 }
 
 // Returns the first call around whose fault something else came, and what.
-fn first_other(alloc: Global, room: &mut [u8]) -> Option<(u64, Arrived)> {
+fn first_other(alloc: Global, buffer: &mut [u8]) -> Option<(u64, Arrived)> {
     for bad_call in 0..6u64 {
-        if let Some(arrived) = other_arrival(alloc, room, bad_call) {
+        if let Some(arrived) = other_arrival(alloc, buffer, bad_call) {
             return Some((bad_call, arrived));
         }
     }
@@ -114,7 +114,7 @@ fn first_other(alloc: Global, room: &mut [u8]) -> Option<(u64, Arrived)> {
 #[test]
 fn each_piece_arrives_around_a_fault(rt: HostRuntime) -> Result<(), Fail> {
     let alloc = rt.alloc();
-    let mut room = Vec::from_elem(alloc, 0u8, PIECE_BYTES)?;
-    assert_eq!(rt; first_other(alloc, room.as_mut_slice()), None);
+    let mut buffer = Vec::from_elem(alloc, 0u8, PIECE_BYTES)?;
+    assert_eq!(rt; first_other(alloc, buffer.as_mut_slice()), None);
     Ok(())
 }

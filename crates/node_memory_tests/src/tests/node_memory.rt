@@ -130,8 +130,8 @@ fn closes<J: NodeNaming, R: Wait>(
     state: NodeState<J>,
     lanes: &mut [Lane<Item, J>],
 ) -> bool {
-    match Report::with_room(alloc, state.lanes()) {
-        Ok(room) => state.has_all(lanes) && tells(&state.close(rt, lanes, room, 0)),
+    match Report::with_capacity(alloc, state.lanes()) {
+        Ok(report) => state.has_all(lanes) && tells(&state.close(rt, lanes, report, 0)),
         Err(_) => true,
     }
 }

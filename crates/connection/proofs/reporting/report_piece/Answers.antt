@@ -6,7 +6,7 @@ use Rattle.connection.proofs.reporting.report_piece.Goals as goal
 
 pub returns-clause-hears : goal.returns-clause-hears
 returns-clause-hears g c =
-    let piece = take c.in-Bytes.count c.read_piece.new.room in
+    let piece = take c.in-Bytes.count c.read_piece.new.buffer in
     let is : c.in-Ok.piece ≡ piece = c.in-Ok.ensures in
     let reported = c.report.ensures ∙ ap (λ p. g.H.Hearer.heard c.args.hearer.now ++ Bytes c.args.port p c.max-now.result ∷ []) is in (
       omega arith,
@@ -16,7 +16,7 @@ returns-clause-hears g c =
 pub returns-in_default-clause-hears : goal.returns-in_default-clause-hears
 returns-in_default-clause-hears g c =
     let bound = c.in-Bytes.ensures.piece.1 in
-    let size = length-take-le c.in-Bytes.count c.read_piece.new.room bound in (
+    let size = length-take-le c.in-Bytes.count c.read_piece.new.buffer bound in (
       refl,
-      (take c.in-Bytes.count c.read_piece.new.room, c.in-Bytes.ensures.piece.2, λ _. omega (arith, bound, c.read_piece.auto.room)),
+      (take c.in-Bytes.count c.read_piece.new.buffer, c.in-Bytes.ensures.piece.2, λ _. omega (arith, bound, c.read_piece.auto.buffer)),
     )

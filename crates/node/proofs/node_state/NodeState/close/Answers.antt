@@ -12,13 +12,13 @@ use Rattle.node.proofs.node_state.NodeState.close.Goals as goal
 pub returns-clause-whole : goal.returns-clause-whole
 returns-clause-whole g c =
     subst (λ counts. All (ArrivesWhole counts c.settle.new.left.items) c.settle.new.lanes)
-    (sym (written_back c.args.room.taken.len c.settle.new.counts c.args.room.taken.items (omega (arith, c.as_mut_slice.ensures.len))))
+    (sym (written_back c.args.report.taken.len c.settle.new.counts c.args.report.taken.items (omega (arith, c.as_mut_slice.ensures.len))))
     c.settle.ensures.whole
 
 pub returns-clause-counted : goal.returns-clause-counted
 returns-clause-counted g c =
     subst (λ counts. EachIndex counts (λ lane. slice_index counts lane ≡ length (items_of lane c.args.self.taker.taken)))
-    (sym (written_back c.args.room.taken.len c.settle.new.counts c.args.room.taken.items (omega (arith, c.as_mut_slice.ensures.len))))
+    (sym (written_back c.args.report.taken.len c.settle.new.counts c.args.report.taken.items (omega (arith, c.as_mut_slice.ensures.len))))
     (subst (λ (s : Seen). EachIndex c.settle.new.counts (λ lane. slice_index c.settle.new.counts lane ≡ length (items_of lane s.taker.taken)))
     c.self.view_is c.settle.ensures.counted)
 
