@@ -20,12 +20,12 @@ use Rattle.ballot_base.specs.Changing.{waits_for, lacks, on_new_ballot, on_join,
 use Rattle.ballot_base.specs.Activating.{activates, on_installed, on_superseded}
 use Rattle.ballot_base.proofs.ChangeRows.{on_new_ballot-joins, on_join-answers, on_state-takes, on_install-takes, on_install-answers, on_installed-counts, on_superseded-leaves}
 use Rattle.ballot_base.specs.Sends.{Sends}
-use Rattle.ballot.specs.Inside.{Heard, Says, Went}
+use Rattle.ballot.specs.Inside.{Heard, SendsCounted, Went}
 use Rattle.ballot.proofs.MessagesTaken.{went_sent, went_lost}
 
 -- a replica that took a row's state and then sent its messages did the row
 pub went_said : {S C O : Type 0} {rules : Rules S C O} {unread : Bool} (old mid : CountedReplica S C) (o : Outcome S C O) (new : CountedReplica S C)
-    (before after : List (Effect C O)) → mid ≡ record { state = o.state; losses = old.losses } → Says mid o.effects new before after →
+    (before after : List (Effect C O)) → mid ≡ record { state = o.state; losses = old.losses } → SendsCounted mid o.effects new before after →
     Heard rules old o unread new before after
 went_said {S = S} {C = C} old mid o new before after e said =
     went_sent old o new before after said.whole said.sends
@@ -158,7 +158,7 @@ pub install_taken : {S C O : Type 0} {rules : Rules S C O} (old took mid new : C
     lacks old.state ballot held ≡ true → held ≡ places log → taken rules old.state log ≡ Some took.state → took.losses ≡ old.losses →
     took.state.id ≡ old.state.id →
     mid ≡ record took { state = record took.state { joined = ballot; held_in = ballot; role = Backup } } →
-    Says mid (message_to O mid.state.id (Installed ballot held) from ∷ []) new before after →
+    SendsCounted mid (message_to O mid.state.id (Installed ballot held) from ∷ []) new before after →
     Heard rules old (on_install rules old.state from ballot log) unread new before after
 install_taken {S = S} {C = C} {O = O} {rules = rules} old took mid new from ballot held log unread before after may h is losses id m said =
     let may' = subst (λ k. lacks old.state ballot k ≡ true) h may in
@@ -167,8 +167,8 @@ install_taken {S = S} {C = C} {O = O} {rules = rules} old took mid new from ball
     let named : mid.state.id ≡ old.state.id = ap (λ (z : CountedReplica S C). z.state.id) same ∙ id in
     subst (λ (o : Outcome S C O). Heard rules old o unread new before after) (sym (on_install-takes rules old.state took.state from ballot log may' is))
     (went_said old mid _ new before after same
-    (subst (λ k. Says mid (message_to O old.state.id (Installed ballot k) from ∷ []) new before after) h
-    (subst (λ k. Says mid (message_to O k (Installed ballot held) from ∷ []) new before after) named said)))
+    (subst (λ k. SendsCounted mid (message_to O old.state.id (Installed ballot k) from ∷ []) new before after) h
+    (subst (λ k. SendsCounted mid (message_to O k (Installed ballot held) from ∷ []) new before after) named said)))
 
 pub install_lost : {S C O : Type 0} {rules : Rules S C O} (old new : CountedReplica S C) (from ballot held : ℕ) (log : Log C) (before : List (Effect C O)) →
     lacks old.state ballot held ≡ true → held ≡ places log → new.state ≡ old.state → new.losses ≡ one_more old.losses →
@@ -190,13 +190,13 @@ install_lost {S = S} {C = C} {O = O} {rules = rules} old new from ballot held lo
 pub install_answered : {S C O : Type 0} {rules : Rules S C O} (old new : CountedReplica S C) (from ballot held : ℕ) (log : Log C) (unread : Bool)
     (before after : List (Effect C O)) →
     lacks old.state ballot held ≡ false → (old.state.joined == ballot && old.state.held_in == ballot) ≡ true → held ≡ places log →
-    Says old (message_to O old.state.id (Installed ballot held) from ∷ []) new before after →
+    SendsCounted old (message_to O old.state.id (Installed ballot held) from ∷ []) new before after →
     Heard rules old (on_install rules old.state from ballot log) unread new before after
 install_answered {S = S} {C = C} {O = O} {rules = rules} old new from ballot held log unread before after other here h said =
     let off = subst (λ k. lacks old.state ballot k ≡ false) h other in
     subst (λ (o : Outcome S C O). Heard rules old o unread new before after) (sym (on_install-answers rules old.state from ballot log off here))
     (went_said old old _ new before after refl
-    (subst (λ k. Says old (message_to O old.state.id (Installed ballot k) from ∷ []) new before after) h said))
+    (subst (λ k. SendsCounted old (message_to O old.state.id (Installed ballot k) from ∷ []) new before after) h said))
 
 -- Installed of a member that lacked the log: others lack it, or it was the last
 pub installed_noted : {S C : Type 0} (O : Type 0) {rules : Rules S C O} (old new : CountedReplica S C) (from ballot : ℕ) (lacking : List ℕ)
@@ -229,18 +229,18 @@ pub installed_last : {S C : Type 0} (O : Type 0) {rules : Rules S C O} (old mid 
     ((old.state.joined == ballot && is_installing old.state.role) && list_any (λ member. member == from) old.state.lacking) ≡ true →
     lacking ≡ others from old.state.lacking → lacking ≡ [] → joined ≡ old.state.joined →
     mid ≡ record old { state = record old.state { lacking = lacking } } →
-    Says mid (message_to O mid.state.id (Activate joined) master ∷ []) new before after →
+    SendsCounted mid (message_to O mid.state.id (Activate joined) master ∷ []) new before after →
     Went rules old (on_installed O old.state from ballot) new before after
 installed_last {S = S} {C = C} O {rules = rules} old mid new from ballot joined lacking before after may l none j m said =
     let same : mid ≡ record old { state = record old.state { lacking = others from old.state.lacking } } =
     m ∙ ap (λ ms. let z : CountedReplica S C = record old { state = record old.state { lacking = ms } } in z) l in
     subst (λ (o : Outcome S C O). Went rules old o new before after) (sym (on_installed-counts O old.state from ballot may))
     (went_said old mid _ new before after same
-    (subst (λ (es : List (Effect C O)). Says mid es new before after) (by_none (others from old.state.lacking) (sym l ∙ none)) here))
+    (subst (λ (es : List (Effect C O)). SendsCounted mid es new before after) (by_none (others from old.state.lacking) (sym l ∙ none)) here))
   where
-    here : Says mid (message_to O old.state.id (Activate old.state.joined) master ∷ []) new before after
-    here = subst (λ k. Says mid (message_to O old.state.id (Activate k) master ∷ []) new before after) j
-        (subst (λ (z : CountedReplica S C). Says mid (message_to O z.state.id (Activate joined) master ∷ []) new before after) m said)
+    here : SendsCounted mid (message_to O old.state.id (Activate old.state.joined) master ∷ []) new before after
+    here = subst (λ k. SendsCounted mid (message_to O old.state.id (Activate k) master ∷ []) new before after) j
+        (subst (λ (z : CountedReplica S C). SendsCounted mid (message_to O z.state.id (Activate joined) master ∷ []) new before after) m said)
 
     by_none : (ms : List ℕ) → ms ≡ [] →
         message_to O old.state.id (Activate old.state.joined) master ∷ [] ≡ activates O (record old.state { lacking = ms }) ms

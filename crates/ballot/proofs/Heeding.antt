@@ -26,7 +26,7 @@ use Rattle.ballot_base.specs.Protocol.{received, ticked}
 use Rattle.ballot_base.proofs.StepRows.{added-log, commit_at-goes, commit_at-stays}
 use Rattle.ballot_base.proofs.ChangeRows.{on_new_ballot-joins, on_new_ballot-stays, on_join-stays, on_join-answers, on_state-stays, on_state-takes, on_install-takes, on_install-answers, on_install-stays, on_installed-stays, on_installed-counts, on_superseded-stays, on_superseded-leaves, on_activated-stays, on_activated-adds}
 use Rattle.ballot_base.proofs.MessageRows.{on_append-elsewhere, on_append-gap, on_append-takes, on_held-elsewhere, on_held-raises, on_commit-elsewhere, on_commit-past, on_commit-takes, on_tick_active-is}
-use Rattle.ballot.specs.Heeding.{rises, is_heeded, says_again}
+use Rattle.ballot.specs.Heeding.{rises, is_heeded, repeats}
 use Rattle.ballot.proofs.MessagesTaken.{commit_known}
 
 -- whatever sends does something, and so does whatever takes another role or ballot, or counts otherwise
@@ -340,8 +340,8 @@ hands_some : {S C : Type 0} {P : Type 0} (O : Type 0) (r : ReplicaState S C) (me
 hands_some O r [] e = cc
 hands_some O r (m ∷ members) e = cc
 
--- a tick that says nothing does nothing
-pub speaks_exactly : {S C : Type 0} (O : Type 0) (r : ReplicaState S C) (role : Role) (speaks : Bool) → speaks ≡ says_again r role →
+-- a tick that sends nothing does nothing
+pub speaks_exactly : {S C : Type 0} (O : Type 0) (r : ReplicaState S C) (role : Role) (speaks : Bool) → speaks ≡ repeats r role →
     (speaks ≡ false → ticked O r role ≡ nothing_done O r) × (ticked O r role ≡ nothing_done O r → speaks ≡ false)
 speaks_exactly O r Backup speaks is = (λ e. refl, λ f. is)
 speaks_exactly {S = S} {C = C} O r Fetching speaks is = by_members r.previous_members refl

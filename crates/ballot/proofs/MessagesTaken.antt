@@ -17,7 +17,7 @@ use Rattle.ballot_base.proofs.AppliesInOrder.{part_none}
 use Rattle.ballot_base.proofs.StepRows.{commit_at-goes}
 use Rattle.ballot_base.proofs.MessageRows.{commit_at-raised, progress_raised, on_append-takes, on_held-raises, on_commit-takes}
 use Rattle.ballot_base.specs.Sends.{Sends}
-use Rattle.ballot.specs.Inside.{Heard, Says, Went}
+use Rattle.ballot.specs.Inside.{Heard, SendsCounted, Went}
 use Rattle.ballot_base.specs.lists.Lists.{IsPrefixOf}
 
 -- such a step is one with losses that was counted
@@ -117,7 +117,7 @@ pub append_taken : {S C : Type 0} (O : Type 0) {rules : Rules S C O} (old mid ne
     follows old.state ballot ≡ true → place ≤ places old.state.log → log ≡ extended place command old.state.log →
     long ≡ places log →
     mid ≡ record old { state = record old.state { log = log } } →
-    Says mid (message_to O mid.state.id (Held ballot long) from ∷ []) new before later →
+    SendsCounted mid (message_to O mid.state.id (Held ballot long) from ∷ []) new before later →
     Went rules old (on_append O old.state from ballot place command) new before later
 append_taken {S = S} {C = C} O {rules = rules} old mid new from ballot place command log long before later follower within e n m said =
     let row = on_append-takes O old.state from ballot place command follower within in

@@ -42,8 +42,8 @@ is_heeded r from (Commit ballot held) =
     follows r ballot && (nat_le held (places r.log) && nat_lt r.committed held)
 
 -- whether a tick sends something, by the role
-abbrev pub says_again : {S C : Type 0} → ReplicaState S C → Role → Bool
-says_again r Backup = false
-says_again r Fetching = nat_lt 0 (length r.previous_members)
-says_again r Installing = true
-says_again r Active = nat_lt 0 (length r.progress)
+abbrev pub repeats : {S C : Type 0} → ReplicaState S C → Role → Bool
+repeats r Backup = false
+repeats r Fetching = nat_lt 0 (length r.previous_members)
+repeats r Installing = true
+repeats r Active = nat_lt 0 (length r.progress)

@@ -13,7 +13,7 @@ use Rattle.ballot.specs.declared.error.ProposeError.{ProposeError}
 use Rattle.ballot.specs.declared.error.ProposeError.TheVariants.{NotActive, LogFull, Memory, Halted}
 
 -- a replica sent messages, and counted it if some were lost
-pub record Says {S C O : Type 0} (old : CountedReplica S C) (wanted : List (Effect C O))
+pub record SendsCounted {S C O : Type 0} (old : CountedReplica S C) (wanted : List (Effect C O))
     (new : CountedReplica S C) (before after : List (Effect C O)) : Type 0 where
   pub whole : Bool
   pub sends : Sends before after wanted whole

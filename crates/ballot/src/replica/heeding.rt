@@ -3,7 +3,7 @@
 ghost use Rattle.std.specs.Prelude.{◌≡◌, ◌↔◌, ◌||◌, ◌&&◌, false, nat_le, nat_lt};
 ghost use Rattle.ballot_base.specs.Logs.{places};
 ghost use Rattle.ballot_base.specs.Unread.{is_unread};
-ghost use Rattle.ballot.specs.Heeding.{is_heeded, rises, says_again};
+ghost use Rattle.ballot.specs.Heeding.{is_heeded, repeats, rises};
 ghost use Rattle.ballot_base.specs.Protocol.{replica_step};
 ghost use Rattle.ballot_base.specs.Protocol.Input.{Receives, Ticks};
 ghost use Rattle.ballot_base.specs.Sending.{nothing_done};
@@ -71,12 +71,12 @@ impl<M: Machine> Replica<M> {
         ensures { (result ≡ false) ↔
             (replica_step M.rules self.now.state Ticks ≡ nothing_done M.Output self.now.state) }
     {
-        self.would_say()
+        self.would_repeat()
     }
 
     // Says whether a tick would send anything, by the role.
-    fn would_say(&self) -> bool
-        ensures { result ≡ says_again self.now.state self.now.state.role }
+    fn would_repeat(&self) -> bool
+        ensures { result ≡ repeats self.now.state self.now.state.role }
     {
         match self.role {
             Role::Backup => false,

@@ -1,7 +1,7 @@
 // What a replica does with each message of another node.
 
 ghost use Rattle.std.specs.Prelude.{◌≡◌, ◌<◌, ◌↔◌, true, false, [], ◌∷◌, OnOk, OnErr, IsErr};
-ghost use Rattle.ballot.specs.Inside.{Heard, Says, Went};
+ghost use Rattle.ballot.specs.Inside.{Heard, SendsCounted, Went};
 ghost use Rattle.ballot_base.specs.Losses.{Stepped, IsQuiet, one_more};
 ghost use Rattle.ballot_base.specs.Sending.{message_to};
 ghost use Rattle.ballot_base.specs.Unread.{is_unread};
@@ -122,7 +122,7 @@ impl<M: Machine> Replica<M> {
         body: Body<M::Command>,
         out: &mut Vec<Effect<M::Command, M::Output>>,
     )
-        ensures { Says self.old (message_to M.Output self.old.state.id body receiver ∷ [])
+        ensures { SendsCounted self.old (message_to M.Output self.old.state.id body receiver ∷ [])
             self.new out.old.items out.new.items }
     {
         let from = self.id;
