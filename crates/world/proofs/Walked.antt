@@ -9,7 +9,7 @@ use Rattle.world.specs.declared.connection_slot.ConnectionSlot.{ConnectionSlot}
 use Rattle.world.specs.Found.{slot_numbered}
 use Rattle.world.specs.Gathering.{AskedWhere, GathersAmong, is_open_at}
 use Rattle.world.specs.SlotsAreValid.{open_from}
-use Rattle.world.specs.Inside.Handing.{AsksAt, MayHandOn, marked}
+use Rattle.world.specs.Inside.Handing.{GathersAt, MayHandOn, marked}
 use Rattle.world.specs.Inside.Steps.{IsTrace}
 use Rattle.world.specs.World.{WorldState}
 use Rattle.world.proofs.Gathered.{IsGathering, gathered, gathering_on, may_be_asked}
@@ -87,7 +87,7 @@ there_is node at initial now w =
     let r = newest now.connections w.number at w.within w.many in
     slice_get_within (open_from 1 now.connections) at (1 + r.i) (next_found node at initial now w r)
 
-walk_on : (node at : ℕ) (initial now new : WorldState) → IsWalking node (suc at) initial now → IsTrace now new → AsksAt node at now new → IsWalking node at initial new
+walk_on : (node at : ℕ) (initial now new : WorldState) → IsWalking node (suc at) initial now → IsTrace now new → GathersAt node at now new → IsWalking node at initial new
 walk_on node at initial now new w goes a =
     let r = newest now.connections w.number at w.within w.many in
     let one : a.number ≡ 1 + r.i = same_Some a.number (1 + r.i) (sym a.stands ∙ next_found node at initial now w r) in
@@ -103,14 +103,14 @@ walk_on node at initial now new w goes a =
       within = omega (arith, low, within, many);
       many = ap (λ (l : List ConnectionSlot). length (open_from 1 l)) (subst (λ (k : ℕ). take k new.connections ≡ take k now.connections) less a.others) ∙ r.before;
       gathering = gathering_on node (length initial.connections) (suc r.i) r.i initial now new (omega arith) (let e : r.i ≡ suc r.i - 1 = omega arith in e) g goes
-          (subst (λ (k : ℕ). AskedWhere false (is_open_at node (slot_numbered k now.connections)) k now new) same a.asks);
+          (subst (λ (k : ℕ). AskedWhere false (is_open_at node (slot_numbered k now.connections)) k now new) same a.gathers);
     }
 
 pub next_there : (node at next : ℕ) (initial now : WorldState) → 0 < at → next ≡ at - 1 → IsWalking node at initial now → next < length (open_from 1 now.connections)
 next_there node at next initial now some is w =
     there_is node next initial now (subst (λ (k : ℕ). IsWalking node k initial now) (let e : at ≡ suc next = omega (arith, some, is) in e) w)
 
-pub walk_goes_on : (node at next : ℕ) (initial now new : WorldState) → 0 < at → next ≡ at - 1 → IsWalking node at initial now → IsTrace now new → AsksAt node next now new
+pub walk_goes_on : (node at next : ℕ) (initial now new : WorldState) → 0 < at → next ≡ at - 1 → IsWalking node at initial now → IsTrace now new → GathersAt node next now new
     → IsWalking node next initial new
 walk_goes_on node at next initial now new some is w goes a =
     walk_on node next initial now new (subst (λ (k : ℕ). IsWalking node k initial now) (let e : at ≡ suc next = omega (arith, some, is) in e) w) goes a
@@ -124,13 +124,13 @@ walk_ends node at initial now end w =
 -- ---- one of those whose end is open
 
 -- it leads to another node
-pub asks_none : (node at number : ℕ) (place : ConnectionSlot) (w : WorldState) → slice_get (open_from 1 w.connections) at ≡ Some number → slice_get w.connections (number - 1) ≡ Some place
-    → 0 < number → (place.node ≡ node → ⊥) → AsksAt node at w w
-asks_none node at number place w stands found positive other =
+pub gathers_at_none : (node at number : ℕ) (place : ConnectionSlot) (w : WorldState) → slice_get (open_from 1 w.connections) at ≡ Some number → slice_get w.connections (number - 1) ≡ Some place
+    → 0 < number → (place.node ≡ node → ⊥) → GathersAt node at w w
+gathers_at_none node at number place w stands found positive other =
     record {
       number = number;
       stands = stands;
-      asks = subst (λ (b : Bool). AskedWhere false b number w w) (sym elsewhere) refl;
+      gathers = subst (λ (b : Bool). AskedWhere false b number w w) (sym elsewhere) refl;
       others = refl;
       many = refl;
     }
@@ -140,14 +140,14 @@ asks_none node at number place w stands found positive other =
         ap (is_open_at node) (numbered_at number w.connections (Some place) positive found) ∙ ap (λ (b : Bool). b && place.is_open) (ne_eqb place.node node other)
 
 -- it leads to the node, and this is known about its end
-pub asks_one : (node at number : ℕ) (place : ConnectionSlot) (is_open : Bool) (old mid new : WorldState) → slice_get (open_from 1 old.connections) at ≡ Some number
+pub gathers_at_one : (node at number : ℕ) (place : ConnectionSlot) (is_open : Bool) (old mid new : WorldState) → slice_get (open_from 1 old.connections) at ≡ Some number
     → slice_get old.connections (number - 1) ≡ Some place → 0 < number → place.is_open ≡ true → place.node ≡ node → mid.connections ≡ old.connections
-    → MayHandOn number place old is_open mid → new ≡ marked number place is_open mid → AsksAt node at old new
-asks_one node at number place is_open old mid new stands found positive up leads same hands is =
+    → MayHandOn number place old is_open mid → new ≡ marked number place is_open mid → GathersAt node at old new
+gathers_at_one node at number place is_open old mid new stands found positive up leads same hands is =
     record {
       number = number;
       stands = stands;
-      asks = subst (λ (b : Bool). AskedWhere false b number old new) (sym asked) (may_be_asked number place is_open old mid new found positive up hands is);
+      gathers = subst (λ (b : Bool). AskedWhere false b number old new) (sym asked) (may_be_asked number place is_open old mid new found positive up hands is);
       others = ap (take (number - 1)) after ∙ take-set mid.connections (number - 1) (record place { is_open = is_open }) ∙ ap (take (number - 1)) same;
       many = ap length after ∙ length-set mid.connections (number - 1) (record place { is_open = is_open }) ∙ ap length same;
     }

@@ -5,7 +5,7 @@ ghost use Rattle.escaping_nodes.specs.world_nodes.Nodes.{NodesState};
 ghost use Rattle.world.specs.Gathering.{Gathers, GathersAmong};
 ghost use Rattle.world.specs.Trace.{NodesGoOn};
 ghost use Rattle.world.specs.SlotsAreValid.{leads, open_from};
-ghost use Rattle.world.specs.Inside.Handing.{AsksAt, HandsDown, MayHandDown, MayHandOn, MayPutDown, PutsDown, StaysQuiet, marked, tells_open};
+ghost use Rattle.world.specs.Inside.Handing.{GathersAt, HandsDown, MayHandDown, MayHandOn, MayPutDown, PutsDown, StaysQuiet, marked, tells_open};
 ghost use Rattle.world.specs.Inside.Steps.{IsTrace};
 
 use crate::connection_slot::ConnectionSlot;
@@ -49,7 +49,7 @@ impl World {
     fn gather_at(&mut self, node: u8, at: usize)
         requires { at < length (open_from 1 self.old.connections) }
         ensures goes { IsTrace self.old self.new }
-        ensures asks { AsksAt node at self.old self.new }
+        ensures gathers { GathersAt node at self.old self.new }
         ensures still { self.new.losses ≡ self.old.losses }
         ensures quiet { StaysQuiet node self.old.nodes self.new.nodes }
     {

@@ -87,12 +87,12 @@ marked number slot is_open w =
 
 -- ---- a walk over the connections whose end is open
 
--- the one at this index among them was asked, if it leads to the node, and those that were opened
--- before it stay as they were
-pub record AsksAt (node at : ℕ) (old new : WorldState) : Type 0 where
+-- what was queued for the one at this index among them was gathered, if it leads to the node, and
+-- those that were opened before it stay as they were
+pub record GathersAt (node at : ℕ) (old new : WorldState) : Type 0 where
   pub number : ℕ
   pub stands : slice_get (open_from 1 old.connections) at ≡ Some number
-  pub asks : AskedWhere false
+  pub gathers : AskedWhere false
       (is_open_at node (slot_numbered number old.connections)) number old new
   pub others : take (number - 1) new.connections ≡ take (number - 1) old.connections
   pub many : length new.connections ≡ length old.connections

@@ -4,24 +4,24 @@ use Rattle.world.specs.Inside.Handing.{MayHandOn, StaysQuiet}
 use Rattle.world.specs.World.{WorldState}
 use Rattle.world.proofs.Joined.{goes_on_join, goes_on_rest, goes_on_still}
 use Rattle.world.proofs.Gathered.{stays_open}
-use Rattle.world.proofs.Walked.{asks_none, asks_one}
+use Rattle.world.proofs.Walked.{gathers_at_none, gathers_at_one}
 use Rattle.world.proofs.QuietEvents.{stays_join, stays_rest}
 use Rattle.world.proofs.world.World.gather_at.Goals as goal
 
 pub returns-then-slot-node-clause-goes : goal.returns-then-slot-node-clause-goes
 returns-then-slot-node-clause-goes c = goes_on_rest _ _ refl
 
-pub returns-then-slot-node-clause-asks : goal.returns-then-slot-node-clause-asks
-returns-then-slot-node-clause-asks c =
-    asks_none c.args.node c.args.at c.open_at-number.result.0 c.open_at-number.result.1 c.args.self.now c.open_at-number.ensures.number c.open_at-number.ensures.slot
+pub returns-then-slot-node-clause-gathers : goal.returns-then-slot-node-clause-gathers
+returns-then-slot-node-clause-gathers c =
+    gathers_at_none c.args.node c.args.at c.open_at-number.result.0 c.open_at-number.result.1 c.args.self.now c.open_at-number.ensures.number c.open_at-number.ensures.slot
     c.open_at-number.ensures.positive c.if-slot-node.true
 
 pub returns-else-not-hand_on-clause-goes : goal.returns-else-not-hand_on-clause-goes
 returns-else-not-hand_on-clause-goes c = c.hand_on.ensures.goes
 
-pub returns-else-not-hand_on-clause-asks : goal.returns-else-not-hand_on-clause-asks
-returns-else-not-hand_on-clause-asks c =
-    asks_one c.args.node c.args.at c.open_at-number.result.0 c.open_at-number.result.1 true c.args.self.now c.hand_on.new.self c.hand_on.new.self c.open_at-number.ensures.number
+pub returns-else-not-hand_on-clause-gathers : goal.returns-else-not-hand_on-clause-gathers
+returns-else-not-hand_on-clause-gathers c =
+    gathers_at_one c.args.node c.args.at c.open_at-number.result.0 c.open_at-number.result.1 true c.args.self.now c.hand_on.new.self c.hand_on.new.self c.open_at-number.ensures.number
     c.open_at-number.ensures.slot c.open_at-number.ensures.positive c.open_at-number.ensures.up c.if-slot-node.false c.hand_on.ensures.connections
     (subst (λ (b : Bool). MayHandOn c.open_at-number.result.0 c.open_at-number.result.1 c.args.self.now b c.hand_on.new.self) c.if-not-hand_on.false c.hand_on.ensures.hands)
     (stays_open c.open_at-number.result.0 c.open_at-number.result.1 c.hand_on.new.self
@@ -32,9 +32,9 @@ returns-then-not-hand_on-clause-goes c =
     goes_on_join _ _ _ c.hand_on.ensures.goes (goes_on_still _ _ (ap (λ (w : WorldState). w.nodes) c.close.ensures) (ap (λ (w : WorldState). w.clients) c.close.ensures)
     (let same = ap (λ (w : WorldState). w.losses) c.close.ensures in omega (arith, same)))
 
-pub returns-then-not-hand_on-clause-asks : goal.returns-then-not-hand_on-clause-asks
-returns-then-not-hand_on-clause-asks c =
-    asks_one c.args.node c.args.at c.open_at-number.result.0 c.open_at-number.result.1 false c.args.self.now c.hand_on.new.self c.close.new.self c.open_at-number.ensures.number
+pub returns-then-not-hand_on-clause-gathers : goal.returns-then-not-hand_on-clause-gathers
+returns-then-not-hand_on-clause-gathers c =
+    gathers_at_one c.args.node c.args.at c.open_at-number.result.0 c.open_at-number.result.1 false c.args.self.now c.hand_on.new.self c.close.new.self c.open_at-number.ensures.number
     c.open_at-number.ensures.slot c.open_at-number.ensures.positive c.open_at-number.ensures.up c.if-slot-node.false c.hand_on.ensures.connections
     (subst (λ (b : Bool). MayHandOn c.open_at-number.result.0 c.open_at-number.result.1 c.args.self.now b c.hand_on.new.self) c.if-not-hand_on.true c.hand_on.ensures.hands)
     c.close.ensures

@@ -13,7 +13,7 @@ gather_at-requires c = next_there c.args.node c.loop-at.at _ c.args.self.now c.l
 pub loop-at-preserved : goal.loop-at-preserved
 loop-at-preserved c =
     record {
-      walk = walk_goes_on c.args.node c.loop-at.at _ c.args.self.now c.loop-at.self c.gather_at.new.self (omega arith) refl c.loop-at.invariant.walk c.gather_at.ensures.goes c.gather_at.ensures.asks;
+      walk = walk_goes_on c.args.node c.loop-at.at _ c.args.self.now c.loop-at.self c.gather_at.new.self (omega arith) refl c.loop-at.invariant.walk c.gather_at.ensures.goes c.gather_at.ensures.gathers;
       still = c.gather_at.ensures.still ∙ c.loop-at.invariant.still;
       quiet = stays_join c.args.node c.args.self.now.nodes c.loop-at.self.nodes c.gather_at.new.self.nodes c.loop-at.invariant.quiet c.gather_at.ensures.quiet;
     }
