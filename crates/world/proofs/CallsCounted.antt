@@ -65,11 +65,11 @@ call_counted old i client piped (Err (errors.Malformed kind)) result new found f
 
 -- ---- what a client receives
 
-pub hearing_counted : (old : WorldState) (i : ℕ) (client : WorldClient) (piped : Piped) (had : Bool) (new : WorldState) → slice_get old.clients i ≡ Some client →
+pub carrying_counted : (old : WorldState) (i : ℕ) (client : WorldClient) (piped : Piped) (had : Bool) (new : WorldState) → slice_get old.clients i ≡ Some client →
     FollowsAll client.piped piped → old.losses ≤ (forgetful old).losses →
     new ≡ (if had then with_piped i client piped old else forgetful (with_piped i client piped old)) → IsTrace old new
-hearing_counted old i client piped true new found follows rises is = subst (λ w. IsTrace old w) (sym is) (client_goes_on old i client piped found follows)
-hearing_counted old i client piped false new found follows rises is = subst (λ w. IsTrace old w) (sym is) (client_goes_forgetful old i client piped found follows rises)
+carrying_counted old i client piped true new found follows rises is = subst (λ w. IsTrace old w) (sym is) (client_goes_on old i client piped found follows)
+carrying_counted old i client piped false new found follows rises is = subst (λ w. IsTrace old w) (sym is) (client_goes_forgetful old i client piped found follows rises)
 
 -- one that receives nothing stays as it is
 pub stays_all : (old new : Piped) → new ≡ old → FollowsAll old new

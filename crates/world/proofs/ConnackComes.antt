@@ -16,7 +16,7 @@ use Rattle.escaping_client.proofs.of_lists.Places.{get_pushed, get_set}
 use Rattle.escaping_client.specs.packet.Spelling.{spelling}
 use Rattle.escaping_client.specs.packet.Verdict.{verdict}
 use Rattle.world_events.specs.world_pipes.declared.way.Way.{Way}
-use Rattle.world_events.specs.world_pipes.Piped.{Hears, Piped, broken, come_down, sent_up}
+use Rattle.world_events.specs.world_pipes.Piped.{CarriesDown, Piped, broken, come_down, sent_up}
 use Rattle.world_events.specs.declared.event.Event.TheVariants as events
 use Rattle.world.specs.declared.connection_slot.ConnectionSlot.{ConnectionSlot}
 use Rattle.world.specs.declared.world.WorldClient.{WorldClient}
@@ -52,7 +52,7 @@ module _ (name : List ℕ) (i at number node : ℕ) (core : Core) (up down : Lis
   front : take 4 down ≡ spelling session_present
   front = ap (take 4) begins.is ∙ take_at (spelling session_present) begins.rest 4 connack_long
 
-  module _ (piped : Piped) (result : Result (Unit {0}) ClientError) (enough : result ≡ Err errors.Memory → ⊥) (h : Hears 4 s.client.piped result piped) where
+  module _ (piped : Piped) (result : Result (Unit {0}) ClientError) (enough : result ≡ Err errors.Memory → ⊥) (h : CarriesDown 4 s.client.piped result piped) where
     last : slice_get s.client.piped.ways at ≡ Some h.way
     last =
         let many = ap (λ (l : List Way). length l) h.newest in
@@ -68,7 +68,7 @@ module _ (name : List ℕ) (i at number node : ℕ) (core : Core) (up down : Lis
     read_is : (h.read ≡ Err errors.Memory → ⊥) → IsServed h.core
     read_is memory =
         (connack_serves (take 4 h.way.down) s.client.piped.core h.core h.read (ap verdict piece ∙ connack_read)
-        (ap (λ (k : Core). k.state.stage) s.core_is ∙ stage) (ap (λ (k : Core). k.unread) s.core_is ∙ unread) memory h.heard).1
+        (ap (λ (k : Core). k.state.stage) s.core_is ∙ stage) (ap (λ (k : Core). k.unread) s.core_is ∙ unread) memory h.carried).1
 
     hears_it : IsServed piped.core
     hears_it = by h.goes_up
@@ -81,8 +81,8 @@ module _ (name : List ℕ) (i at number node : ℕ) (core : Core) (up down : Lis
         by (inr (lost, is)) = absurd (enough lost)
 
   come : (new : WorldState) → Does true (events.CarryDown number 4) w new → IsOnline name w new
-  come new (c, piped, (result, enough, hears), is) =
-      let h = subst (λ (d : WorldClient). Hears 4 d.piped result piped) (client_is i at number node core up down b w s positive c) hears in
+  come new (c, piped, (result, enough, carries), is) =
+      let h = subst (λ (d : WorldClient). CarriesDown 4 d.piped result piped) (client_is i at number node core up down b w s positive c) carries in
       let z = hears_it piped result (enough refl) h in
       record {
         core = piped.core;

@@ -25,11 +25,11 @@ use Rattle.world.specs.Found.{Connected, is_named, slot_numbered, port_of, with_
 use Rattle.world.specs.Gathering.{Gathers, TakesItem}
 use Rattle.world.specs.Cannot.{CannotHappen, IsClosed, IsNoPart, down_of, is_held, is_held_by, up_of}
 use Rattle.world.specs.Doing.{Does, LosesAtClient, receiver_of}
-use Rattle.world.specs.ClientCalls.{HearsThem}
+use Rattle.world.specs.ClientCalls.{CarriesDownWhere}
 use Rattle.world.specs.Happening.{Happens, HappensExactly, HappensLosing, Run}
 use Rattle.world.specs.SlotsAreValid.{SlotsAreValid, leads_of}
 use Rattle.world.specs.Quiet.{TakesNoMemory}
-use Rattle.world.specs.Inside.Carrying.{CanTake, CannotHear, CannotTakeOn, HearsOn, TakesUpOn}
+use Rattle.world.specs.Inside.Carrying.{CanTake, CannotCarryDown, CannotTakeOn, CarriesDownOn, TakesUpOn}
 use Rattle.world.specs.Inside.Steps.{IsCounted, IsDone, Meets}
 use Rattle.world.specs.Inside.Calling.{forgetful}
 use Rattle.world.specs.World.{WorldState}
@@ -226,10 +226,10 @@ held_there : (number : ℕ) (w : WorldState) (c : Connected number w) → is_hel
 held_there number w c = ap (λ (o : Option ConnectionSlot). is_held o w.clients) c.numbered ∙ ap (λ (o : Option WorldClient). is_held_by o c.slot.at) c.owned
 
 pub carries_down : (number : ℕ) (place : ConnectionSlot) (count : ℕ) (had : Bool) (old : WorldState) (client : WorldClient) (piped : Piped) → SlotsAreValid (leads_of old.clients) old.connections
-    → slice_get old.connections (number - 1) ≡ Some place → 0 < number → slice_get old.clients place.client ≡ Some client → HearsOn had place.at count client.piped piped
+    → slice_get old.connections (number - 1) ≡ Some place → 0 < number → slice_get old.clients place.client ≡ Some client → CarriesDownOn had place.at count client.piped piped
     → (CannotHappen (events.CarryDown number count) old → ⊥) × Does had (events.CarryDown number count) old (with_piped place.client client piped old)
     × (had ≡ false → LosesAtClient (events.CarryDown number count) old (with_piped place.client client piped old))
-carries_down number place count had old client piped housed at positive owned hears = (can, (c, piped, hears.hears, refl), (λ lost. (c, piped, hears.lost lost, refl)))
+carries_down number place count had old client piped housed at positive owned carries = (can, (c, piped, carries.carries, refl), (λ lost. (c, piped, carries.lost lost, refl)))
   where
     found : Connected number old
     found = connected old number place housed at positive
@@ -250,13 +250,13 @@ carries_down number place count had old client piped housed at positive owned he
             }
 
     can : CannotHappen (events.CarryDown number count) old → ⊥
-    can (inl other) = both_ways _ (sym (held_there number old c) ∙ other) hears.held
-    can (inr few) = hears.some c.way c.stands (subst (λ (o : Option Way). IsNoPart count (down_of o)) (way_found number old c) few)
+    can (inl other) = both_ways _ (sym (held_there number old c) ∙ other) carries.held
+    can (inr few) = carries.some c.way c.stands (subst (λ (o : Option Way). IsNoPart count (down_of o)) (way_found number old c) few)
 
-pub hears_nothing : (number : ℕ) (place : ConnectionSlot) (count : ℕ) (old : WorldState) (client : WorldClient) → SlotsAreValid (leads_of old.clients) old.connections → slice_get old.connections (number - 1) ≡ Some place
-    → 0 < number → slice_get old.clients place.client ≡ Some client → CannotHear place.at count client.piped → CannotHappen (events.CarryDown number count) old
-hears_nothing number place count old client housed at positive owned cannot =
-    by (subst (λ (k : WorldClient). CannotHear place.at count k.piped) (same_Some client c.client (sym owned ∙ c.owned)) cannot c.way c.stands)
+pub carries_none_down : (number : ℕ) (place : ConnectionSlot) (count : ℕ) (old : WorldState) (client : WorldClient) → SlotsAreValid (leads_of old.clients) old.connections → slice_get old.connections (number - 1) ≡ Some place
+    → 0 < number → slice_get old.clients place.client ≡ Some client → CannotCarryDown place.at count client.piped → CannotHappen (events.CarryDown number count) old
+carries_none_down number place count old client housed at positive owned cannot =
+    by (subst (λ (k : WorldClient). CannotCarryDown place.at count k.piped) (same_Some client c.client (sym owned ∙ c.owned)) cannot c.way c.stands)
   where
     c : Connected number old
     c = connected old number place housed at positive
@@ -266,24 +266,24 @@ hears_nothing number place count old client housed at positive owned cannot =
     by (inr few) = inr (subst (λ (o : Option Way). IsNoPart count (down_of o)) (sym (way_found number old c)) few)
 
 -- what is received exactly is received
-hears_less : (count : ℕ) (old new : Piped) → HearsThem true count old new → HearsThem false count old new
-hears_less count old new h = (h.0, λ yes. absurd (both_ways false refl yes), h.2)
+carries_down_less : (count : ℕ) (old new : Piped) → CarriesDownWhere true count old new → CarriesDownWhere false count old new
+carries_down_less count old new h = (h.0, λ yes. absurd (both_ways false refl yes), h.2)
 
 does_less : (number count : ℕ) (old new : WorldState) → Does true (events.CarryDown number count) old new → Does false (events.CarryDown number count) old new
-does_less number count old new d = (d.0, d.1, hears_less count d.0.client.piped d.1 d.2, d.3)
+does_less number count old new d = (d.0, d.1, carries_down_less count d.0.client.piped d.1 d.2, d.3)
 
 -- running out of memory is counted
-pub heard_meets : (number : ℕ) (place : ConnectionSlot) (count : ℕ) (had : Bool) (old : WorldState) (client : WorldClient) (piped : Piped) (new : WorldState) → SlotsAreValid (leads_of old.clients) old.connections
-    → slice_get old.connections (number - 1) ≡ Some place → 0 < number → slice_get old.clients place.client ≡ Some client → HearsOn had place.at count client.piped piped
+pub carried_down_meets : (number : ℕ) (place : ConnectionSlot) (count : ℕ) (had : Bool) (old : WorldState) (client : WorldClient) (piped : Piped) (new : WorldState) → SlotsAreValid (leads_of old.clients) old.connections
+    → slice_get old.connections (number - 1) ≡ Some place → 0 < number → slice_get old.clients place.client ≡ Some client → CarriesDownOn had place.at count client.piped piped
     → new ≡ (if had then with_piped place.client client piped old else forgetful (with_piped place.client client piped old))
     → IsDone (events.CarryDown number count) old new ⊎ HappensLosing (events.CarryDown number count) old new
-heard_meets number place count true old client piped new housed at positive owned hears is =
-    let heard = with_piped place.client client piped old in
-    let d = carries_down number place count true old client piped housed at positive owned hears in
+carried_down_meets number place count true old client piped new housed at positive owned carries is =
+    let carried = with_piped place.client client piped old in
+    let d = carries_down number place count true old client piped housed at positive owned carries in
     inl (subst (λ (w : WorldState). IsDone (events.CarryDown number count) old w) (sym is)
-    (record { can = d.0; does = inr (does_less number count old heard d.1); exact = λ none. d.1; uncounted = refl }))
-heard_meets number place count false old client piped new housed at positive owned hears is =
-    let d = carries_down number place count false old client piped housed at positive owned hears in
+    (record { can = d.0; does = inr (does_less number count old carried d.1); exact = λ none. d.1; uncounted = refl }))
+carried_down_meets number place count false old client piped new housed at positive owned carries is =
+    let d = carries_down number place count false old client piped housed at positive owned carries in
     inr (record { can = d.0; needs = λ none low. none; done = with_piped place.client client piped old; does = inr d.1; lost = inr (inl (d.2 refl)); counted = is })
 
 pub never_opened : (number count : ℕ) (w : WorldState) → slot_numbered number w.connections ≡ None → CannotHappen (events.CarryDown number count) w

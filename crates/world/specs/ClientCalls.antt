@@ -7,7 +7,7 @@ use Rattle.escaping_client.specs.client_base.declared.error.ClientError.{ClientE
 use Rattle.escaping_client.specs.client_base.declared.error.ClientError.TheVariants as errors
 use Rattle.world_events.specs.world_pipes.declared.sending.Sending.{Sending}
 use Rattle.world_events.specs.world_pipes.declared.sending.Sending.TheVariants as sendings
-use Rattle.world_events.specs.world_pipes.Piped.{Calls, Hears, Piped, TakesLeave}
+use Rattle.world_events.specs.world_pipes.Piped.{Calls, CarriesDown, Piped, TakesLeave}
 use Rattle.world.specs.Found.{Named, with_piped}
 use Rattle.world.specs.World.{WorldState}
 
@@ -44,8 +44,9 @@ LosesLeaving old new =
 abbrev pub Loses : Piped → Piped → Type 0
 Loses old new = new ≡ record old { core = gone old.core }
 
--- whatever the client does with the bytes; it runs out of memory only if losses are allowed
-abbrev pub HearsThem : Bool → ℕ → Piped → Piped → Type 0
-HearsThem whole count old new =
+-- bytes are carried to the client, whatever it does with them; it runs out of memory only if losses
+-- are allowed
+abbrev pub CarriesDownWhere : Bool → ℕ → Piped → Piped → Type 0
+CarriesDownWhere whole count old new =
     (result : Result (Unit {0}) ClientError) × (whole ≡ true → result ≡ Err errors.Memory → ⊥)
-    × Hears count old result new
+    × CarriesDown count old result new

@@ -9,13 +9,13 @@ use Rattle.headline.specs.world_base.declared.item.Item.TheVariants as items
 use Rattle.escaping_nodes.specs.world_nodes.ExactSteps.{Comes, CutsExactly, TakesExactly, after_giving}
 use Rattle.escaping_nodes.specs.world_nodes.Nodes.{NodesState}
 use Rattle.escaping_nodes.specs.world_nodes.Steps.{ComesIn, CutsIn, ExpelsIn, GivesIn}
-use Rattle.world_events.specs.world_pipes.Piped.{Hears, Piped}
+use Rattle.world_events.specs.world_pipes.Piped.{CarriesDown, Piped}
 use Rattle.world_events.specs.declared.event.Event.{Event}
 use Rattle.world_events.specs.declared.event.Event.TheVariants as events
 use Rattle.world.specs.Found.{Connected, port_of, with_less, with_piped}
 use Rattle.world.specs.Gathering.{Gathers, TakesItem}
 use Rattle.world.specs.World.{WorldState}
-use Rattle.world.specs.ClientCalls.{ClientDoes, Asks, LosesAsking, Leaves, LosesLeaving, Loses, HearsThem}
+use Rattle.world.specs.ClientCalls.{ClientDoes, Asks, LosesAsking, Leaves, LosesLeaving, Loses, CarriesDownWhere}
 use Rattle.world.specs.Opening.{OpensNone, OpensWhere}
 
 -- the master gives a ballot, or answers an Activate
@@ -66,7 +66,7 @@ Does whole (events.CarryUp number count) old new =
     × TakesItem whole c.slot.node (items.Bytes (port_of number) (take count c.way.up) 0)
     (with_piped c.slot.client c.client (with_less c.slot.at count c.way c.client.piped) old) new
 Does whole (events.CarryDown number count) old new =
-    (c : Connected number old) × (piped : Piped) × HearsThem whole count c.client.piped piped
+    (c : Connected number old) × (piped : Piped) × CarriesDownWhere whole count c.client.piped piped
     × (new ≡ with_piped c.slot.client c.client piped old)
 Does whole (events.Abandon name) old new = ClientDoes name Loses old new
 Does whole (events.Disconnect name) old new = ClientDoes name (Leaves whole) old new
@@ -85,7 +85,7 @@ abbrev pub LosesAtClient : Event → WorldState → WorldState → Type 0
 LosesAtClient (events.Open name node) old new = OpensNone name node old new
 LosesAtClient (events.CarryDown number count) old new =
     (c : Connected number old) × (piped : Piped)
-    × Hears count c.client.piped (Err errors.Memory) piped
+    × CarriesDown count c.client.piped (Err errors.Memory) piped
     × (new ≡ with_piped c.slot.client c.client piped old)
 LosesAtClient (events.Disconnect name) old new = ClientDoes name LosesLeaving old new
 LosesAtClient (events.Publish name publication) old new =

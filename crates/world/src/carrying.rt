@@ -5,7 +5,7 @@ ghost use Rattle.escaping_nodes.specs.world_nodes.Running.{running};
 ghost use Rattle.world_events.specs.world_pipes.Following.{FollowsAll};
 ghost use Rattle.world.specs.Trace.{CountsOnce, NodesGoOn};
 ghost use Rattle.world.specs.SlotsAreValid.{leads};
-ghost use Rattle.world.specs.Inside.Carrying.{CannotHear, CannotTake, CannotTakeOn, HearsOn, TakesUpOnWhere, TakesUpWhere};
+ghost use Rattle.world.specs.Inside.Carrying.{CannotCarryDown, CannotTake, CannotTakeOn, CarriesDownOn, TakesUpOnWhere, TakesUpWhere};
 ghost use Rattle.world.specs.Inside.Steps.{IsTrace, Meets};
 ghost use Rattle.world.specs.Inside.Calling.{forgetful};
 
@@ -153,8 +153,8 @@ fn carry_down_on(piped: &mut PipedClient, at: usize, count: u64) -> Result<bool,
     requires { at < length piped.old.ways }
     ensures goes { FollowsAll piped.old piped.new }
     ensures leads { leads piped.new.ways ≡ leads piped.old.ways }
-    ensures hears { IfOk result (λ had. HearsOn had at count piped.old piped.new) }
-    ensures idle { OnErr result (CannotHear at count piped.old) }
+    ensures carries { IfOk result (λ had. CarriesDownOn had at count piped.old piped.new) }
+    ensures idle { OnErr result (CannotCarryDown at count piped.old) }
     ensures same { OnErr result (piped.new ≡ piped.old) }
 {
     if !piped.is_open() || at != piped.len() - 1 {

@@ -27,7 +27,7 @@ use Rattle.world_pipes.specs.Piped as pipings
 use Rattle.byte_world.specs.exactly_once.Acceptance.{accepted_on}
 use Rattle.world_pipes.specs.StandsFor.{AreWays, CanGoOut, StandsFor}
 use Rattle.byte_world.specs.Accepted.{accepted_once}
-use Rattle.world_pipes.proofs.HearingFollows.{IsLeft, finished, left_lost, way_up}
+use Rattle.world_pipes.proofs.CarryingFollows.{IsLeft, finished, left_lost, way_up}
 use Rattle.world_pipes.proofs.ModelsCalls.{IsCalled}
 use Rattle.world_pipes.proofs.PacketsHandled.{appended}
 use Rattle.world_pipes.proofs.Spellable.{AllSpelled}

@@ -9,7 +9,7 @@ use Rattle.byte_world.specs.world_base.declared.Port.{Port}
 use Rattle.world_pipes.specs.declared.sending.Sending.{Sending}
 use Rattle.world_pipes.specs.declared.sending.Sending.TheVariants as sendings
 use Rattle.world_pipes.specs.declared.way.Way.{Way}
-use Rattle.world_pipes.specs.Piped.{Calls, GoesUp, GoesUpWhere, Hears, Piped, TakesLeave, broken, come_down, is_holding, sent_up}
+use Rattle.world_pipes.specs.Piped.{Calls, GoesUp, GoesUpWhere, CarriesDown, Piped, TakesLeave, broken, come_down, is_holding, sent_up}
 
 -- to which node, by which port
 abbrev pub leads : List Way → List (ℕ × Port)
@@ -39,8 +39,8 @@ pub leaving_leads : (outcome : ClientOutcome) (old : Piped) (result : Result Sen
 leaving_leads outcome old (Ok sending) new (core, leaves, goes) = up_leads core old.ways sending new goes
 leaving_leads outcome old (Err cause) new leaves = ap leads leaves.1
 
-pub hearing_leads : (count : ℕ) (old : Piped) (result : Result (Unit {0}) ClientError) (new : Piped) → Hears count old result new → leads new.ways ≡ leads old.ways
-hearing_leads count old result new h = by h.goes_up
+pub carrying_leads : (count : ℕ) (old : Piped) (result : Result (Unit {0}) ClientError) (new : Piped) → CarriesDown count old result new → leads new.ways ≡ leads old.ways
+carrying_leads count old result new h = by h.goes_up
   where
     taken : leads (h.older ++ come_down count h.way ∷ []) ≡ leads old.ways
     taken = one_same h.older h.way (come_down count h.way) refl refl ∙ ap leads (sym h.newest)

@@ -7,7 +7,7 @@ pub mod Spellable
 pub mod PacketsHandled
 pub mod Ways
 pub mod AcceptedAlike
-pub mod HearingFollows
+pub mod CarryingFollows
 pub mod TakenBack
 pub mod ConnectingFollows
 pub mod NotRefused

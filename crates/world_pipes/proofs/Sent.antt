@@ -16,7 +16,7 @@ use Rattle.world_pipes.specs.declared.sending.Sending.{Sending}
 use Rattle.world_pipes.specs.declared.sending.Sending.TheVariants as sendings
 use Rattle.world_pipes.specs.Held.{IsHeld}
 use Rattle.world_pipes.specs.Inside.{MovesUp, SendsUp, CarriesToClient, stays_open}
-use Rattle.world_pipes.specs.Piped.{Calls, TakesLeave, GoesUp, GoesUpWhere, Hears, Piped, broken, come_down, piped, sent_up}
+use Rattle.world_pipes.specs.Piped.{Calls, TakesLeave, GoesUp, GoesUpWhere, CarriesDown, Piped, broken, come_down, piped, sent_up}
 use Rattle.world_pipes.proofs.Newest.{last_set, last_splits}
 use Rattle.world_pipes.proofs.StaysOpen.{heard_stays}
 
@@ -100,12 +100,12 @@ left_so old core left after sending holds holding held leaves s =
       subst (λ up. GoesUpWhere up core old.ways sending (piped left after)) up (goes_up holds core left old.ways after sending holding held.leads s),
     )
 
--- ---- hearing
+-- ---- carrying down
 
 -- the result of a piece, and went up
 pub heard_so : (count : ℕ) (core mid left : Core) (ways between after : List Way) (n : ℕ) (newest taken : Way) (read : Result (Unit {0}) ClientError)
     → 0 < length ways → n ≡ length ways → newest ≡ slice_index_or ways (n - 1) newest → CarriesToClient count core newest read mid taken
-    → between ≡ slice_set ways (n - 1) taken → MovesUp mid between left after → Hears count (piped core ways) read (piped left after)
+    → between ≡ slice_set ways (n - 1) taken → MovesUp mid between left after → CarriesDown count (piped core ways) read (piped left after)
 heard_so count core mid left ways between after n newest taken read some counted is takes set m =
     let older = take (length ways - 1) ways in
     let index : n - 1 ≡ length ways - 1 = ap (λ k. k - 1) counted in
@@ -118,7 +118,7 @@ heard_so count core mid left ways between after n newest taken read some counted
           ∙ ap (λ (w : Way). older ++ w ∷ []) (ap (λ k. slice_index_or ways k newest) (sym index) ∙ sym is);
       core = mid;
       read = read;
-      heard = takes.0;
+      carried = takes.0;
       goes_up = inl (refl, ap₂ piped m.handed (m.moved older (come_down count newest) put));
     }
 
@@ -128,7 +128,7 @@ as_error cause = Err cause
 -- or found no memory
 pub heard_in_vain : (count : ℕ) (core mid : Core) (ways between : List Way) (n : ℕ) (newest taken : Way) (read : Result (Unit {0}) ClientError) (cause : ClientError)
     → 0 < length ways → n ≡ length ways → newest ≡ slice_index_or ways (n - 1) newest → CarriesToClient count core newest read mid taken
-    → between ≡ slice_set ways (n - 1) taken → as_error cause ≡ as_error errors.Memory → Hears count (piped core ways) (Err cause) (broken mid between)
+    → between ≡ slice_set ways (n - 1) taken → as_error cause ≡ as_error errors.Memory → CarriesDown count (piped core ways) (Err cause) (broken mid between)
 heard_in_vain count core mid ways between n newest taken read cause some counted is takes set memory =
     let older = take (length ways - 1) ways in
     let index : n - 1 ≡ length ways - 1 = ap (λ k. k - 1) counted in
@@ -141,26 +141,26 @@ heard_in_vain count core mid ways between n newest taken read cause some counted
           ∙ ap (λ (w : Way). older ++ w ∷ []) (ap (λ k. slice_index_or ways k newest) (sym index) ∙ sym is);
       core = mid;
       read = read;
-      heard = takes.0;
+      carried = takes.0;
       goes_up = inr (memory, ap (λ all. broken mid all) put);
     }
 
-pub held_hearing : (count : ℕ) (old new : Piped) (result : Result (Unit {0}) ClientError) (holds : Bool) → is_open old.core.state.stage ≡ true → Hears count old result new
+pub held_carrying : (count : ℕ) (old new : Piped) (result : Result (Unit {0}) ClientError) (holds : Bool) → is_open old.core.state.stage ≡ true → CarriesDown count old result new
     → holds ≡ stays_open result → IsHeld holds new.core new.ways
-held_hearing count old new result holds up h is = held_end count old new result holds up h is h.goes_up
+held_carrying count old new result holds up h is = held_end count old new result holds up h is h.goes_up
   where
     some_there : (older : List Way) (way : Way) → 0 < length (older ++ way ∷ [])
     some_there older way = omega (arith, length-append older (way ∷ []))
 
     held_end : (count : ℕ) (old new : Piped) (result : Result (Unit {0}) ClientError) (holds : Bool) → is_open old.core.state.stage ≡ true
-        → (h : Hears count old result new) → holds ≡ stays_open result
+        → (h : CarriesDown count old result new) → holds ≡ stays_open result
         → ((result ≡ h.read) × (new ≡ sent_up h.core h.older (come_down count h.way)))
         ⊎ ((result ≡ Err errors.Memory) × (new ≡ broken h.core (h.older ++ come_down count h.way ∷ [])))
         → IsHeld holds new.core new.ways
     held_end count old new result holds up h is (inl end) =
         record {
           known = is ∙ ap stays_open end.0
-              ∙ heard_stays _ old.core.state.stage old.core h.core h.read refl up h.heard
+              ∙ heard_stays _ old.core.state.stage old.core h.core h.read refl up h.carried
               ∙ ap (λ (p : Piped). is_open p.core.state.stage) (sym end.1);
           leads = λ on. rw end.1 (some_there h.older (record h.way { up = h.way.up ++ h.core.out; down = (come_down count h.way).down }));
           sent = λ on. ap (λ (p : Piped). p.core.out) end.1;

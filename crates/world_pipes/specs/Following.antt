@@ -16,7 +16,7 @@ use Rattle.byte_world.specs.Published.{published_by}
 use Rattle.world_pipes.specs.declared.sending.Sending.{Sending}
 use Rattle.world_pipes.specs.declared.sending.Sending.TheVariants as sendings
 use Rattle.world_pipes.specs.Steps.{ClientGoes, published_along}
-use Rattle.world_pipes.specs.Piped.{Hears, Piped, is_holding}
+use Rattle.world_pipes.specs.Piped.{CarriesDown, Piped, is_holding}
 use Rattle.world_pipes.specs.StandsFor.{StandsFor}
 
 -- the model's client moves by steps in which it publishes this, and the client in code corresponds
@@ -83,8 +83,8 @@ CallingFollows published old (Err cause) new = new ≡ old
 -- ---- receiving: a piece arrives, whole packets are handled, and the connection may be lost
 
 -- whatever a client does with bytes, the model's client may do, and publishes nothing
-abbrev pub HearingFollows : Type 0
-HearingFollows =
+abbrev pub CarryingFollows : Type 0
+CarryingFollows =
     (count : ℕ) (old new : Piped) (result : Result (Unit {0}) ClientError) (m : ClientPipes) →
     StandsFor old m → is_holding old ≡ true →
-    Hears count old result new → Follows [] m new
+    CarriesDown count old result new → Follows [] m new

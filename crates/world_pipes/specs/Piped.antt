@@ -95,14 +95,14 @@ come_down count way = record way { down = drop count way.down }
 
 -- The first bytes on the newest connection reach the client, and what it writes goes up. If there
 -- is no memory for that the answer is Memory, and the connection is lost.
-pub record Hears (count : ℕ) (old : Piped) (result : Result (Unit {0}) ClientError)
+pub record CarriesDown (count : ℕ) (old : Piped) (result : Result (Unit {0}) ClientError)
     (new : Piped) : Type 0 where
   pub older : List Way
   pub way : Way
   pub newest : old.ways ≡ older ++ way ∷ []
   pub core : Core
   pub read : Result (Unit {0}) ClientError
-  pub heard : OnBytes (take count way.down) old.core.state.stage old.core read core
+  pub carried : OnBytes (take count way.down) old.core.state.stage old.core read core
   pub goes_up :
       ((result ≡ read) × (new ≡ sent_up core older (come_down count way)))
       ⊎ ((result ≡ Err errors.Memory) × (new ≡ broken core (older ++ come_down count way ∷ [])))

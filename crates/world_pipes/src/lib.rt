@@ -4,8 +4,8 @@
 
 mod bytes_in_transit;
 mod calling;
+mod carrying;
 mod connecting;
-mod hearing;
 mod laws;
 mod piped_client;
 mod sending;

@@ -9,12 +9,12 @@ use Rattle.escaping_nodes.specs.world_nodes.Nodes.{NodesState}
 use Rattle.escaping_nodes.specs.world_nodes.Steps.{TakesIn}
 use Rattle.world_events.specs.world_pipes.declared.way.Way.{Way}
 use Rattle.escaping_client.specs.client_base.declared.error.ClientError.TheVariants as errors
-use Rattle.world_events.specs.world_pipes.Piped.{Hears, Piped, is_holding}
+use Rattle.world_events.specs.world_pipes.Piped.{CarriesDown, Piped, is_holding}
 use Rattle.world.specs.declared.connection_slot.ConnectionSlot.{ConnectionSlot}
 use Rattle.world.specs.declared.world.WorldClient.{WorldClient}
 use Rattle.world.specs.Found.{port_of, with_less, with_piped}
 use Rattle.world.specs.Cannot.{IsNoPart}
-use Rattle.world.specs.ClientCalls.{HearsThem}
+use Rattle.world.specs.ClientCalls.{CarriesDownWhere}
 use Rattle.world.specs.World.{WorldState}
 
 -- ---- bytes reach a node
@@ -82,14 +82,14 @@ CannotTakeOn slot count w =
 
 -- it holds the connection at this index, some bytes wait there, and it receives them, with memory
 -- for all or not; or that is impossible
-pub record HearsOn (had : Bool) (at count : ℕ) (old new : Piped) : Type 0 where
+pub record CarriesDownOn (had : Bool) (at count : ℕ) (old new : Piped) : Type 0 where
   pub held : (is_holding old && (suc at == length old.ways)) ≡ true
   pub some : (way : Way) → slice_get old.ways at ≡ Some way → IsNoPart count way.down → ⊥
-  pub hears : HearsThem had count old new
-  pub lost : had ≡ false → Hears count old (Err errors.Memory) new
+  pub carries : CarriesDownWhere had count old new
+  pub lost : had ≡ false → CarriesDown count old (Err errors.Memory) new
 
 -- it does not hold the connection at this index, or too few bytes wait there
-abbrev pub CannotHear : ℕ → ℕ → Piped → Type 0
-CannotHear at count client =
+abbrev pub CannotCarryDown : ℕ → ℕ → Piped → Type 0
+CannotCarryDown at count client =
     (way : Way) → slice_get client.ways at ≡ Some way →
     ((is_holding client && (suc at == length client.ways)) ≡ false) ⊎ IsNoPart count way.down

@@ -2,9 +2,9 @@ use Rattle.std.proofs.Common.{◌≤◌, refl, arith}
 use Rattle.escaping_nodes.proofs.of_master.Counting.{get_there}
 use Rattle.world.specs.Inside.Calling.{forgetful}
 use Rattle.world.specs.World.{WorldState}
-use Rattle.world.proofs.CallsCounted.{hearing_counted}
+use Rattle.world.proofs.CallsCounted.{carrying_counted}
 use Rattle.world.proofs.ClientGoes.{client_goes_on, housed_still, same_piped}
-use Rattle.world.proofs.ItemsMet.{heard_meets, hears_nothing}
+use Rattle.world.proofs.ItemsMet.{carried_down_meets, carries_none_down}
 use Rattle.world.proofs.Joined.{goes_on_rest}
 use Rattle.world.proofs.StandsThere.{client_within, way_within}
 use Rattle.world.proofs.world.World.carry_down.Goals as goal
@@ -43,7 +43,7 @@ returns-in-Err-clause-meets c =
     let few = client_within c.self.inside.clients.items c.self.inside.connections.items c.args.number c.in-Some.slot c.self.invariant.0 stands.1 stands.0 in
     let found = get_there c.self.inside.clients.items c.in-Some.slot.client c.index_mut.result.now few c.index_mut.ensures.value in
     rw (← c.self.view_is) (
-      hears_nothing c.args.number c.in-Some.slot c.args.count (let old : WorldState = record {
+      carries_none_down c.args.number c.in-Some.slot c.args.count (let old : WorldState = record {
         nodes = c.self.inside.nodes;
         clients = c.self.inside.clients.items;
         connections = c.self.inside.connections.items;
@@ -80,7 +80,7 @@ returns-in-Ok-clause-goes c =
     } in old) in
     let rises : old.losses ≤ (forgetful old).losses = omega arith in
     rw (← c.self.view_is)
-    (hearing_counted old c.in-Some.slot.client c.index_mut.result.now c.carry_down_on.new.piped c.in-Ok.had c.remember.new.self found c.carry_down_on.ensures.goes rises
+    (carrying_counted old c.in-Some.slot.client c.index_mut.result.now c.carry_down_on.new.piped c.in-Ok.had c.remember.new.self found c.carry_down_on.ensures.goes rises
     c.remember.ensures)
 
 pub returns-in-Ok-clause-meets : goal.returns-in-Ok-clause-meets
@@ -89,10 +89,10 @@ returns-in-Ok-clause-meets c =
     let few = client_within c.self.inside.clients.items c.self.inside.connections.items c.args.number c.in-Some.slot c.self.invariant.0 stands.1 stands.0 in
     let found = get_there c.self.inside.clients.items c.in-Some.slot.client c.index_mut.result.now few c.index_mut.ensures.value in
     rw (← c.self.view_is)
-    (heard_meets c.args.number c.in-Some.slot c.args.count c.in-Ok.had (let old : WorldState = record {
+    (carried_down_meets c.args.number c.in-Some.slot c.args.count c.in-Ok.had (let old : WorldState = record {
       nodes = c.self.inside.nodes;
       clients = c.self.inside.clients.items;
       connections = c.self.inside.connections.items;
       losses = c.self.inside.losses;
-    } in old) c.index_mut.result.now c.carry_down_on.new.piped c.remember.new.self c.self.invariant.0 stands.1 stands.0 found c.in-Ok.ensures.hears
+    } in old) c.index_mut.result.now c.carry_down_on.new.piped c.remember.new.self c.self.invariant.0 stands.1 stands.0 found c.in-Ok.ensures.carries
     c.remember.ensures)

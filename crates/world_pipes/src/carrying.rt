@@ -1,7 +1,7 @@
 // Bytes that reach a client.
 
 ghost use Rattle.std.specs.Prelude.{◌≡◌, ◌≤◌, ◌<◌, ◌-◌, true, length, slice_get, IfSome};
-ghost use Rattle.world_pipes.specs.Piped.{Hears, is_holding, piped};
+ghost use Rattle.world_pipes.specs.Piped.{CarriesDown, is_holding, piped};
 ghost use Rattle.world_pipes.specs.Following.{FollowsAll};
 ghost use Rattle.world_pipes.specs.Inside.{CarriesToClient, stays_open};
 
@@ -20,7 +20,7 @@ impl PipedClient {
         requires open { is_holding self.old ≡ true }
         requires count { IfSome (slice_get self.old.ways (length self.old.ways - 1))
             (λ way. count ≤ length way.down) }
-        ensures hears { Hears count self.old result self.new }
+        ensures carries { CarriesDown count self.old result self.new }
         ensures goes { FollowsAll self.old self.new }
     {
         let answer = carry_down_on(&mut self.core, &mut self.ways, count);
@@ -39,7 +39,8 @@ fn carry_down_on(
     requires some { 0 < length ways.old.items }
     requires count { IfSome (slice_get ways.old.items (length ways.old.items - 1))
         (λ way. count ≤ length way.down) }
-    ensures { Hears count (piped core.old ways.old.items) result (piped core.new ways.new.items) }
+    ensures { CarriesDown count (piped core.old ways.old.items) result
+        (piped core.new ways.new.items) }
 {
     let newest = ways.len() - 1;
     let read = carry_to_client(core, &mut ways[newest], count);

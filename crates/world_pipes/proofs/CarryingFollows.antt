@@ -1,4 +1,4 @@
--- HearingFollows.antt: after what comes to it a client is in a state that the model's may reach.
+-- CarryingFollows.antt: after what comes to it a client is in a state that the model's may reach.
 use Rattle.std.proofs.Common.{◌≡◌, ℕ, suc, true, false, ◌⊎◌, inl, inr, List, [], ◌∷◌, ◌++◌, length, take, drop, reverse, set, slice_get, Result, Ok, Err, refl, ap, ap₂, sym, subst, ◌∙◌, arith, append_assoc}
 use Rattle.std.proofs.lemmas.Bool.{both_ways}
 use Rattle.std.proofs.lemmas.List.{append-nil, take-append-drop}
@@ -15,9 +15,9 @@ use Rattle.client.specs.Reading.{EndsWith, Handles, OnBytes, fed}
 use Rattle.byte_world.specs.exactly_once.Sides.{Connection}
 use Rattle.byte_world.specs.World.{ClientPipes, Pipe, with_pipe}
 use Rattle.world_pipes.specs.declared.way.Way.{Way}
-use Rattle.world_pipes.specs.Following.{Follows, HearingFollows, after_losing}
+use Rattle.world_pipes.specs.Following.{Follows, CarryingFollows, after_losing}
 use Rattle.world_pipes.specs.Steps.{ClientGoes, ClientStep, published_along, published_with}
-use Rattle.world_pipes.specs.Piped.{Hears, Piped, broken, come_down, piped, sent_up}
+use Rattle.world_pipes.specs.Piped.{CarriesDown, Piped, broken, come_down, piped, sent_up}
 use Rattle.byte_world.specs.exactly_once.Acceptance.{accepted_on}
 use Rattle.world_pipes.specs.StandsFor.{AreWays, CanGoOut, IsWay, StandsFor}
 use Rattle.byte_world.specs.Accepted.{accepted_once}
@@ -173,8 +173,8 @@ then_along step (ClientGoes.goes_on goes later) =
 then_silent : {c d e : ClientPipes} (step : ClientStep c d) (goes : ClientGoes d e) → published_with step ≡ [] → published_along goes ≡ [] → published_along (first_then step goes) ≡ []
 then_silent step goes silent none = then_along step goes ∙ ap₂ (λ a b. a ++ b) silent none
 
-pub hearing_follows : HearingFollows
-hearing_follows count old new result m s up h =
+pub carrying_follows : CarryingFollows
+carrying_follows count old new result m s up h =
     let held = s.held up in
     let p = held.pipe in
     let others = held.others in
@@ -203,12 +203,12 @@ hearing_follows count old new result m s up h =
       up = held.up ∙ ap (λ (way : Way). way.up) (sym same) ∙ sym (append-nil h.way.up) ∙ ap (λ l. h.way.up ++ l) (sym held.sent);
       came = ap (λ (c : Stream). record c { bytes = c.bytes ++ piece }) held.came;
     } in
-    let r = has_read piece old.core.state.stage old.core h.core h.read up h.heard in
+    let r = has_read piece old.core.state.stage old.core h.core h.read up h.carried in
     let l = ends h.way.up r.last h.core m₁ others p₁ further h.read (handled_stays (fed piece old.core) r.last r.handled up)
     (all_go h.way.up (fed piece old.core) r.last m₁ others p₁ further up start r.handled) r.ends in
     shown count old new result m h others further p₁ m₁ many ways.1 ways.0.node ways.0.port refl coming refl l h.goes_up
   where
-    shown : (count : ℕ) (old new : Piped) (result : Result (Unit {0}) ClientError) (m : ClientPipes) (h : Hears count old result new) (others : List Connection)
+    shown : (count : ℕ) (old new : Piped) (result : Result (Unit {0}) ClientError) (m : ClientPipes) (h : CarriesDown count old result new) (others : List Connection)
         (further : List Pipe) (p₁ : Pipe) (m₁ : ClientPipes) → length others ≡ length further → AreWays (reverse h.older) further → p₁.node ≡ h.way.node →
         p₁.port ≡ h.way.port → p₁.down ≡ drop count h.way.down → (coming : ClientStep m m₁) → published_with coming ≡ [] → Leaves h.way.up h.core m₁ others p₁ further →
         ((result ≡ h.read) × (new ≡ sent_up h.core h.older (come_down count h.way)))

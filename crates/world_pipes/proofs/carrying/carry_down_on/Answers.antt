@@ -1,7 +1,7 @@
 use Rattle.std.proofs.Common.{rules, refl, ◌≡◌}
 use Rattle.client.specs.Core.{gone}
 use Rattle.world_pipes.proofs.Sent.{heard_in_vain, heard_so}
-use Rattle.world_pipes.proofs.hearing.carry_down_on.Goals as goal
+use Rattle.world_pipes.proofs.carrying.carry_down_on.Goals as goal
 
 pub returns-in-Err : goal.returns-in-Err
 returns-in-Err c =
