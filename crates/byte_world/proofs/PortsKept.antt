@@ -32,7 +32,7 @@ use Rattle.node_group.specs.world_base.Handing.{hands_over, left_by, listed_at}
 use Rattle.node_group.specs.world_base.KeepAlive.{ends_if, ends_silent, lowest_silent}
 use Rattle.node_group.specs.world_base.Reading.{begins, changes, ends, loses, loses_open, open_at, reads, reads_next, reads_of, refused, says, unread_of}
 use Rattle.node_group.specs.world_base.Step.{acts_on, next_name, opens, does_item, cuts, with_cut}
-use Rattle.node_group.specs.world_base.Turns.{changes_named, drives, has_room, heard, proposes, quiet, repeated, served}
+use Rattle.node_group.specs.world_base.Turns.{changes_named, drives, has_room, heard, proposes, quiet, repeated, handled}
 use Rattle.node_group.specs.node_moves.Moves.{NodeCall, done}
 use Rattle.node_group.specs.node_moves.Moves.NodeCall.{takes, gives}
 use Rattle.node_group.proofs.of_node_moves.EachKept.{IsKept, each_proposed, each_repeated, each_settled}
@@ -92,14 +92,14 @@ module _ (P : Connection → Type 0) (follows : IsFollowed P) where
   unfolding changes_named
   each_named name f core later all = each_changed (is_open_named name) f core.connections (λ c e. later c) all
 
-  each_served : (core : CoreState) (e : Effect Command Output) → AllOf core → AllOf (served core e)
-  each_served core (Out place (outputs.Send name packet)) all = each_named name (put_out (spelling packet)) core (is_put_out (spelling packet)) all
-  each_served core (Out place (outputs.Close name)) all = each_named name closed core is_shut all
-  each_served core (To receiver message) all = all
+  each_handled : (core : CoreState) (e : Effect Command Output) → AllOf core → AllOf (handled core e)
+  each_handled core (Out place (outputs.Send name packet)) all = each_named name (put_out (spelling packet)) core (is_put_out (spelling packet)) all
+  each_handled core (Out place (outputs.Close name)) all = each_named name closed core is_shut all
+  each_handled core (To receiver message) all = all
 
-  each_delivered : (core : CoreState) (effects : List (Effect Command Output)) → AllOf core → AllOf (fold served core effects)
+  each_delivered : (core : CoreState) (effects : List (Effect Command Output)) → AllOf core → AllOf (fold handled core effects)
   each_delivered core [] all = all
-  each_delivered core (e ∷ effects) all = each_delivered (served core e) effects (each_served core e all)
+  each_delivered core (e ∷ effects) all = each_delivered (handled core e) effects (each_handled core e all)
 
   each_driven : (input : Input Command) (core : CoreState) → AllOf core → AllOf (drives input core).core
   unfolding drives

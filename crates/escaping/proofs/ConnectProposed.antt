@@ -29,11 +29,11 @@ use Rattle.node_moves.specs.world_base.Core.{CoreState, Turn, rules, serves}
 use Rattle.node_moves.specs.world_base.Failing.{loses_all_failed}
 use Rattle.node_moves.specs.world_base.Reading.{changes, open_at, reads, reads_all, reads_next, reads_of, unread_of}
 use Rattle.node_moves.specs.world_base.Step.{node_step, settled}
-use Rattle.node_moves.specs.world_base.Turns.{has_room, is_message, proposes, quiet, repeated, served, then_also}
+use Rattle.node_moves.specs.world_base.Turns.{has_room, is_message, proposes, quiet, repeated, handled, then_also}
 use Rattle.node_moves.proofs.Views.{each_kept}
 use Rattle.escaping.specs.Asking.{ConnectIsProposed, asked_now, proposal_at, with_asked}
 use Rattle.escaping.specs.Delivery.{IsCalm}
-use Rattle.escaping.proofs.OneDelivery.{calm_finds, none_lost, none_served, only_messages, with_replica}
+use Rattle.escaping.proofs.OneDelivery.{calm_finds, none_lost, none_handled, only_messages, with_replica}
 
 -- ---- a change, and another of the same connection
 
@@ -142,12 +142,12 @@ module _ (core : CoreState) (port : Port) (now : ℕ) (piece : List ℕ) (c : Co
       (ap (λ (r : CountedReplica State Command). is_active r.state.role && not r.state.stopped) same ∙ leads)
       ∙ ap (λ (r : CountedReplica State Command). let t : Turn = delivered_of (proposed rules r.state command) k in t) same
       ∙ ap (λ (x : CoreState). let t : Turn = record { core = x; messages = filter is_message (proposal_at core command).effects } in t)
-      (none_served (proposal_at core command).effects silent (with_replica (proposal_at core command).state k))
+      (none_handled (proposal_at core command).effects silent (with_replica (proposal_at core command).state k))
       ∙ ap (λ (l : List (Effect Command Output)). let t : Turn = record { core = with_replica (proposal_at core command).state k; messages = l } in t)
       (only_messages (proposal_at core command).effects silent)
     where
       delivered_of : Outcome State Command Output → CoreState → Turn
-      delivered_of o x = record { core = fold served (with_replica o.state x) o.effects; messages = filter is_message o.effects }
+      delivered_of o x = record { core = fold handled (with_replica o.state x) o.effects; messages = filter is_message o.effects }
 
   -- the connection is found with its bytes
   found : open_at port (with_change (holding piece)) ≡ Some (holding piece c)

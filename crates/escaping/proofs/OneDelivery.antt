@@ -20,7 +20,7 @@ use Rattle.node_moves.specs.world_base.Connections.{has_failed}
 use Rattle.node_moves.specs.world_base.Core.{CoreState, Turn, serves}
 use Rattle.node_moves.specs.world_base.Failing.{closes_failed, loses_all_failed, loses_failed, loses_if}
 use Rattle.node_moves.specs.world_base.Step.{node_step, settled}
-use Rattle.node_moves.specs.world_base.Turns.{drives, is_message, moved, proposes, quiet, repeated, served, then_also}
+use Rattle.node_moves.specs.world_base.Turns.{drives, is_message, moved, proposes, quiet, repeated, handled, then_also}
 use Rattle.node_moves.proofs.LossesTold.{each_loss_is_told}
 use Rattle.escaping.specs.Delivery.{AStepIsADelivery, IsCalm, heard_by}
 
@@ -31,10 +31,10 @@ only_messages [] e = refl
 only_messages (To receiver message ∷ effects) e = ap (λ (l : List (Effect Command Output)). To receiver message ∷ l) (only_messages effects e)
 only_messages (Out place output ∷ effects) e = cc
 
-pub none_served : (effects : List (Effect Command Output)) → outputs effects ≡ [] → (core : CoreState) → fold served core effects ≡ core
-none_served [] e core = refl
-none_served (To receiver message ∷ effects) e core = none_served effects e core
-none_served (Out place output ∷ effects) e core = cc
+pub none_handled : (effects : List (Effect Command Output)) → outputs effects ≡ [] → (core : CoreState) → fold handled core effects ≡ core
+none_handled [] e core = refl
+none_handled (To receiver message ∷ effects) e core = none_handled effects e core
+none_handled (Out place output ∷ effects) e core = cc
 
 abbrev pub with_replica : ReplicaState State Command → CoreState → CoreState
 with_replica s core = record core { replica = record core.replica { state = s } }
@@ -45,7 +45,7 @@ unfolding drives
 drives_silently core message runs silent =
     ap (λ (b : Bool). moved (if b then (record { state = core.replica.state; effects = [] }) else heard_by core message) core) runs
     ∙ ap (λ (k : CoreState). let t : Turn = record { core = k; messages = filter is_message (heard_by core message).effects } in t)
-    (none_served (heard_by core message).effects silent (with_replica (heard_by core message).state core))
+    (none_handled (heard_by core message).effects silent (with_replica (heard_by core message).state core))
     ∙ ap (λ (l : List (Effect Command Output)). let t : Turn = record { core = with_replica (heard_by core message).state core; messages = l } in t)
     (only_messages (heard_by core message).effects silent)
 

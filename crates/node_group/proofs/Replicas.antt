@@ -18,7 +18,7 @@ use Rattle.node_moves.specs.world_base.Core.{CoreState, serves}
 use Rattle.node_moves.specs.world_base.Handing.{hands_over, left_by, listed_at}
 use Rattle.node_moves.specs.world_base.Reading.{changes}
 use Rattle.node_moves.specs.world_base.Step.{opens, settled}
-use Rattle.node_moves.specs.world_base.Turns.{changes_named, moved, served}
+use Rattle.node_moves.specs.world_base.Turns.{changes_named, moved, handled}
 use Rattle.node_group.specs.Group.{replica_of}
 
 -- ---- moves that leave it as it is
@@ -54,14 +54,14 @@ named_keeps : (name : ConnectionName) (f : Connection → Connection) (core : Co
 unfolding changes_named
 named_keeps name f core = refl
 
-served_keeps : (core : CoreState) (e : Effect Command Output) → (served core e).replica ≡ core.replica
-served_keeps core (Out place (outputs.Send name packet)) = named_keeps name (put_out (spelling packet)) core
-served_keeps core (Out place (outputs.Close name)) = named_keeps name closed core
-served_keeps core (To receiver message) = refl
+handled_keeps : (core : CoreState) (e : Effect Command Output) → (handled core e).replica ≡ core.replica
+handled_keeps core (Out place (outputs.Send name packet)) = named_keeps name (put_out (spelling packet)) core
+handled_keeps core (Out place (outputs.Close name)) = named_keeps name closed core
+handled_keeps core (To receiver message) = refl
 
-folded_keeps : (core : CoreState) (effects : List (Effect Command Output)) → (fold served core effects).replica ≡ core.replica
+folded_keeps : (core : CoreState) (effects : List (Effect Command Output)) → (fold handled core effects).replica ≡ core.replica
 folded_keeps core [] = refl
-folded_keeps core (e ∷ effects) = folded_keeps (served core e) effects ∙ served_keeps core e
+folded_keeps core (e ∷ effects) = folded_keeps (handled core e) effects ∙ handled_keeps core e
 
 pub moved_replica : (outcome : Outcome State Command Output) (core : CoreState) → replica_of (moved outcome core).core ≡ outcome.state
 moved_replica outcome core =

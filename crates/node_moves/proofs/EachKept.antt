@@ -19,7 +19,7 @@ use Rattle.world_base.specs.Connections.{has_failed, is_listed, is_open_named, c
 use Rattle.world_base.specs.Core.{CoreState, Turn, rules, serves}
 use Rattle.world_base.specs.Failing.{closes_failed, loses_failed, loses_if}
 use Rattle.world_base.specs.Step.{settled}
-use Rattle.world_base.specs.Turns.{quiet, repeated, served, moved, proposes, changes_named}
+use Rattle.world_base.specs.Turns.{quiet, repeated, handled, moved, proposes, changes_named}
 use Rattle.node_moves.proofs.Views.{each_kept, each_mapped, each_filtered}
 
 pub record IsKept (P : Connection → Type 0) : Type 0 where
@@ -32,14 +32,14 @@ module _ (P : Connection → Type 0) (kept : IsKept P) where
   unfolding changes_named
   each_named name f core low all = each_kept P (is_open_named name) f core.connections low all
 
-  each_served : (core : CoreState) (e : Effect Command Output) → Each P core.connections → Each P (served core e).connections
-  each_served core (Out place (outputs.Send name packet)) all = each_named name (put_out (spelling packet)) core (kept.put (spelling packet)) all
-  each_served core (Out place (outputs.Close name)) all = each_named name closed core kept.shut all
-  each_served core (To receiver message) all = all
+  each_handled : (core : CoreState) (e : Effect Command Output) → Each P core.connections → Each P (handled core e).connections
+  each_handled core (Out place (outputs.Send name packet)) all = each_named name (put_out (spelling packet)) core (kept.put (spelling packet)) all
+  each_handled core (Out place (outputs.Close name)) all = each_named name closed core kept.shut all
+  each_handled core (To receiver message) all = all
 
-  each_delivered : (core : CoreState) (effects : List (Effect Command Output)) → Each P core.connections → Each P (fold served core effects).connections
+  each_delivered : (core : CoreState) (effects : List (Effect Command Output)) → Each P core.connections → Each P (fold handled core effects).connections
   each_delivered core [] all = all
-  each_delivered core (e ∷ effects) all = each_delivered (served core e) effects (each_served core e all)
+  each_delivered core (e ∷ effects) all = each_delivered (handled core e) effects (each_handled core e all)
 
   each_moved : (outcome : Outcome State Command Output) (core : CoreState) → Each P core.connections → Each P (moved outcome core).core.connections
   each_moved outcome core all =

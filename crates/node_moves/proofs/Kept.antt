@@ -24,7 +24,7 @@ use Rattle.world_base.specs.Failing.{closes_failed}
 use Rattle.world_base.specs.Handing.{hands_over, left_by, listed_at}
 use Rattle.world_base.specs.Reading.{changes}
 use Rattle.world_base.specs.Step.{settled, crashed, with_cut}
-use Rattle.world_base.specs.Turns.{quiet, moved, served, proposes, drives, heard, changes_named}
+use Rattle.world_base.specs.Turns.{quiet, moved, handled, proposes, drives, heard, changes_named}
 use Rattle.node_moves.specs.Ends.{AtMostOne, IsGiven, IsOrderly, open_named}
 use Rattle.node_moves.proofs.JoinedGrows.{Up, up_if, up_nothing, up_proposed, joined_grows}
 use Rattle.node_moves.proofs.NamesInOrder.{same_le}
@@ -167,15 +167,15 @@ pub stays_named : (name : ConnectionName) (f : Connection → Connection) (core 
 unfolding changes_named
 stays_named name f core o mild = stays_changed core (changes_named name f core) (is_open_named name) f o refl refl (same_le core.replica.state.joined) (λ d e. left_true (live d) (named name d) e) mild
 
-pub stays_served : (core : CoreState) (e : Effect Command Output) → IsOrderly core → Stays core (served core e)
-stays_served core (Out place (outputs.Send name packet)) o = stays_named name (put_out (spelling packet)) core o (put_out_is_mild (spelling packet))
-stays_served core (Out place (outputs.Close name)) o = stays_named name closed core o closed_is_mild
-stays_served core (To receiver message) o = stays_same core o
+pub stays_handled : (core : CoreState) (e : Effect Command Output) → IsOrderly core → Stays core (handled core e)
+stays_handled core (Out place (outputs.Send name packet)) o = stays_named name (put_out (spelling packet)) core o (put_out_is_mild (spelling packet))
+stays_handled core (Out place (outputs.Close name)) o = stays_named name closed core o closed_is_mild
+stays_handled core (To receiver message) o = stays_same core o
 
-stays_delivered : (core : CoreState) (effects : List (Effect Command Output)) → IsOrderly core → Stays core (fold served core effects)
+stays_delivered : (core : CoreState) (effects : List (Effect Command Output)) → IsOrderly core → Stays core (fold handled core effects)
 stays_delivered core [] o = stays_same core o
 stays_delivered core (e ∷ effects) o =
-    let s = stays_served core e o in stays_joined core (served core e) (fold served (served core e) effects) s (stays_delivered (served core e) effects s.orderly)
+    let s = stays_handled core e o in stays_joined core (handled core e) (fold handled (handled core e) effects) s (stays_delivered (handled core e) effects s.orderly)
 
 stays_moved : (outcome : Outcome State Command Output) (core : CoreState) → Up core.replica.state outcome → IsOrderly core → Stays core (moved outcome core).core
 stays_moved outcome core up o =

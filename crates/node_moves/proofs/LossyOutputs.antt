@@ -20,10 +20,10 @@ use Rattle.world_base.specs.Turns.{changes_named}
 use Rattle.node_moves.specs.Closed.{listed_named}
 use Rattle.node_moves.specs.Ends.{AtMostOne, IsOrderly}
 use Rattle.node_moves.specs.Puts.{spelled}
-use Rattle.node_moves.proofs.Kept.{IsMild, Stays, failing_over, left_true, live, named, stays_joined, stays_named, stays_same, stays_served}
+use Rattle.node_moves.proofs.Kept.{IsMild, Stays, failing_over, left_true, live, named, stays_joined, stays_named, stays_same, stays_handled}
 use Rattle.node_moves.proofs.Shut.{Shuts, all, listed_closed, shuts_dead, shuts_joined, shuts_on, shuts_others, shuts_same, shuts_unchanged}
 use Rattle.node_moves.proofs.Shut.Shuts.{is_shut}
-use Rattle.node_moves.proofs.ShutByOutputs.{bytes_for, bytes_join, named_shuts, right_true, served_shuts}
+use Rattle.node_moves.proofs.ShutByOutputs.{bytes_for, bytes_join, named_shuts, right_true, handled_shuts}
 use Rattle.node_moves.proofs.Views.{found_passes, none_changes, view}
 
 abbrev Given : Type 0
@@ -54,9 +54,9 @@ failing_is_mild = record { name = λ c. refl; stage = λ c. inr (failing_over c)
 
 stays_serves : (output : Output) (core new : CoreState) → Performs output core new → IsOrderly core → Stays core new
 stays_serves (outputs.Send name packet) core new (inl is) o =
-    subst (λ (k : CoreState). Stays core k) (sym is) (stays_served core (Out 0 (outputs.Send name packet)) o)
+    subst (λ (k : CoreState). Stays core k) (sym is) (stays_handled core (Out 0 (outputs.Send name packet)) o)
 stays_serves (outputs.Send name packet) core new (inr is) o = subst (λ (k : CoreState). Stays core k) (sym is) (stays_named name failing core o failing_is_mild)
-stays_serves (outputs.Close name) core new is o = subst (λ (k : CoreState). Stays core k) (sym is) (stays_served core (Out 0 (outputs.Close name)) o)
+stays_serves (outputs.Close name) core new is o = subst (λ (k : CoreState). Stays core k) (sym is) (stays_handled core (Out 0 (outputs.Close name)) o)
 
 pub stays_delivers : (given : Given) (core new : CoreState) (messages : Given) → HandlesAll given core new messages → IsOrderly core → Stays core new
 stays_delivers _ core _ _ nothing o = stays_same core o
@@ -116,13 +116,13 @@ serves_shuts : (x : ConnectionName) (output : Output) (core new : CoreState) →
     → Shuts (bytes_for x (Out 0 output ∷ [])) (listed_named x core) (listed_named x new)
 serves_shuts x (outputs.Send name packet) core new (inl is) o =
     subst (λ (k : CoreState). Shuts (bytes_for x (Out 0 (outputs.Send name packet) ∷ [])) (listed_named x core) (listed_named x k)) (sym is)
-    (served_shuts x core (Out 0 (outputs.Send name packet)) o)
+    (handled_shuts x core (Out 0 (outputs.Send name packet)) o)
 serves_shuts x (outputs.Send name packet) core new (inr is) o =
     subst (λ (k : CoreState). Shuts (bytes_for x (Out 0 (outputs.Send name packet) ∷ [])) (listed_named x core) (listed_named x k)) (sym is)
     (fails_shuts x name packet core o)
 serves_shuts x (outputs.Close name) core new is o =
     subst (λ (k : CoreState). Shuts (bytes_for x (Out 0 (outputs.Close name) ∷ [])) (listed_named x core) (listed_named x k)) (sym is)
-    (served_shuts x core (Out 0 (outputs.Close name)) o)
+    (handled_shuts x core (Out 0 (outputs.Close name)) o)
 
 pub delivers_shuts : (x : ConnectionName) (given : Given) (core new : CoreState) (messages : Given) → HandlesAll given core new messages → IsOrderly core
     → Shuts (bytes_for x given) (listed_named x core) (listed_named x new)

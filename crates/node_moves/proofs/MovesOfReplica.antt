@@ -20,7 +20,7 @@ use Rattle.world_base.specs.Failing.{closes_failed}
 use Rattle.world_base.specs.Handing.{hands_over, left_by}
 use Rattle.world_base.specs.Reading.{changes}
 use Rattle.world_base.specs.Step.{next_name, opens, settled}
-use Rattle.world_base.specs.Turns.{changes_named, moved, proposes, quiet, served}
+use Rattle.world_base.specs.Turns.{changes_named, moved, proposes, quiet, handled}
 use Rattle.node_moves.specs.Keeping.{moves_replica}
 use Rattle.node_moves.specs.Moves.{Moves}
 use Rattle.node_moves.specs.Moves.Moves.{hears, opens_one, holds, reads_first, reads_later, closes, refuses, loses_one, loses_next, expels_one, cuts_log, crashes, settles, hands}
@@ -31,14 +31,14 @@ named_replica : (name : ConnectionName) (f : Connection → Connection) (core : 
 unfolding changes_named
 named_replica name f core = refl
 
-served_replica : (core : CoreState) (e : Effect Command Output) → (served core e).replica ≡ core.replica
-served_replica core (Out place (outputs.Send name packet)) = named_replica name (put_out (spelling packet)) core
-served_replica core (Out place (outputs.Close name)) = named_replica name closed core
-served_replica core (To receiver message) = refl
+handled_replica : (core : CoreState) (e : Effect Command Output) → (handled core e).replica ≡ core.replica
+handled_replica core (Out place (outputs.Send name packet)) = named_replica name (put_out (spelling packet)) core
+handled_replica core (Out place (outputs.Close name)) = named_replica name closed core
+handled_replica core (To receiver message) = refl
 
-fold_replica : (core : CoreState) (effects : List (Effect Command Output)) → (fold served core effects).replica ≡ core.replica
+fold_replica : (core : CoreState) (effects : List (Effect Command Output)) → (fold handled core effects).replica ≡ core.replica
 fold_replica core [] = refl
-fold_replica core (e ∷ effects) = fold_replica (served core e) effects ∙ served_replica core e
+fold_replica core (e ∷ effects) = fold_replica (handled core e) effects ∙ handled_replica core e
 
 pub moved_replica : (outcome : Outcome State Command Output) (core : CoreState) → (moved outcome core).core.replica.state ≡ outcome.state
 moved_replica outcome core =

@@ -25,14 +25,14 @@ use Rattle.world_base.specs.Connections.{asked, holding, left_with, is_listed, i
 use Rattle.world_base.specs.Core.{CoreState, Turn, rules, serves}
 use Rattle.world_base.specs.Failing.{closes_failed}
 use Rattle.world_base.specs.Reading.{changes, refused}
-use Rattle.world_base.specs.Turns.{quiet, moved, served, proposes, changes_named, drives, heard, has_room}
+use Rattle.world_base.specs.Turns.{quiet, moved, handled, proposes, changes_named, drives, heard, has_room}
 use Rattle.node_moves.specs.Ends.{AtMostOne, IsOrderly, open_named}
 use Rattle.node_moves.specs.Moves.{Moves}
 use Rattle.node_moves.specs.Moves.Moves.{hears, opens_one, holds, reads_first, reads_later, closes, refuses, loses_one, loses_next, expels_one, cuts_log, crashes, settles, hands}
 use Rattle.node_moves.specs.Puts.{PutsInOrder, given_in, is_handing, outputs_of, spelled}
 use Rattle.node_moves.proofs.Opening.{open_stays}
 use Rattle.node_moves.proofs.Views.{view, if_live, found_passes, same_some, some_none, none_changes, view_of_others, view_of_changed, view_filtered}
-use Rattle.node_moves.proofs.Kept.{live, named, named_kept, left_true, stays_served, all_closed, unlisted_dead, changed_orderly, failing_over, put_out_name, same_of_failed, stays_failed, heard_up}
+use Rattle.node_moves.proofs.Kept.{live, named, named_kept, left_true, stays_handled, all_closed, unlisted_dead, changed_orderly, failing_over, put_out_name, same_of_failed, stays_failed, heard_up}
 use Rattle.node_moves.proofs.JoinedGrows.{Up, up_proposed}
 use Rattle.node_moves.proofs.NamesInOrder.{same_le}
 
@@ -163,12 +163,12 @@ named_puts : (x name : ConnectionName) (f : Connection → Connection) (core : C
 unfolding changes_named
 named_puts x name f core bytes h = h
 
-served_puts : (x : ConnectionName) (core : CoreState) (e : Effect Command Output) → IsOrderly core → Puts (bytes_for x (e ∷ [])) (open_named x core) (open_named x (served core e))
-served_puts x core (To receiver message) o = puts_none (open_named x core)
-served_puts x core (Out place (outputs.Close name)) o =
+handled_puts : (x : ConnectionName) (core : CoreState) (e : Effect Command Output) → IsOrderly core → Puts (bytes_for x (e ∷ [])) (open_named x core) (open_named x (handled core e))
+handled_puts x core (To receiver message) o = puts_none (open_named x core)
+handled_puts x core (Out place (outputs.Close name)) o =
     named_puts x name closed core []
     (puts_nothing x (is_open_named name) closed core.connections (o.names x) (λ d e. left_true (live d) (named name d) e) (λ d. refl) (λ d. refl))
-served_puts x core (Out place (outputs.Send name packet)) o =
+handled_puts x core (Out place (outputs.Send name packet)) o =
     named_puts x name (put_out (spelling packet)) core (spelled (if same_connection x name then packet ∷ [] else []))
     (by (same_connection x name) (sent_list x name (spelling packet) core.connections (o.names x) (same_connection x name) refl))
   where
@@ -180,11 +180,11 @@ served_puts x core (Out place (outputs.Send name packet)) o =
     by false h = h
 
 delivered_puts : (x : ConnectionName) (core : CoreState) (effects : List (Effect Command Output)) → IsOrderly core
-    → Puts (bytes_for x effects) (open_named x core) (open_named x (fold served core effects))
+    → Puts (bytes_for x effects) (open_named x core) (open_named x (fold handled core effects))
 delivered_puts x core [] o = puts_none (open_named x core)
 delivered_puts x core (e ∷ effects) o =
-    subst (λ (l : List ℕ). Puts l (open_named x core) (open_named x (fold served (served core e) effects))) (sym (bytes_join x e effects))
-    (puts_joined (served_puts x core e o) (delivered_puts x (served core e) effects (stays_served core e o).orderly))
+    subst (λ (l : List ℕ). Puts l (open_named x core) (open_named x (fold handled (handled core e) effects))) (sym (bytes_join x e effects))
+    (puts_joined (handled_puts x core e o) (delivered_puts x (handled core e) effects (stays_handled core e o).orderly))
 
 moved_puts : (x : ConnectionName) (outcome : Outcome State Command Output) (core : CoreState) → Up core.replica.state outcome → IsOrderly core
     → Puts (bytes_for x outcome.effects) (open_named x core) (open_named x (moved outcome core).core)

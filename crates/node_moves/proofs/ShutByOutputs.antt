@@ -20,13 +20,13 @@ use Rattle.exactly_once.specs.Sends.{sends_to}
 use Rattle.world_base.specs.declared.Connection.{Connection}
 use Rattle.world_base.specs.Connections.{is_open_named, closed, put_out, changed}
 use Rattle.world_base.specs.Core.{CoreState, Turn, rules, serves}
-use Rattle.world_base.specs.Turns.{quiet, moved, served, proposes, changes_named, drives, heard}
+use Rattle.world_base.specs.Turns.{quiet, moved, handled, proposes, changes_named, drives, heard}
 use Rattle.node_moves.specs.Closed.{listed_named}
 use Rattle.node_moves.specs.Ends.{AtMostOne, IsOrderly}
 use Rattle.node_moves.specs.Puts.{outputs_of, spelled}
 use Rattle.node_moves.proofs.JoinedGrows.{Up, up_proposed}
 use Rattle.node_moves.proofs.Views.{view, found_passes, none_changes}
-use Rattle.node_moves.proofs.Kept.{heard_up, live, named, left_true, put_out_name, stays_served}
+use Rattle.node_moves.proofs.Kept.{heard_up, live, named, left_true, put_out_name, stays_handled}
 use Rattle.node_moves.proofs.Shut.{Shuts, all, listed_closed, put_out_shuts, shuts_closed, shuts_dead, shuts_joined, shuts_nothing, shuts_on, shuts_others, shuts_same, shuts_unchanged}
 
 pub right_true : (a b : Bool) → (a && b) ≡ true → b ≡ true
@@ -85,13 +85,13 @@ pub named_shuts : (x name : ConnectionName) (f : Connection → Connection) (cor
 unfolding changes_named
 named_shuts x name f core bytes h = h
 
-pub served_shuts : (x : ConnectionName) (core : CoreState) (e : Effect Command Output) → IsOrderly core
-    → Shuts (bytes_for x (e ∷ [])) (listed_named x core) (listed_named x (served core e))
-served_shuts x core (To receiver message) o = shuts_same (listed_named x core)
-served_shuts x core (Out place (outputs.Close name)) o =
+pub handled_shuts : (x : ConnectionName) (core : CoreState) (e : Effect Command Output) → IsOrderly core
+    → Shuts (bytes_for x (e ∷ [])) (listed_named x core) (listed_named x (handled core e))
+handled_shuts x core (To receiver message) o = shuts_same (listed_named x core)
+handled_shuts x core (Out place (outputs.Close name)) o =
     named_shuts x name closed core []
     (shuts_nothing x (is_open_named name) closed core.connections (o.names x) (λ d e. left_true (live d) (named name d) e) (λ d. refl) (λ d e. shuts_closed d))
-served_shuts x core (Out place (outputs.Send name packet)) o =
+handled_shuts x core (Out place (outputs.Send name packet)) o =
     named_shuts x name (put_out (spelling packet)) core (spelled (if same_connection x name then packet ∷ [] else []))
     (by (same_connection x name) (sent x name (spelling packet) core.connections (o.names x) (same_connection x name) refl))
   where
@@ -103,11 +103,11 @@ served_shuts x core (Out place (outputs.Send name packet)) o =
     by false h = h
 
 delivered_shuts : (x : ConnectionName) (core : CoreState) (effects : List (Effect Command Output)) → IsOrderly core
-    → Shuts (bytes_for x effects) (listed_named x core) (listed_named x (fold served core effects))
+    → Shuts (bytes_for x effects) (listed_named x core) (listed_named x (fold handled core effects))
 delivered_shuts x core [] o = shuts_same (listed_named x core)
 delivered_shuts x core (e ∷ effects) o =
-    subst (λ (l : List ℕ). Shuts l (listed_named x core) (listed_named x (fold served (served core e) effects))) (sym (bytes_join x e effects))
-    (shuts_joined (served_shuts x core e o) (delivered_shuts x (served core e) effects (stays_served core e o).orderly))
+    subst (λ (l : List ℕ). Shuts l (listed_named x core) (listed_named x (fold handled (handled core e) effects))) (sym (bytes_join x e effects))
+    (shuts_joined (handled_shuts x core e o) (delivered_shuts x (handled core e) effects (stays_handled core e o).orderly))
 
 moved_shuts : (x : ConnectionName) (outcome : Outcome State Command Output) (core : CoreState) → Up core.replica.state outcome → IsOrderly core
     → Shuts (bytes_for x outcome.effects) (listed_named x core) (listed_named x (moved outcome core).core)

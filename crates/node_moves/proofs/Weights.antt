@@ -14,7 +14,7 @@ use Rattle.exactly_once.specs.broker_spec.Connection.{ConnectionName}
 use Rattle.world_base.specs.declared.Connection.{Connection}
 use Rattle.world_base.specs.Connections.{is_open_named, max_pending, closed, failing, putting, put_out, changed}
 use Rattle.world_base.specs.Core.{CoreState, Turn, rules, serves}
-use Rattle.world_base.specs.Turns.{quiet, repeated, served, moved, proposes, changes_named}
+use Rattle.world_base.specs.Turns.{quiet, repeated, handled, moved, proposes, changes_named}
 use Rattle.node_moves.proofs.NamesInOrder.{same_le}
 use Rattle.node_moves.proofs.Views.{same_some}
 
@@ -68,17 +68,17 @@ total_named : (w : Connection → ℕ) (name : ConnectionName) (f : Connection �
 unfolding changes_named
 total_named w name f core low = total_changed w (is_open_named name) f core.connections low
 
-total_served : (w : Connection → ℕ) → IsLight w → (core : CoreState) (e : Effect Command Output) → total w (served core e).connections ≤ total w core.connections
-total_served w light core (Out place (outputs.Send name packet)) = total_named w name (put_out (spelling packet)) core (light.put (spelling packet))
-total_served w light core (Out place (outputs.Close name)) = total_named w name closed core light.shut
-total_served w light core (To receiver message) = same_le (total w core.connections)
+total_handled : (w : Connection → ℕ) → IsLight w → (core : CoreState) (e : Effect Command Output) → total w (handled core e).connections ≤ total w core.connections
+total_handled w light core (Out place (outputs.Send name packet)) = total_named w name (put_out (spelling packet)) core (light.put (spelling packet))
+total_handled w light core (Out place (outputs.Close name)) = total_named w name closed core light.shut
+total_handled w light core (To receiver message) = same_le (total w core.connections)
 
 total_delivered : (w : Connection → ℕ) → IsLight w → (core : CoreState) (effects : List (Effect Command Output))
-    → total w (fold served core effects).connections ≤ total w core.connections
+    → total w (fold handled core effects).connections ≤ total w core.connections
 total_delivered w light core [] = same_le (total w core.connections)
 total_delivered w light core (e ∷ effects) =
-    let first = total_served w light core e in
-    let rest = total_delivered w light (served core e) effects in
+    let first = total_handled w light core e in
+    let rest = total_delivered w light (handled core e) effects in
     omega (arith, first, rest)
 
 total_moved : (w : Connection → ℕ) → IsLight w → (outcome : Outcome State Command Output) (core : CoreState)

@@ -9,7 +9,7 @@ use Rattle.node_connections.specs.broker_spec.declared.command.Output.{Output}
 use Rattle.ballot.specs.Effect.{Effect}
 use Rattle.world_base.specs.Core.{CoreState, Turn}
 use Rattle.world_base.specs.Inside.{Running, Does, DoesTurn}
-use Rattle.world_base.specs.Turns.{quiet, then_also, handled_all, served, is_message}
+use Rattle.world_base.specs.Turns.{quiet, then_also, handled_all, handled, is_message}
 
 -- nothing was done
 pub turns_idle : (r : Running) (out : List (Effect Command Output)) → DoesTurn r r out out (quiet r.core)
@@ -59,8 +59,8 @@ turns_push a b c x y z given e one two =
     same : then_also (handled_all given a.core) (handled_all (e ∷ [])) ≡ handled_all (given ++ e ∷ []) a.core
     same =
         ap (λ (k : CoreState). let t : Turn = record { core = k; messages = filter is_message given ++ filter is_message (e ∷ []) } in t)
-        (sym (fold_push served a.core given e))
-        ∙ ap (λ (l : List (Effect Command Output)). let t : Turn = record { core = fold served a.core (given ++ e ∷ []); messages = l } in t)
+        (sym (fold_push handled a.core given e))
+        ∙ ap (λ (l : List (Effect Command Output)). let t : Turn = record { core = fold handled a.core (given ++ e ∷ []); messages = l } in t)
         (sym (filter-append is_message given (e ∷ [])))
 
 -- memory ran out before: nothing exact is said

@@ -49,9 +49,9 @@ performed_by (outputs.Send name packet) core = changes_named name (put_out (spel
 performed_by (outputs.Close name) core = changes_named name closed core
 
 -- an effect is done on its connection; a message does nothing to connections
-abbrev pub served : CoreState → Effect Command Output → CoreState
-served core (Out place output) = performed_by output core
-served core (To receiver message) = core
+abbrev pub handled : CoreState → Effect Command Output → CoreState
+handled core (Out place output) = performed_by output core
+handled core (To receiver message) = core
 
 -- whether an effect is a message to another node, and not an output
 abbrev pub is_message : Effect Command Output → Bool
@@ -62,7 +62,7 @@ is_message (To receiver message) = true
 -- sent
 abbrev pub handled_all : List (Effect Command Output) → CoreState → Turn
 handled_all effects core =
-    record { core = fold served core effects; messages = filter is_message effects }
+    record { core = fold handled core effects; messages = filter is_message effects }
 
 -- a node after a step of its replica: it has the new state, and the effects are handled
 abbrev pub moved : Outcome State Command Output → CoreState → Turn
