@@ -4,7 +4,7 @@ use Rattle.escaping_nodes.specs.world_nodes.Running.{node_of}
 use Rattle.escaping_nodes.specs.world_nodes.Steps.{forgetful}
 use Rattle.world.specs.declared.connection_slot.ConnectionSlot.{ConnectionSlot}
 use Rattle.world.specs.Found.{slot_numbered, port_of, with_down, with_piped}
-use Rattle.world.specs.Gathering.{AskedWhere, Gathers, GathersAmong, IsAsked, MayBeAsked, is_open_at, put_out}
+use Rattle.world.specs.Gathering.{GatheredWhere, Gathers, GathersAmong, IsGathered, MayBeGathered, is_open_at, put_out}
 use Rattle.world.specs.Inside.Steps.{IsTrace}
 use Rattle.world.specs.Inside.Handing.{HandsOn, MayHandOn, marked}
 use Rattle.world.specs.World.{WorldState}
@@ -14,9 +14,9 @@ use Rattle.world.proofs.Turned.{set_itself}
 
 -- ---- one connection
 
-pub is_asked : (number : ℕ) (place : ConnectionSlot) (is_open : Bool) (old mid new : WorldState) → slice_get old.connections (number - 1) ≡ Some place → 0 < number → HandsOn number place old is_open mid
-    → new ≡ marked number place is_open mid → IsAsked number old new
-is_asked number place is_open old mid new at positive h is =
+pub is_gathered : (number : ℕ) (place : ConnectionSlot) (is_open : Bool) (old mid new : WorldState) → slice_get old.connections (number - 1) ≡ Some place → 0 < number → HandsOn number place old is_open mid
+    → new ≡ marked number place is_open mid → IsGathered number old new
+is_gathered number place is_open old mid new at positive h is =
     let down : WorldState = record (with_piped place.client h.client
     (with_down place.at h.way (h.way.down ++ put_out (port_of number) (node_of old.nodes.nodes place.node)) h.client.piped) old) { nodes = h.between } in
     record {
@@ -35,10 +35,10 @@ stays_open number place w found up =
     (sym (set_itself w.connections (number - 1) place found) ∙ ap (λ (b : Bool). set w.connections (number - 1) (record place { is_open = b })) up)
 
 -- exactly, or its node ran out of memory
-pub may_be_asked : (number : ℕ) (place : ConnectionSlot) (is_open : Bool) (old mid new : WorldState) → slice_get old.connections (number - 1) ≡ Some place → 0 < number → place.is_open ≡ true
-    → MayHandOn number place old is_open mid → new ≡ marked number place is_open mid → MayBeAsked false number old new
-may_be_asked number place is_open old mid new at positive up (inl h) is = inl (is_asked number place is_open old mid new at positive h is)
-may_be_asked number place is_open old mid new at positive up (inr lost) is =
+pub may_be_gathered : (number : ℕ) (place : ConnectionSlot) (is_open : Bool) (old mid new : WorldState) → slice_get old.connections (number - 1) ≡ Some place → 0 < number → place.is_open ≡ true
+    → MayHandOn number place old is_open mid → new ≡ marked number place is_open mid → MayBeGathered false number old new
+may_be_gathered number place is_open old mid new at positive up (inl h) is = inl (is_gathered number place is_open old mid new at positive h is)
+may_be_gathered number place is_open old mid new at positive up (inr lost) is =
     let forgot : WorldState = record old { nodes = forgetful old.nodes } in
     inr (is ∙ ap (marked number place is_open) lost.1 ∙ ap (λ (b : Bool). marked number place b forgot) lost.0 ∙ sym (stays_open number place forgot at up))
 
@@ -50,7 +50,7 @@ pub record IsGathering (node count number : ℕ) (initial now : WorldState) : Ty
   pub rest : (later : WorldState) → GathersAmong false number node now later → GathersAmong false count node initial later
 
 pub gathering_on : (node count number next : ℕ) (initial now new : WorldState) → 0 < number → next ≡ number - 1 → IsGathering node count number initial now → IsTrace now new
-    → AskedWhere false (is_open_at node (slot_numbered number now.connections)) number now new → IsGathering node count next initial new
+    → GatheredWhere false (is_open_at node (slot_numbered number now.connections)) number now new → IsGathering node count next initial new
 gathering_on node count zero next initial now new positive less g goes asks = absurd (omega (arith, positive))
 gathering_on node count (suc before) next initial now new positive less g goes asks =
     subst (λ (k : ℕ). IsGathering node count k initial new) (let e : before ≡ next = omega (arith, less) in e)

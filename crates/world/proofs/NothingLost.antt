@@ -18,7 +18,7 @@ use Rattle.escaping_nodes.specs.world_nodes.Nodes.{NodesState}
 use Rattle.escaping_nodes.specs.world_nodes.Steps.{ActsWithLosses, ComesIn, CutsIn, CutsWithLosses, ExpelsIn, HearsIn, LosesNothing as NodesLoseNothing, TakesIn, forgetful}
 use Rattle.escaping_nodes.proofs.of_world_nodes.Exactly.{exactly}
 use Rattle.world.specs.Found.{slot_numbered, port_of}
-use Rattle.world.specs.Gathering.{AskedWhere, Gathers, GathersAmong, Gives, MayBeAsked, TakesItem, is_open_at}
+use Rattle.world.specs.Gathering.{GatheredWhere, Gathers, GathersAmong, Gives, MayBeGathered, TakesItem, is_open_at}
 use Rattle.world.specs.Doing.{Assigns}
 use Rattle.world.specs.World.{WorldState}
 
@@ -67,15 +67,15 @@ gives_rises : (o : Option CountedCore) (node : ℕ) (port : Port) (old new : Nod
 gives_rises None node port old new is = let same = ap (λ (n : NodesState). n.losses) is in omega (arith, same)
 gives_rises (Some core) node port old new is = let same = ap (λ (n : NodesState). n.losses) is in omega (arith, same)
 
-asked_rises : (number : ℕ) (old new : WorldState) → MayBeAsked false number old new → Rises old.nodes new.nodes
-asked_rises number old new (inl a) =
+gathered_rises : (number : ℕ) (old new : WorldState) → MayBeGathered false number old new → Rises old.nodes new.nodes
+gathered_rises number old new (inl a) =
     let low = gives_rises a.node a.c.slot.node (port_of number) old.nodes a.between a.gives in
     let same = ap (λ (w : WorldState). w.nodes.losses) a.is in
     omega (arith, low, same)
-asked_rises number old new (inr is) = forgets_rises old.nodes new.nodes (ap (λ (w : WorldState). w.nodes) is)
+gathered_rises number old new (inr is) = forgets_rises old.nodes new.nodes (ap (λ (w : WorldState). w.nodes) is)
 
-where_rises : (is_open : Bool) (number : ℕ) (old new : WorldState) → AskedWhere false is_open number old new → Rises old.nodes new.nodes
-where_rises true number old new a = asked_rises number old new a
+where_rises : (is_open : Bool) (number : ℕ) (old new : WorldState) → GatheredWhere false is_open number old new → Rises old.nodes new.nodes
+where_rises true number old new a = gathered_rises number old new a
 where_rises false number old new is = let same = ap (λ (w : WorldState). w.nodes.losses) is in omega (arith, same)
 
 among_rises : (count node : ℕ) (old new : WorldState) → GathersAmong false count node old new → Rises old.nodes new.nodes
@@ -91,18 +91,18 @@ gathers_rises (suc at) old new g = among_rises (length old.connections) (suc at)
 
 -- ---- one connection, and all of a node
 
-asked_exactly : (is_open : Bool) (number : ℕ) (old new : WorldState) → AskedWhere false is_open number old new → NodesLoseNothing old.nodes new.nodes
-    → AskedWhere true is_open number old new
-asked_exactly true number old new (inl a) none = a
-asked_exactly true number old new (inr is) none = absurd (counts_more old.nodes new.nodes (ap (λ (w : WorldState). w.nodes) is) none)
-asked_exactly false number old new is none = is
+gathered_exactly : (is_open : Bool) (number : ℕ) (old new : WorldState) → GatheredWhere false is_open number old new → NodesLoseNothing old.nodes new.nodes
+    → GatheredWhere true is_open number old new
+gathered_exactly true number old new (inl a) none = a
+gathered_exactly true number old new (inr is) none = absurd (counts_more old.nodes new.nodes (ap (λ (w : WorldState). w.nodes) is) none)
+gathered_exactly false number old new is none = is
 
 among_exactly : (count node : ℕ) (old new : WorldState) → GathersAmong false count node old new → NodesLoseNothing old.nodes new.nodes → GathersAmong true count node old new
 among_exactly zero node old new is none = is
 among_exactly (suc before) node old new g none =
     let is_open = is_open_at node (slot_numbered (suc before) old.connections) in
     let s = rises_split old.nodes g.0.nodes new.nodes (where_rises is_open (suc before) old g.0 g.1) (among_rises before node g.0 new g.2) none in
-    (g.0, asked_exactly is_open (suc before) old g.0 g.1 s.0, among_exactly before node g.0 new g.2 s.1)
+    (g.0, gathered_exactly is_open (suc before) old g.0 g.1 s.0, among_exactly before node g.0 new g.2 s.1)
 
 pub gathers_exactly : (node : ℕ) (old new : WorldState) → Gathers false node old new → NodesLoseNothing old.nodes new.nodes → Gathers true node old new
 gathers_exactly zero old new is none = is

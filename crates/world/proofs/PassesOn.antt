@@ -19,7 +19,7 @@ use Rattle.world_events.specs.world_pipes.Piped.{Piped}
 use Rattle.world.specs.declared.connection_slot.ConnectionSlot.{ConnectionSlot}
 use Rattle.world.specs.declared.world.WorldClient.{WorldClient}
 use Rattle.world.specs.Found.{slot_numbered, port_of, with_down}
-use Rattle.world.specs.Gathering.{AskedWhere, Gathers, GathersAmong, Gives, IsAsked, is_open_at, is_told_open, put_out}
+use Rattle.world.specs.Gathering.{GatheredWhere, Gathers, GathersAmong, Gives, IsGathered, is_open_at, is_told_open, put_out}
 use Rattle.world.specs.Trace.{NodesGo}
 use Rattle.world.specs.SlotsAreValid.{SlotsAreValid, leads_of}
 use Rattle.world.specs.Inside.Handing.{MayHandDown, MayPutDown}
@@ -105,7 +105,7 @@ at_number zero connections place positive e = absurd (omega (arith, positive))
 at_number (suc n) connections place positive e =
     sym (ap (λ (b : Bool). if b then None else slice_get connections (suc n - 1)) (ne_eqb (suc n) 0 (λ z. cc))) ∙ e
 
-module _ (number : ℕ) (old new : WorldState) (a : IsAsked number old new) (housed : SlotsAreValid (leads_of old.clients) old.connections) (positive : 0 < number) where
+module _ (number : ℕ) (old new : WorldState) (a : IsGathered number old new) (housed : SlotsAreValid (leads_of old.clients) old.connections) (positive : 0 < number) where
   abbrev place : ConnectionSlot
   place = a.c.slot
 
@@ -154,7 +154,7 @@ module _ (number : ℕ) (old new : WorldState) (a : IsAsked number old new) (hou
 
 -- ---- the connections of a node
 
-pub where_passes : (b : Bool) (number : ℕ) (old new : WorldState) → AskedWhere true b number old new → SlotsAreValid (leads_of old.clients) old.connections → 0 < number → Passes [] old new
+pub where_passes : (b : Bool) (number : ℕ) (old new : WorldState) → GatheredWhere true b number old new → SlotsAreValid (leads_of old.clients) old.connections → 0 < number → Passes [] old new
 where_passes true number old new a housed positive = asked_passes number old new a housed positive
 where_passes false number old new is housed positive = subst (Passes [] old) (sym is) (passes_rest old housed)
 

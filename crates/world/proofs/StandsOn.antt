@@ -14,7 +14,7 @@ use Rattle.world_events.specs.world_pipes.declared.way.Way.{Way}
 use Rattle.world.specs.declared.connection_slot.ConnectionSlot.{ConnectionSlot}
 use Rattle.world.specs.declared.world.WorldClient.{WorldClient}
 use Rattle.world.specs.Found.{slot_numbered, port_of, with_down}
-use Rattle.world.specs.Gathering.{AskedWhere, Gathers, GathersAmong, IsAsked, is_open_at, is_told_open, put_out}
+use Rattle.world.specs.Gathering.{GatheredWhere, Gathers, GathersAmong, IsGathered, is_open_at, is_told_open, put_out}
 use Rattle.world.specs.SlotsAreValid.{SlotsAreValid, leads_of}
 use Rattle.world.specs.World.{WorldState}
 use Rattle.world.proofs.LeadsKept.{IsLed, led, led_there}
@@ -40,8 +40,8 @@ newest_place i at node is_open = record { client = i; at = at; node = node; is_o
 -- ---- it is asked itself
 
 module _ (i at number node : ℕ) (core : Core) (up down : List ℕ) (is_open : Bool) (old new : WorldState) (s : IsNewest i at number node core up down is_open old) where
-  pub asked_itself : 0 < number → (a : IsAsked number old new) → IsNewest i at number node core up (down ++ put_out (port_of number) (node_of old.nodes.nodes node)) (is_told_open (port_of number) (node_of old.nodes.nodes node)) new
-  asked_itself positive a =
+  pub gathered_itself : 0 < number → (a : IsGathered number old new) → IsNewest i at number node core up (down ++ put_out (port_of number) (node_of old.nodes.nodes node)) (is_told_open (port_of number) (node_of old.nodes.nodes node)) new
+  gathered_itself positive a =
       record {
         client = later;
         found = ap (λ (w : WorldState). slice_get w.clients i) a.is
@@ -98,9 +98,9 @@ module _ (i at number node : ℕ) (core : Core) (up down : List ℕ) (is_open : 
 
   -- ---- another is asked
 
-  pub asked_another : (other : ℕ) → 0 < number → 0 < other → (other ≡ number → ⊥) → SlotsAreValid (leads_of old.clients) old.connections → IsAsked other old new →
+  pub gathered_another : (other : ℕ) → 0 < number → 0 < other → (other ≡ number → ⊥) → SlotsAreValid (leads_of old.clients) old.connections → IsGathered other old new →
       IsNewest i at number node core up down is_open new
-  asked_another other positive some apart housed a = by (same_or_other i a.c.slot.client)
+  gathered_another other positive some apart housed a = by (same_or_other i a.c.slot.client)
     where
       found : slice_get old.connections (other - 1) ≡ Some a.c.slot
       found = at_number other old.connections a.c.slot some a.c.numbered
@@ -184,8 +184,8 @@ module _ (i at number node : ℕ) (core : Core) (up : List ℕ) (positive : 0 < 
       (where_passes (is_open_at to (slot_numbered (suc before) old.connections)) (suc before) old g.0 g.1 housed (omega arith)).housed
       (one (is_open_at to (slot_numbered (suc before) old.connections)) g.1)
     where
-      one : (b : Bool) → AskedWhere true b (suc before) old g.0 → IsNewest i at number node core up down is_open g.0
-      one true a = asked_another i at number node core up down is_open old g.0 s (suc before) positive (omega arith) (λ same. omega (arith, same, low)) housed a
+      one : (b : Bool) → GatheredWhere true b (suc before) old g.0 → IsNewest i at number node core up down is_open g.0
+      one true a = gathered_another i at number node core up down is_open old g.0 s (suc before) positive (omega arith) (λ same. omega (arith, same, low)) housed a
       one false is = subst (IsNewest i at number node core up down is_open) (sym is) s
 
   asks : (to : ℕ) (is_open b : Bool) (down : List ℕ) (old : WorldState) → IsNewest i at number node core up down is_open old → ((node == to) && is_open) ≡ b →
@@ -207,7 +207,7 @@ module _ (i at number node : ℕ) (core : Core) (up : List ℕ) (positive : 0 < 
           let shut : is_open_at (suc to) (slot_numbered (suc k) old.connections) ≡ false =
           ap (λ (j : ℕ). is_open_at (suc to) (slot_numbered j old.connections)) e
           ∙ asks (suc to) is_open false down old s (ap (λ (b : Bool). b && is_open) (ne_eqb node (suc to) apart)) in
-          let still : h.0 ≡ old = subst (λ (b : Bool). AskedWhere true b (suc k) old h.0) shut h.1 in
+          let still : h.0 ≡ old = subst (λ (b : Bool). GatheredWhere true b (suc k) old h.0) shut h.1 in
           older_asked k (suc to) down is_open h.0 new h.2 (omega (arith, e)) (subst (λ (w : WorldState). SlotsAreValid (leads_of w.clients) w.connections) (sym still) housed)
           (subst (IsNewest i at number node core up down is_open) (sym still) s)
 
@@ -228,7 +228,7 @@ module _ (i at number node : ℕ) (core : Core) (up : List ℕ) (positive : 0 < 
           let up_there : is_open_at node (slot_numbered (suc k) old.connections) ≡ true =
           ap (λ (j : ℕ). is_open_at node (slot_numbered j old.connections)) e
           ∙ asks node true true down old s (ap (λ (b : Bool). b && true) (eq-eqb node node refl)) in
-          let a : IsAsked number old h.0 = subst (λ (j : ℕ). IsAsked j old h.0) e (subst (λ (b : Bool). AskedWhere true b (suc k) old h.0) up_there h.1) in
+          let a : IsGathered number old h.0 = subst (λ (j : ℕ). IsGathered j old h.0) e (subst (λ (b : Bool). GatheredWhere true b (suc k) old h.0) up_there h.1) in
           older_asked k node (down ++ put_out (port_of number) (node_of old.nodes.nodes node)) (is_told_open (port_of number) (node_of old.nodes.nodes node)) h.0 new h.2 (omega (arith, e))
           (where_passes (is_open_at node (slot_numbered (suc k) old.connections)) (suc k) old h.0 h.1 housed (omega arith)).housed
-          (asked_itself i at number node core up down true old h.0 s positive a)
+          (gathered_itself i at number node core up down true old h.0 s positive a)

@@ -7,12 +7,12 @@ use Rattle.std.proofs.lemmas.Option.{same_Some, slice_get_within}
 use Rattle.headline.proofs.of_packet_world.Lists.{same_or_other}
 use Rattle.world.specs.declared.connection_slot.ConnectionSlot.{ConnectionSlot}
 use Rattle.world.specs.Found.{slot_numbered}
-use Rattle.world.specs.Gathering.{AskedWhere, GathersAmong, is_open_at}
+use Rattle.world.specs.Gathering.{GatheredWhere, GathersAmong, is_open_at}
 use Rattle.world.specs.SlotsAreValid.{open_from}
 use Rattle.world.specs.Inside.Handing.{GathersAt, MayHandOn, marked}
 use Rattle.world.specs.Inside.Steps.{IsTrace}
 use Rattle.world.specs.World.{WorldState}
-use Rattle.world.proofs.Gathered.{IsGathering, gathered, gathering_on, may_be_asked}
+use Rattle.world.proofs.Gathered.{IsGathering, gathered, gathering_on, may_be_gathered}
 use Rattle.world.proofs.OpenEnds.{IsNewest, newest, none_open, stands_at}
 use Rattle.world.proofs.StandsThere.{numbered_at}
 use Rattle.world.proofs.Turned.{there}
@@ -36,7 +36,7 @@ passed : (node count number : ℕ) (initial now : WorldState) → is_open_at nod
 passed node count number initial now shut g =
     record {
       goes = g.goes;
-      rest = λ later more. g.rest later (now, subst (λ (b : Bool). AskedWhere false b (suc number) now now) (sym shut) refl, more);
+      rest = λ later more. g.rest later (now, subst (λ (b : Bool). GatheredWhere false b (suc number) now now) (sym shut) refl, more);
     }
 
 -- from this one on all are closed
@@ -103,7 +103,7 @@ walk_on node at initial now new w goes a =
       within = omega (arith, low, within, many);
       many = ap (λ (l : List ConnectionSlot). length (open_from 1 l)) (subst (λ (k : ℕ). take k new.connections ≡ take k now.connections) less a.others) ∙ r.before;
       gathering = gathering_on node (length initial.connections) (suc r.i) r.i initial now new (omega arith) (let e : r.i ≡ suc r.i - 1 = omega arith in e) g goes
-          (subst (λ (k : ℕ). AskedWhere false (is_open_at node (slot_numbered k now.connections)) k now new) same a.gathers);
+          (subst (λ (k : ℕ). GatheredWhere false (is_open_at node (slot_numbered k now.connections)) k now new) same a.gathers);
     }
 
 pub next_there : (node at next : ℕ) (initial now : WorldState) → 0 < at → next ≡ at - 1 → IsWalking node at initial now → next < length (open_from 1 now.connections)
@@ -130,7 +130,7 @@ gathers_at_none node at number place w stands found positive other =
     record {
       number = number;
       stands = stands;
-      gathers = subst (λ (b : Bool). AskedWhere false b number w w) (sym elsewhere) refl;
+      gathers = subst (λ (b : Bool). GatheredWhere false b number w w) (sym elsewhere) refl;
       others = refl;
       many = refl;
     }
@@ -147,7 +147,7 @@ gathers_at_one node at number place is_open old mid new stands found positive up
     record {
       number = number;
       stands = stands;
-      gathers = subst (λ (b : Bool). AskedWhere false b number old new) (sym asked) (may_be_asked number place is_open old mid new found positive up hands is);
+      gathers = subst (λ (b : Bool). GatheredWhere false b number old new) (sym asked) (may_be_gathered number place is_open old mid new found positive up hands is);
       others = ap (take (number - 1)) after ∙ take-set mid.connections (number - 1) (record place { is_open = is_open }) ∙ ap (take (number - 1)) same;
       many = ap length after ∙ length-set mid.connections (number - 1) (record place { is_open = is_open }) ∙ ap length same;
     }

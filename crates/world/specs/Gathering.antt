@@ -42,7 +42,7 @@ Gives (Some core) node port old new = new ≡ after_node_call (node - 1) core (g
 
 -- What a connection's node queued for it is in transit down, after what was, and its end there
 -- counts as open exactly if the node says that it is.
-pub record IsAsked (number : ℕ) (old new : WorldState) : Type 0 where
+pub record IsGathered (number : ℕ) (old new : WorldState) : Type 0 where
   pub c : Connected number old
   pub node : Option CountedCore
   pub is_node : node ≡ node_of old.nodes.nodes c.slot.node
@@ -61,26 +61,27 @@ abbrev pub is_open_at : ℕ → Option ConnectionSlot → Bool
 is_open_at node None = false
 is_open_at node (Some slot) = (slot.node == node) && slot.is_open
 
--- a connection's node is asked for its bytes; if losses are allowed, the node may run out of memory
--- instead: nothing goes down, its end stays as it was, and that is counted
-abbrev pub MayBeAsked : Bool → ℕ → WorldState → WorldState → Type 0
-MayBeAsked true number old new = IsAsked number old new
-MayBeAsked false number old new =
-    IsAsked number old new ⊎ (new ≡ record old { nodes = forgetful old.nodes })
+-- what a connection's node queued for it is gathered; if losses are allowed, the node may run out
+-- of memory instead: nothing goes down, its end stays as it was, and that is counted
+abbrev pub MayBeGathered : Bool → ℕ → WorldState → WorldState → Type 0
+MayBeGathered true number old new = IsGathered number old new
+MayBeGathered false number old new =
+    IsGathered number old new ⊎ (new ≡ record old { nodes = forgetful old.nodes })
 
--- a connection's node is asked for its bytes if the second value is true; otherwise nothing changes
-abbrev pub AskedWhere : Bool → Bool → ℕ → WorldState → WorldState → Type 0
-AskedWhere whole true number old new = MayBeAsked whole number old new
-AskedWhere whole false number old new = new ≡ old
+-- what a connection's node queued for it is gathered if the second value is true; otherwise nothing
+-- changes
+abbrev pub GatheredWhere : Bool → Bool → ℕ → WorldState → WorldState → Type 0
+GatheredWhere whole true number old new = MayBeGathered whole number old new
+GatheredWhere whole false number old new = new ≡ old
 
 -- ---- the connections of a node
 
--- of this many connections, from the newest to the oldest, those open at the node are asked
+-- of this many connections, from the newest to the oldest, those open at the node are gathered from
 abbrev pub GathersAmong : Bool → ℕ → ℕ → WorldState → WorldState → Type 0
 GathersAmong whole zero node old new = new ≡ old
 GathersAmong whole (suc before) node old new =
     (between : WorldState)
-    × AskedWhere whole (is_open_at node (slot_numbered (suc before) old.connections))
+    × GatheredWhere whole (is_open_at node (slot_numbered (suc before) old.connections))
     (suc before) old between
     × GathersAmong whole before node between new
 

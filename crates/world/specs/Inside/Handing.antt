@@ -13,7 +13,7 @@ use Rattle.world_events.specs.world_pipes.Piped.{Piped}
 use Rattle.world.specs.declared.connection_slot.ConnectionSlot.{ConnectionSlot}
 use Rattle.world.specs.declared.world.WorldClient.{WorldClient}
 use Rattle.world.specs.Found.{slot_numbered, port_of, with_down, with_piped}
-use Rattle.world.specs.Gathering.{AskedWhere, Gives, is_more, is_open_at, is_told_open, put_out}
+use Rattle.world.specs.Gathering.{GatheredWhere, Gives, is_more, is_open_at, is_told_open, put_out}
 use Rattle.world.specs.SlotsAreValid.{open_from}
 use Rattle.world.specs.Quiet.{HoldsNothing}
 use Rattle.world.specs.World.{WorldState}
@@ -92,7 +92,7 @@ marked number slot is_open w =
 pub record GathersAt (node at : ℕ) (old new : WorldState) : Type 0 where
   pub number : ℕ
   pub stands : slice_get (open_from 1 old.connections) at ≡ Some number
-  pub gathers : AskedWhere false
+  pub gathers : GatheredWhere false
       (is_open_at node (slot_numbered number old.connections)) number old new
   pub others : take (number - 1) new.connections ≡ take (number - 1) old.connections
   pub many : length new.connections ≡ length old.connections
