@@ -15,7 +15,7 @@ use Rattle.node_moves.specs.world_base.declared.Port.{Port}
 use Rattle.node_moves.specs.world_base.declared.Connection.{Connection}
 use Rattle.node_moves.specs.world_base.Core.{CoreState, Turn, serves}
 use Rattle.node_moves.specs.world_base.Reading.{open_at}
-use Rattle.node_moves.specs.Closed.{refusal_in as exactly_refusal}
+use Rattle.node_moves.specs.Closed.{exact_refusal}
 use Rattle.node_moves.specs.Ends.{IsEnd, IsGiven, IsOrderly, open_named, piece_on}
 use Rattle.node_moves.specs.Ends.{came_on as exactly_came, proposal_of as exactly_proposed}
 use Rattle.node_moves.specs.Ends.IsEnd.{not_yet, is_open, is_over}
@@ -117,7 +117,7 @@ no_stop rest held later code joined e = by rest joined
     by (p ∷ ps) (front, left, sp, kp, is, j) = let f = sym (ap verdict is ∙ verdict_again p front left kp sp) ∙ stays in cc
 
 exactly_refused : (x : ConnectionName) (core : CoreState) (turn : Turn) (m : Moves core turn) (written read : List Packet) (in_transit : List ℕ) → IsOrderly core
-    → IsEnd x core written read in_transit → exactly_refusal x m ≡ []
+    → IsEnd x core written read in_transit → exact_refusal x m ≡ []
 exactly_refused x core turn (refuses port c code at first is) written read in_transit o end = by (same_connection c.name x) refl
   where
     there : named x c ≡ true → IsEnd x core written read in_transit → ⊥
@@ -130,7 +130,7 @@ exactly_refused x core turn (refuses port c code at first is) written read in_tr
         one a b e = cc
     there named_so (is_over given none front) = not_there x core port c o none at named_so
 
-    by : (b : Bool) → same_connection c.name x ≡ b → (exactly_refusal x (let k : Moves core turn = refuses port c code at first is in k)) ≡ []
+    by : (b : Bool) → same_connection c.name x ≡ b → (exact_refusal x (let k : Moves core turn = refuses port c code at first is in k)) ≡ []
     by true e = absurd (there e end)
     by false e = rw e refl
 exactly_refused x core turn m written read in_transit o end = refl

@@ -7,8 +7,8 @@ use Rattle.world_base.specs.declared.Connection.{Connection}
 use Rattle.world_base.specs.Connections.{is_over}
 use Rattle.world_base.specs.Core.{CoreState, Turn}
 use Rattle.node_moves.specs.Closed.{listed_named}
-use Rattle.node_moves.specs.Closed.{IsClosedBy as ExactlyClosedBy}
-use Rattle.node_moves.specs.Closed.IsClosedBy.{was_closed as exact_was, closes_now as exact_now}
+use Rattle.node_moves.specs.Closed.{IsExactlyClosedBy}
+use Rattle.node_moves.specs.Closed.IsExactlyClosedBy.{was_closed as exact_was, closes_now as exact_now}
 use Rattle.node_moves.specs.Ends.{IsOrderly}
 use Rattle.node_moves.specs.LossyLaws.{IsClosedBy, LossesPutNothingOnClosed, LossyNamesAreOfTheBallot}
 use Rattle.node_moves.specs.LossyLaws.IsClosedBy.{was_closed, closes_now}
@@ -36,7 +36,7 @@ closed_by x core turn m d (Some c) (Some e) (is_shut front a b pending short) be
 closed_by x core turn m d (Some c) (Some e) (was_shut a b pending) before after over =
     was_closed c before (over_if (is_over c.stage) a) (sym (ap (λ (z : Connection). z.pending) (same_some e d after)) ∙ pending)
 
-exactly_so : (x : ConnectionName) (core : CoreState) (turn : Turn) (m : Moves core turn) (d : Connection) → ExactlyClosedBy x m d →
+exactly_so : (x : ConnectionName) (core : CoreState) (turn : Turn) (m : Moves core turn) (d : Connection) → IsExactlyClosedBy x m d →
     IsClosedBy x (let k : LossyMoves core turn = exactly m in k) d
 exactly_so x core turn m d (exact_was c there over pending) = was_closed c there over pending
 exactly_so x core turn m d (exact_now c front there pending short) = closes_now c front there pending short

@@ -16,8 +16,8 @@ use Rattle.world_base.specs.Core.{CoreState, Turn, serves}
 use Rattle.world_base.specs.Handing.{hands_over, left_by}
 use Rattle.world_base.specs.Reading.{changes}
 use Rattle.world_base.specs.Step.{next_name, opens, settled}
-use Rattle.node_moves.specs.Closed.{IsClosedBy, NothingOnClosed, listed_named, refusal_in}
-use Rattle.node_moves.specs.Closed.IsClosedBy.{was_closed, closes_now}
+use Rattle.node_moves.specs.Closed.{IsExactlyClosedBy, NothingOnClosed, listed_named, exact_refusal}
+use Rattle.node_moves.specs.Closed.IsExactlyClosedBy.{was_closed, closes_now}
 use Rattle.node_moves.specs.Ends.{IsOrderly}
 use Rattle.node_moves.specs.Moves.{Moves}
 use Rattle.node_moves.specs.Moves.Moves.{hears, opens_one, holds, reads_first, reads_later, closes, refuses, loses_one, loses_next, expels_one, cuts_log, crashes, settles, hands}
@@ -39,11 +39,11 @@ open_if false e = refl
 
 -- what a move queues for a name
 abbrev pub sent_in : ConnectionName → {core : CoreState} {turn : Turn} → Moves core turn → List ℕ
-sent_in x m = spelled (refusal_in x m ++ sends_to x (outputs_of (given_in m)))
+sent_in x m = spelled (exact_refusal x m ++ sends_to x (outputs_of (given_in m)))
 
 -- from what happens to a connection to how it came to be closed
 closed_by : (x : ConnectionName) (core : CoreState) (turn : Turn) (m : Moves core turn) (d : Connection) (o p : Option Connection) → Shuts (sent_in x m) o p
-    → listed_named x core ≡ o → p ≡ Some d → is_over d.stage ≡ true → IsClosedBy x m d
+    → listed_named x core ≡ o → p ≡ Some d → is_over d.stage ≡ true → IsExactlyClosedBy x m d
 closed_by x core turn m d o None nobody before after over = cc
 closed_by x core turn m d None (Some e) shuts before after over = elim shuts [ ]
 closed_by x core turn m d (Some c) (Some e) (stays_open a b pending) before after over =
@@ -86,17 +86,17 @@ opened_closed x port core d e over =
 -- ---- all connections are closed, or those that are done are removed
 
 settled_closed : (x : ConnectionName) (core : CoreState) (d : Connection) → IsOrderly core → listed_named x (settled core) ≡ Some d → is_over d.stage ≡ true
-    → IsClosedBy x (let m : Moves core _ = settles in m) d
+    → IsExactlyClosedBy x (let m : Moves core _ = settles in m) d
 unfolding settled
 settled_closed x core d o e over = by (serves core) e
   where
-    mapped : (c : Connection) → view all (named x) core.connections ≡ Some c → d ≡ closed c → (b : Bool) → live c ≡ b → IsClosedBy x (let m : Moves core _ = settles in m) d
+    mapped : (c : Connection) → view all (named x) core.connections ≡ Some c → d ≡ closed c → (b : Bool) → live c ≡ b → IsExactlyClosedBy x (let m : Moves core _ = settles in m) d
     mapped c there is true lives =
         closes_now c [] (listed_open x core.connections c there lives) (ap (λ (z : Connection). z.pending) is ∙ sym (append-nil c.pending)) (record { rest = []; is = refl })
     mapped c there is false dead = was_closed c there (over_if (is_over c.stage) dead) (ap (λ (z : Connection). z.pending) is)
 
     by : (b : Bool) → view all (named x) (filter is_listed (if b then core.connections else map closed core.connections)) ≡ Some d
-        → IsClosedBy x (let m : Moves core _ = settles in m) d
+        → IsExactlyClosedBy x (let m : Moves core _ = settles in m) d
     by true f = was_closed d (found_filtered x is_listed core.connections d (o.names x) f).0 over refl
     by false f =
         let g = found_filtered x is_listed (map closed core.connections) d (one_mapped (named x) closed core.connections (λ z. refl) (o.names x)) f in
@@ -168,7 +168,7 @@ move_shuts core turn (reads_later now port c packet rest at later is room) o x m
     (at_orderly port (left_with now rest) core o (λ z. refl)) (at_replica port (left_with now rest) core))
 move_shuts core turn (closes port) o x may = at_shuts x port closed core o (λ z. refl) (λ z lives. shuts_closed z)
 move_shuts core turn (refuses port c code at first is) o x may =
-    subst (λ l. Shuts (spelled l) (listed_named x core) (listed_named x turn.core)) (sym (append-nil (refusal_in x {core = core} (refuses port c code at first is))))
+    subst (λ l. Shuts (spelled l) (listed_named x core) (listed_named x turn.core)) (sym (append-nil (exact_refusal x {core = core} (refuses port c code at first is))))
     (refused_shuts x port c code core o at)
 move_shuts core turn (loses_one port c at asked_before) o x may =
     after_shuts x _ core (changes port closed core) (at_shuts x port closed core o (λ z. refl) (λ z lives. shuts_closed z))
@@ -184,7 +184,7 @@ move_shuts core turn settles o x may = absurd may
 move_shuts core turn (hands port) o x may = absurd may
 
 changed_closed : (core : CoreState) (turn : Turn) (m : Moves core turn) → IsOrderly core → (x : ConnectionName) (d : Connection) → Changes m →
-    listed_named x turn.core ≡ Some d → is_over d.stage ≡ true → IsClosedBy x m d
+    listed_named x turn.core ≡ Some d → is_over d.stage ≡ true → IsExactlyClosedBy x m d
 changed_closed core turn m o x d may there over =
     closed_by x core turn m d (listed_named x core) (listed_named x turn.core) (move_shuts core turn m o x may) refl there over
 

@@ -19,28 +19,28 @@ use Rattle.node_moves.specs.Puts.{given_in, outputs_of, spelled}
 abbrev pub listed_named : ConnectionName → CoreState → Option Connection
 listed_named x core = find (λ c. same_connection c.name x) core.connections
 
--- the answer to a CONNECT that the node refuses itself (MQTT 3.2.2.3)
-abbrev pub refusal_in : ConnectionName → {core : CoreState} {turn : Turn} → Moves core turn →
+-- the answer to a CONNECT that the node refuses itself in a move without losses (MQTT 3.2.2.3)
+abbrev pub exact_refusal : ConnectionName → {core : CoreState} {turn : Turn} → Moves core turn →
     List Packet
-refusal_in x (refuses port c code at first is) =
+exact_refusal x (refuses port c code at first is) =
     if same_connection c.name x then packets.Connack (connacks.Refused code) ∷ [] else []
-refusal_in x _ = []
+exact_refusal x _ = []
 
--- how a connection that is closed after a move was closed
-pub data IsClosedBy (x : ConnectionName) {core : CoreState} {turn : Turn} (m : Moves core turn)
-    (d : Connection) : Type 0 where
+-- how a connection that is closed after a move without losses was closed
+pub data IsExactlyClosedBy (x : ConnectionName) {core : CoreState} {turn : Turn}
+    (m : Moves core turn) (d : Connection) : Type 0 where
   -- it was closed before, with the same bytes to hand over
   was_closed : (c : Connection) → listed_named x core ≡ Some c → is_over c.stage ≡ true →
-      d.pending ≡ c.pending → IsClosedBy x m d
+      d.pending ≡ c.pending → IsExactlyClosedBy x m d
   -- it was open, and got no more in this move than a prefix of what is sent to it
   closes_now : (c : Connection) (front : List ℕ) → open_named x core ≡ Some c →
       d.pending ≡ c.pending ++ front →
-      IsPrefixOf front (spelled (refusal_in x m ++ sends_to x (outputs_of (given_in m)))) →
-      IsClosedBy x m d
+      IsPrefixOf front (spelled (exact_refusal x m ++ sends_to x (outputs_of (given_in m)))) →
+      IsExactlyClosedBy x m d
 
--- each connection that is closed after a move was closed in one of the ways of `IsClosedBy`
+-- each connection that is closed after a move was closed in one of the ways of `IsExactlyClosedBy`
 abbrev pub NothingOnClosed : Type 0
 NothingOnClosed =
     (core : CoreState) (turn : Turn) (m : Moves core turn) → IsOrderly core →
     (x : ConnectionName) (d : Connection) →
-    listed_named x turn.core ≡ Some d → is_over d.stage ≡ true → IsClosedBy x m d
+    listed_named x turn.core ≡ Some d → is_over d.stage ≡ true → IsExactlyClosedBy x m d

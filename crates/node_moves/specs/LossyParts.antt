@@ -10,7 +10,7 @@ use Rattle.exactly_once.specs.broker_spec.Connection.{ConnectionName}
 use Rattle.exactly_once.specs.broker_spec.declared.command.Output.{Output}
 use Rattle.world_base.specs.Core.{CoreState, Turn}
 use Rattle.world_base.specs.Reading.{open_at}
-use Rattle.node_moves.specs.Closed.{refusal_in as exact_refusal}
+use Rattle.node_moves.specs.Closed.{exact_refusal}
 use Rattle.node_moves.specs.Ends.{came_on as exact_came, piece_on, proposal_of as exact_proposal}
 use Rattle.node_moves.specs.RunProposals.{is_read as exact_read}
 use Rattle.node_moves.specs.Keeping.{moves_replica}
