@@ -18,7 +18,7 @@ use Rattle.world_base.specs.LossyReading.Ends.{none_open, unproposed, proposed}
 use Rattle.world_base.specs.Reading.{changes, open_at, unread_of}
 use Rattle.world_base.specs.Step.{crashed, opens, settled, with_cut}
 use Rattle.node_moves.specs.Ends.{piece_on}
-use Rattle.node_moves.specs.LossyMoves.{forgetful, turn_of}
+use Rattle.node_moves.specs.LossyMoves.{with_loss, turn_of}
 use Rattle.node_moves.specs.LossyRuns.{IsRunOn, LossesAreMoves, came_with, heard_with, is_cut}
 use Rattle.node_moves.specs.LossyMoves.LossyMoves.{exactly, hears_losing, forgets, drops}
 use Rattle.node_moves.specs.Moves.{and_then}
@@ -69,8 +69,8 @@ cut core did (nothing_to_cut none is) = before_is core (quietly core) did [] tru
 cut core did (cuts_log_at can reads is) =
     before_is core (quietly (with_cut core)) did [] true _ is (λ next tail. first_move (exactly (cuts_log can)) true (λ x. []) refl (λ x. refl) (λ e. absurd cc) reads tail)
 cut core did (forgets_cut can is) =
-    before_is core (quietly (forgetful core)) did [] true _ is
-    (before_calm core (quietly (forgetful core)) true (λ x. []) (λ x. refl) (calm_move forgets (refl, refl, refl, λ x. refl)))
+    before_is core (quietly (with_loss core)) did [] true _ is
+    (before_calm core (quietly (with_loss core)) true (λ x. []) (λ x. refl) (calm_move forgets (refl, refl, refl, λ x. refl)))
 
 taken_in : (item : Item) (core : CoreState) (did : Account) → DoesItem item core did → Before core did (heard_with item) (is_cut item) (λ x. came_with x item core)
 taken_in (Peer message) core did drives = λ next tail. first_move (hears_losing (Receives message) did refl drives) false (λ x. []) refl (λ x. refl) (λ e. refl) tt tail

@@ -27,7 +27,7 @@ use Rattle.world_base.specs.LossyReading.LosesFailed.{none_failed, tells_one}
 use Rattle.world_base.specs.LossyReading.ReadsNext.{waits, first, later, refuses as refuses_it, ends}
 use Rattle.world_base.specs.Reading.{changes, open_at, refused}
 use Rattle.world_base.specs.Turns.{quiet}
-use Rattle.node_moves.specs.LossyMoves.{LossyMoves, forgetful, halting, turn_of}
+use Rattle.node_moves.specs.LossyMoves.{LossyMoves, with_loss, halting, turn_of}
 use Rattle.node_moves.specs.LossyParts.{came_on, hears_in, inputs_in, is_handing}
 use Rattle.node_moves.specs.LossyRuns.{AllFreeze, CutsNothing, Freezes, HandsNothing, HearsAtFirst, HearsNothing, LossyRuns, all_inputs, bytes_on, cuts_in, exactly_cuts}
 use Rattle.node_moves.specs.LossyMoves.LossyMoves.{exactly, hears_losing, first_losing, later_losing, tells_losing, expels_losing, forgets, halts, fails, unheard, drops}
@@ -95,7 +95,7 @@ still_after core between did change more = calm_join change more
 
 still_declines : (core : CoreState) (did : Account) → Declines core did → Still core did
 still_declines core did (no_room full is) = by_none core did is
-still_declines core did (forgets_it room is) = by_account core (forgetful core) did is (calm_move forgets (refl, refl, refl, λ x. refl))
+still_declines core did (forgets_it room is) = by_account core (with_loss core) did is (calm_move forgets (refl, refl, refl, λ x. refl))
 still_declines core did (stops room is) = by_account core (halting core) did is (calm_move halts (refl, refl, refl, λ x. refl))
 
 pub still_lost : (name : ConnectionName) (core : CoreState) (did : Account) → Proposes (commands.Lost name) core did → Still core did
@@ -149,7 +149,7 @@ closed_asked keep_alive port core =
     ap (λ (l : List Connection). record core { connections = l })
     (twice (is_open_at port) closed (asked keep_alive) core.connections (λ c e. right_true (not (is_over c.stage)) (is_at port c) e))
 
-forgets_before : (port : Port) (f : Connection → Connection) (core : CoreState) → changes port f (forgetful core) ≡ forgetful (changes port f core)
+forgets_before : (port : Port) (f : Connection → Connection) (core : CoreState) → changes port f (with_loss core) ≡ with_loss (changes port f core)
 unfolding changes
 forgets_before port f core = refl
 
@@ -171,7 +171,7 @@ declined port f core between did same change t =
     by one (no_room full is) = subst (λ (d : Account). ends_so (changes port f d.core) (d.messages ++ [])) (sym is) (subst (λ (k : CoreState). ends_so k []) (sym same) change)
     by one (forgets_it room is) =
         subst (λ (d : Account). ends_so (changes port f d.core) (d.messages ++ [])) (sym is)
-        (subst (λ (k : CoreState). ends_so k []) (sym (forgets_before port f between ∙ ap forgetful same))
+        (subst (λ (k : CoreState). ends_so k []) (sym (forgets_before port f between ∙ ap with_loss same))
         (calm_join change (calm_move forgets (refl, refl, refl, λ x. refl))))
     by one (stops room is) =
         subst (λ (d : Account). ends_so (changes port f d.core) (d.messages ++ [])) (sym is)

@@ -27,8 +27,8 @@ abbrev pub turn_of : Account → Turn
 turn_of did = record { core = did.core; messages = did.messages }
 
 -- the replica counts a loss
-abbrev pub forgetful : CoreState → CoreState
-forgetful core =
+abbrev pub with_loss : CoreState → CoreState
+with_loss core =
     record core { replica = record core.replica { losses = one_more core.replica.losses } }
 
 -- the replica stops, and counts that
@@ -69,7 +69,7 @@ pub data LossyMoves (core : CoreState) : Turn → Type 0 where
   expels_losing : (client : List ℕ) (did : Account) → Takes (commands.Expel client) core did →
       LossyMoves core (turn_of did)
   -- the replica does not take what it receives, and counts that
-  forgets : LossyMoves core (quiet (forgetful core))
+  forgets : LossyMoves core (quiet (with_loss core))
   -- the replica stops, and counts that
   halts : LossyMoves core (quiet (halting core))
   -- a connection is closed as lost, and the loss is still to be reported to the broker

@@ -21,11 +21,11 @@ use Rattle.world.specs.declared.world.WorldClient.{WorldClient}
 use Rattle.world.specs.Asking.{AskedBy, AsksOne, IsAsked, RunAsks}
 use Rattle.world.specs.Found.{is_named}
 use Rattle.world.specs.Happening.{Happens}
-use Rattle.world.specs.Inside.Calling.{Counts, IsCall, forgetful}
+use Rattle.world.specs.Inside.Calling.{Counts, IsCall, with_loss}
 use Rattle.world.specs.Inside.Steps.{PublishesAsked, IsTrace, IsTraceAsking, IsCounted}
 use Rattle.world.specs.StandsFor.{KeepsReached, FollowsModelAsking}
 use Rattle.world.specs.World.{WorldState}
-use Rattle.world.proofs.ClientGoes.{client_asked_forgetful, client_asked_on, same_piped, with_piped}
+use Rattle.world.proofs.ClientGoes.{client_asked_with_loss, client_asked_on, same_piped, with_piped}
 use Rattle.world.proofs.Joined.{asked_goes_join, goes_on_rest, goes_on_then, keeps_reached, world_rests}
 
 -- ---- one that asks nothing
@@ -61,7 +61,7 @@ module _ (name : List ℕ) (p : Publication) (old : WorldState) (at : ℕ) (clie
   was_idle (Err idle) err is same = record { asked = []; is = refl; goes = goes_on_rest old new (is ∙ same_piped old at client piped found same) }
 
   pub publish_asked : (done : Result Sending ClientError) (result : Result (Unit {0}) Idle) → IsCall (Call.Publishes p) client.piped done piped
-      → CallingFollows (p ∷ []) client.piped done piped → old.losses ≤ (forgetful old).losses → Counts done between result new → PublishesAsked (events.Publish name p) old result new
+      → CallingFollows (p ∷ []) client.piped done piped → old.losses ≤ (with_loss old).losses → Counts done between result new → PublishesAsked (events.Publish name p) old result new
   publish_asked (Ok sendings.Sent) (Ok done) calls follows rises counts =
       was_done sendings.Sent old.losses calls counts.1
       (subst (λ (w : WorldState). IsTraceAsking ((at, p) ∷ []) old w) (sym counts.1)
@@ -69,14 +69,14 @@ module _ (name : List ℕ) (p : Publication) (old : WorldState) (at : ℕ) (clie
   publish_asked (Ok sendings.Sent) (Err idle) calls follows rises counts = absurd (both_ways false refl counts.0)
   publish_asked (Ok sendings.Lost) (Ok done) calls follows rises counts =
       was_done sendings.Lost (one_more old.losses) calls counts.1
-      (subst (λ (w : WorldState). IsTraceAsking ((at, p) ∷ []) old w) (sym counts.1) (client_asked_forgetful (p ∷ []) old at client piped found follows rises))
+      (subst (λ (w : WorldState). IsTraceAsking ((at, p) ∷ []) old w) (sym counts.1) (client_asked_with_loss (p ∷ []) old at client piped found follows rises))
   publish_asked (Ok sendings.Lost) (Err idle) calls follows rises counts = absurd (both_ways false refl counts.0)
   publish_asked (Err errors.Memory) (Ok done) calls follows rises counts =
       record {
         asked = [];
-        is = inr (record { is = counts.1 ∙ ap forgetful (same_piped old at client piped found follows); none = refl });
+        is = inr (record { is = counts.1 ∙ ap with_loss (same_piped old at client piped found follows); none = refl });
         goes = subst (λ (w : WorldState). IsTrace old w) (sym counts.1)
-            (client_asked_forgetful [] old at client piped found (calling_goes (p ∷ []) client.piped (Err errors.Memory) piped follows) rises);
+            (client_asked_with_loss [] old at client piped found (calling_goes (p ∷ []) client.piped (Err errors.Memory) piped follows) rises);
       }
   publish_asked (Err errors.Memory) (Err idle) calls follows rises counts = absurd (both_ways false refl counts.0)
   publish_asked (Err errors.NotActive) result calls follows rises counts = was_idle result counts.0 counts.1 follows

@@ -13,10 +13,10 @@ use Rattle.world_events.specs.world_pipes.Piped.{Piped}
 use Rattle.world_events.specs.world_pipes.StandsFor.{StandsFor}
 use Rattle.world_events.proofs.of_world_pipes.CallingFollows.{calling_goes}
 use Rattle.world.specs.declared.world.WorldClient.{WorldClient}
-use Rattle.world.specs.Inside.Calling.{Counts, forgetful}
+use Rattle.world.specs.Inside.Calling.{Counts, with_loss}
 use Rattle.world.specs.Inside.Steps.{IsTrace}
 use Rattle.world.specs.World.{WorldState}
-use Rattle.world.proofs.ClientGoes.{client_goes_forgetful, client_goes_on, same_piped, with_piped}
+use Rattle.world.proofs.ClientGoes.{client_goes_with_loss, client_goes_on, same_piped, with_piped}
 use Rattle.world.proofs.Joined.{goes_on_rest}
 
 done_no_err : (result : Result (Unit {0}) Idle) (P : Type 0) → IsOk result → OnErr result P
@@ -38,7 +38,7 @@ idle_call old i client piped result new found same counts =
     record { goes = goes_on_rest old new still; same = on_err result (new ≡ old) still }
 
 pub call_counted : (old : WorldState) (i : ℕ) (client : WorldClient) (piped : Piped) (done : Result Sending ClientError) (result : Result (Unit {0}) Idle) (new : WorldState) →
-    slice_get old.clients i ≡ Some client → CallingFollows [] client.piped done piped → old.losses ≤ (forgetful old).losses → Counts done (with_piped i client piped old) result new →
+    slice_get old.clients i ≡ Some client → CallingFollows [] client.piped done piped → old.losses ≤ (with_loss old).losses → Counts done (with_piped i client piped old) result new →
     IsCounted old result new
 call_counted old i client piped (Ok sendings.Sent) result new found follows rises counts =
     record {
@@ -47,13 +47,13 @@ call_counted old i client piped (Ok sendings.Sent) result new found follows rise
     }
 call_counted old i client piped (Ok sendings.Lost) result new found follows rises counts =
     record {
-      goes = subst (λ w. IsTrace old w) (sym counts.1) (client_goes_forgetful old i client piped found follows rises);
+      goes = subst (λ w. IsTrace old w) (sym counts.1) (client_goes_with_loss old i client piped found follows rises);
       same = done_no_err result (new ≡ old) counts.0;
     }
 call_counted old i client piped (Err errors.Memory) result new found follows rises counts =
     record {
       goes = subst (λ w. IsTrace old w) (sym counts.1)
-          (client_goes_forgetful old i client piped found (calling_goes [] client.piped (Err errors.Memory) piped follows) rises);
+          (client_goes_with_loss old i client piped found (calling_goes [] client.piped (Err errors.Memory) piped follows) rises);
       same = done_no_err result (new ≡ old) counts.0;
     }
 call_counted old i client piped (Err errors.NotActive) result new found follows rises counts = idle_call old i client piped result new found follows counts
@@ -66,10 +66,10 @@ call_counted old i client piped (Err (errors.Malformed kind)) result new found f
 -- ---- what a client receives
 
 pub carrying_counted : (old : WorldState) (i : ℕ) (client : WorldClient) (piped : Piped) (had : Bool) (new : WorldState) → slice_get old.clients i ≡ Some client →
-    FollowsAll client.piped piped → old.losses ≤ (forgetful old).losses →
-    new ≡ (if had then with_piped i client piped old else forgetful (with_piped i client piped old)) → IsTrace old new
+    FollowsAll client.piped piped → old.losses ≤ (with_loss old).losses →
+    new ≡ (if had then with_piped i client piped old else with_loss (with_piped i client piped old)) → IsTrace old new
 carrying_counted old i client piped true new found follows rises is = subst (λ w. IsTrace old w) (sym is) (client_goes_on old i client piped found follows)
-carrying_counted old i client piped false new found follows rises is = subst (λ w. IsTrace old w) (sym is) (client_goes_forgetful old i client piped found follows rises)
+carrying_counted old i client piped false new found follows rises is = subst (λ w. IsTrace old w) (sym is) (client_goes_with_loss old i client piped found follows rises)
 
 -- one that receives nothing stays as it is
 pub stays_all : (old new : Piped) → new ≡ old → FollowsAll old new

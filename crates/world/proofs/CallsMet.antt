@@ -26,7 +26,7 @@ use Rattle.world.specs.declared.world.WorldClient.{WorldClient}
 use Rattle.world.specs.Found.{core_named, is_named, with_piped}
 use Rattle.world.specs.ClientCalls.{Asks, ClientDoes, Leaves, Loses, LosesAsking, LosesLeaving}
 use Rattle.world.specs.Cannot.{HoldsNone, Refuses}
-use Rattle.world.specs.Inside.Calling.{Counts, IsCall, forgetful}
+use Rattle.world.specs.Inside.Calling.{Counts, IsCall, with_loss}
 use Rattle.world.specs.Inside.Steps.{IsDone, Meets}
 use Rattle.world.specs.World.{WorldState}
 use Rattle.world.proofs.ClientGoes.{same_piped}
@@ -75,7 +75,7 @@ done_well name cannot does loses old at client piped (Ok x) new first stands can
 
 -- done with losses, or not at all
 lost_call : (name : List ℕ) (cannot : Option Core → Type 0) (does : Bool → Piped → Piped → Type 0) (loses : Piped → Piped → Type 0) (old done : WorldState) (result : Result (Unit {0}) Idle) (new : WorldState)
-    → (cannot (core_named name old.clients) → ⊥) → (done ≡ old) ⊎ ClientDoes name (does false) old done → (done ≡ old) ⊎ ClientDoes name loses old done → done.losses ≡ old.losses → IsOk result → new ≡ forgetful done
+    → (cannot (core_named name old.clients) → ⊥) → (done ≡ old) ⊎ ClientDoes name (does false) old done → (done ≡ old) ⊎ ClientDoes name loses old done → done.losses ≡ old.losses → IsOk result → new ≡ with_loss done
     → ClientMeets name cannot does loses old result new
 lost_call name cannot does loses old done (Err idle) new can less lost still ok is = absurd (both_ways false refl ok)
 lost_call name cannot does loses old done (Ok x) new can less lost still ok is =

@@ -1,7 +1,7 @@
 -- Gathered.antt: connections are asked one after another, from the newest to the oldest.
 use Rattle.std.proofs.Common.{◌≡◌, inl, inr, ◌<◌, ◌-◌, ℕ, zero, suc, Bool, true, false, List, ◌++◌, Some, length, set, slice_get, refl, sym, ap, ◌∙◌, subst, arith}
 use Rattle.escaping_nodes.specs.world_nodes.Running.{node_of}
-use Rattle.escaping_nodes.specs.world_nodes.Steps.{forgetful}
+use Rattle.escaping_nodes.specs.world_nodes.Steps.{nodes_with_loss}
 use Rattle.world.specs.declared.connection_slot.ConnectionSlot.{ConnectionSlot}
 use Rattle.world.specs.Found.{slot_numbered, port_of, with_down, with_piped}
 use Rattle.world.specs.Gathering.{GatheredWhere, Gathers, GathersAmong, IsGathered, MayBeGathered, is_open_at, put_out}
@@ -39,7 +39,7 @@ pub may_be_gathered : (number : ℕ) (place : ConnectionSlot) (is_open : Bool) (
     → MayHandOn number place old is_open mid → new ≡ marked number place is_open mid → MayBeGathered false number old new
 may_be_gathered number place is_open old mid new at positive up (inl h) is = inl (is_gathered number place is_open old mid new at positive h is)
 may_be_gathered number place is_open old mid new at positive up (inr lost) is =
-    let forgot : WorldState = record old { nodes = forgetful old.nodes } in
+    let forgot : WorldState = record old { nodes = nodes_with_loss old.nodes } in
     inr (is ∙ ap (marked number place is_open) lost.1 ∙ ap (λ (b : Bool). marked number place b forgot) lost.0 ∙ sym (stays_open number place forgot at up))
 
 -- ---- the connections of a node

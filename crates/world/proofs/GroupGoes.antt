@@ -17,7 +17,7 @@ use Rattle.headline.specs.byte_world.Steps.{is_apart}
 use Rattle.headline.specs.byte_world.Steps.WorldStep.{goes_on as group_goes}
 use Rattle.escaping_nodes.specs.world_nodes.Nodes.{NodesState, StandsFor as NodesStand}
 use Rattle.escaping_nodes.specs.world_nodes.ExactSteps.{Acts, GoesBy}
-use Rattle.escaping_nodes.specs.world_nodes.Steps.{forgetful}
+use Rattle.escaping_nodes.specs.world_nodes.Steps.{nodes_with_loss}
 use Rattle.escaping_nodes.specs.world_nodes.GroupSteps.{ActsOrRests, ComesOrRests, MasterGoesOrRests, MasterHears}
 use Rattle.world.specs.Trace.{NodesGo, NodesGoOn}
 use Rattle.world.specs.Trace.StepsOfGroup.{rests as stands_still, goes_on as then_goes}
@@ -75,7 +75,7 @@ pub call_goes : {X : Type 0} (r : Result X Idle) (old new : NodesState) (at : �
 call_goes (Ok x) old new at node_call rises does same = record { rises = rises; goes = acts_go (Some (at, node_call)) old new does }
 call_goes (Err e) old new at node_call rises does same = nodes_rest old new same
 
-acts_or_stays : (node_call : Option (ℕ × NodeCall)) (old new : NodesState) → is_apart node_call ≡ true → ((g : Group) → NodesStand g old → GoesBy node_call g new) ⊎ (new ≡ forgetful old) → GoesApart old new
+acts_or_stays : (node_call : Option (ℕ × NodeCall)) (old new : NodesState) → is_apart node_call ≡ true → ((g : Group) → NodesStand g old → GoesBy node_call g new) ⊎ (new ≡ nodes_with_loss old) → GoesApart old new
 acts_or_stays node_call old new apart (inl does) = acts node_call apart does
 acts_or_stays node_call old new apart (inr forgets) = stays (nodes_forget old new forgets)
 

@@ -31,7 +31,7 @@ use Rattle.world.specs.SlotsAreValid.{SlotsAreValid, leads_of}
 use Rattle.world.specs.Quiet.{TakesNoMemory}
 use Rattle.world.specs.Inside.Carrying.{CanTake, CannotCarryDown, CannotTakeOn, CarriesDownOn, TakesUpOn}
 use Rattle.world.specs.Inside.Steps.{IsCounted, IsDone, Meets}
-use Rattle.world.specs.Inside.Calling.{forgetful}
+use Rattle.world.specs.Inside.Calling.{with_loss}
 use Rattle.world.specs.World.{WorldState}
 use Rattle.world.proofs.GroupGoes.{with_nodes}
 use Rattle.world.proofs.NothingLost.{assigns_exactly, comes_rises, cuts_rises, expels_rises, gathers_exactly, gathers_rises, rises_split, takes_exactly}
@@ -190,10 +190,10 @@ carries_up number place count old mid new at positive up t gathers still =
 
 -- there was no memory for them, and that is counted
 pub lost_up : (number : ℕ) (place : ConnectionSlot) (count : ℕ) (old mid new : WorldState) → slice_get old.connections (number - 1) ≡ Some place → 0 < number → place.is_open ≡ true
-    → (mid ≡ old) × (client : WorldClient) × (slice_get old.clients place.client ≡ Some client) × CanTake place count old.nodes client.piped → new ≡ forgetful mid
+    → (mid ≡ old) × (client : WorldClient) × (slice_get old.clients place.client ≡ Some client) × CanTake place count old.nodes client.piped → new ≡ with_loss mid
     → HappensLosing (events.CarryUp number count) old new
 lost_up number place count old mid new at positive up (same, client, owned, t) forgot =
-    record { can = can; needs = λ none low. none; done = old; does = inl refl; lost = inl refl; counted = forgot ∙ ap forgetful same }
+    record { can = can; needs = λ none low. none; done = old; does = inl refl; lost = inl refl; counted = forgot ∙ ap with_loss same }
   where
     c : Connected number old
     c = record {
@@ -275,7 +275,7 @@ does_less number count old new d = (d.0, d.1, carries_down_less count d.0.client
 -- running out of memory is counted
 pub carried_down_meets : (number : ℕ) (place : ConnectionSlot) (count : ℕ) (had : Bool) (old : WorldState) (client : WorldClient) (piped : Piped) (new : WorldState) → SlotsAreValid (leads_of old.clients) old.connections
     → slice_get old.connections (number - 1) ≡ Some place → 0 < number → slice_get old.clients place.client ≡ Some client → CarriesDownOn had place.at count client.piped piped
-    → new ≡ (if had then with_piped place.client client piped old else forgetful (with_piped place.client client piped old))
+    → new ≡ (if had then with_piped place.client client piped old else with_loss (with_piped place.client client piped old))
     → IsDone (events.CarryDown number count) old new ⊎ HappensLosing (events.CarryDown number count) old new
 carried_down_meets number place count true old client piped new housed at positive owned carries is =
     let carried = with_piped place.client client piped old in

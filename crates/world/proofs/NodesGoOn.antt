@@ -8,7 +8,7 @@ use Rattle.headline.specs.node_group.Steps.{GroupTrace}
 use Rattle.headline.specs.node_group.Steps.GroupTrace.{then_went}
 use Rattle.headline.proofs.of_node_group.Ordered.{groups_keep_the_order}
 use Rattle.escaping_nodes.specs.world_nodes.Nodes.{NodesState, StandsFor}
-use Rattle.escaping_nodes.specs.world_nodes.Steps.{LosesNothing as NodesLoseNothing, forgetful}
+use Rattle.escaping_nodes.specs.world_nodes.Steps.{LosesNothing as NodesLoseNothing, nodes_with_loss}
 use Rattle.world.specs.Trace.{AreReached, StepsOfGroup, NodesGo, NodesGoOn, StaysReached}
 use Rattle.world.specs.Trace.StepsOfGroup.{rests, goes_on}
 use Rattle.world.specs.Inside.Steps.{NodesStay}
@@ -19,7 +19,7 @@ pub nodes_stay : (old new : NodesState) → new ≡ old → NodesStay old new
 nodes_stay old new same g s = subst (λ (n : NodesState). StandsFor g n) (sym same) s
 
 -- but that a loss is counted
-pub nodes_forget : (old new : NodesState) → new ≡ forgetful old → NodesStay old new
+pub nodes_forget : (old new : NodesState) → new ≡ nodes_with_loss old → NodesStay old new
 nodes_forget old new is g s = subst (λ (n : NodesState). StandsFor g n) (sym is) (record { master = s.master; nodes = s.nodes; sent = s.sent; archive = s.archive })
 
 pub staying_goes : (old new : NodesState) → NodesStay old new → NodesGo old new

@@ -15,7 +15,7 @@ use Rattle.headline.specs.world_base.declared.item.Item.TheVariants.{Cut, Expel,
 use Rattle.headline.specs.world_base.declared.Port.{Port}
 use Rattle.escaping_nodes.specs.world_nodes.ExactSteps.{after_node_call}
 use Rattle.escaping_nodes.specs.world_nodes.Nodes.{NodesState}
-use Rattle.escaping_nodes.specs.world_nodes.Steps.{ActsWithLosses, ComesIn, CutsIn, CutsWithLosses, ExpelsIn, HearsIn, LosesNothing as NodesLoseNothing, TakesIn, forgetful}
+use Rattle.escaping_nodes.specs.world_nodes.Steps.{ActsWithLosses, ComesIn, CutsIn, CutsWithLosses, ExpelsIn, HearsIn, LosesNothing as NodesLoseNothing, TakesIn, nodes_with_loss}
 use Rattle.escaping_nodes.proofs.of_world_nodes.Exactly.{exactly}
 use Rattle.world.specs.Found.{slot_numbered, port_of}
 use Rattle.world.specs.Gathering.{GatheredWhere, Gathers, GathersAmong, Gives, MayBeGathered, TakesItem, is_open_at}
@@ -36,10 +36,10 @@ rises_split a b c x y none =
     )
 
 -- nodes that count one more lost something
-pub counts_more : (old new : NodesState) → new ≡ forgetful old → NodesLoseNothing old new → ⊥
+pub counts_more : (old new : NodesState) → new ≡ nodes_with_loss old → NodesLoseNothing old new → ⊥
 counts_more old new is none = let more = ap (λ (n : NodesState). n.losses) is in let same = none.0 in let low = none.1 in omega (arith, more, same, low)
 
-pub forgets_rises : (old new : NodesState) → new ≡ forgetful old → Rises old new
+pub forgets_rises : (old new : NodesState) → new ≡ nodes_with_loss old → Rises old new
 forgets_rises old new is = let more = ap (λ (n : NodesState). n.losses) is in omega (arith, more)
 
 pub takes_rises : (node : ℕ) (item : Item) (old new : NodesState) → TakesIn node item old new → Rises old new
@@ -54,7 +54,7 @@ cuts_rises node old new t = by t.way
   where
     by : (new ≡ record (after_node_call (node - 1) t.core (takes Cut) old) { archive = recorded old.archive t.core.core.replica.state })
         ⊎ CutsWithLosses (node - 1) t.core old new
-        ⊎ (new ≡ forgetful old) → Rises old new
+        ⊎ (new ≡ nodes_with_loss old) → Rises old new
     by (inl is) = let same = ap (λ (n : NodesState). n.losses) is in omega (arith, same)
     by (inr (inl loses)) = let more = ap (λ (n : NodesState). n.losses) loses.is in omega (arith, more)
     by (inr (inr lost)) = forgets_rises old new lost

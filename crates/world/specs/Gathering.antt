@@ -11,7 +11,7 @@ use Rattle.headline.specs.world_base.declared.Port.{Port}
 use Rattle.escaping_nodes.specs.world_nodes.ExactSteps.{TakesExactly, after_node_call}
 use Rattle.escaping_nodes.specs.world_nodes.Running.{node_of}
 use Rattle.escaping_nodes.specs.world_nodes.Nodes.{NodesState}
-use Rattle.escaping_nodes.specs.world_nodes.Steps.{TakesIn, forgetful}
+use Rattle.escaping_nodes.specs.world_nodes.Steps.{TakesIn, nodes_with_loss}
 use Rattle.world.specs.declared.connection_slot.ConnectionSlot.{ConnectionSlot}
 use Rattle.world.specs.Found.{Connected, slot_numbered, port_of, with_down, with_piped}
 use Rattle.world.specs.World.{WorldState}
@@ -66,7 +66,7 @@ is_open_at node (Some slot) = (slot.node == node) && slot.is_open
 abbrev pub MayBeGathered : Bool → ℕ → WorldState → WorldState → Type 0
 MayBeGathered true number old new = IsGathered number old new
 MayBeGathered false number old new =
-    IsGathered number old new ⊎ (new ≡ record old { nodes = forgetful old.nodes })
+    IsGathered number old new ⊎ (new ≡ record old { nodes = nodes_with_loss old.nodes })
 
 -- what a connection's node queued for it is gathered if the second value is true; otherwise nothing
 -- changes

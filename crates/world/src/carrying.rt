@@ -7,7 +7,7 @@ ghost use Rattle.world.specs.Trace.{CountsOnce, NodesGoOn};
 ghost use Rattle.world.specs.SlotsAreValid.{leads};
 ghost use Rattle.world.specs.Inside.Carrying.{CannotCarryDown, CannotTake, CannotTakeOn, CarriesDownOn, TakesUpOnWhere, TakesUpWhere};
 ghost use Rattle.world.specs.Inside.Steps.{IsTrace, Meets};
-ghost use Rattle.world.specs.Inside.Calling.{forgetful};
+ghost use Rattle.world.specs.Inside.Calling.{with_loss};
 
 use crate::connection_slot::ConnectionSlot;
 use crate::world::World;
@@ -85,16 +85,16 @@ impl World {
         };
         match carry_down_on(&mut self.clients[slot.client].piped, slot.at, count) {
             Ok(had) => {
-                self.remember(had);
+                self.count_unless(had);
                 Ok(())
             }
             Err(idle) => Err(idle),
         }
     }
 
-    // Counts running out of memory.
-    fn remember(&mut self, had_memory: bool)
-        ensures { self.new ≡ (if had_memory then self.old else forgetful self.old) }
+    // Counts a loss unless there was memory.
+    fn count_unless(&mut self, had_memory: bool)
+        ensures { self.new ≡ (if had_memory then self.old else with_loss self.old) }
     {
         if !had_memory {
             self.count_loss();

@@ -21,7 +21,7 @@ use Rattle.world_nodes.specs.Nodes.{NodesState, cores_of}
 use Rattle.world_nodes.specs.ExactSteps.{CutsExactly, after_node_call}
 use Rattle.world_nodes.specs.Running.{cutting, unless_stopped, unless_whole}
 use Rattle.world_nodes.specs.Inside.{HaveCounted, TookItem}
-use Rattle.world_nodes.specs.Steps.{CutsIn, CutsWithLosses, LosesNothing, forgetful, recorded_if_cut}
+use Rattle.world_nodes.specs.Steps.{CutsIn, CutsWithLosses, LosesNothing, nodes_with_loss, recorded_if_cut}
 use Rattle.world_nodes.proofs.Acts.{after_turn_with, core_in, not_one_more, same_core, whole_turn}
 use Rattle.world_nodes.proofs.AgreedCounted.{within_at}
 
@@ -148,13 +148,13 @@ module _ (old : NodesState) (at : ℕ) (core : CountedCore) (there : slice_get o
       }
 
   -- there was no memory for the record
-  pub cut_rests : (new : NodesState) → new ≡ forgetful old → CutsIn (at + 1) old new
+  pub cut_rests : (new : NodesState) → new ≡ nodes_with_loss old → CutsIn (at + 1) old new
   cut_rests new is = record { core = core; cuts = is_cutting; way = inr (inr is) }
 
 -- what was undone is as if nothing had happened
-pub is_forgetful : (old : NodesState) (archive : List Command) (losses : ℕ) → archive ≡ old.archive → losses ≡ one_more old.losses
-    → (let n : NodesState = record old { archive = archive; losses = losses } in n) ≡ forgetful old
-is_forgetful old archive losses is count =
+pub is_with_loss : (old : NodesState) (archive : List Command) (losses : ℕ) → archive ≡ old.archive → losses ≡ one_more old.losses
+    → (let n : NodesState = record old { archive = archive; losses = losses } in n) ≡ nodes_with_loss old
+is_with_loss old archive losses is count =
     ap (λ (l : List Command). let n : NodesState = record old { archive = l; losses = losses } in n) is
     ∙ ap (λ (k : ℕ). let n : NodesState = record old { losses = k } in n) count
 
@@ -176,7 +176,7 @@ cuts_exactly node old new t none = by t.way
 
     by : (new ≡ record (after_node_call (node - 1) t.core (takes Cut) old) { archive = recorded old.archive t.core.core.replica.state })
         ⊎ CutsWithLosses (node - 1) t.core old new
-        ⊎ (new ≡ forgetful old) → CutsExactly node old new
+        ⊎ (new ≡ nodes_with_loss old) → CutsExactly node old new
     by (inl is) = record { core = t.core; cuts = t.cuts; is = is }
     by (inr (inl loses)) = absurd (never _ loses.is refl)
     by (inr (inr is)) = absurd (never _ is refl)

@@ -7,14 +7,14 @@ use Rattle.byte_world.specs.world_base.declared.item.Item.TheVariants.{Expel}
 use Rattle.byte_world.specs.node_moves.Moves.NodeCall.{takes}
 use Rattle.world_nodes.specs.Nodes.{NodesState}
 use Rattle.world_nodes.specs.ExactSteps.{Acts, TakesExactly}
-use Rattle.world_nodes.specs.Steps.{ExpelsIn, LosesNothing, TakesIn, forgetful}
+use Rattle.world_nodes.specs.Steps.{ExpelsIn, LosesNothing, TakesIn, nodes_with_loss}
 use Rattle.world_nodes.specs.GroupSteps.{ActsOrRests}
 use Rattle.world_nodes.proofs.Exactly.{exactly}
 use Rattle.world_nodes.proofs.MasterActs.{counts}
 
 expels_exactly : (client : Client) (node : ℕ) (old new : NodesState) → ExpelsIn client node old new → LosesNothing old new → TakesExactly node (Expel client) old new
 expels_exactly client node old new (inl took) none = exactly node (Expel client) old new took none
-expels_exactly client node old new (inr is) none = absurd (counts (forgetful old) old new refl is none)
+expels_exactly client node old new (inr is) none = absurd (counts (nodes_with_loss old) old new refl is none)
 
 -- ---- of a result, if the item has a copy of the identifier
 

@@ -21,7 +21,7 @@ use Rattle.byte_world.specs.node_group.Steps.GroupStep.{master_assigns, master_h
 use Rattle.byte_world.specs.Steps.{Does, IsFaithful, node_call_of}
 use Rattle.world_nodes.specs.Nodes.{NodesState, StandsFor}
 use Rattle.world_nodes.specs.ExactSteps.{Acts, Comes, GoesBy, HeardByMaster, after_answer, after_giving}
-use Rattle.world_nodes.specs.Steps.{ComesIn, GivesIn, HearsIn, LosesNothing, TakesIn, forgetful, unheard}
+use Rattle.world_nodes.specs.Steps.{ComesIn, GivesIn, HearsIn, LosesNothing, TakesIn, nodes_with_loss, unheard}
 use Rattle.world_nodes.specs.GroupSteps.{ActsOrRests, ComesOrRests, MasterGoes, MasterHears}
 use Rattle.master.specs.Inside.{asks_for}
 use Rattle.master.specs.declared.event.Idle.{Idle}
@@ -161,7 +161,7 @@ counts n old new more is none = not_one_more old.losses none.1 (sym more ∙ sym
 pub gives_where : (config : Config) (old new : NodesState) → GivesIn config old new → LosesNothing old new → new ≡ after_giving config old
 gives_where config old new (inl is) none = is
 gives_where config old new (inr (inl is)) none = absurd (counts (unheard (after_giving config old) old) old new refl is none)
-gives_where config old new (inr (inr is)) none = absurd (counts (forgetful old) old new refl is none)
+gives_where config old new (inr (inr is)) none = absurd (counts (nodes_with_loss old) old new refl is none)
 
 pub answers_where : (from ballot : ℕ) (old new : NodesState) → HearsIn from (Activate ballot) old new → LosesNothing old new → new ≡ after_answer from ballot old
 answers_where from ballot old new (inl is) none = is
@@ -296,18 +296,18 @@ came_to_master o x old new found zero_is heard =
     (sym (found ∙ ap (λ (k : ℕ). let y : ℕ × Message Command = (k, x.1) in Some y) zero_is)) heard
 
 pub came_to_node : (o : Option (ℕ × Message Command)) (x : ℕ × Message Command) (m : Message Command) (old new : NodesState) → o ≡ Some x → (x.0 ≡ 0 → ⊥) → m ≡ x.1
-    → TakesIn x.0 (Peer m) old new ⊎ (new ≡ forgetful old) → ComesIn o old new
+    → TakesIn x.0 (Peer m) old new ⊎ (new ≡ nodes_with_loss old) → ComesIn o old new
 came_to_node o (zero, message) m old new found positive same took = absurd (positive refl)
 came_to_node o (suc at, message) m old new found positive same took =
     subst (λ (q : Option (ℕ × Message Command)). ComesIn q old new) (sym found)
-    (subst (λ (z : Message Command). TakesIn (suc at) (Peer z) old new ⊎ (new ≡ forgetful old)) same took)
+    (subst (λ (z : Message Command). TakesIn (suc at) (Peer z) old new ⊎ (new ≡ nodes_with_loss old)) same took)
 
 -- if nothing is counted it came
 pub comes_exactly : (o : Option (ℕ × Message Command)) (old new : NodesState) → ComesIn o old new → LosesNothing old new → Comes o old new
 comes_exactly None old new came none = came
 comes_exactly (Some (zero, message)) old new came none = heard_exactly message.from message.body old new came none
 comes_exactly (Some (suc at, message)) old new (inl took) none = exactly (suc at) (Peer message) old new took none
-comes_exactly (Some (suc at, message)) old new (inr is) none = absurd (counts (forgetful old) old new refl is none)
+comes_exactly (Some (suc at, message)) old new (inr is) none = absurd (counts (nodes_with_loss old) old new refl is none)
 
 -- of a result
 pub came_on : {X : Type 0} (r : Result X Idle) (o : Option (ℕ × Message Command)) (x : ℕ × Message Command) (m : Message Command) (old new : NodesState) → o ≡ Some x

@@ -11,11 +11,11 @@ use Rattle.byte_world.specs.node_moves.Moves.NodeCall.{takes}
 use Rattle.byte_world.specs.node_group.Group.{Group}
 use Rattle.world_nodes.specs.ExactSteps.{Acts, GoesBy}
 use Rattle.world_nodes.specs.Nodes.{NodesState, StandsFor}
-use Rattle.world_nodes.specs.Steps.{forgetful}
+use Rattle.world_nodes.specs.Steps.{nodes_with_loss}
 
 -- by a call of the node at this index; or nothing happened
 abbrev pub ActsOrRests : ℕ → NodeCall → NodesState → NodesState → Type 0
-ActsOrRests at node_call old new = Acts at node_call old new ⊎ (new ≡ forgetful old)
+ActsOrRests at node_call old new = Acts at node_call old new ⊎ (new ≡ nodes_with_loss old)
 
 -- by a step of the master, whose message may be lost; or nothing happened
 abbrev pub MasterGoes : NodesState → NodesState → Type 0
@@ -23,7 +23,7 @@ MasterGoes old new = (g : Group) → StandsFor g old → GoesBy None g new
 
 -- the master answers; or memory ran out, and that is counted
 abbrev pub MasterGoesOrRests : NodesState → NodesState → Type 0
-MasterGoesOrRests old new = MasterGoes old new ⊎ (new ≡ forgetful old)
+MasterGoesOrRests old new = MasterGoes old new ⊎ (new ≡ nodes_with_loss old)
 
 -- by a message that reaches the master, or a node
 abbrev pub MasterHears : Body Command → NodesState → NodesState → Type 0

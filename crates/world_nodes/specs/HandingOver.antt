@@ -5,7 +5,7 @@ use Rattle.byte_world.specs.world_base.declared.Handed.TheVariants as answers
 use Rattle.byte_world.specs.world_base.declared.Port.{Port}
 use Rattle.world_nodes.specs.ExactSteps.{AnswersFor, GivesExactly, HandsOver}
 use Rattle.world_nodes.specs.Nodes.{NodesState}
-use Rattle.world_nodes.specs.Steps.{forgetful}
+use Rattle.world_nodes.specs.Steps.{nodes_with_loss}
 
 -- What was queued was handed over and appended, and the answer says whether more may come. Or
 -- nothing was, more may come, and that is counted.
@@ -13,4 +13,4 @@ abbrev pub HandsIn : ℕ → Port → NodesState → NodesState → List ℕ →
 HandsIn node port old new before after handed =
     (GivesExactly node port old new × HandsOver node port old before after
     × AnswersFor node port old handed)
-    ⊎ ((new ≡ forgetful old) × (after ≡ before) × (handed ≡ answers.Open))
+    ⊎ ((new ≡ nodes_with_loss old) × (after ≡ before) × (handed ≡ answers.Open))

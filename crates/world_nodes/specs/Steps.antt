@@ -22,9 +22,9 @@ use Rattle.world_nodes.specs.Nodes.{NodesState}
 abbrev pub LosesNothing : NodesState → NodesState → Type 0
 LosesNothing old new = (new.losses ≡ old.losses) × (old.losses < 2 ^ 64 - 1)
 
--- nothing happened, which is counted
-abbrev pub forgetful : NodesState → NodesState
-forgetful n = record n { losses = one_more n.losses }
+-- nothing happened, except that one loss more is counted
+abbrev pub nodes_with_loss : NodesState → NodesState
+nodes_with_loss n = record n { losses = one_more n.losses }
 
 -- The node at this index did a step on the item with losses, as a node may, and some of its
 -- messages are missing. No other node, nor the master, has changed.
@@ -73,7 +73,7 @@ pub record TakesIn (node : ℕ) (item : Item) (old new : NodesState) : Type 0 wh
 -- An Expel of a client is proposed by a node, exactly or with losses; or there is no memory for it,
 -- and that is counted.
 abbrev pub ExpelsIn : List ℕ → ℕ → NodesState → NodesState → Type 0
-ExpelsIn client node old new = TakesIn node (Expel client) old new ⊎ (new ≡ forgetful old)
+ExpelsIn client node old new = TakesIn node (Expel client) old new ⊎ (new ≡ nodes_with_loss old)
 
 -- The node of this number, which had something to cut, took that item: exactly, or with losses that
 -- are counted. Or there was no memory for the record, and that is counted.
@@ -84,7 +84,7 @@ pub record CutsIn (node : ℕ) (old new : NodesState) : Type 0 where
     archive = recorded old.archive core.core.replica.state;
   })
       ⊎ CutsWithLosses (node - 1) core old new
-      ⊎ (new ≡ forgetful old)
+      ⊎ (new ≡ nodes_with_loss old)
 
 -- the master's message is lost, and that is counted
 abbrev pub unheard : NodesState → NodesState → NodesState
@@ -95,7 +95,7 @@ unheard after n = record n { master = after.master; losses = one_more n.losses }
 abbrev pub GivesIn : Config → NodesState → NodesState → Type 0
 GivesIn config old new =
     (new ≡ after_giving config old) ⊎ (new ≡ unheard (after_giving config old) old)
-    ⊎ (new ≡ forgetful old)
+    ⊎ (new ≡ nodes_with_loss old)
 
 -- The master answered a node that asked it to activate a ballot. Or the answer was lost, and that
 -- is counted. It ignores every other message.
@@ -110,4 +110,4 @@ abbrev pub ComesIn : Option (ℕ × Message Command) → NodesState → NodesSta
 ComesIn None old new = ⊥
 ComesIn (Some (zero, message)) old new = HearsIn message.from message.body old new
 ComesIn (Some (suc at, message)) old new =
-    TakesIn (suc at) (Peer message) old new ⊎ (new ≡ forgetful old)
+    TakesIn (suc at) (Peer message) old new ⊎ (new ≡ nodes_with_loss old)

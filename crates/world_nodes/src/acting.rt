@@ -10,7 +10,7 @@ ghost use Rattle.byte_world.specs.node_moves.Moves.NodeCall.{takes};
 ghost use Rattle.world_nodes.specs.ExactSteps.{Acts, Comes, CutsExactly, TakesExactly};
 ghost use Rattle.world_nodes.specs.Running.{running};
 ghost use Rattle.world_nodes.specs.Quiet.{ComesUnheeded, RestsAt};
-ghost use Rattle.world_nodes.specs.Steps.{ComesIn, CutsIn, GivesIn, HearsIn, LosesNothing, TakesIn, forgetful};
+ghost use Rattle.world_nodes.specs.Steps.{ComesIn, CutsIn, GivesIn, HearsIn, LosesNothing, TakesIn, nodes_with_loss};
 ghost use Rattle.world_nodes.specs.GroupSteps.{ActsOrRests, ComesOrRests, MasterGoes};
 ghost use Rattle.byte_world.specs.world_base.Core.{CountedCore};
 ghost use Rattle.world_nodes.specs.Inside.{IsPassedOver, RunsAt, WasSent};
@@ -162,7 +162,7 @@ impl Nodes {
 
     /// Counts that nothing happened, because memory ran out.
     pub(crate) fn count_loss(&mut self)
-        ensures lost { self.new ≡ forgetful self.old }
+        ensures lost { self.new ≡ nodes_with_loss self.old }
         ensures rises { self.old.losses ≤ self.new.losses }
     {
         self.losses = counted(self.losses, false, true);

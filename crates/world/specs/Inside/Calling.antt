@@ -10,9 +10,9 @@ use Rattle.world_events.specs.world_pipes.declared.sending.Sending.TheVariants a
 use Rattle.world_events.specs.world_pipes.Piped.{Calls, Piped}
 use Rattle.world.specs.World.{WorldState}
 
--- memory ran out, which is counted
-abbrev pub forgetful : WorldState → WorldState
-forgetful w = record w { losses = one_more w.losses }
+-- one loss more is counted
+abbrev pub with_loss : WorldState → WorldState
+with_loss w = record w { losses = one_more w.losses }
 
 -- a call with a copy, for which memory may run out
 abbrev pub IsCall : Call → Piped → Result Sending ClientError → Piped → Type 0
@@ -23,6 +23,6 @@ IsCall call old done new = Calls (keeper_step call old.core.state) old done new
 abbrev pub Counts : Result Sending ClientError → WorldState → Result (Unit {0}) Idle → WorldState →
     Type 0
 Counts (Ok sendings.Sent) old result new = IsOk result × (new ≡ old)
-Counts (Ok sendings.Lost) old result new = IsOk result × (new ≡ forgetful old)
-Counts (Err errors.Memory) old result new = IsOk result × (new ≡ forgetful old)
+Counts (Ok sendings.Lost) old result new = IsOk result × (new ≡ with_loss old)
+Counts (Err errors.Memory) old result new = IsOk result × (new ≡ with_loss old)
 Counts (Err cause) old result new = IsErr result × (new ≡ old)

@@ -7,7 +7,7 @@ use Rattle.headline.specs.node_moves.Moves.NodeCall.{gives}
 use Rattle.escaping_nodes.specs.world_nodes.ExactSteps.{Acts, HandsOver}
 use Rattle.escaping_nodes.specs.world_nodes.Running.{node_of}
 use Rattle.escaping_nodes.specs.world_nodes.Nodes.{NodesState}
-use Rattle.escaping_nodes.specs.world_nodes.Steps.{forgetful as nodes_forgetful}
+use Rattle.escaping_nodes.specs.world_nodes.Steps.{nodes_with_loss}
 use Rattle.world_events.specs.world_pipes.declared.way.Way.{Way}
 use Rattle.world_events.specs.world_pipes.Piped.{Piped}
 use Rattle.world.specs.declared.connection_slot.ConnectionSlot.{ConnectionSlot}
@@ -31,7 +31,7 @@ HandsDown node port old before new after is_open =
     (Gives (node_of old.nodes node) node port old new
     × (after ≡ before ++ put_out port (node_of old.nodes node))
     × (is_open ≡ is_told_open port (node_of old.nodes node)))
-    ⊎ ((new ≡ nodes_forgetful old) × (after ≡ before) × (is_open ≡ true))
+    ⊎ ((new ≡ nodes_with_loss old) × (after ≡ before) × (is_open ≡ true))
 
 -- a node hands down what it queued, after what is in transit on the connection at this index
 abbrev pub PutsDown : ℕ → ℕ → Port → NodesState → Piped → NodesState → Piped → Bool → Type 0
@@ -74,7 +74,7 @@ pub record HandsOn (number : ℕ) (slot : ConnectionSlot) (old : WorldState) (is
 abbrev pub MayHandOn : ℕ → ConnectionSlot → WorldState → Bool → WorldState → Type 0
 MayHandOn number slot old is_open new =
     HandsOn number slot old is_open new
-    ⊎ ((is_open ≡ true) × (new ≡ record old { nodes = nodes_forgetful old.nodes }))
+    ⊎ ((is_open ≡ true) × (new ≡ record old { nodes = nodes_with_loss old.nodes }))
 
 -- a node that has nothing to hand over then has nothing, and counts no loss
 abbrev pub StaysQuiet : ℕ → NodesState → NodesState → Type 0

@@ -8,7 +8,7 @@ use Rattle.world_nodes.specs.Nodes.{NodesState}
 use Rattle.world_nodes.proofs.Acts.{same_core, took_by}
 use Rattle.world_nodes.proofs.ActsLosing.{cut_loses}
 use Rattle.world_nodes.proofs.CountsGoOn.{acts_counting, heard_after}
-use Rattle.world_nodes.proofs.Cutting.{archive_of, below_of, cut_rests, cut_takes, cuts_exactly, is_forgetful, recorded_below, rests_counting}
+use Rattle.world_nodes.proofs.Cutting.{archive_of, below_of, cut_rests, cut_takes, cuts_exactly, is_with_loss, recorded_below, rests_counting}
 use Rattle.world_nodes.proofs.nodes.Nodes.cut_at.Goals as goal
 
 pub record-requires-clause-recorded : goal.record-requires-clause-recorded
@@ -53,7 +53,7 @@ returns-in_default-clause-step c =
     let whole : c.len-before.result ≡ length c.self.inside.archive.items = omega (arith, c.len-before.ensures, c.self.inside.archive.ok.0) in
     let kept = c.truncate.ensures.items ∙ taken_back c.self.inside.archive.items c.record.new.archive.items c.len-before.result c.in_default.ensures.err whole in
     rw (← c.self.view_is) (cut_rests old c.args.at there.0 there.1 there.2 _
-    (is_forgetful old c.truncate.new.self.items c.counted-self-inside.result kept c.counted-self-inside.ensures))
+    (is_with_loss old c.truncate.new.self.items c.counted-self-inside.result kept c.counted-self-inside.ensures))
 
 pub returns-in_default-clause-exact : goal.returns-in_default-clause-exact
 returns-in_default-clause-exact c =
@@ -68,7 +68,7 @@ returns-in_default-clause-exact c =
     let whole : c.len-before.result ≡ length c.self.inside.archive.items = omega (arith, c.len-before.ensures, c.self.inside.archive.ok.0) in
     let kept = c.truncate.ensures.items ∙ taken_back c.self.inside.archive.items c.record.new.archive.items c.len-before.result c.in_default.ensures.err whole in
     rw (← c.self.view_is) (cuts_exactly (c.args.at + 1) old _ (cut_rests old c.args.at there.0 there.1 there.2 _
-    (is_forgetful old c.truncate.new.self.items c.counted-self-inside.result kept c.counted-self-inside.ensures)))
+    (is_with_loss old c.truncate.new.self.items c.counted-self-inside.result kept c.counted-self-inside.ensures)))
 
 pub returns-in_default-clause-acts : goal.returns-in_default-clause-acts
 returns-in_default-clause-acts c =
@@ -81,7 +81,7 @@ returns-in_default-clause-acts c =
     } in
     let whole : c.len-before.result ≡ length c.self.inside.archive.items = omega (arith, c.len-before.ensures, c.self.inside.archive.ok.0) in
     let kept = c.truncate.ensures.items ∙ taken_back c.self.inside.archive.items c.record.new.archive.items c.len-before.result c.in_default.ensures.err whole in
-    rw (← c.self.view_is) (inr (is_forgetful old c.truncate.new.self.items c.counted-self-inside.result kept c.counted-self-inside.ensures))
+    rw (← c.self.view_is) (inr (is_with_loss old c.truncate.new.self.items c.counted-self-inside.result kept c.counted-self-inside.ensures))
 
 -- ---- it took the cut
 

@@ -2,7 +2,7 @@ use Rattle.std.proofs.Common.{◌≡◌, ◌≤◌, ◌-◌, ◌∙◌, inl, inr
 use Rattle.byte_world.specs.node_moves.Moves.NodeCall.{gives}
 use Rattle.world_nodes.specs.Running.{node_of}
 use Rattle.world_nodes.specs.Nodes.{NodesState}
-use Rattle.world_nodes.specs.Steps.{forgetful}
+use Rattle.world_nodes.specs.Steps.{nodes_with_loss}
 use Rattle.world_nodes.proofs.CountsGoOn.{acts_counting}
 use Rattle.world_nodes.proofs.Exactly.{gives_acts}
 use Rattle.world_nodes.proofs.HandsOver.{answers_so, hands, hands_bytes, is_there, rests, stands_there}
@@ -95,7 +95,7 @@ returns-in-Err-clause-step c =
     let below : c.args.node ≤ length c.self.inside.nodes.items = omega (arith, c.self.inside.nodes.ok.0, c.len.ensures, c.if-node-len.false) in
     let found = stands_there c.self.inside.nodes.items c.args.node c.index_mut-core.result.now c.if-node-eq0.false below c.index_mut-core.ensures.value in
     inr (
-      c.count_loss.ensures.lost ∙ ap forgetful (rests (let old : NodesState = record {
+      c.count_loss.ensures.lost ∙ ap nodes_with_loss (rests (let old : NodesState = record {
         master = c.self.inside.master;
         nodes = c.self.inside.nodes.items;
         sent = c.self.inside.sent.items;
