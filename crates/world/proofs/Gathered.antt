@@ -6,7 +6,7 @@ use Rattle.world.specs.declared.connection_slot.ConnectionSlot.{ConnectionSlot}
 use Rattle.world.specs.Found.{slot_numbered, port_of, with_down, with_piped}
 use Rattle.world.specs.Gathering.{GatheredWhere, Gathers, GathersAmong, IsGathered, MayBeGathered, is_open_at, put_out}
 use Rattle.world.specs.Inside.Steps.{IsTrace}
-use Rattle.world.specs.Inside.Handing.{HandsOn, MayHandOn, marked}
+use Rattle.world.specs.Inside.Handing.{GathersOn, MayGatherOn, marked}
 use Rattle.world.specs.World.{WorldState}
 use Rattle.world.proofs.Joined.{goes_on_join}
 use Rattle.world.proofs.StandsThere.{numbered_at}
@@ -14,7 +14,7 @@ use Rattle.world.proofs.Turned.{set_itself}
 
 -- ---- one connection
 
-pub is_gathered : (number : ℕ) (place : ConnectionSlot) (is_open : Bool) (old mid new : WorldState) → slice_get old.connections (number - 1) ≡ Some place → 0 < number → HandsOn number place old is_open mid
+pub is_gathered : (number : ℕ) (place : ConnectionSlot) (is_open : Bool) (old mid new : WorldState) → slice_get old.connections (number - 1) ≡ Some place → 0 < number → GathersOn number place old is_open mid
     → new ≡ marked number place is_open mid → IsGathered number old new
 is_gathered number place is_open old mid new at positive h is =
     let down : WorldState = record (with_piped place.client h.client
@@ -36,7 +36,7 @@ stays_open number place w found up =
 
 -- exactly, or its node ran out of memory
 pub may_be_gathered : (number : ℕ) (place : ConnectionSlot) (is_open : Bool) (old mid new : WorldState) → slice_get old.connections (number - 1) ≡ Some place → 0 < number → place.is_open ≡ true
-    → MayHandOn number place old is_open mid → new ≡ marked number place is_open mid → MayBeGathered false number old new
+    → MayGatherOn number place old is_open mid → new ≡ marked number place is_open mid → MayBeGathered false number old new
 may_be_gathered number place is_open old mid new at positive up (inl h) is = inl (is_gathered number place is_open old mid new at positive h is)
 may_be_gathered number place is_open old mid new at positive up (inr lost) is =
     let forgot : WorldState = record old { nodes = nodes_with_loss old.nodes } in

@@ -19,7 +19,7 @@ use Rattle.world.specs.SlotsAreValid.{SlotsAreValid, leads, leads_of}
 use Rattle.world.specs.Found.{port_of, with_down, with_less}
 use Rattle.world.specs.Inside.Carrying.{CanTake, CannotTake, CannotTakeOn, TakesUp, TakesUpOnWhere, TakesUpWhere}
 use Rattle.world.specs.Inside.Steps.{IsTrace}
-use Rattle.world.specs.Inside.Handing.{HandsDown, MayHandOn, MayPutDown, PutsDown}
+use Rattle.world.specs.Inside.Handing.{HandsDown, MayGatherOn, MayPutDown, PutsDown}
 use Rattle.world.specs.World.{WorldState}
 use Rattle.world.proofs.ComesUp.{takes_up}
 use Rattle.world.proofs.GoesDown.{put_down, puts_down}
@@ -34,10 +34,10 @@ same_client old i client new later found still =
     ap (λ (p : Piped). put_down i client p new old) still ∙ ap (λ (l : List WorldClient). record old { nodes = new; clients = l }) (set_itself old.clients i client found)
 
 -- what is known about the end, and what went down; or nothing went down
-pub hands : (old : WorldState) (number : ℕ) (place : ConnectionSlot) (client : WorldClient) (way : Way) (is_open : Bool) (new : NodesState) (later : Piped) → slice_get old.clients place.client ≡ Some client
+pub gathers_on : (old : WorldState) (number : ℕ) (place : ConnectionSlot) (client : WorldClient) (way : Way) (is_open : Bool) (new : NodesState) (later : Piped) → slice_get old.clients place.client ≡ Some client
     → slice_get client.piped.ways place.at ≡ Some way → PutsDown place.at place.node (port_of number) old.nodes client.piped new later is_open
-    → MayHandOn number place old is_open (put_down place.client client later new old)
-hands old number place client way is_open new later owned stands puts = by (puts way stands)
+    → MayGatherOn number place old is_open (put_down place.client client later new old)
+gathers_on old number place client way is_open new later owned stands puts = by (puts way stands)
   where
     same_bytes : (bytes : List ℕ) → bytes ≡ way.down → with_down place.at way bytes client.piped ≡ client.piped
     same_bytes bytes same =
@@ -45,7 +45,7 @@ hands old number place client way is_open new later owned stands puts = by (puts
         ∙ ap (λ (l : List Way). let p : Piped = record client.piped { ways = l } in p) (set_itself client.piped.ways place.at way stands)
 
     by : (bytes : List ℕ) × HandsDown place.node (port_of number) old.nodes way.down new bytes is_open × (later ≡ with_down place.at way bytes client.piped)
-        → MayHandOn number place old is_open (put_down place.client client later new old)
+        → MayGatherOn number place old is_open (put_down place.client client later new old)
     by (bytes, inl p, is) =
         inl (record {
           client = client;
@@ -63,10 +63,10 @@ hands old number place client way is_open new later owned stands puts = by (puts
           same_client old place.client client new later owned (is ∙ same_bytes bytes p.1) ∙ ap (λ (n : NodesState). let w : WorldState = record old { nodes = n } in w) p.0,
         )
 
-pub hands_on : (old : WorldState) (number : ℕ) (place : ConnectionSlot) (client : WorldClient) (new : NodesState) (later : Piped) → SlotsAreValid (leads_of old.clients) old.connections
+pub gathering_goes : (old : WorldState) (number : ℕ) (place : ConnectionSlot) (client : WorldClient) (new : NodesState) (later : Piped) → SlotsAreValid (leads_of old.clients) old.connections
     → slice_get old.connections (number - 1) ≡ Some place → 0 < number → slice_get old.clients place.client ≡ Some client → NodesGoOn old.nodes new
     → MayPutDown place.at place.node (record { 0 = number }) old.nodes client.piped new later → IsTrace old (put_down place.client client later new old)
-hands_on old number place client new later housed at positive found nodes puts =
+gathering_goes old number place client new later housed at positive found nodes puts =
     record {
       rises = omega arith;
       nodes = nodes;

@@ -5,7 +5,7 @@ ghost use Rattle.escaping_nodes.specs.world_nodes.Nodes.{NodesState};
 ghost use Rattle.world.specs.Gathering.{Gathers, GathersAmong};
 ghost use Rattle.world.specs.Trace.{NodesGoOn};
 ghost use Rattle.world.specs.SlotsAreValid.{leads, open_from};
-ghost use Rattle.world.specs.Inside.Handing.{GathersAt, HandsDown, MayHandDown, MayHandOn, MayPutDown, PutsDown, StaysQuiet, marked, tells_open};
+ghost use Rattle.world.specs.Inside.Handing.{GathersAt, HandsDown, MayGatherOn, MayHandDown, MayPutDown, PutsDown, StaysQuiet, marked, tells_open};
 ghost use Rattle.world.specs.Inside.Steps.{IsTrace};
 
 use crate::connection_slot::ConnectionSlot;
@@ -57,7 +57,7 @@ impl World {
         if slot.node != node {
             return;
         }
-        if !self.hand_on(slot, number) {
+        if !self.gather_on(slot, number) {
             self.close(at, slot, number);
         }
     }
@@ -96,12 +96,12 @@ impl World {
 
     // Puts into the pipe what its node queued for a connection. Returns whether its end there is
     // open.
-    fn hand_on(&mut self, slot: ConnectionSlot, number: u64) -> bool
+    fn gather_on(&mut self, slot: ConnectionSlot, number: u64) -> bool
         requires stands { slice_get self.old.connections (number - 1) ≡ Some slot }
         requires positive { 0 < number }
         ensures goes { IsTrace self.old self.new }
         ensures connections { self.new.connections ≡ self.old.connections }
-        ensures hands { MayHandOn number slot self.old result self.new }
+        ensures gathers { MayGatherOn number slot self.old result self.new }
         ensures still { self.new.losses ≡ self.old.losses }
         ensures quiet { StaysQuiet slot.node self.old.nodes self.new.nodes }
     {

@@ -53,8 +53,9 @@ MayPutDown at node port old client new later =
     (bytes : List ℕ) × MayHandDown node port old way.down new bytes
     × (later ≡ with_down at way bytes client)
 
--- on the connection of this number, and this is said about its end
-pub record HandsOn (number : ℕ) (slot : ConnectionSlot) (old : WorldState) (is_open : Bool)
+-- what a node queued for the connection of this number is in transit down, after what was, and this
+-- is said about its end
+pub record GathersOn (number : ℕ) (slot : ConnectionSlot) (old : WorldState) (is_open : Bool)
     (new : WorldState) : Type 0 where
   pub client : WorldClient
   pub owned : slice_get old.clients slot.client ≡ Some client
@@ -69,11 +70,11 @@ pub record HandsOn (number : ℕ) (slot : ConnectionSlot) (old : WorldState) (is
       (way.down ++ put_out (port_of number) (node_of old.nodes.nodes slot.node)) client.piped) old)
       { nodes = between }
 
--- A slot is handed on, or its node ran out of memory: nothing changes, its end is open, and that is
--- counted.
-abbrev pub MayHandOn : ℕ → ConnectionSlot → WorldState → Bool → WorldState → Type 0
-MayHandOn number slot old is_open new =
-    HandsOn number slot old is_open new
+-- What a node queued is in transit. Or the node ran out of memory: nothing changes, its end is
+-- open, and that is counted.
+abbrev pub MayGatherOn : ℕ → ConnectionSlot → WorldState → Bool → WorldState → Type 0
+MayGatherOn number slot old is_open new =
+    GathersOn number slot old is_open new
     ⊎ ((is_open ≡ true) × (new ≡ record old { nodes = nodes_with_loss old.nodes }))
 
 -- a node that has nothing to hand over then has nothing, and counts no loss

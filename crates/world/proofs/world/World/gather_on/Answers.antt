@@ -3,10 +3,10 @@ use Rattle.escaping_nodes.proofs.of_master.Counting.{get_there}
 use Rattle.world.specs.SlotsAreValid.{leads_of}
 use Rattle.world.specs.World.{WorldState}
 use Rattle.world.proofs.ClientGoes.{housed_still}
-use Rattle.world.proofs.Handed.{hands, hands_on}
+use Rattle.world.proofs.Handed.{gathers_on, gathering_goes}
 use Rattle.world.proofs.LeadsKept.{led, led_there}
 use Rattle.world.proofs.StandsThere.{client_within, way_within}
-use Rattle.world.proofs.world.World.hand_on.Goals as goal
+use Rattle.world.proofs.world.World.gather_on.Goals as goal
 
 pub invariant_of-self : goal.invariant_of-self
 invariant_of-self c =
@@ -23,7 +23,7 @@ returns-clause-goes c =
     let stands = rw (← c.self.view_is) at c.requires.stands in
     let few = client_within c.self.inside.clients.items c.self.inside.connections.items c.args.number c.args.slot c.self.invariant.0 stands c.requires.positive in
     let found = get_there c.self.inside.clients.items c.args.slot.client c.index_mut.result.now few c.index_mut.ensures.value in
-    rw (← c.self.view_is) (hands_on (let old : WorldState = record {
+    rw (← c.self.view_is) (gathering_goes (let old : WorldState = record {
       nodes = c.self.inside.nodes;
       clients = c.self.inside.clients.items;
       connections = c.self.inside.connections.items;
@@ -38,8 +38,8 @@ hand_down-requires c =
     let found = get_there c.self.inside.clients.items c.args.slot.client c.index_mut.result.now few c.index_mut.ensures.value in
     way_within c.self.inside.clients.items c.self.inside.connections.items c.args.number c.args.slot c.index_mut.result.now c.self.invariant.0 stands c.requires.positive found
 
-pub returns-clause-hands : goal.returns-clause-hands
-returns-clause-hands c =
+pub returns-clause-gathers : goal.returns-clause-gathers
+returns-clause-gathers c =
     let stands = rw (← c.self.view_is) at c.requires.stands in
     let few = client_within c.self.inside.clients.items c.self.inside.connections.items c.args.number c.args.slot c.self.invariant.0 stands c.requires.positive in
     let found = get_there c.self.inside.clients.items c.args.slot.client c.index_mut.result.now few c.index_mut.ensures.value in
@@ -50,7 +50,7 @@ returns-clause-hands c =
       losses = c.self.inside.losses;
     } in
     let way = led old.clients c.args.number c.args.slot c.index_mut.result.now (led_there (leads_of old.clients) old.connections c.args.number c.args.slot c.self.invariant.0 stands c.requires.positive) found in
-    rw (← c.self.view_is) (hands old c.args.number c.args.slot c.index_mut.result.now way.way c.hand_down.result c.hand_down.new.nodes c.hand_down.new.piped found way.found
+    rw (← c.self.view_is) (gathers_on old c.args.number c.args.slot c.index_mut.result.now way.way c.hand_down.result c.hand_down.new.nodes c.hand_down.new.piped found way.found
     c.hand_down.ensures.puts)
 
 pub index_mut-requires : goal.index_mut-requires
