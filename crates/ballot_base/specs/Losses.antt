@@ -29,9 +29,13 @@ Loses rules old outcome new given =
     ((new ≡ outcome.state) × Thinned given outcome.effects)
     ⊎ (((new ≡ old) × (given ≡ [])) ⊎ ((new ≡ halted rules old) × (given ≡ [])))
 
+-- the greatest number that a count of 64 bits has
+abbrev pub greatest_count : ℕ
+greatest_count = 2 ^ 64 - 1
+
 -- the count of losses saturates at its greatest number
 abbrev pub one_more : ℕ → ℕ
-one_more losses = min (losses + 1) (2 ^ 64 - 1)
+one_more losses = min (losses + 1) greatest_count
 
 -- the step itself, or a step with losses that was counted
 abbrev pub Steps : {S C O : Type 0} → Rules S C O →

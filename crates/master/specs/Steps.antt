@@ -1,8 +1,8 @@
 -- Steps of a group in which memory may have run out, and how these are counted.
-use Rattle.std.specs.Prelude.{◌^◌, ◌-◌, ◌<◌, ◌≡◌, ◌⊎◌, ℕ, List, [], ◌∷◌, Option, Some, None}
+use Rattle.std.specs.Prelude.{◌<◌, ◌≡◌, ◌⊎◌, ℕ, List, [], ◌∷◌, Option, Some, None}
 use Rattle.ballot.specs.machine.Machine.{Rules}
 use Rattle.ballot.specs.Effect.{Effect}
-use Rattle.ballot.specs.Losses.{IsQuiet, Loses, one_more}
+use Rattle.ballot.specs.Losses.{IsQuiet, Loses, greatest_count, one_more}
 use Rattle.ballot.specs.Replica.{ReplicaState}
 use Rattle.snapshots.specs.Masters.{MasterOutcome}
 use Rattle.snapshots.specs.Moments.{Moment}
@@ -80,4 +80,4 @@ pub data Run {S C O : Type 0} (rules : Rules S C O) :
 
 -- the count is exact as long as it is below its greatest number
 abbrev pub LosesNothing : {S C O : Type 0} → GroupState S C O → GroupState S C O → Type 0
-LosesNothing old new = (new.losses ≡ old.losses) × (old.losses < 2 ^ 64 - 1)
+LosesNothing old new = (new.losses ≡ old.losses) × (old.losses < greatest_count)

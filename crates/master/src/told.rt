@@ -1,6 +1,7 @@
 // How many places the nodes acknowledged in a ballot, counted at each message.
 
-ghost use Rattle.std.specs.Prelude.{ℕ, ◌^◌, ◌-◌, ◌≡◌, ◌<◌, ◌≤◌, IfOk, take, length, max, get_or};
+ghost use Rattle.std.specs.Prelude.{ℕ, ◌^◌, ◌≡◌, ◌<◌, ◌≤◌, IfOk, take, length, max, get_or};
+ghost use Rattle.ballot.specs.Losses.{greatest_count};
 ghost use Rattle.master.specs.ToldLengths.{told_in};
 ghost use Rattle.ballot.specs.lists.Lists.{In};
 ghost use Rattle.master.specs.Inside.{HasCounted, least_but_one, next_least};
@@ -89,7 +90,7 @@ impl Told {
     pub fn least_but_one(&self, members: &[u8]) -> u64
         requires { (m : ℕ) → In m members.now → m < 16 }
         ensures least { result
-            ≡ least_but_one self.now.held (2 ^ 64 - 1) (2 ^ 64 - 1) members.now }
+            ≡ least_but_one self.now.held greatest_count greatest_count members.now }
         ensures range { (m : ℕ) → get_or self.now.held m 0 < 2 ^ 64 }
     {
         second_least(self.held.as_slice(), members)
@@ -99,7 +100,7 @@ impl Told {
 // Returns the second smallest of the numbers at some indices.
 fn second_least(told: &[u64], slots: &[u8]) -> u64
     requires { (m : ℕ) → In m slots.now → m < length told.now }
-    ensures least { result ≡ least_but_one told.now (2 ^ 64 - 1) (2 ^ 64 - 1) slots.now }
+    ensures least { result ≡ least_but_one told.now greatest_count greatest_count slots.now }
     ensures range { (m : ℕ) → get_or told.now m 0 < 2 ^ 64 }
 {
     let mut pair = (u64::MAX, u64::MAX);

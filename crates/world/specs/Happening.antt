@@ -1,7 +1,7 @@
 -- What happens in a world: what one event and a list of events do, and how a world begins.
-use Rattle.std.specs.Prelude.{◌≡◌, ◌⊎◌, ◌<◌, ◌^◌, ◌-◌, ℕ, true, false, List, [], ◌∷◌, Result, Ok, Err, map}
+use Rattle.std.specs.Prelude.{◌≡◌, ◌⊎◌, ◌<◌, ℕ, true, false, List, [], ◌∷◌, Result, Ok, Err, map}
 use Rattle.headline.specs.ballot.Config.{Config}
-use Rattle.headline.specs.ballot.Losses.{one_more}
+use Rattle.headline.specs.ballot.Losses.{greatest_count, one_more}
 use Rattle.headline.specs.broker_spec.Place.{Client}
 use Rattle.headline.specs.node_group.Group.{opening_group}
 use Rattle.escaping_nodes.specs.master.declared.event.Idle.{Idle}
@@ -28,7 +28,7 @@ pub record HappensExactly (event : Event) (old new : WorldState) : Type 0 where
 -- counted a loss. Their count saturates at 2^64 - 1, and shows nothing there.
 pub record HappensLosing (event : Event) (old new : WorldState) : Type 0 where
   pub can : CannotHappen event old → ⊥
-  pub needs : TakesNoMemory event old → old.nodes.losses < 2 ^ 64 - 1 → ⊥
+  pub needs : TakesNoMemory event old → old.nodes.losses < greatest_count → ⊥
   pub done : WorldState
   pub does : (done ≡ old) ⊎ Does false event old done
   pub lost : (done ≡ old) ⊎ LosesAtClient event old done

@@ -1,5 +1,6 @@
 -- Laws about what events do. The calls of `laws.rt` prove them.
-use Rattle.std.specs.Prelude.{◌≡◌, ◌<◌, ◌≤◌, ◌^◌, ◌-◌, ℕ, false, List, Some, Ok}
+use Rattle.std.specs.Prelude.{◌≡◌, ◌<◌, ◌≤◌, ℕ, false, List, Some, Ok}
+use Rattle.headline.specs.ballot.Losses.{greatest_count}
 use Rattle.headline.specs.broker_spec.Connection.{max_ballot, max_count}
 use Rattle.headline.specs.world_base.Core.{CountedCore}
 use Rattle.escaping_nodes.specs.world_nodes.Running.{node_of}
@@ -23,7 +24,7 @@ OpensPastTheLast =
     (name : List ℕ) (node : ℕ) (core : CountedCore) (old new : WorldState) →
     node_of old.nodes.nodes node ≡ Some core →
     core.core.last_name ≡ record { ballot = core.core.replica.state.joined; count = max_count } →
-    old.nodes.losses < 2 ^ 64 - 1 →
+    old.nodes.losses < greatest_count →
     Happens (events.Open name node) old (Ok tt) new → new ≡ old
 
 -- a node that has not given the last number has a name left

@@ -1,7 +1,7 @@
 -- What the nodes of a world do may happen in a group, and so they agree.
-use Rattle.std.specs.Prelude.{◌≡◌, ◌⊎◌, ◌<◌, ◌≤◌, ◌^◌, ◌-◌, ℕ, List, ◌∷◌}
+use Rattle.std.specs.Prelude.{◌≡◌, ◌⊎◌, ◌<◌, ◌≤◌, ℕ, List, ◌∷◌}
 use Rattle.escaping_client.specs.lists.Lists.{IsPrefixOf}
-use Rattle.headline.specs.ballot.Losses.{one_more}
+use Rattle.headline.specs.ballot.Losses.{greatest_count, one_more}
 use Rattle.headline.specs.ballot.Config.{Config}
 use Rattle.headline.specs.snapshots.Agreeing.{Agrees, Holds, LeftInOrder}
 use Rattle.headline.specs.snapshots.Moments.{IsAgreed}
@@ -41,7 +41,7 @@ pub record NodesGoOn (old new : NodesState) : Type 0 where
 
 -- the count is exact as long as it is below its greatest number
 abbrev pub LosesNothing : WorldState → WorldState → Type 0
-LosesNothing old new = (new.losses ≡ old.losses) × (old.losses < 2 ^ 64 - 1)
+LosesNothing old new = (new.losses ≡ old.losses) × (old.losses < greatest_count)
 
 -- the count rises by one, or not at all
 abbrev pub CountsOnce : WorldState → WorldState → Type 0

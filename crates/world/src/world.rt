@@ -1,9 +1,9 @@
 // A world.
 
-ghost use Rattle.std.specs.Prelude.{ℕ, List, [], ◌≡◌, ◌≤◌, ◌<◌, ◌^◌, ◌-◌, ◌↔◌, true, false, Some, length, map, slice_get, IfOk, IfSome, IsErr, IsErrOf, OnErr};
+ghost use Rattle.std.specs.Prelude.{ℕ, List, [], ◌≡◌, ◌≤◌, ◌<◌, ◌↔◌, true, false, Some, length, map, slice_get, IfOk, IfSome, IsErr, IsErrOf, OnErr};
 ghost use Rattle.escaping_client.specs.session_base.declared.publication.Publication.{Publication};
 ghost use Rattle.headline.specs.agreement.World.{can_open};
-ghost use Rattle.headline.specs.ballot.Losses.{one_more};
+ghost use Rattle.headline.specs.ballot.Losses.{greatest_count, one_more};
 ghost use Rattle.headline.specs.packet_world.World.{AreApart};
 ghost use Rattle.headline.specs.byte_world.World.{new_client};
 ghost use Rattle.world_events.specs.world_pipes.StandsFor.{StandsFor};
@@ -140,7 +140,7 @@ impl World {
         // The count of losses rises by one, or not at all: an event that takes no memory does not
         // raise it.
         ensures count { CountsOnce self.old self.new }
-        ensures quiet { TakesNoMemory event.now self.old → self.old.nodes.losses < 2 ^ 64 - 1 →
+        ensures quiet { TakesNoMemory event.now self.old → self.old.nodes.losses < greatest_count →
             self.new.losses ≡ self.old.losses }
         ensures idle { IsErr result ↔ CannotHappen event.now self.old }
     {
@@ -221,9 +221,9 @@ impl World {
     /// `before`.
     pub(crate) fn is_whole(&self, before: u64) -> bool
         ensures yes { result ≡ true →
-            (self.now.nodes.losses ≡ before) × (before < 2 ^ 64 - 1) }
+            (self.now.nodes.losses ≡ before) × (before < greatest_count) }
         ensures no { result ≡ false →
-            (self.now.nodes.losses ≡ before) × (before < 2 ^ 64 - 1) → ⊥ }
+            (self.now.nodes.losses ≡ before) × (before < greatest_count) → ⊥ }
     {
         self.nodes.losses() == before && before < u64::MAX
     }

@@ -1,12 +1,12 @@
 -- How steps of a node in which memory ran out are counted, and which steps never are.
-use Rattle.std.specs.Prelude.{◌≡◌, ◌⊎◌, ◌<◌, ◌^◌, ◌-◌, Bool, false, List, [], ◌++◌, Option, Some, None}
+use Rattle.std.specs.Prelude.{◌≡◌, ◌⊎◌, ◌<◌, Bool, false, List, [], ◌++◌, Option, Some, None}
 use Rattle.std.specs.List.{find}
 use Rattle.ballot.specs.lists.Lists.{Each}
 use Rattle.node_connections.specs.broker_spec.declared.command.Command.{Command}
 use Rattle.node_connections.specs.broker_spec.declared.command.Output.{Output}
 use Rattle.ballot.specs.Effect.{Effect}
 use Rattle.ballot.specs.Cutting.{can_cut}
-use Rattle.ballot.specs.Losses.{IsQuiet, one_more}
+use Rattle.ballot.specs.Losses.{IsQuiet, greatest_count, one_more}
 use Rattle.ballot.specs.Protocol.{Input}
 use Rattle.ballot.specs.Protocol.Input.{Receives, Ticks}
 use Rattle.ballot.specs.Sending.{nothing_done}
@@ -58,7 +58,7 @@ was_proposed (Some c) = is_proposed c.stage
 abbrev pub IsHeardQuietly : Message Command → CoreState → Type 0
 IsHeardQuietly message core =
     IsQuiet core.replica.state (heard (Receives message) core.replica.state)
-    × (core.replica.losses < 2 ^ 64 - 1)
+    × (core.replica.losses < greatest_count)
 
 -- An item takes no memory if it does nothing. The same holds for a message that is heard quietly
 -- (`IsHeardQuietly`), a crash, and the end of a connection whose CONNECT was not proposed: that

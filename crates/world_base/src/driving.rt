@@ -1,6 +1,7 @@
 // What is given to the replica, and its effects, which are done at once.
 
-ghost use Rattle.std.specs.Prelude.{◌≡◌, ◌<◌, ◌-◌, ◌^◌, false, true, [], ◌∷◌};
+ghost use Rattle.std.specs.Prelude.{◌≡◌, ◌<◌, false, true, [], ◌∷◌};
+ghost use Rattle.ballot.specs.Losses.{greatest_count};
 ghost use Rattle.ballot.specs.Protocol.Input.{Receives, Ticks};
 ghost use Rattle.ballot.specs.Serving.{proposed};
 ghost use Rattle.world_base.specs.Core.{rules, serves};
@@ -123,8 +124,8 @@ impl SteppingNode {
         ensures kept { self.new.core ≡ self.old.core }
         ensures none { self.new.out_of_memory ≡ false →
             (self.old.out_of_memory ≡ false) ×
-            ((self.old.core.replica.losses ≡ before) × (before < 2 ^ 64 - 1)) }
-        ensures same { self.old.core.replica.losses ≡ before → before < 2 ^ 64 - 1 →
+            ((self.old.core.replica.losses ≡ before) × (before < greatest_count)) }
+        ensures same { self.old.core.replica.losses ≡ before → before < greatest_count →
             self.new ≡ self.old }
     {
         let after = self.replica.losses();

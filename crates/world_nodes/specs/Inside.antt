@@ -1,12 +1,12 @@
 -- What the helpers of nodes say.
-use Rattle.std.specs.Prelude.{◌≡◌, ◌<◌, ◌^◌, ℕ, Bool, true, ◌-◌, ◌++◌, List, [], Some, None, length, map, slice_get}
+use Rattle.std.specs.Prelude.{◌≡◌, ◌<◌, ℕ, Bool, true, ◌-◌, ◌++◌, List, [], Some, None, length, map, slice_get}
 use Rattle.std.specs.List.{find}
 use Rattle.master.specs.lists.Lists.{In}
 use Rattle.master.specs.ballot.Replica.{ReplicaState}
 use Rattle.byte_world.specs.broker_base.State.{State}
 use Rattle.master.specs.snapshots.World.{messages}
 use Rattle.master.specs.ballot.Effect.{Effect}
-use Rattle.master.specs.ballot.Losses.{Thinned}
+use Rattle.master.specs.ballot.Losses.{Thinned, greatest_count}
 use Rattle.master.specs.ballot.Message.{Message}
 use Rattle.byte_world.specs.broker_spec.declared.command.Command.{Command}
 use Rattle.byte_world.specs.broker_spec.declared.command.Output.{Output}
@@ -68,7 +68,7 @@ pub record TookItem (old : CountedCore) (item : Item) (new : CountedCore)
       (new ≡ record old { core = (node_step item old.core).core })
       × (kept ≡ (node_step item old.core).messages)
   pub rests : TakesNoMemory item old.core → find has_failed old.core.connections ≡ None →
-      old.losses < 2 ^ 64 - 1 → whole ≡ true
+      old.losses < greatest_count → whole ≡ true
 
 -- Nodes came about as a group of the model does, and count what their messages acknowledge: in the
 -- active ballot, and in the one that waits.

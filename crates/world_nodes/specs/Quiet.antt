@@ -1,5 +1,6 @@
 -- What takes no memory at nodes: no loss is counted for it.
-use Rattle.std.specs.Prelude.{◌≡◌, ◌<◌, ◌^◌, ◌-◌, ℕ, zero, suc, [], Option, Some, None}
+use Rattle.std.specs.Prelude.{◌≡◌, ◌<◌, ℕ, zero, suc, [], Option, Some, None}
+use Rattle.master.specs.ballot.Losses.{greatest_count}
 use Rattle.std.specs.List.{find}
 use Rattle.master.specs.ballot.Body.{Body}
 use Rattle.master.specs.ballot.Body.TheVariants.{Activate}
@@ -22,7 +23,7 @@ pub record RestsAt (node : ℕ) (item : Item) (n : NodesState) : Type 0 where
   pub runs : running n.nodes node ≡ Some core
   pub takes : TakesNoMemory item core.core
   pub none_failed : find has_failed core.core.connections ≡ None
-  pub low : core.losses < 2 ^ 64 - 1
+  pub low : core.losses < greatest_count
 
 -- the master answers an Activate, and ignores every other message
 abbrev pub IsUnheeded : Body Command → Type 0

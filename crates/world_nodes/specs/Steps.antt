@@ -1,11 +1,11 @@
 -- Steps of nodes in which memory may have run out, and how these are counted.
-use Rattle.std.specs.Prelude.{◌≡◌, ◌⊎◌, ◌<◌, ◌^◌, ◌-◌, ◌++◌, ℕ, zero, suc, nat_lt, if◌then◌else◌, List, Option, Some, None, slice_set}
+use Rattle.std.specs.Prelude.{◌≡◌, ◌⊎◌, ◌<◌, ◌-◌, ◌++◌, ℕ, zero, suc, nat_lt, if◌then◌else◌, List, Option, Some, None, slice_set}
 use Rattle.master.specs.snapshots.World.{messages, recorded}
 use Rattle.master.specs.ballot.Effect.{Effect}
 use Rattle.master.specs.ballot.Body.{Body}
 use Rattle.master.specs.ballot.Body.TheVariants.{Activate}
 use Rattle.master.specs.ballot.Config.{Config}
-use Rattle.master.specs.ballot.Losses.{Thinned, one_more}
+use Rattle.master.specs.ballot.Losses.{Thinned, greatest_count, one_more}
 use Rattle.master.specs.ballot.Message.{Message}
 use Rattle.byte_world.specs.broker_spec.declared.command.Command.{Command}
 use Rattle.byte_world.specs.broker_spec.declared.command.Output.{Output}
@@ -20,7 +20,7 @@ use Rattle.world_nodes.specs.Nodes.{NodesState}
 
 -- the count is exact as long as it is below its greatest number
 abbrev pub LosesNothing : NodesState → NodesState → Type 0
-LosesNothing old new = (new.losses ≡ old.losses) × (old.losses < 2 ^ 64 - 1)
+LosesNothing old new = (new.losses ≡ old.losses) × (old.losses < greatest_count)
 
 -- nothing happened, except that one loss more is counted
 abbrev pub nodes_with_loss : NodesState → NodesState

@@ -1,6 +1,7 @@
 // How many places nodes acknowledged in the ballots that matter.
 
-ghost use Rattle.std.specs.Prelude.{ℕ, ◌≡◌, ◌≤◌, ◌<◌, ◌-◌, ◌^◌, IfOk, get_or, length, take};
+ghost use Rattle.std.specs.Prelude.{ℕ, ◌≡◌, ◌≤◌, ◌<◌, ◌^◌, IfOk, get_or, length, take};
+ghost use Rattle.master.specs.ballot.Losses.{greatest_count};
 ghost use Rattle.master.specs.lists.Lists.{In};
 ghost use Rattle.master.specs.Inside.{HasCounted, least_but_one};
 
@@ -69,7 +70,7 @@ impl Counters {
     pub fn agreed_by(&self, members: &[u8]) -> u64
         requires { (m : ℕ) → In m members.now → m < 16 }
         ensures least { result
-            ≡ least_but_one self.now.told.held (2 ^ 64 - 1) (2 ^ 64 - 1) members.now }
+            ≡ least_but_one self.now.told.held greatest_count greatest_count members.now }
         ensures range { (m : ℕ) → get_or self.now.told.held m 0 < 2 ^ 64 }
     {
         self.told.least_but_one(members)

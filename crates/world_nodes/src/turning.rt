@@ -1,6 +1,7 @@
 // The turn of one node.
 
-ghost use Rattle.std.specs.Prelude.{◌≡◌, ◌<◌, ◌-◌, ◌^◌, true, take, length, slice_get, if◌then◌else◌, IfSome};
+ghost use Rattle.std.specs.Prelude.{◌≡◌, ◌<◌, true, take, length, slice_get, if◌then◌else◌, IfSome};
+ghost use Rattle.master.specs.ballot.Losses.{greatest_count};
 ghost use Rattle.byte_world.specs.world_base.Losses.{DoesNothing};
 ghost use Rattle.world_nodes.specs.Inside.{TookItem};
 
@@ -48,8 +49,8 @@ pub fn pass_over(
 
 // Says whether a node counted no loss in a step: its count was `before`, and is `after` then.
 fn is_whole(before: u64, after: u64) -> bool
-    ensures yes { result ≡ true → (after ≡ before) × (before < 2 ^ 64 - 1) }
-    ensures whole { after ≡ before → before < 2 ^ 64 - 1 → result ≡ true }
+    ensures yes { result ≡ true → (after ≡ before) × (before < greatest_count) }
+    ensures whole { after ≡ before → before < greatest_count → result ≡ true }
 {
     after == before && before < u64::MAX
 }

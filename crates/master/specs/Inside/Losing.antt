@@ -1,10 +1,10 @@
 -- Steps of nodes and of groups that may lose something when memory runs out, and count it.
-use Rattle.std.specs.Prelude.{ℕ, Bool, true, false, ◌-◌, ◌^◌, ◌<◌, ◌≡◌, ◌⊎◌, List, [], ◌++◌, Some}
+use Rattle.std.specs.Prelude.{ℕ, Bool, true, false, ◌<◌, ◌≡◌, ◌⊎◌, List, [], ◌++◌, Some}
 use Rattle.ballot.specs.machine.Machine.{Rules}
 use Rattle.ballot.specs.Message.{Message}
 use Rattle.ballot.specs.Effect.{Effect}
 use Rattle.ballot.specs.Effect.TheVariants.{To, Out}
-use Rattle.ballot.specs.Losses.{IsQuiet, Thinned, Loses, one_more}
+use Rattle.ballot.specs.Losses.{IsQuiet, Loses, Thinned, greatest_count, one_more}
 use Rattle.ballot.specs.Protocol.{Input, replica_step}
 use Rattle.ballot.specs.Protocol.Input.{Receives, Proposes, Ticks}
 use Rattle.ballot.specs.Replica.{ReplicaState, CountedReplica}
@@ -54,7 +54,7 @@ pub record TookIn {S C O : Type 0} (rules : Rules S C O) (old : CountedReplica S
   pub quiet : IsQuiet old.state (replica_step rules old.state input) →
       IsRead rules old.state input →
       TookExactly rules old input new given
-  pub told : new.losses ≡ old.losses → old.losses < 2 ^ 64 - 1 → whole ≡ true
+  pub told : new.losses ≡ old.losses → old.losses < greatest_count → whole ≡ true
 
 -- whether an effect is a message
 abbrev pub is_message : {C O : Type 0} → Effect C O → Bool

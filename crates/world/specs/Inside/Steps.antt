@@ -1,6 +1,6 @@
 -- What the parts of a step do, and how a step is counted.
-use Rattle.std.specs.Prelude.{◌≡◌, ◌⊎◌, ◌-◌, ◌≤◌, ◌<◌, ◌^◌, ℕ, true, false, List, [], Result, Ok, Err}
-use Rattle.headline.specs.ballot.Losses.{one_more}
+use Rattle.std.specs.Prelude.{◌≡◌, ◌⊎◌, ◌≤◌, ◌<◌, ℕ, true, false, List, [], Result, Ok, Err}
+use Rattle.headline.specs.ballot.Losses.{greatest_count, one_more}
 use Rattle.escaping_nodes.specs.master.declared.event.Idle.{Idle}
 use Rattle.headline.specs.node_group.Group.{Group}
 use Rattle.escaping_client.specs.session_base.declared.publication.Publication.{Publication}
@@ -53,6 +53,6 @@ Meets event old (Ok done) new = IsDone event old new ⊎ HappensLosing event old
 -- if the world's count is still what it was.
 abbrev pub IsCounted : ℕ → ℕ → WorldState → WorldState → Type 0
 IsCounted before counted old new =
-    ((new ≡ old) × (old.losses ≡ counted → (old.nodes.losses ≡ before) × (before < 2 ^ 64 - 1)))
+    ((new ≡ old) × (old.losses ≡ counted → (old.nodes.losses ≡ before) × (before < greatest_count)))
     ⊎ ((new ≡ record old { losses = one_more old.losses }) × (old.losses ≡ counted)
-    × ((old.nodes.losses ≡ before) × (before < 2 ^ 64 - 1) → ⊥))
+    × ((old.nodes.losses ≡ before) × (before < greatest_count) → ⊥))
