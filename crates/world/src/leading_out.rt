@@ -6,6 +6,7 @@ ghost use Rattle.headline.specs.agreement.MasterState.{refusal};
 ghost use Rattle.headline.specs.broker_spec.Commands.{past_of, usual_limits};
 ghost use Rattle.headline.specs.broker_spec.Past.{session_of};
 ghost use Rattle.escaping_nodes.specs.world_nodes.Asking.{log_of};
+ghost use Rattle.world_events.specs.EscapeEvents.{connect_bytes};
 ghost use Rattle.world_events.specs.world_pipes.Piped.{is_holding};
 ghost use Rattle.world.specs.declared.world.WorldClient.{WorldClient};
 ghost use Rattle.escaping_nodes.specs.world_nodes.Running.{node_of};
@@ -157,7 +158,7 @@ impl World {
         ensures { IfOk result
             (λ events. (found : WorldClient) → slice_get self.now.clients at ≡ Some found →
             events.items ≡ escaping_events self.now config.members index (is_holding found.piped)
-            client.now (14 + length found.piped.core.state.client)) }
+            client.now (connect_bytes + length found.piped.core.state.client)) }
     {
         let sent = self.nodes.messages();
         if sent > MAX_MESSAGES {

@@ -4,6 +4,14 @@ use Rattle.ways_out.specs.Deliveries.{asked_and_answered}
 use Rattle.world_events.specs.declared.event.Event.{Event}
 use Rattle.world_events.specs.declared.event.Event.TheVariants as events
 
+-- how many bytes a client's CONNECT has besides its identifier
+abbrev pub connect_bytes : ℕ
+connect_bytes = 14
+
+-- how many bytes a CONNACK has
+abbrev pub connack_bytes : ℕ
+connack_bytes = 4
+
 -- a client that holds a connection loses it
 abbrev pub leaving : Bool → List ℕ → List Event
 leaving true name = events.Abandon name ∷ []
@@ -17,4 +25,5 @@ client_events holds name primary number bytes =
 -- the other members hold the command and answer, and the CONNACK comes down
 abbrev pub answer_events : ℕ → ℕ → ℕ → List Event
 answer_events sent others number =
-    map events.Deliver (asked_and_answered sent others) ++ events.CarryDown number 4 ∷ []
+    map events.Deliver (asked_and_answered sent others)
+    ++ events.CarryDown number connack_bytes ∷ []

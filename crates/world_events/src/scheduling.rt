@@ -4,7 +4,7 @@ ghost use Rattle.std.specs.Prelude.{◌≡◌, ◌≤◌, ◌<◌, ◌+◌, ◌*
 ghost use Rattle.ways_out.specs.Deliveries.{way_out};
 ghost use Rattle.world_pipes.specs.Piped.{is_holding};
 ghost use Rattle.world_events.specs.declared.event.Event.TheVariants as events;
-ghost use Rattle.world_events.specs.EscapeEvents.{answer_events, client_events, leaving};
+ghost use Rattle.world_events.specs.EscapeEvents.{answer_events, client_events, connect_bytes, leaving};
 
 use crate::event::Event;
 use packet::ClientId;
@@ -12,6 +12,12 @@ use std::alloc::Global;
 use ways_out::{answers, way_out};
 use world_base::{Config, Memory};
 use world_pipes::PipedClient;
+
+/// How many bytes a client's CONNECT has besides its identifier.
+const CONNECT_BYTES: u64 = 14;
+
+/// How many bytes a CONNACK has.
+const CONNACK_BYTES: u64 = 4;
 
 /// Appends an Assign, and the deliveries that lead its ballot to the start. `sent` messages were
 /// sent before, and the member at `index` of this many `members` is asked for its log.
@@ -46,11 +52,11 @@ pub fn push_client(
     number: u64,
 ) -> Result<(), Memory>
     ensures { OnOk result (way.new.items ≡ way.old.items ++ client_events (is_holding piped.now)
-        client.now primary number (14 + length piped.now.core.state.client)) }
+        client.now primary number (connect_bytes + length piped.now.core.state.client)) }
 {
     push_leaving(way, piped, client)?;
     way.push(Event::Open(client.clone()?, primary))?;
-    let bytes = 14 + piped.core().client().as_str().len() as u64;
+    let bytes = CONNECT_BYTES + piped.core().client().as_str().len() as u64;
     way.push(Event::CarryUp(number, bytes))?;
     Ok(())
 }
@@ -82,7 +88,7 @@ pub fn push_answers(
 {
     let numbers = answers(alloc, sent, others)?;
     push_messages(way, numbers.as_slice())?;
-    way.push(Event::CarryDown(number, 4))?;
+    way.push(Event::CarryDown(number, CONNACK_BYTES))?;
     Ok(())
 }
 
