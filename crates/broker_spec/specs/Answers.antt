@@ -62,7 +62,14 @@ handled limits place past x c (packets.Puback id) =
     all_started x (length past) (entries_of limits (place ∷ past) c)
 handled limits place past x c (packets.Pubcomp id) =
     all_started x (length past) (entries_of limits (place ∷ past) c)
-handled limits place past x c _ = []
+handled limits place past x c (packets.Connect connect) = []
+handled limits place past x c (packets.Connack connack) = []
+handled limits place past x c (packets.Publish p) = []
+handled limits place past x c (packets.Subscribe s) = []
+handled limits place past x c (packets.Suback suback) = []
+handled limits place past x c (packets.Unsuback id) = []
+handled limits place past x c packets.Pingresp = []
+handled limits place past x c packets.Disconnect = []
 
 -- the answers to a packet, by its mark
 abbrev pub packet_answers : Limits → Place → Past → ConnectionName → Packet → Mark → List Output

@@ -76,7 +76,12 @@ packet_mark limits past c (packets.Suback suback) = Mark.Leaves c
 packet_mark limits past c (packets.Unsuback id) = Mark.Leaves c
 packet_mark limits past c packets.Pingresp = Mark.Leaves c
 packet_mark limits past c packets.Disconnect = Mark.Leaves c
-packet_mark limits past c _ = Mark.Handled c
+packet_mark limits past c (packets.Puback id) = Mark.Handled c
+packet_mark limits past c (packets.Pubrec id) = Mark.Handled c
+packet_mark limits past c (packets.Pubrel id) = Mark.Handled c
+packet_mark limits past c (packets.Pubcomp id) = Mark.Handled c
+packet_mark limits past c (packets.Unsubscribe u) = Mark.Handled c
+packet_mark limits past c packets.Pingreq = Mark.Handled c
 
 -- a packet counts only on a current connection
 abbrev pub packet_mark_of : Limits → Past → Packet → Option Client → Mark
