@@ -1,6 +1,6 @@
 -- Connects.antt: the step at a Connect, by the tables.
 use Rattle.std.proofs.Common.{◌≡◌, ◌∙◌, ◌++◌, ap, sym, refl, true, false, Bool, [], ◌∷◌, Option, Some, None, true≢false}
-use Rattle.std.specs.Prelude.{map, not, ◌&&◌, option_map, is_some}
+use Rattle.std.specs.Prelude.{map, not, ◌||◌, if◌then◌else◌, option_map, is_some}
 use Rattle.std.specs.BTreeMap.{insert_entry}
 use Rattle.broker_session.specs.subs_base.Content.{without_client}
 use Rattle.broker_session.specs.subs_base.ListIndex.{content_of}
@@ -10,9 +10,10 @@ use Rattle.broker_session.specs.broker_spec.Answers.{closed, welcome, turned_awa
 use Rattle.broker_session.specs.broker_spec.Commands.{usual_limits}
 use Rattle.broker_session.specs.broker_spec.declared.command.Command.TheVariants as commands
 use Rattle.broker_session.specs.broker_spec.declared.command.Output.TheVariants as outputs
+use Rattle.broker_session.specs.broker_spec.Past.{begins_session}
 use Rattle.broker_session.specs.broker_base.ClientSession.{ClientSession}
 use Rattle.broker_session.specs.broker_base.SessionStep.{kept_anew, kept_resumed}
-use Rattle.broker_session.specs.broker_base.State.{session_in, owner_in}
+use Rattle.broker_session.specs.broker_base.State.{State, session_in, owner_in}
 use Rattle.broker_session.specs.broker_base.StepAnswers.{connection_of}
 use Rattle.broker_session.specs.broker_rows.Served.{IsServed}
 use Rattle.broker_session.specs.broker_rows.Published.{changed}
@@ -24,9 +25,11 @@ use Rattle.broker_session.proofs.of_broker_rows.maps.OwnersConnect.{connecting_s
 use Rattle.broker_session.proofs.of_broker_rows.maps.ContentOfSteps.{beginning_drops, writing_keeps_content}
 use Rattle.broker_session.specs.broker_rows.Touched.{written}
 use Rattle.broker_tables.specs.declared.tables.Tables.{Tables}
+use Rattle.broker_tables.specs.declared.connecting.ConnectOutcome.{ConnectOutcome}
+use Rattle.broker_tables.specs.declared.connecting.ConnectOutcome.TheVariants as outcomes
 use Rattle.broker_tables.specs.Tables.{owners_at, state_in, stepped, IsTied, IsConsistent}
 use Rattle.broker_session.specs.OneSession.{sent_to_resumed}
-use Rattle.broker_tables.specs.Connecting.{resumes, resumes_in, TakesOver}
+use Rattle.broker_tables.specs.Connecting.{TakesOver, connect_outcome}
 use Rattle.broker_tables.proofs.FoundByMaps.{is_nobodys}
 use Rattle.broker_tables.proofs.Losses.{loss_step}
 use Rattle.broker_tables.proofs.TiesOfRows.{tied_to}
@@ -82,7 +85,7 @@ module _ (tables : Tables) (x : ConnectionName) (c : Client) (clean : Bool) (ste
   full_of full = full_step usual_limits 64 (state_in tables) x c clean (is_nobodys tables x none) full
 
   -- a session continues
-  resuming_by : (session : Option ClientSession) → session_in c tables.sessions.entries ≡ session → resumes clean session ≡ true →
+  resuming_by : (session : Option ClientSession) → session_in c tables.sessions.entries ≡ session → begins_session clean (option_map (λ (kept : ClientSession). kept.clean) session) ≡ false →
       stepped tables (commands.Connect x c clean)
       ≡ (
         record {
@@ -97,7 +100,7 @@ module _ (tables : Tables) (x : ConnectionName) (c : Client) (clean : Bool) (ste
   resuming_by None held e = absurd (cc)
   resuming_by (Some kept) held e = by clean kept.clean refl refl e
     where
-      by : (a b : Bool) → clean ≡ a → kept.clean ≡ b → (not a && not b) ≡ true →
+      by : (a b : Bool) → clean ≡ a → kept.clean ≡ b → (a || b) ≡ false →
           stepped tables (commands.Connect x c clean)
           ≡ (
             record {
@@ -122,7 +125,7 @@ module _ (tables : Tables) (x : ConnectionName) (c : Client) (clean : Bool) (ste
             closed (connection_of (sym held i)) ++ welcome x true ∷ map (outputs.Send x) (sent_to_resumed tables.window (sym held i)),
           ))
 
-  pub resuming_of : resumes_in (state_in tables) c clean ≡ true →
+  pub resuming_of : begins_in (state_in tables) c clean ≡ false →
       stepped tables (commands.Connect x c clean)
       ≡ (
         record {
@@ -135,12 +138,12 @@ module _ (tables : Tables) (x : ConnectionName) (c : Client) (clean : Bool) (ste
       )
   resuming_of on = resuming_by (session_in c tables.sessions.entries) refl on
 
-  pub ties_of_resuming : (after : Tables) → resumes_in (state_in tables) c clean ≡ true →
+  pub ties_of_resuming : (after : Tables) → begins_in (state_in tables) c clean ≡ false →
       after.sessions.entries ≡ changed c (kept_resumed tables.window (x, false)) tables.sessions.entries →
       TakesOver tables x c after → content_of after.index ≡ content_of tables.index → IsTied after
   ties_of_resuming after on is owners index = by (session_in c tables.sessions.entries) refl on
     where
-      by : (session : Option ClientSession) → session_in c tables.sessions.entries ≡ session → resumes clean session ≡ true → IsTied after
+      by : (session : Option ClientSession) → session_in c tables.sessions.entries ≡ session → begins_session clean (option_map (λ (kept : ClientSession). kept.clean) session) ≡ false → IsTied after
       by None held e = absurd (cc)
       by (Some kept) held e =
           tied_to after (written c (Some (kept_resumed tables.window (x, false) kept)) tables.sessions.entries)
@@ -151,6 +154,36 @@ module _ (tables : Tables) (x : ConnectionName) (c : Client) (clean : Bool) (ste
           ∙ sym (resuming_sets_the_owner (state_in tables) x c kept (kept_resumed tables.window (x, false) kept) step.sound (is_nobodys tables x none) held refl q))
           (index ∙ step.tied.index
           ∙ sym (writing_keeps_content c kept (kept_resumed tables.window (x, false) kept) tables.sessions.entries step.sound.by_client held refl))
+
+-- ---- by what a Connect does
+
+-- a session that is resumed does not begin
+pub resumes_so : (state : State) (c : Client) (clean : Bool) → connect_outcome state c clean ≡ outcomes.Resumes → begins_in state c clean ≡ false
+resumes_so state c clean is = by (begins_in state c clean) (may_have_session usual_limits state c) is
+  where
+    by : (begins room : Bool) → (if not begins then outcomes.Resumes else if room then outcomes.Begins else outcomes.TurnedAway) ≡ outcomes.Resumes → begins ≡ false
+    by false room e = refl
+    by true true e = absurd (cc)
+    by true false e = absurd (cc)
+
+-- one that begins has room
+pub begins_so : (state : State) (c : Client) (clean : Bool) → connect_outcome state c clean ≡ outcomes.Begins
+    → (begins_in state c clean ≡ true) × (may_have_session usual_limits state c ≡ true)
+begins_so state c clean is = by (begins_in state c clean) (may_have_session usual_limits state c) is
+  where
+    by : (begins room : Bool) → (if not begins then outcomes.Resumes else if room then outcomes.Begins else outcomes.TurnedAway) ≡ outcomes.Begins → (begins ≡ true) × (room ≡ true)
+    by false room e = absurd (cc)
+    by true true e = (refl, refl)
+    by true false e = absurd (cc)
+
+-- and one that is turned away has none
+pub turned_so : (state : State) (c : Client) (clean : Bool) → connect_outcome state c clean ≡ outcomes.TurnedAway → may_have_session usual_limits state c ≡ false
+turned_so state c clean is = by (begins_in state c clean) (may_have_session usual_limits state c) is
+  where
+    by : (begins room : Bool) → (if not begins then outcomes.Resumes else if room then outcomes.Begins else outcomes.TurnedAway) ≡ outcomes.TurnedAway → room ≡ false
+    by false room e = absurd (cc)
+    by true true e = absurd (cc)
+    by true false e = refl
 
 -- ---- by what the map of connections has
 

@@ -1,22 +1,23 @@
--- Which Connect continues with a session, and whose its connection becomes (MQTT 3.1.2.4).
-use Rattle.std.specs.Prelude.{Bool, false, not, ◌&&◌, Option, Some, None, ◌≡◌}
+-- What a Connect does, and whose its connection becomes (MQTT 3.1.2.4).
+use Rattle.std.specs.Prelude.{◌≡◌, Bool, not, if◌then◌else◌}
 use Rattle.broker_session.specs.broker_spec.Connection.{ConnectionName}
 use Rattle.broker_session.specs.broker_spec.Place.{Client}
+use Rattle.broker_session.specs.broker_spec.Commands.{usual_limits}
 use Rattle.broker_session.specs.broker_base.StepAnswers.{connection_of}
 use Rattle.broker_session.specs.broker_rows.Owners.{with_owner, without_owner}
+use Rattle.broker_session.specs.broker_rows.ConnectLaws.{may_have_session, begins_in}
+use Rattle.broker_tables.specs.declared.connecting.ConnectOutcome.{ConnectOutcome}
+use Rattle.broker_tables.specs.declared.connecting.ConnectOutcome.TheVariants as outcomes
 use Rattle.broker_tables.specs.declared.tables.Tables.{Tables}
 use Rattle.broker_tables.specs.Tables.{owners_at}
-use Rattle.broker_session.specs.broker_base.ClientSession.{ClientSession}
 use Rattle.broker_session.specs.broker_base.State.{State, session_in}
 
--- there is a session, and neither it nor the Connect is clean
-abbrev pub resumes : Bool → Option ClientSession → Bool
-resumes clean (Some kept) = not clean && not kept.clean
-resumes clean None = false
-
--- this client has a session in this state, and neither it nor the Connect is clean
-abbrev pub resumes_in : State → Client → Bool → Bool
-resumes_in state c clean = resumes clean (session_in c state.sessions)
+-- what a Connect does that is no violation: it resumes the client's session, or begins one if there
+-- is room for it (MQTT 3.1.2.4, 3.2.2.3)
+abbrev pub connect_outcome : State → Client → Bool → ConnectOutcome
+connect_outcome state c clean =
+    if not (begins_in state c clean) then outcomes.Resumes else
+    if may_have_session usual_limits state c then outcomes.Begins else outcomes.TurnedAway
 
 -- the connection becomes the client's, and the client's old one has no client any more
 abbrev pub TakesOver : Tables → ConnectionName → Client → Tables → Type 0

@@ -12,11 +12,9 @@ ghost use Rattle.broker_session.specs.broker_base.StepAnswers.{connection_of};
 ghost use Rattle.broker_session.specs.broker_rows.Owners.{owners_in, with_owner, without_owner};
 ghost use Rattle.broker_session.specs.broker_rows.ConnectLaws.{may_have_session, begins_in};
 ghost use Rattle.broker_tables.specs.Tables.{IsConsistent, IsTied, owners_at, state_in, stepped};
-ghost use Rattle.broker_tables.specs.declared.connecting.ConnectOutcome.TheVariants.{Begins, Resumes};
-ghost use Rattle.broker_tables.specs.declared.connecting.ConnectOutcome.TheVariants.{TurnedAway};
 ghost use Rattle.broker_session.specs.broker_rows.Published.{changed};
 ghost use Rattle.broker_tables.specs.Inside.{HasOthersOf, HasOthersThanOwners};
-ghost use Rattle.broker_tables.specs.Connecting.{resumes_in, TakesOver};
+ghost use Rattle.broker_tables.specs.Connecting.{connect_outcome, TakesOver};
 ghost use Rattle.broker_session.specs.OneSession.{sent_to_resumed};
 
 use crate::expelling::shut;
@@ -75,13 +73,7 @@ impl Tables {
     // it nor the Connect is clean. Otherwise one begins, if the client has one or there is room for
     // one more (MQTT 3.1.2.4). If there is none, the client is turned away.
     fn outcome_of(&self, client: &ClientId, clean: bool) -> ConnectOutcome
-        ensures resumes { result ≡ Resumes
-            → resumes_in (state_in self.now) client.now clean ≡ true }
-        ensures begins { result ≡ Begins → begins_in (state_in self.now) client.now clean ≡ true }
-        ensures room { result ≡ Begins
-            → may_have_session usual_limits (state_in self.now) client.now ≡ true }
-        ensures full { result ≡ TurnedAway
-            → may_have_session usual_limits (state_in self.now) client.now ≡ false }
+        ensures { result ≡ connect_outcome (state_in self.now) client.now clean }
     {
         match self.sessions.get(client) {
             Some(row) => {
@@ -170,7 +162,7 @@ impl Tables {
     ) -> Result<(), Halted>
         requires consistent { IsConsistent self.old }
         requires nobodys { owners_in self.old.sessions.entries connection ≡ None }
-        requires resumes { resumes_in (state_in self.old) client.now clean ≡ true }
+        requires resumes { begins_in (state_in self.old) client.now clean ≡ false }
         ensures state { OnOk result
             (state_in self.new
             ≡ (stepped self.old (commands.Connect connection client.now clean)).0) }

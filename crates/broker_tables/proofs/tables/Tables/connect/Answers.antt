@@ -1,6 +1,7 @@
 -- On a client's current connection it is a violation, and a full broker refuses it.
 use Rattle.std.proofs.Common.{◌∙◌, ◌++◌, ap, sym}
-use Rattle.broker_tables.proofs.Connects.{further_by, full_of, not_there}
+use Rattle.broker_tables.specs.Tables.{state_in}
+use Rattle.broker_tables.proofs.Connects.{begins_so, further_by, full_of, not_there, resumes_so, turned_so}
 use Rattle.broker_tables.proofs.tables.Tables.connect.Goals as goal
 
 pub returns-then-contains_key-clause-state : goal.returns-then-contains_key-clause-state
@@ -21,7 +22,7 @@ returns-in_ok-turn_away-in-TurnedAway-clause-state c =
     sym (ap (λ p. p.0)
     (full_of c.args.self.now c.args.connection c.args.client.now c.args.clean c.requires
     (not_there c.args.self.now c.args.connection c.requires (sym c.contains_key.ensures ∙ c.if-contains_key.false))
-    (c.outcome_of.ensures.full c.in-TurnedAway.is)))
+    (turned_so (state_in c.args.self.now) c.args.client.now c.args.clean (sym c.outcome_of.ensures ∙ c.in-TurnedAway.is))))
 
 pub returns-in_ok-turn_away-in-TurnedAway-clause-outputs : goal.returns-in_ok-turn_away-in-TurnedAway-clause-outputs
 returns-in_ok-turn_away-in-TurnedAway-clause-outputs c =
@@ -30,4 +31,13 @@ returns-in_ok-turn_away-in-TurnedAway-clause-outputs c =
     (sym (ap (λ p. p.1)
     (full_of c.args.self.now c.args.connection c.args.client.now c.args.clean c.requires
     (not_there c.args.self.now c.args.connection c.requires (sym c.contains_key.ensures ∙ c.if-contains_key.false))
-    (c.outcome_of.ensures.full c.in-TurnedAway.is))))
+    (turned_so (state_in c.args.self.now) c.args.client.now c.args.clean (sym c.outcome_of.ensures ∙ c.in-TurnedAway.is)))))
+
+pub begin-requires-clause-room : goal.begin-requires-clause-room
+begin-requires-clause-room c = (begins_so (state_in c.args.self.now) c.args.client.now c.args.clean (sym c.outcome_of.ensures ∙ c.in-Begins.is)).1
+
+pub begin-requires-clause-begins : goal.begin-requires-clause-begins
+begin-requires-clause-begins c = (begins_so (state_in c.args.self.now) c.args.client.now c.args.clean (sym c.outcome_of.ensures ∙ c.in-Begins.is)).0
+
+pub resume-requires-clause-resumes : goal.resume-requires-clause-resumes
+resume-requires-clause-resumes c = resumes_so (state_in c.args.self.now) c.args.client.now c.args.clean (sym c.outcome_of.ensures ∙ c.in-Resumes.is)
