@@ -27,9 +27,9 @@ use Rattle.escaping_client.specs.lists.Lists.{In}
 use Rattle.escaping_client.specs.lists.Lists.In.{here, there}
 use Rattle.headline.specs.world_base.Core.{CountedCore, rules}
 use Rattle.escaping_nodes.specs.world_nodes.Asking.{log_in, log_of}
-use Rattle.escaping_nodes.specs.world_nodes.Running.{node_of}
+use Rattle.escaping_nodes.specs.world_nodes.Running.{is_running, is_up, node_of}
 use Rattle.escaping_nodes.specs.world_nodes.Nodes.{NodesState, StandsFor}
-use Rattle.world.specs.Escaping.{CanEscape, configuration_of, held_in, is_running, is_up}
+use Rattle.world.specs.Escaping.{CanEscape, configuration_of, held_in}
 use Rattle.world.specs.World.{WorldState}
 
 -- nodes that a group corresponds to are seen as its moment

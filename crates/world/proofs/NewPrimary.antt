@@ -32,8 +32,9 @@ use Rattle.escaping_client.specs.lists.Lists.In.{here}
 use Rattle.headline.specs.world_base.Core.{CoreState, CountedCore, rules}
 use Rattle.escaping_nodes.specs.world_nodes.Asking.{log_of}
 use Rattle.escaping_nodes.specs.world_nodes.Nodes.{cores_of}
+use Rattle.escaping_nodes.specs.world_nodes.Running.{is_running}
 use Rattle.world_events.specs.declared.event.Event.{Event}
-use Rattle.world.specs.Escaping.{CanEscape, is_running}
+use Rattle.world.specs.Escaping.{CanEscape}
 use Rattle.world.specs.Found.{port_of}
 use Rattle.world.specs.StandsFor.{ModelStepsTo, StandsFor}
 use Rattle.world.specs.World.{WorldState}

@@ -1,5 +1,5 @@
 -- QuietEvents.antt: what takes no memory raises no count.
-use Rattle.std.proofs.Common.{◌≡◌, inl, inr, ◌<◌, ◌^◌, ◌-◌, ◌↔◌, ℕ, zero, suc, Bool, true, false, not, if◌then◌else◌, List, [], ◌∷◌, Option, Some, None, Result, Ok, Err, IsErr, OnErr, OnOk, slice_get, slice_set, refl, sym, ap, ◌∙◌, subst, arith}
+use Rattle.std.proofs.Common.{◌≡◌, inl, inr, ◌<◌, ◌^◌, ◌-◌, ◌↔◌, ℕ, zero, suc, Bool, true, false, if◌then◌else◌, List, [], ◌∷◌, Option, Some, None, Result, Ok, Err, IsErr, OnErr, OnOk, slice_get, slice_set, refl, sym, ap, ◌∙◌, subst, arith}
 use Rattle.std.proofs.lemmas.Bool.{both_ways}
 use Rattle.std.proofs.lemmas.Option.{none-some, same_Some}
 use Rattle.headline.specs.ballot.Body.{Body}
@@ -53,22 +53,6 @@ there_of (Some c) core runs = by c.core.replica.state.stopped runs
 runs_there : (nodes : List CountedCore) (node : ℕ) (core : CountedCore) → running nodes node ≡ Some core → node_of nodes node ≡ Some core
 runs_there nodes zero core runs = absurd (none-some core runs)
 runs_there nodes (suc at) core runs = there_of (slice_get nodes at) core runs
-
--- whether it runs
-pub runs_exactly : (nodes : List CountedCore) (node : ℕ) (core : CountedCore) → node_of nodes node ≡ Some core → (stopped : Bool) → stopped ≡ core.core.replica.state.stopped
-    → (not stopped ≡ false) ↔ (running nodes node ≡ None)
-runs_exactly nodes zero core there stopped is = absurd (none-some core there)
-runs_exactly nodes (suc at) core there stopped is =
-    subst (λ (o : Option CountedCore). (not stopped ≡ false) ↔ (unless_stopped o ≡ None)) (sym there)
-    (subst (λ (b : Bool). (not stopped ≡ false) ↔ ((if b then None else Some core) ≡ None)) is (by stopped))
-  where
-    by : (b : Bool) → (not b ≡ false) ↔ ((if b then None else Some core) ≡ None)
-    by true = ((λ e. refl), (λ e. refl))
-    by false = ((λ e. cc), (λ e. absurd (none-some core (sym e))))
-
-pub runs_none : (nodes : List CountedCore) (node : ℕ) → node_of nodes node ≡ None → (false ≡ false) ↔ (running nodes node ≡ None)
-runs_none nodes zero none = ((λ e. refl), (λ e. refl))
-runs_none nodes (suc at) none = ((λ e. ap unless_stopped none), (λ e. refl))
 
 -- ---- what goes down
 

@@ -18,13 +18,13 @@ use Rattle.escaping_nodes.proofs.WelcomedKept.{welcomed_are_kept}
 use Rattle.escaping_nodes.specs.ways_out.Lengths.{WaysAreShort}
 use Rattle.headline.specs.world_base.Core.{CountedCore}
 use Rattle.escaping_nodes.specs.world_nodes.Asking.{log_in, log_of, welcomes_back}
-use Rattle.escaping_nodes.specs.world_nodes.Running.{node_of}
+use Rattle.escaping_nodes.specs.world_nodes.Running.{is_running, node_of}
 use Rattle.escaping_nodes.specs.world_nodes.Nodes.{NodesState}
 use Rattle.world_events.specs.declared.event.Event.{Event}
 use Rattle.world_events.specs.declared.event.Event.TheVariants as events
 use Rattle.world.specs.declared.world.WorldClient.{WorldClient}
 use Rattle.escaping_nodes.proofs.of_master.Counting.{get_there}
-use Rattle.world.specs.Escaping.{CanEscape, configuration_of, held_in, is_running}
+use Rattle.world.specs.Escaping.{CanEscape, configuration_of, held_in}
 use Rattle.world.specs.Found.{is_named}
 use Rattle.world_events.specs.EscapeEvents.{answer_events, client_events, leaving}
 use Rattle.world.specs.Inside.Escaping.{IsFetchedFrom, escaping_events, group_events, sent_then}

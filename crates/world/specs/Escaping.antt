@@ -1,5 +1,5 @@
 -- A way out of a world: when there is one, and what it leads to.
-use Rattle.std.specs.Prelude.{◌≡◌, ◌≤◌, ℕ, ◌+◌, Bool, true, false, not, List, [], ◌∷◌, Option, Some, None, slice_get}
+use Rattle.std.specs.Prelude.{◌≡◌, ◌≤◌, ℕ, ◌+◌, true, false, List, [], ◌∷◌, Option, Some, None, slice_get}
 use Rattle.std.specs.List.{list_all, position}
 use Rattle.escaping_client.specs.lists.Lists.{IsPrefixOf}
 use Rattle.headline.specs.agreement.MasterState.{refusal}
@@ -15,7 +15,7 @@ use Rattle.escaping_client.specs.client_base.State.{is_online}
 use Rattle.headline.specs.world_base.Core.{CountedCore}
 use Rattle.escaping_nodes.specs.world_nodes.Agreed.{AgreeOn}
 use Rattle.escaping_nodes.specs.world_nodes.Asking.{log_of}
-use Rattle.escaping_nodes.specs.world_nodes.Running.{node_of}
+use Rattle.escaping_nodes.specs.world_nodes.Running.{is_running, node_of}
 use Rattle.world_events.specs.declared.event.Event.{Event}
 use Rattle.world.specs.Found.{core_named}
 use Rattle.world.specs.Trace.{LosesNothing}
@@ -29,15 +29,6 @@ use Rattle.world.specs.World.{WorldState}
 abbrev pub configuration_of : List ℕ → Config
 configuration_of [] = record { members = []; primary = 0 }
 configuration_of (first ∷ others) = record { members = first ∷ others; primary = first }
-
--- whether there is a node, and it has not stopped
-abbrev pub is_up : Option CountedCore → Bool
-is_up None = false
-is_up (Some node) = not node.core.replica.state.stopped
-
--- whether the node of a number exists and has not stopped
-abbrev pub is_running : List CountedCore → ℕ → Bool
-is_running nodes node = is_up (node_of nodes node)
 
 -- how long the log of a node is: 0 if there is none
 abbrev pub held_in : Option CountedCore → ℕ

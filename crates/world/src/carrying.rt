@@ -1,7 +1,6 @@
 // Bytes reach a node, or a client.
 
-ghost use Rattle.std.specs.Prelude.{◌≡◌, ◌⊎◌, ◌≤◌, ◌<◌, ◌-◌, ◌↔◌, true, false, Some, None, length, slice_get, if◌then◌else◌, IfOk, OnErr};
-ghost use Rattle.escaping_nodes.specs.world_nodes.Running.{running};
+ghost use Rattle.std.specs.Prelude.{◌≡◌, ◌⊎◌, ◌≤◌, ◌<◌, ◌-◌, true, false, Some, length, slice_get, if◌then◌else◌, IfOk, OnErr};
 ghost use Rattle.world_events.specs.world_pipes.Following.{FollowsAll};
 ghost use Rattle.world.specs.Trace.{CountsOnce, NodesGoOn};
 ghost use Rattle.world.specs.SlotsAreValid.{leads};
@@ -125,7 +124,7 @@ fn take_up(
     if !is_part(count, waiting.len()) {
         return Err(Idle);
     }
-    if !runs(nodes, slot.node) {
+    if !nodes.is_running(slot.node) {
         return Err(Idle);
     }
     let count = count as usize;
@@ -135,16 +134,6 @@ fn take_up(
     nodes.give_bytes(slot.node, port, piece)?;
     piped.take_up(slot.at, count);
     Ok(true)
-}
-
-// Says whether a node exists, and has not stopped.
-fn runs(nodes: &Nodes, node: u8) -> bool
-    ensures { (result ≡ false) ↔ (running nodes.now.nodes node ≡ None) }
-{
-    match nodes.node(node) {
-        Some(core) => !core.status().stopped,
-        None => false,
-    }
 }
 
 // Carries this many bytes that wait on a connection to its client, if the client holds it. Returns

@@ -9,8 +9,8 @@ ghost use Rattle.escaping_nodes.specs.world_nodes.Asking.{log_of};
 ghost use Rattle.world_events.specs.EscapeEvents.{connect_bytes};
 ghost use Rattle.world_events.specs.world_pipes.Piped.{is_holding};
 ghost use Rattle.world.specs.declared.world.WorldClient.{WorldClient};
-ghost use Rattle.escaping_nodes.specs.world_nodes.Running.{node_of};
-ghost use Rattle.world.specs.Escaping.{CanEscape, LeadsOut, configuration_of, held_in, is_running};
+ghost use Rattle.escaping_nodes.specs.world_nodes.Running.{is_running, node_of};
+ghost use Rattle.world.specs.Escaping.{CanEscape, LeadsOut, configuration_of, held_in};
 ghost use Rattle.world.specs.Inside.Escaping.{IsFetchedFrom, escaping_events};
 
 use crate::world::World;
@@ -123,10 +123,7 @@ impl World {
     fn is_running(&self, node: u8) -> bool
         ensures { result ≡ is_running self.now.nodes.nodes node }
     {
-        match self.nodes.node(node) {
-            Some(core) => !core.status().stopped,
-            None => false,
-        }
+        self.nodes.is_running(node)
     }
 
     // Says whether a client has a session that is not clean after the whole log of a node.

@@ -1,5 +1,6 @@
 pub mod Acts
 mod Resting
+mod Stopped
 mod ActsLosing
 mod AgreedCounted
 mod CountsGoOn

@@ -1,5 +1,5 @@
 -- Which nodes run, which of them have something to cut, and which may propose.
-use Rattle.std.specs.Prelude.{ℕ, zero, suc, if◌then◌else◌, List, Option, Some, None, slice_get}
+use Rattle.std.specs.Prelude.{ℕ, zero, suc, Bool, false, not, if◌then◌else◌, List, Option, Some, None, slice_get}
 use Rattle.master.specs.ballot.Cutting.{can_cut}
 use Rattle.byte_world.specs.world_base.Core.{CountedCore}
 use Rattle.byte_world.specs.world_base.Turns.{has_room}
@@ -18,6 +18,15 @@ running nodes (suc at) = unless_stopped (slice_get nodes at)
 abbrev pub node_of : List CountedCore → ℕ → Option CountedCore
 node_of nodes zero = None
 node_of nodes (suc at) = slice_get nodes at
+
+-- whether there is a node, and it has not stopped
+abbrev pub is_up : Option CountedCore → Bool
+is_up None = false
+is_up (Some node) = not node.core.replica.state.stopped
+
+-- whether the node of a number exists and has not stopped
+abbrev pub is_running : List CountedCore → ℕ → Bool
+is_running nodes node = is_up (node_of nodes node)
 
 -- the node, if it has something to cut
 abbrev pub unless_whole : Option CountedCore → Option CountedCore

@@ -8,7 +8,7 @@ ghost use Rattle.byte_world.specs.node_group.Group.{Group, opening_group};
 ghost use Rattle.byte_world.specs.node_moves.Moves.NodeCall.{takes};
 ghost use Rattle.world_nodes.specs.Nodes.{NodesState, StandsFor};
 ghost use Rattle.world_nodes.specs.ExactSteps.{Acts, AnswersFor, Comes, ComesToNobody, CutsExactly, GivesExactly, HandsOver, TakesExactly, after_giving};
-ghost use Rattle.world_nodes.specs.Running.{cutting, node_of, proposing, running};
+ghost use Rattle.world_nodes.specs.Running.{cutting, is_running, node_of, proposing, running};
 ghost use Rattle.world_nodes.specs.Quiet.{ComesUnheeded, RestsAt, WaitsAtNone};
 ghost use Rattle.world_nodes.specs.Steps.{ComesIn, CutsIn, ExpelsIn, GivesIn, LosesNothing, TakesIn};
 ghost use Rattle.world_nodes.specs.HandingOver.{HandsIn};
@@ -355,6 +355,17 @@ impl Nodes {
             return None;
         }
         self.nodes.get(node as usize - 1)
+    }
+
+    /// Says whether a node exists and has not stopped.
+    pub fn is_running(&self, node: u8) -> bool
+        ensures exact { result ≡ is_running self.now.nodes node }
+        ensures stopped { (result ≡ false) ↔ (running self.now.nodes node ≡ None) }
+    {
+        match self.node(node) {
+            Some(core) => !core.status().stopped,
+            None => false,
+        }
     }
 
     /// Returns how many steps ran out of memory (saturates at 2^64 - 1).

@@ -3,11 +3,11 @@ use Rattle.std.specs.Prelude.{◌≡◌, ◌≤◌, ℕ, suc, ◌+◌, ◌-◌, 
 use Rattle.std.specs.List.{position}
 use Rattle.headline.specs.ballot.Serving.{max_places}
 use Rattle.escaping_nodes.specs.ways_out.Deliveries.{way_out}
-use Rattle.escaping_nodes.specs.world_nodes.Running.{node_of}
+use Rattle.escaping_nodes.specs.world_nodes.Running.{is_running, node_of}
 use Rattle.world_events.specs.declared.event.Event.{Event}
 use Rattle.world_events.specs.declared.event.Event.TheVariants as events
 use Rattle.world_events.specs.EscapeEvents.{answer_events, client_events}
-use Rattle.world.specs.Escaping.{configuration_of, held_in, is_running}
+use Rattle.world.specs.Escaping.{configuration_of, held_in}
 use Rattle.world.specs.World.{WorldState}
 
 -- ---- the member of the active configuration whose log is fetched

@@ -22,8 +22,8 @@ returns-clause-leads c =
     let way = there c.args.piped.now.ways c.args.slot.at c.requires in
     less_leads c.args.piped.now c.take_up.new.self c.args.slot.at c.args.count way.0 way.1 c.take_up.ensures.taken
 
-pub returns-then-not-runs-clause-nodes : goal.returns-then-not-runs-clause-nodes
-returns-then-not-runs-clause-nodes c = nodes_rest _ _ refl
+pub returns-then-not-is_running-clause-nodes : goal.returns-then-not-is_running-clause-nodes
+returns-then-not-is_running-clause-nodes c = nodes_rest _ _ refl
 
-pub returns-then-not-runs-clause-idle : goal.returns-then-not-runs-clause-idle
-returns-then-not-runs-clause-idle c = λ way found. inl (c.runs.ensures.0 c.if-not-runs.true)
+pub returns-then-not-is_running-clause-idle : goal.returns-then-not-is_running-clause-idle
+returns-then-not-is_running-clause-idle c = λ way found. inl (c.is_running.ensures.stopped.0 c.if-not-is_running.true)

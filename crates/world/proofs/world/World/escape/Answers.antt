@@ -6,9 +6,10 @@ use Rattle.headline.specs.broker_spec.Past.{session_of}
 use Rattle.escaping_client.specs.client.Core.{Core}
 use Rattle.escaping_nodes.proofs.of_master.Counting.{get_there}
 use Rattle.escaping_nodes.specs.world_nodes.Asking.{log_of}
+use Rattle.escaping_nodes.specs.world_nodes.Running.{is_running}
 use Rattle.world_events.specs.world_pipes.Piped.{is_holding}
 use Rattle.world_events.specs.declared.event.Event.{Event}
-use Rattle.world.specs.Escaping.{CanEscape, LeadsOut, is_running}
+use Rattle.world.specs.Escaping.{CanEscape, LeadsOut}
 use Rattle.world.specs.Inside.Escaping.{escaping_events}
 use Rattle.world.proofs.LeadsOut.{escaping_leads_out}
 use Rattle.world.proofs.WaysWritten.{can_escape, its_members, short_way, some_members}
