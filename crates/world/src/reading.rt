@@ -15,7 +15,7 @@ use crate::connection_slot::ConnectionSlot;
 use crate::world::{World, WorldClient};
 use packet::ClientId;
 use world_base::Command;
-use world_pipes::ClientCore;
+use world_pipes::{ClientCore, PipedClient};
 
 impl WorldClient {
     /// Says whether it has this identifier.
@@ -83,16 +83,10 @@ impl World {
         ensures some { IfSome (way_of connection self.now) (λ way. result.now ≡ way.up) }
         ensures none { way_of connection self.now ≡ None → result.now ≡ [] }
     {
-        let Some(slot) = self.slot(connection) else {
-            return &[];
-        };
-        let Some(found) = self.clients.get(slot.client) else {
-            return &[];
-        };
-        if slot.at >= found.piped.len() {
-            return &[];
+        match self.client_of(connection) {
+            Some((piped, at)) => piped.up(at),
+            None => &[],
         }
-        found.piped.up(slot.at)
     }
 
     /// Returns the bytes that wait to be carried down on a connection; none for one that was never
@@ -101,16 +95,26 @@ impl World {
         ensures some { IfSome (way_of connection self.now) (λ way. result.now ≡ way.down) }
         ensures none { way_of connection self.now ≡ None → result.now ≡ [] }
     {
-        let Some(slot) = self.slot(connection) else {
-            return &[];
-        };
-        let Some(found) = self.clients.get(slot.client) else {
-            return &[];
-        };
-        if slot.at >= found.piped.len() {
-            return &[];
+        match self.client_of(connection) {
+            Some((piped, at)) => piped.down(at),
+            None => &[],
         }
-        found.piped.down(slot.at)
+    }
+
+    // Returns the client of a connection, and the index of the connection among its own; `None` for
+    // one that was never opened.
+    fn client_of(&self, connection: u64) -> Option<(&PipedClient, usize)>
+        ensures below { IfSome result (λ found. found.1 < length found.0.now.ways) }
+        ensures some { IfSome result (λ found.
+            way_of connection self.now ≡ slice_get found.0.now.ways found.1) }
+        ensures none { result ≡ None → way_of connection self.now ≡ None }
+    {
+        let slot = self.slot(connection)?;
+        let found = self.clients.get(slot.client)?;
+        if slot.at >= found.piped.len() {
+            return None;
+        }
+        Some((&found.piped, slot.at))
     }
 
     /// Returns the index of a client; `None` if there is none with this identifier.
