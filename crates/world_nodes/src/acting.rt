@@ -135,8 +135,7 @@ impl Nodes {
         let (previous, previous_members) = self.master.active();
         let previous_members = Members::from_slice(self.alloc, previous_members)?;
         let Ok(ballot) = self.master.assign(given) else {
-            // This does not come: the master gives what it does not refuse.
-            return Err(Memory);
+            unreachable!()
         };
         self.counters.begin(ballot);
         let body = Body::NewBallot(ballot, members, previous, previous_members);

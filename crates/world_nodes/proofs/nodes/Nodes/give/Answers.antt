@@ -48,8 +48,8 @@ returns-clause-acts c =
     } in old) c.args.config.now c.assign.new.self _ c.send-kept.new.sent.items c.send-kept.result c.counted-self-inside.result
     granted state body c.send-kept.ensures.kept c.send-kept.ensures.lost)
 
-pub invariant_of-self-2 : goal.invariant_of-self-2
-invariant_of-self-2 c =
+pub invariant_of-self : goal.invariant_of-self
+invariant_of-self c =
     let m = c.self.inside.master in
     let granted = rw (← c.self.view_is) at c.requires in
     let given : c.in_ok-given.given ≡ c.args.config.now = c.in_ok-given.ensures in
@@ -69,8 +69,8 @@ invariant_of-self-2 c =
     c.self.inside.counters.told c.self.inside.counters.next c.begin.new.self.next c.self.invariant granted state body c.send-kept.ensures.kept c.send-kept.ensures.lost
     (c.begin.ensures.waits ∙ c.in-Ok.ensures.ok) c.begin.ensures.untold)
 
-pub invariant_of-self : goal.invariant_of-self
-invariant_of-self c =
+pub unreachable-requires : goal.unreachable-requires
+unreachable-requires c =
     let granted = rw (← c.self.view_is) at c.requires in
-    absurd (no_refusal c.assign.result c.in_default.field-0 _ c.in_default.is (ap (λ (z : Config). refusal c.self.inside.master z) c.in_ok-given.ensures ∙ granted)
-    c.assign.ensures.bad c.assign.ensures.spent)
+    no_refusal c.assign.result c.in_default.field-0 _ c.in_default.is (ap (λ (z : Config). refusal c.self.inside.master z) c.in_ok-given.ensures ∙ granted)
+    c.assign.ensures.bad c.assign.ensures.spent
