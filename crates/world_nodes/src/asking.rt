@@ -92,8 +92,7 @@ fn welcomes(alloc: Global, machine: &mut BrokerMachine, client: &ClientId) -> Re
         (Command.Connect first_connection client.now false))) }
 {
     let Some(name) = ConnectionName::new(1, 1) else {
-        // This does not come: both numbers are in their ranges.
-        return Err(Memory);
+        unreachable!()
     };
     let mut given = Vec::new(alloc);
     apply(machine, &Command::Start(1), &mut given)?;
