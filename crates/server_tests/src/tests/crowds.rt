@@ -1,7 +1,7 @@
 // Many clients, at the same time and one after another.
 
-use super::nodes::{fault_in, missed_with};
-use super::row::{Missed, Row, Table, unless};
+use super::nodes::missed_with;
+use super::row::{Missed, Row, unless};
 use server::Listener;
 use server_clients::{
     Large, Pair, SUBSCRIBE, SUBSCRIBED, connect, is_answered, is_closed, is_open_for, join,
@@ -13,20 +13,6 @@ use std::net::{Net, TcpStream};
 use std::sync::Wait;
 use std::thread;
 use std::time::{Clock, Duration};
-
-// A client that never reads, with one member and with several.
-const DEAF: &[Table] = &[
-    Table {
-        name: "a client that never reads makes room for another",
-        members: &[1],
-        row: Row::Deaf,
-    },
-    Table {
-        name: "a client that never reads makes room for another, with three members",
-        members: &[1, 2, 3],
-        row: Row::Deaf,
-    },
-];
 
 #[test]
 fn a_sixty_first_client_is_closed(rt: HostRuntime) {
@@ -45,7 +31,12 @@ fn clients_without_a_first_packet_are_ended(rt: HostRuntime) {
 
 #[test]
 fn a_client_that_never_reads_makes_room(rt: HostRuntime) {
-    assert_eq!(rt; fault_in(&rt, DEAF), None);
+    assert_eq!(rt; missed_with(&rt, &[1], Row::Deaf), None);
+}
+
+#[test]
+fn a_client_that_never_reads_makes_room_with_three_members(rt: HostRuntime) {
+    assert_eq!(rt; missed_with(&rt, &[1, 2, 3], Row::Deaf), None);
 }
 
 #[test]
@@ -213,7 +204,7 @@ fn are_fifty_heard(alloc: Global, pair: &mut Pair) -> bool {
     }
 }
 
-/// A subscriber with keep alive 4 that never reads, and says nothing more, keeps its connection for
+/// A subscriber with keep alive 10 that never reads, and says nothing more, keeps its connection for
 /// a while, and then loses it to another client. Returns what of that is not so.
 pub(super) fn deaf_one<R>(rt: &R, listener: Option<&Listener>) -> Missed
 where
@@ -246,19 +237,19 @@ where
     } else {
         unless(
             is_accepted_in_time(rt, listener),
-            "another client is accepted in ten seconds",
+            "another client is accepted in thirty seconds",
         )
     }
 }
 
-// Returns a subscriber with keep alive 4.
+// Returns a subscriber with keep alive 10: the others have fifteen seconds to join.
 fn deaf<R>(rt: &R, listener: Option<&Listener>) -> Option<TcpStream>
 where
     R: Net<Stream = TcpStream>,
 {
     let mut stream = open(rt, listener)?;
     let mut sent = connect(b'd', false);
-    sent[11] = 4;
+    sent[11] = 10;
     let accepted = is_answered(&mut stream, &sent, &[0x20, 2, 0, 0]);
     if accepted && is_answered(&mut stream, &SUBSCRIBE, &SUBSCRIBED) {
         Some(stream)
@@ -278,12 +269,12 @@ fn are_twenty_sent(alloc: Global, stream: Option<&mut TcpStream>) -> bool {
     }
 }
 
-// Says whether client `a` is accepted within ten seconds.
+// Says whether client `a` is accepted within thirty seconds.
 fn is_accepted_in_time<R>(rt: &R, listener: Option<&Listener>) -> bool
 where
     R: Wait + Clock + Net<Stream = TcpStream>,
 {
-    for _ in 0..100 {
+    for _ in 0..300 {
         if is_accepted(rt, listener, b'a') {
             return true;
         }
