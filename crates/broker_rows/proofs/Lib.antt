@@ -22,4 +22,4 @@ pub use Rattle.broker_rows.proofs.publications.OneChanged
 pub use Rattle.broker_rows.proofs.publications.PublishSteps
 pub use Rattle.broker_base.proofs as of_broker_base
 pub use Rattle.broker_spec.proofs.of_retained as of_retained
-pub use Rattle.subs.proofs as of_subs
+pub use Rattle.subs_base.proofs as of_subs_base

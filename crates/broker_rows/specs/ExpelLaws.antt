@@ -1,6 +1,6 @@
 -- An Expel: the client's session ends, clean or not, and its connection is closed.
 use Rattle.std.specs.Prelude.{◌≡◌, ℕ, [], Some, None}
-use Rattle.subs.specs.Content.{without_client}
+use Rattle.subs_base.specs.Content.{without_client}
 use Rattle.broker_base.specs.Connection.{ConnectionName}
 use Rattle.broker_base.specs.Place.{Client, Limits}
 use Rattle.broker_base.specs.Answers.{closed}

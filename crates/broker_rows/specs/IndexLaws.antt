@@ -2,12 +2,12 @@
 -- them before (MQTT 3.1.2.4, 3.8.4, 3.10.4).
 use Rattle.std.specs.Prelude.{◌≡◌, ℕ, Bool, if◌then◌else◌, List, Some}
 use Rattle.std.specs.BTreeMap.{insert_entry}
-use Rattle.subs.specs.packet.declared.delivery.Delivery.{Delivery}
+use Rattle.subs_base.specs.packet.declared.delivery.Delivery.{Delivery}
 use Rattle.broker_spec.specs.session_base.declared.publication.Publication.{Publication}
 use Rattle.broker_spec.specs.session_base.Subscriptions.{GrantedFilter, with_subscriptions}
 use Rattle.broker_spec.specs.session_base.Subscriptions.{without_filters}
-use Rattle.subs.specs.Content.{no_subscriptions, without_client}
-use Rattle.subs.specs.Granted.{Row}
+use Rattle.subs_base.specs.Content.{no_subscriptions, without_client}
+use Rattle.subs_base.specs.Granted.{Row}
 use Rattle.broker_base.specs.Connection.{ConnectionName}
 use Rattle.broker_base.specs.Place.{Client, by_bytes}
 use Rattle.broker_base.specs.ClientSession.{ClientSession}

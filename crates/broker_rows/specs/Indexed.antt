@@ -1,13 +1,13 @@
 -- What an index of the sessions' subscriptions shows.
 use Rattle.std.specs.Prelude.{ℕ, List, [], ◌∷◌, filter, Option, Some, None}
 use Rattle.std.specs.Map.{keys_of}
-use Rattle.subs.specs.packet.declared.qos.QoS.{QoS}
+use Rattle.subs_base.specs.packet.declared.qos.QoS.{QoS}
 use Rattle.broker_spec.specs.session_base.Subscriptions.{GrantedFilter}
 use Rattle.broker_spec.specs.Subscriptions.{qos_asked}
 use Rattle.broker_base.specs.Place.{Client}
 use Rattle.broker_base.specs.ClientSession.{ClientSession}
 use Rattle.broker_base.specs.State.{Sessions, session_in}
-use Rattle.subs.specs.Content.{Content, with_row, without_row, without_client}
+use Rattle.subs_base.specs.Content.{Content, with_row, without_row, without_client}
 
 -- the subscription of this filter in a session, if there is one
 abbrev pub subscribed_in : List ℕ → Option ClientSession → Option QoS

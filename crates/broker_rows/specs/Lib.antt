@@ -17,4 +17,4 @@ pub mod PublicationLaws
 pub use Rattle.broker_base.specs as broker_base
 pub use Rattle.broker_spec.specs as broker_spec
 pub use Rattle.broker_spec.specs.retained as retained
-pub use Rattle.subs.specs.subs_base as subs_base
+pub use Rattle.subs_base.specs as subs_base

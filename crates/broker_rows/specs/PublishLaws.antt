@@ -3,9 +3,9 @@
 -- 4.3).
 use Rattle.std.specs.Prelude.{◌≡◌, ℕ, Bool, false, true, ◌||◌, List, [], ◌∷◌, ◌++◌, Some, None}
 use Rattle.std.specs.List.{list_any}
-use Rattle.subs.specs.packet.declared.publish.Publish.{Publish}
-use Rattle.subs.specs.packet.declared.delivery.Delivery.{Delivery}
-use Rattle.subs.specs.packet.declared.packet.Packet.TheVariants as packets
+use Rattle.subs_base.specs.packet.declared.publish.Publish.{Publish}
+use Rattle.subs_base.specs.packet.declared.delivery.Delivery.{Delivery}
+use Rattle.subs_base.specs.packet.declared.packet.Packet.TheVariants as packets
 use Rattle.broker_spec.specs.session_base.declared.publication.Publication.{Publication}
 use Rattle.broker_spec.specs.session_base.Publication.{publication_of}
 use Rattle.broker_base.specs.Connection.{ConnectionName}
@@ -19,7 +19,7 @@ use Rattle.broker_base.specs.StateLaws.{AreByClient}
 use Rattle.broker_base.specs.Step.{step}
 use Rattle.broker_base.specs.Command.TheVariants as commands
 use Rattle.broker_base.specs.Output.TheVariants.{Close}
-use Rattle.subs.specs.Granted.{Row}
+use Rattle.subs_base.specs.Granted.{Row}
 use Rattle.broker_rows.specs.Touched.{written}
 use Rattle.broker_rows.specs.Served.{IsServed, with_session, left_off}
 use Rattle.broker_rows.specs.Published.{granted_rows, changed, received_on, delivered_on}

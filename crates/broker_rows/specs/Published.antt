@@ -3,11 +3,11 @@
 use Rattle.std.specs.Prelude.{ℕ, Bool, false, ◌&&◌, ◌==◌, List, [], ◌∷◌, ◌++◌, Option, Some}
 use Rattle.std.specs.Prelude.{None, option_map}
 use Rattle.std.specs.List.{fold}
-use Rattle.subs.specs.packet.declared.qos.QoS.{QoS}
-use Rattle.subs.specs.packet.declared.delivery.Delivery.{Delivery}
+use Rattle.subs_base.specs.packet.declared.qos.QoS.{QoS}
+use Rattle.subs_base.specs.packet.declared.delivery.Delivery.{Delivery}
 use Rattle.broker_spec.specs.session_base.declared.publication.Publication.{Publication}
 use Rattle.broker_spec.specs.session_base.Publication.{is_answered}
-use Rattle.subs.specs.packet.QoS.{lower_qos}
+use Rattle.subs_base.specs.packet.QoS.{lower_qos}
 use Rattle.broker_spec.specs.session_base.Queue.{room}
 use Rattle.broker_spec.specs.session_base.Session.{with_received, with_queue}
 use Rattle.broker_spec.specs.session_base.Sending.{copies_sent}
@@ -20,7 +20,7 @@ use Rattle.broker_base.specs.ClientSession.{ClientSession}
 use Rattle.broker_base.specs.State.{Sessions, session_in}
 use Rattle.broker_base.specs.StepAnswers.{sent_on}
 use Rattle.broker_base.specs.Output.{Output}
-use Rattle.subs.specs.Granted.{Row, row_of}
+use Rattle.subs_base.specs.Granted.{Row, row_of}
 use Rattle.broker_rows.specs.Touched.{written}
 use Rattle.broker_rows.specs.Served.{holding}
 

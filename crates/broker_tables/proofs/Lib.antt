@@ -16,4 +16,4 @@ pub use Rattle.broker_session.proofs as of_broker_session
 pub use Rattle.broker_session.proofs.of_broker_base as of_broker_base
 pub use Rattle.broker_session.proofs.of_broker_rows as of_broker_rows
 pub use Rattle.broker_session.proofs.of_retained as of_retained
-pub use Rattle.broker_session.proofs.of_subs as of_subs
+pub use Rattle.subs.proofs as of_subs

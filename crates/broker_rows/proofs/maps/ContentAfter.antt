@@ -2,12 +2,12 @@
 use Rattle.std.proofs.Common.{◌≡◌, ℕ, Bool, true, false, ◌&&◌, if◌then◌else◌, List, [], ◌∷◌, Option, Some, None, refl, ap, ◌∙◌, sym}
 use Rattle.std.specs.Prelude.{bytes_eq}
 use Rattle.std.specs.Cmp.Lexicographic.{bytes_decides, texts_ties}
-use Rattle.subs.specs.packet.declared.qos.QoS.{QoS}
+use Rattle.subs_base.specs.packet.declared.qos.QoS.{QoS}
 use Rattle.broker_spec.specs.session_base.Subscriptions.{GrantedFilter, with_subscription, with_subscriptions, without_filter, without_filters}
 use Rattle.broker_base.specs.Place.{Client, same_client}
 use Rattle.broker_base.specs.ClientSession.{ClientSession}
 use Rattle.broker_base.specs.State.{Sessions, session_in}
-use Rattle.subs.specs.Content.{Content, with_row, without_row, without_client}
+use Rattle.subs_base.specs.Content.{Content, with_row, without_row, without_client}
 use Rattle.broker_rows.specs.Indexed.{subscribed_in, content_in, all_set, all_cleared}
 use Rattle.broker_spec.specs.Subscriptions.{qos_asked}
 use Rattle.broker_rows.proofs.maps.FiltersHeld.{qos_granted, qos_given_up}

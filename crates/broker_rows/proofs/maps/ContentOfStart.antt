@@ -11,7 +11,7 @@ use Rattle.broker_base.specs.State.{Sessions, keyed, session_in}
 use Rattle.broker_base.specs.StateLaws.{AreByClient}
 use Rattle.broker_base.proofs.ClientsInOrder.{same_is, same_self}
 use Rattle.broker_base.proofs.SessionsStayByClient.{ComesBefore}
-use Rattle.subs.specs.Content.{Content, without_client}
+use Rattle.subs_base.specs.Content.{Content, without_client}
 use Rattle.broker_rows.specs.Served.{left_off}
 use Rattle.broker_rows.specs.ConnectLaws.{all_left_off}
 use Rattle.broker_rows.specs.Indexed.{subscribed_in, content_in, all_dropped, clean_clients}

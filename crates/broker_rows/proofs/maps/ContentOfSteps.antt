@@ -2,7 +2,7 @@
 use Rattle.std.proofs.Common.{◌≡◌, Bool, true, false, if◌then◌else◌, Some, None, refl}
 use Rattle.broker_base.specs.SessionStep.{kept_anew}
 use Rattle.broker_base.specs.State.{put_session}
-use Rattle.subs.specs.Content.{without_client}
+use Rattle.subs_base.specs.Content.{without_client}
 use Rattle.broker_rows.specs.Touched.{written}
 use Rattle.broker_rows.specs.Indexed.{content_in}
 use Rattle.broker_rows.specs.IndexLaws.{WritingKeepsContent, SubscribingSets, UnsubscribingClears, LeavingDropsTheClean, BeginningDrops}

@@ -13,7 +13,7 @@ use Rattle.broker_base.specs.StateLaws.{AllSound, AreByClient, AreApart}
 use Rattle.broker_base.proofs.ClientsInOrder.{same_is}
 use Rattle.broker_base.proofs.ConnectionsOfSessions.{same_turned}
 use Rattle.broker_base.proofs.SessionsStayByClient.{ComesBefore}
-use Rattle.subs.specs.Content.{Content, no_subscriptions, with_row}
+use Rattle.subs_base.specs.Content.{Content, no_subscriptions, with_row}
 use Rattle.broker_rows.specs.Owners.{Owners, owners_in, no_owners, owned_by, all_owned}
 use Rattle.broker_rows.specs.Indexed.{subscribed_in, all_set, all_told}
 use Rattle.broker_spec.specs.Subscriptions.{qos_asked}

@@ -5,7 +5,7 @@ use Rattle.broker_base.specs.Connection.{ConnectionName}
 use Rattle.broker_base.specs.Place.{Client}
 use Rattle.broker_base.specs.ClientSession.{ClientSession}
 use Rattle.broker_base.specs.State.{Sessions}
-use Rattle.subs.specs.Granted.{Row}
+use Rattle.subs_base.specs.Granted.{Row}
 use Rattle.broker_rows.specs.Published.{changed, received_on, delivered_on, all_delivered}
 use Rattle.broker_rows.specs.Indexed.{subscribed_in, content_in}
 use Rattle.broker_spec.specs.Subscriptions.{qos_asked}

@@ -4,15 +4,15 @@ use Rattle.std.proofs.Common.{◌≡◌, ℕ, List, [], ◌∷◌, ◌++◌, Opt
 use Rattle.std.specs.Prelude.{flat_map}
 use Rattle.std.specs.Ordering.{is_eq}
 use Rattle.std.specs.List.Sorted.{IsStrictlySortedBy}
-use Rattle.subs.specs.packet.declared.qos.QoS.{QoS}
-use Rattle.subs.specs.packet.declared.delivery.Delivery.{Delivery}
+use Rattle.subs_base.specs.packet.declared.qos.QoS.{QoS}
+use Rattle.subs_base.specs.packet.declared.delivery.Delivery.{Delivery}
 use Rattle.broker_spec.specs.session_base.declared.publication.Publication.{Publication}
 use Rattle.broker_spec.specs.session_base.Subscriptions.{granted_qos}
 use Rattle.broker_base.specs.Place.{Client}
 use Rattle.broker_base.specs.ClientSession.{ClientSession}
 use Rattle.broker_base.specs.State.{Sessions, session_in}
 use Rattle.broker_base.specs.StateLaws.{AreByClient}
-use Rattle.subs.specs.Granted.{Row, row_of}
+use Rattle.subs_base.specs.Granted.{Row, row_of}
 use Rattle.broker_rows.specs.Published.{granted_rows, changed, received_on, delivered_on, copy_answered, answered_in_turn}
 use Rattle.broker_rows.proofs.publications.OneChanged.{changed_as, other_stays}
 use Rattle.broker_rows.proofs.publications.PublishLeft.{GrantedAfter, after_rows}

@@ -4,10 +4,10 @@ use Rattle.std.specs.List.{AllByRecursion}
 use Rattle.std.specs.List.Sorted.{IsStrictlySortedBy}
 use Rattle.std.specs.declared.cmp.Ordering.TheVariants.{Less}
 use Rattle.std.proofs.lemmas.List.Elements.{All-nil, All-cons, Contains-append_right}
-use Rattle.subs.specs.topics.Matching.{is_match}
-use Rattle.subs.proofs.of_topics.MatchingIsTested.{tested}
-use Rattle.subs.specs.packet.declared.qos.QoS.{QoS}
-use Rattle.subs.specs.packet.QoS.{qos_number}
+use Rattle.subs_base.specs.packet.topics.Matching.{is_match}
+use Rattle.subs_base.proofs.of_topics.MatchingIsTested.{tested}
+use Rattle.subs_base.specs.packet.declared.qos.QoS.{QoS}
+use Rattle.subs_base.specs.packet.QoS.{qos_number}
 use Rattle.broker_base.specs.Place.{Client, by_bytes, same_client}
 use Rattle.broker_spec.specs.session_base.Subscriptions.{granted_qos}
 use Rattle.broker_base.specs.ClientSession.{ClientSession}
@@ -15,9 +15,9 @@ use Rattle.broker_base.specs.State.{Sessions, session_in}
 use Rattle.broker_base.proofs.SessionsStayByClient.{ComesBefore}
 use Rattle.broker_base.specs.StateLaws.{AreByClient}
 use Rattle.broker_base.proofs.ClientsInOrder.{same_is}
-use Rattle.subs.specs.Content.{Content}
-use Rattle.subs.specs.Granted.{Row, clients_of, IsGreatest, IsGranted, row_of}
-use Rattle.subs.proofs.GrantsOneList.{one_list}
+use Rattle.subs_base.specs.Content.{Content}
+use Rattle.subs_base.specs.Granted.{Row, clients_of, IsGreatest, IsGranted, row_of}
+use Rattle.subs_base.proofs.GrantsOneList.{one_list}
 use Rattle.broker_rows.specs.Published.{granted_rows}
 use Rattle.broker_rows.specs.Indexed.{subscribed_in, content_in}
 use Rattle.broker_spec.specs.session_base.KeepingLaws.{AreFiltersApart}

@@ -3,8 +3,8 @@ use Rattle.std.proofs.Common.{◌≡◌, ℕ, Bool, true, false, if◌then◌els
 use Rattle.std.specs.Ordering.{is_eq}
 use Rattle.std.specs.declared.cmp.Ordering.TheVariants.{Less}
 use Rattle.std.specs.List.Sorted.{IsStrictlySortedBy}
-use Rattle.subs.specs.packet.declared.qos.QoS.{QoS}
-use Rattle.subs.specs.packet.declared.publish.Publish.{Publish}
+use Rattle.subs_base.specs.packet.declared.qos.QoS.{QoS}
+use Rattle.subs_base.specs.packet.declared.publish.Publish.{Publish}
 use Rattle.broker_spec.specs.retained.Retained.{RetainedTopics}
 use Rattle.broker_spec.specs.session_base.declared.publication.Publication.{Publication}
 use Rattle.broker_spec.specs.session_base.Publication.{publication_of}
@@ -18,7 +18,7 @@ use Rattle.broker_base.specs.Step.{sessions_left}
 use Rattle.broker_base.specs.StateLaws.{AreByClient}
 use Rattle.broker_base.proofs.ClientsInOrder.{same_self, same_is, less_turned}
 use Rattle.broker_base.proofs.SessionsStayByClient.{ComesBefore}
-use Rattle.subs.specs.Granted.{Row, row_of}
+use Rattle.subs_base.specs.Granted.{Row, row_of}
 use Rattle.broker_rows.specs.Published.{granted_rows, changed, received_on, delivered_on, all_delivered}
 use Rattle.broker_rows.proofs.publications.OneChanged.{changed_next, changed_none}
 use Rattle.broker_rows.proofs.publications.RowOfPublish.{received_if, delivered_if, published_is}

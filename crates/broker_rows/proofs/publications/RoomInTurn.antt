@@ -3,12 +3,12 @@ use Rattle.std.proofs.Common.{◌≡◌, ℕ, false, ◌||◌, List, [], ◌∷�
 use Rattle.std.specs.List.{list_any}
 use Rattle.std.specs.Ordering.{is_eq}
 use Rattle.std.proofs.lemmas.Bool.{or_parts}
-use Rattle.subs.specs.packet.declared.delivery.Delivery.{Delivery}
+use Rattle.subs_base.specs.packet.declared.delivery.Delivery.{Delivery}
 use Rattle.broker_spec.specs.session_base.declared.publication.Publication.{Publication}
 use Rattle.broker_base.specs.Place.{Client, Limits}
 use Rattle.broker_base.specs.ClientSession.{ClientSession}
 use Rattle.broker_base.specs.State.{Sessions, session_in}
-use Rattle.subs.specs.Granted.{Row}
+use Rattle.subs_base.specs.Granted.{Row}
 use Rattle.broker_rows.specs.Published.{granted_rows, changed, received_on, delivered_on, is_full_at}
 use Rattle.broker_rows.specs.PublishLaws.{HaveRoomInTurn, RoomLastsToItsTurn}
 use Rattle.broker_rows.proofs.publications.OneChanged.{changed_as, other_stays}

@@ -2,9 +2,9 @@
 use Rattle.std.proofs.Common.{◌≡◌, ◌&&◌, ◌||◌, ◌==◌, [], ◌∷◌, ◌++◌, Option, Some, None, refl, ap₂, sym}
 use Rattle.std.specs.Prelude.{option_map}
 use Rattle.std.specs.List.{list_any}
-use Rattle.subs.specs.packet.declared.qos.QoS.{QoS}
+use Rattle.subs_base.specs.packet.declared.qos.QoS.{QoS}
 use Rattle.broker_spec.specs.session_base.declared.publication.Publication.{Publication}
-use Rattle.subs.specs.packet.QoS.{lower_qos}
+use Rattle.subs_base.specs.packet.QoS.{lower_qos}
 use Rattle.broker_spec.specs.session_base.Queue.{room}
 use Rattle.broker_base.specs.Place.{Client, Limits}
 use Rattle.broker_spec.specs.session_base.Subscriptions.{granted_qos}
@@ -13,7 +13,7 @@ use Rattle.broker_base.specs.ClientSession.{ClientSession}
 use Rattle.broker_base.specs.State.{Sessions, session_in}
 use Rattle.broker_base.specs.Decisions.{has_no_room_for}
 use Rattle.broker_base.specs.StateLaws.{AreByClient}
-use Rattle.subs.specs.Granted.{row_of}
+use Rattle.subs_base.specs.Granted.{row_of}
 use Rattle.broker_rows.specs.Published.{granted_rows, is_full_at}
 use Rattle.broker_rows.proofs.FindsEach.{Finds, finds_each}
 
