@@ -95,9 +95,10 @@ pub fn window_of_64()
     ensures grows { WindowGrowsAtStart }
 {}
 
-/// Shows that a broker holds 4,096 sessions, 64 subscriptions and 4,096 unfinished entries of each,
-/// and 16,384 retained topics; one more of each is refused (MQTT 3.2.2.3, 3.9.3). A connection's
-/// name is a ballot of 1 to 2^32 and a number of 1 to 2^40.
+/// Shows that this broker's limits are 4,096 sessions, 64 subscriptions and 4,096 unfinished
+/// entries of each, and 16,384 retained topics. Where the limits are four, a fifth session, filter
+/// and topic is refused (MQTT 3.2.2.3, 3.9.3). A connection's name is a ballot of 1 to 2^32 and a
+/// number of 1 to 2^40.
 pub fn limits_are_met()
     ensures numbers { LimitsAre }
     ensures names { NamesAre }

@@ -12,8 +12,8 @@ use topics::{MalformedKind, Text};
 /// The most bytes of a Client Identifier.
 const MAX_CLIENT_BYTES: usize = 64;
 
-/// A Client Identifier of 1 to 64 bytes (MQTT 3.1.3.1). It is compared and ordered by its bytes,
-/// which are its value in contracts.
+/// A Client Identifier of 1 to 64 bytes (MQTT 3.1.3.1; 64 is this broker's own limit). It is
+/// compared and ordered by its bytes, which are its value in contracts.
 #[derive(Debug, PartialEq, Eq, PartialOrd, Ord, Drop)]
 pub struct ClientId {
     text: Text,

@@ -15,7 +15,8 @@ pub enum MalformedKind {
     PacketType,
     /// Fixed header flags that are not those of the packet type (MQTT 2.2.2).
     Flags,
-    /// A Remaining Length of more than four bytes, or not in its shortest spelling (MQTT 2.2.3).
+    /// A Remaining Length of more than four bytes (MQTT 2.2.3), or, by this broker's own rule, not
+    /// in its shortest spelling.
     Length,
     /// A packet above the size limit of this broker.
     TooLarge,
