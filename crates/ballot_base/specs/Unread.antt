@@ -9,7 +9,7 @@ use Rattle.ballot_base.specs.Changing.{waits_for, lacks}
 use Rattle.ballot_base.specs.Logs.{Log, places}
 use Rattle.ballot_base.specs.Replica.{ReplicaState}
 
--- the snapshot of a log that is to be taken has to be read, and does not thaw
+-- whether bytes stand for no machine
 abbrev pub stands_for_none : {S : Type 0} → Option S → Bool
 stands_for_none None = true
 stands_for_none (Some machine) = false

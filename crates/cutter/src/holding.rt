@@ -1,4 +1,4 @@
-// Bytes in order.
+// A buffer to which packets are appended whole.
 
 ghost use Rattle.std.specs.Prelude.{◌≡◌, ◌==◌, ◌+◌, ◌++◌, true, false, [], length, nat_le};
 ghost use Rattle.std.specs.Prelude.{if◌then◌else◌, IfOk, IsOk, OnErr, OnOk};
