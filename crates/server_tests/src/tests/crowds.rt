@@ -204,8 +204,8 @@ fn are_fifty_heard(alloc: Global, pair: &mut Pair) -> bool {
     }
 }
 
-/// A subscriber with keep alive 10 that never reads, and says nothing more, keeps its connection for
-/// a while, and then loses it to another client. Returns what of that is not so.
+/// A subscriber with keep alive 10 that never reads, and says nothing more, keeps its connection
+/// for a while, and then loses it to another client. Returns what of that is not so.
 pub(super) fn deaf_one<R>(rt: &R, listener: Option<&Listener>) -> Missed
 where
     R: AllocGlobal + Wait + Clock + Net<Stream = TcpStream>,
