@@ -125,7 +125,7 @@ impl World {
             × FollowsModelAsking asked self.old self.new × KeepsReached asked self.old self.new }
 
         // Its nodes move as a group, and agree after the event.
-        ensures goes { KeepsGroup self.old self.new }
+        ensures group { KeepsGroup self.old self.new }
         ensures reached { StaysReached self.old.nodes self.new.nodes }
 
         // What was agreed is a prefix of what is agreed after the event.
@@ -160,7 +160,7 @@ impl World {
             × FollowsModelAsking asked self.old self.new × KeepsReached asked self.old self.new }
 
         // Its nodes move as a group, and agree after the events.
-        ensures goes { KeepsGroup self.old self.new }
+        ensures group { KeepsGroup self.old self.new }
         ensures reached { StaysReached self.old.nodes self.new.nodes }
 
         // What was agreed is a prefix of what is agreed after them.

@@ -19,9 +19,9 @@ use broker_spec::{Command, Output};
 impl SteppingNode {
     /// Proposes a command and does its effects at once. Returns whether it was taken.
     pub fn propose(&mut self, command: Command, effects: &mut Vec<Effect<Command, Output>>) -> bool
-        ensures turns { DoesTurn self.old self.new effects.old.items effects.new.items
+        ensures exact { DoesTurn self.old self.new effects.old.items effects.new.items
             (proposes command self.old.core) }
-        ensures run { Ran (ProposedBy result command) self.old.core self.new.core
+        ensures lossy { Ran (ProposedBy result command) self.old.core self.new.core
             effects.old.items effects.new.items }
         ensures taken { self.new.out_of_memory ≡ false → result ≡ has_room self.old.core }
     {
@@ -55,9 +55,9 @@ impl SteppingNode {
 
     /// Takes a message of another node and does its effects at once.
     pub fn receive(&mut self, message: Message<Command>, effects: &mut Vec<Effect<Command, Output>>)
-        ensures turns { DoesTurn self.old self.new effects.old.items effects.new.items
+        ensures exact { DoesTurn self.old self.new effects.old.items effects.new.items
             (drives (Receives message) self.old.core) }
-        ensures run { Ran (Drives (Receives message)) self.old.core self.new.core
+        ensures lossy { Ran (Drives (Receives message)) self.old.core self.new.core
             effects.old.items effects.new.items }
         ensures quiet { IsHeardQuietly message self.old.core → ReadsNone message self.old.core →
             WithoutFailure self.old self.new }
@@ -85,9 +85,9 @@ impl SteppingNode {
 
     /// Lets the replica repeat what others may have missed.
     pub fn tick(&mut self, effects: &mut Vec<Effect<Command, Output>>)
-        ensures turns { DoesTurn self.old self.new effects.old.items effects.new.items
+        ensures exact { DoesTurn self.old self.new effects.old.items effects.new.items
             (drives Ticks self.old.core) }
-        ensures run { Ran
+        ensures lossy { Ran
             (Drives Ticks) self.old.core self.new.core effects.old.items effects.new.items }
     {
         let mut given = Vec::new(self.alloc);
@@ -110,8 +110,8 @@ impl SteppingNode {
 
     /// Cuts the replica's log if there is something to cut.
     pub fn cut_log(&mut self)
-        ensures does { Does self.old self.new (cuts self.old.core) }
-        ensures run { Cuts self.old.core (quietly self.new.core) }
+        ensures exact { Does self.old self.new (cuts self.old.core) }
+        ensures lossy { Cuts self.old.core (quietly self.new.core) }
     {
         let before = self.replica.losses();
         self.replica.cut();
@@ -140,9 +140,9 @@ impl SteppingNode {
         given: Vec<Effect<Command, Output>>,
         effects: &mut Vec<Effect<Command, Output>>,
     )
-        ensures turns { DoesTurn self.old self.new effects.old.items effects.new.items
+        ensures exact { DoesTurn self.old self.new effects.old.items effects.new.items
             (handled_all given.items self.old.core) }
-        ensures run { HandledAll given.items self.old.core self.new.core
+        ensures lossy { HandledAll given.items self.old.core self.new.core
             effects.old.items effects.new.items }
         ensures nothing { given.items ≡ [] → self.new ≡ self.old }
     {
@@ -157,9 +157,9 @@ impl SteppingNode {
         effect: Effect<Command, Output>,
         effects: &mut Vec<Effect<Command, Output>>,
     )
-        ensures turns { DoesTurn self.old self.new effects.old.items effects.new.items
+        ensures exact { DoesTurn self.old self.new effects.old.items effects.new.items
             (handled_all (effect ∷ []) self.old.core) }
-        ensures run { HandledAll (effect ∷ []) self.old.core self.new.core
+        ensures lossy { HandledAll (effect ∷ []) self.old.core self.new.core
             effects.old.items effects.new.items }
     {
         match effect {
@@ -174,8 +174,8 @@ impl SteppingNode {
 
     // Performs an output on its connection.
     fn perform(&mut self, output: &Output)
-        ensures does { Does self.old self.new (performed_by output.now self.old.core) }
-        ensures run { Performs output.now self.old.core self.new.core }
+        ensures exact { Does self.old self.new (performed_by output.now self.old.core) }
+        ensures lossy { Performs output.now self.old.core self.new.core }
     {
         match output {
             Output::Send(name, packet) => self.put(*name, packet),

@@ -217,8 +217,8 @@ impl SteppingNode {
     /// Closes the open connection of a port, whose proposal was refused: if memory ran out, its
     /// loss is still to be reported to the broker.
     pub fn give_up(&mut self, port: Port)
-        ensures does { Does self.old self.new (changes port closed self.old.core) }
-        ensures run { (self.new.core ≡ changes port closed self.old.core)
+        ensures exact { Does self.old self.new (changes port closed self.old.core) }
+        ensures lossy { (self.new.core ≡ changes port closed self.old.core)
             ⊎ (self.new.core ≡ changes port failing self.old.core) }
     {
         if !self.out_of_memory {
@@ -266,9 +266,9 @@ impl SteppingNode {
     /// Queues a packet on the open connection of a name, which is closed as lost if there is no
     /// room or no memory for it.
     pub fn put(&mut self, name: ConnectionName, packet: &Packet)
-        ensures does { Does self.old self.new
+        ensures exact { Does self.old self.new
             (changes_named name (put_out (spelling packet.now)) self.old.core) }
-        ensures run { (self.new.core
+        ensures lossy { (self.new.core
             ≡ changes_named name (put_out (spelling packet.now)) self.old.core)
             ⊎ (self.new.core ≡ changes_named name failing self.old.core) }
     {
@@ -326,8 +326,8 @@ impl SteppingNode {
     /// Accepts a connection at this port, with the next name, if the node serves clients and the
     /// port is free. Nothing changes otherwise, nor if memory runs out.
     pub fn open(&mut self, port: Port)
-        ensures does { Does self.old self.new (opens port self.old.core) }
-        ensures run { (self.new.core ≡ opens port self.old.core)
+        ensures exact { Does self.old self.new (opens port self.old.core) }
+        ensures lossy { (self.new.core ≡ opens port self.old.core)
             ⊎ (self.new.core ≡ self.old.core) }
     {
         let Some(name) = self.name_for(port) else {

@@ -29,9 +29,9 @@ impl SteppingNode {
     /// Takes an item, and reports each connection that fails in it to the broker. Whether memory
     /// ran out is then told by `is_out_of_memory`.
     pub fn act_on(&mut self, item: Item, effects: &mut Vec<Effect<Command, Output>>)
-        ensures turns { DoesTurn self.old self.new effects.old.items effects.new.items
+        ensures exact { DoesTurn self.old self.new effects.old.items effects.new.items
             (acts_on item self.old.core) }
-        ensures run { Ran
+        ensures lossy { Ran
             (ActsOn item) self.old.core self.new.core effects.old.items effects.new.items }
         ensures quiet { TakesNoMemory item self.old.core →
             find has_failed self.old.core.connections ≡ None →
@@ -51,9 +51,9 @@ impl SteppingNode {
         effects: &mut Vec<Effect<Command, Output>>,
     )
         requires { DoesNothing (items.Peer message.now) self.old.core }
-        ensures turns { DoesTurn self.old self.new effects.old.items effects.new.items
+        ensures exact { DoesTurn self.old self.new effects.old.items effects.new.items
             (acts_on (items.Peer message.now) self.old.core) }
-        ensures run { Ran (ActsOn (items.Peer message.now)) self.old.core self.new.core
+        ensures lossy { Ran (ActsOn (items.Peer message.now)) self.old.core self.new.core
             effects.old.items effects.new.items }
         ensures quiet { find has_failed self.old.core.connections ≡ None →
             self.new.out_of_memory ≡ self.old.out_of_memory }
@@ -63,9 +63,9 @@ impl SteppingNode {
 
     // Does what the item says, without the losses that follow from it.
     fn do_item(&mut self, item: Item, effects: &mut Vec<Effect<Command, Output>>)
-        ensures turns { DoesTurn self.old self.new effects.old.items effects.new.items
+        ensures exact { DoesTurn self.old self.new effects.old.items effects.new.items
             (does_item item self.old.core) }
-        ensures run { Ran
+        ensures lossy { Ran
             (DoesItem item) self.old.core self.new.core effects.old.items effects.new.items }
         ensures heard { (message : Message Command) → item ≡ items.Peer message →
             IsHeardQuietly message self.old.core → ReadsNone message self.old.core →
@@ -94,9 +94,9 @@ impl SteppingNode {
 
     // Proposes to end a client's session. If the proposal is refused, nothing is done.
     fn expel(&mut self, client: ClientId, effects: &mut Vec<Effect<Command, Output>>)
-        ensures turns { DoesTurn self.old self.new effects.old.items effects.new.items
+        ensures exact { DoesTurn self.old self.new effects.old.items effects.new.items
             (proposes (commands.Expel client) self.old.core) }
-        ensures run { Ran (Proposes (commands.Expel client)) self.old.core self.new.core
+        ensures lossy { Ran (Proposes (commands.Expel client)) self.old.core self.new.core
             effects.old.items effects.new.items }
     {
         self.propose(Command::Expel(client), effects);
@@ -104,9 +104,9 @@ impl SteppingNode {
 
     // Closes the silent connections as lost, in rising order of ports.
     fn end_silent(&mut self, now: u64, effects: &mut Vec<Effect<Command, Output>>)
-        ensures turns { DoesTurn self.old self.new effects.old.items effects.new.items
+        ensures exact { DoesTurn self.old self.new effects.old.items effects.new.items
             (ends_all_silent now self.old.core) }
-        ensures run { Ran
+        ensures lossy { Ran
             (EndsAllSilent now) self.old.core self.new.core effects.old.items effects.new.items }
     {
         for _connection in 0..self.listed() {
@@ -119,9 +119,9 @@ impl SteppingNode {
 
     // Holds bytes that arrived on a port. A connection without memory for them is lost.
     fn hold(&mut self, port: Port, piece: Piece, effects: &mut Vec<Effect<Command, Output>>)
-        ensures turns { DoesTurn self.old self.new effects.old.items effects.new.items
+        ensures exact { DoesTurn self.old self.new effects.old.items effects.new.items
             (quiet (changes port (holding piece) self.old.core)) }
-        ensures run { Ran
+        ensures lossy { Ran
             (Holds port piece) self.old.core self.new.core effects.old.items effects.new.items }
     {
         if !self.hold_at(port, &piece) {
@@ -132,9 +132,9 @@ impl SteppingNode {
 
     // Takes all packets of a port, one after another, that are whole at this time.
     fn read(&mut self, port: Port, now: u64, effects: &mut Vec<Effect<Command, Output>>)
-        ensures turns { DoesTurn self.old self.new effects.old.items effects.new.items
+        ensures exact { DoesTurn self.old self.new effects.old.items effects.new.items
             (reads_all now port self.old.core) }
-        ensures run { Ran
+        ensures lossy { Ran
             (ReadsAll now port) self.old.core self.new.core effects.old.items effects.new.items }
     {
         for _packet in 0..self.unread_len(port) {
@@ -151,9 +151,9 @@ impl SteppingNode {
         now: u64,
         effects: &mut Vec<Effect<Command, Output>>,
     ) -> bool
-        ensures turns { DoesTurn self.old self.new effects.old.items effects.new.items
+        ensures exact { DoesTurn self.old self.new effects.old.items effects.new.items
             (reads_next now port self.old.core) }
-        ensures run { Ran
+        ensures lossy { Ran
             (ReadsNext now port) self.old.core self.new.core effects.old.items effects.new.items }
         ensures done { result ≡ false → self.new.out_of_memory ≡ false →
             reads_next now port self.new.core ≡ quiet self.new.core }
@@ -187,11 +187,11 @@ impl SteppingNode {
         effects: &mut Vec<Effect<Command, Output>>,
     )
         requires sized { IsSized packet }
-        ensures turns { DoesTurn self.old self.new effects.old.items effects.new.items
+        ensures exact { DoesTurn self.old self.new effects.old.items effects.new.items
             (if is_first stage
             then begins port name packet self.old.core
             else says port name packet self.old.core) }
-        ensures run { Ran (BeginsOrSays (is_first stage) port name packet)
+        ensures lossy { Ran (BeginsOrSays (is_first stage) port name packet)
             self.old.core self.new.core effects.old.items effects.new.items }
     {
         if !stage.is_first() {
@@ -214,9 +214,9 @@ impl SteppingNode {
         connect: Connect,
         effects: &mut Vec<Effect<Command, Output>>,
     )
-        ensures turns { DoesTurn self.old self.new effects.old.items effects.new.items
+        ensures exact { DoesTurn self.old self.new effects.old.items effects.new.items
             (asks port name connect self.old.core) }
-        ensures run { Ran (Connects port name connect)
+        ensures lossy { Ran (Connects port name connect)
             self.old.core self.new.core effects.old.items effects.new.items }
     {
         let command = Command::Connect(name, connect.client, connect.clean);
@@ -234,9 +234,9 @@ impl SteppingNode {
         effects: &mut Vec<Effect<Command, Output>>,
     )
         requires sized { IsSized packet }
-        ensures turns { DoesTurn self.old self.new effects.old.items effects.new.items
+        ensures exact { DoesTurn self.old self.new effects.old.items effects.new.items
             (says port name packet self.old.core) }
-        ensures run { Ran (Says port name packet)
+        ensures lossy { Ran (Says port name packet)
             self.old.core self.new.core effects.old.items effects.new.items }
     {
         let Ok(packet) = SizedPacket::new(packet) else {
@@ -254,11 +254,11 @@ impl SteppingNode {
         stage: ConnectionStage,
         effects: &mut Vec<Effect<Command, Output>>,
     )
-        ensures turns { DoesTurn self.old self.new effects.old.items effects.new.items
+        ensures exact { DoesTurn self.old self.new effects.old.items effects.new.items
             (if is_proposed stage
             then proposes (commands.Lost name) self.old.core
             else quiet self.old.core) }
-        ensures run { Ran (ReportsLost (is_proposed stage) name) self.old.core self.new.core
+        ensures lossy { Ran (ReportsLost (is_proposed stage) name) self.old.core self.new.core
             effects.old.items effects.new.items }
     {
         if stage.is_proposed() {
@@ -268,9 +268,9 @@ impl SteppingNode {
 
     // Closes the connection of a port as lost.
     fn end(&mut self, port: Port, effects: &mut Vec<Effect<Command, Output>>)
-        ensures turns { DoesTurn self.old self.new effects.old.items effects.new.items
+        ensures exact { DoesTurn self.old self.new effects.old.items effects.new.items
             (ends port self.old.core) }
-        ensures run { Ran
+        ensures lossy { Ran
             (Ends port) self.old.core self.new.core effects.old.items effects.new.items }
         ensures unproposed { was_proposed (open_at port self.old.core) ≡ false →
             self.new ≡ record self.old { core = changes port closed self.old.core } }
@@ -290,9 +290,9 @@ impl SteppingNode {
     // Reports each connection that failed to the broker. What is then sent may close others, which
     // are reported too.
     fn report_failed(&mut self, effects: &mut Vec<Effect<Command, Output>>)
-        ensures turns { DoesTurn self.old self.new effects.old.items effects.new.items
+        ensures exact { DoesTurn self.old self.new effects.old.items effects.new.items
             (loses_all_failed self.old.core) }
-        ensures run { Ran LosesAllFailed
+        ensures lossy { Ran LosesAllFailed
             self.old.core self.new.core effects.old.items effects.new.items }
         ensures none { find has_failed self.old.core.connections ≡ None → self.new ≡ self.old }
     {
@@ -305,9 +305,9 @@ impl SteppingNode {
 
     // Reports the first connection that failed to the broker. Returns whether there was one.
     fn report_one_failed(&mut self, effects: &mut Vec<Effect<Command, Output>>) -> bool
-        ensures turns { DoesTurn self.old self.new effects.old.items effects.new.items
+        ensures exact { DoesTurn self.old self.new effects.old.items effects.new.items
             (loses_failed self.old.core) }
-        ensures run { Ran LosesFailed
+        ensures lossy { Ran LosesFailed
             self.old.core self.new.core effects.old.items effects.new.items }
         ensures none { find has_failed self.old.core.connections ≡ None → self.new ≡ self.old }
         ensures done { result ≡ false → loses_failed self.new.core ≡ quiet self.new.core }

@@ -24,8 +24,8 @@ impl Nodes {
     /// Lets a node that runs take an item. `Idle` comes if it is unknown or has stopped.
     pub(crate) fn act(&mut self, node: u8, item: Item) -> Result<(), Idle>
         requires { WasSent node item self.old.sent }
-        ensures step { OnOk result (TakesIn node item self.old self.new) }
-        ensures goes { LosesNothing self.old self.new →
+        ensures lossy { OnOk result (TakesIn node item self.old self.new) }
+        ensures exact { LosesNothing self.old self.new →
             OnOk result (TakesExactly node item self.old self.new) }
         ensures acts { OnOk result (Acts (node - 1) (takes item) self.old self.new) }
         ensures quiet { RestsAt node item self.old →
@@ -49,8 +49,8 @@ impl Nodes {
     /// `act`. No copy of the message is made.
     pub(crate) fn pass_over(&mut self, at: usize, number: usize)
         requires { IsPassedOver at number self.old }
-        ensures step { ComesIn (slice_get self.old.sent number) self.old self.new }
-        ensures goes { LosesNothing self.old self.new →
+        ensures lossy { ComesIn (slice_get self.old.sent number) self.old self.new }
+        ensures exact { LosesNothing self.old self.new →
             Comes (slice_get self.old.sent number) self.old self.new }
         ensures acts { ComesOrRests (slice_get self.old.sent number) self.old self.new }
         ensures quiet { ComesUnheeded (slice_get self.old.sent number) self.old →
@@ -69,7 +69,7 @@ impl Nodes {
     pub(crate) fn cut_at(&mut self, at: usize)
         requires { (core : CountedCore) × (slice_get self.old.nodes at ≡ Some core)
             × (can_cut core.core.replica.state ≡ true) }
-        ensures step { CutsIn (at + 1) self.old self.new }
+        ensures lossy { CutsIn (at + 1) self.old self.new }
         ensures exact { LosesNothing self.old self.new → CutsExactly (at + 1) self.old self.new }
         ensures acts { ActsOrRests at (takes Item.Cut) self.old self.new }
         ensures rises { self.old.losses ≤ self.new.losses }
@@ -125,7 +125,7 @@ impl Nodes {
     /// out before it gave any.
     pub(crate) fn give(&mut self, config: &Config) -> Result<(), Memory>
         requires { refusal self.old.master config.now ≡ None }
-        ensures step { OnOk result (GivesIn config.now self.old self.new) }
+        ensures lossy { OnOk result (GivesIn config.now self.old self.new) }
         ensures acts { OnOk result (MasterGoes self.old self.new) }
         ensures rises { self.old.losses ≤ self.new.losses }
         ensures err { OnErr result (self.new ≡ self.old) }
@@ -147,7 +147,7 @@ impl Nodes {
     /// Lets the master answer a node that asks it to activate a ballot.
     pub(crate) fn answer(&mut self, from: u8, ballot: u64)
         requires { In (0, record { from = from; body = Activate ballot }) self.old.sent }
-        ensures step { HearsIn from (Activate ballot) self.old self.new }
+        ensures lossy { HearsIn from (Activate ballot) self.old self.new }
         ensures acts { MasterGoes self.old self.new }
         ensures rises { self.old.losses ≤ self.new.losses }
     {

@@ -110,8 +110,8 @@ impl Nodes {
     /// Lets the master give the next ballot to a configuration. Idle if it refuses: for members or
     /// a primary that no ballot may have, and after the last ballot.
     pub fn assign(&mut self, config: &Config) -> Result<(), Idle>
-        ensures step { OnOk result (GivesIn config.now self.old self.new) }
-        ensures goes { LosesNothing self.old self.new →
+        ensures lossy { OnOk result (GivesIn config.now self.old self.new) }
+        ensures exact { LosesNothing self.old self.new →
             OnOk result (self.new ≡ after_giving config.now self.old) }
         ensures acts { OnOk result (MasterGoesOrRests self.old self.new) }
         ensures rises { self.old.losses ≤ self.new.losses }
@@ -130,8 +130,8 @@ impl Nodes {
     /// Delivers the message of this number to its receiver. Idle if no such message was sent, or
     /// its receiver is unknown or has stopped. One that its receiver ignores takes no memory.
     pub fn deliver(&mut self, number: u64) -> Result<(), Idle>
-        ensures step { OnOk result (ComesIn (slice_get self.old.sent number) self.old self.new) }
-        ensures goes { LosesNothing self.old self.new →
+        ensures lossy { OnOk result (ComesIn (slice_get self.old.sent number) self.old self.new) }
+        ensures exact { LosesNothing self.old self.new →
             OnOk result (Comes (slice_get self.old.sent number) self.old self.new) }
         ensures acts { OnOk result
             (ComesOrRests (slice_get self.old.sent number) self.old self.new) }
@@ -169,8 +169,8 @@ impl Nodes {
     /// Lets time pass at a node: it repeats what others may have missed. Idle if it is unknown or
     /// has stopped.
     pub fn tick(&mut self, node: u8) -> Result<(), Idle>
-        ensures step { OnOk result (TakesIn node (Item.Tick 0) self.old self.new) }
-        ensures goes { LosesNothing self.old self.new →
+        ensures lossy { OnOk result (TakesIn node (Item.Tick 0) self.old self.new) }
+        ensures exact { LosesNothing self.old self.new →
             OnOk result (TakesExactly node (Item.Tick 0) self.old self.new) }
         ensures acts { OnOk result (Acts (node - 1) (takes (Item.Tick 0)) self.old self.new) }
         ensures quiet { RestsAt node (Item.Tick 0) self.old →
@@ -185,8 +185,8 @@ impl Nodes {
     /// Lets a node cut its log. The places that it drops are recorded first. Idle if the node is
     /// unknown or has stopped, or has applied nothing since it last cut its log.
     pub fn cut(&mut self, node: u8) -> Result<(), Idle>
-        ensures step { OnOk result (CutsIn node self.old self.new) }
-        ensures goes { LosesNothing self.old self.new →
+        ensures lossy { OnOk result (CutsIn node self.old self.new) }
+        ensures exact { LosesNothing self.old self.new →
             OnOk result (CutsExactly node self.old self.new) }
         ensures acts { OnOk result (ActsOrRests (node - 1) (takes Item.Cut) self.old self.new) }
         ensures rises { self.old.losses ≤ self.new.losses }
@@ -206,8 +206,8 @@ impl Nodes {
     /// Lets a node propose that the session of a client ends. Idle if the node is unknown or has
     /// stopped, if it does not serve clients, and if its log is full.
     pub fn expel(&mut self, node: u8, client: &ClientId) -> Result<(), Idle>
-        ensures step { OnOk result (ExpelsIn client.now node self.old self.new) }
-        ensures goes { LosesNothing self.old self.new →
+        ensures lossy { OnOk result (ExpelsIn client.now node self.old self.new) }
+        ensures exact { LosesNothing self.old self.new →
             OnOk result (TakesExactly node (Item.Expel client.now) self.old self.new) }
         ensures acts { OnOk result
             (ActsOrRests (node - 1) (takes (Item.Expel client.now)) self.old self.new) }
@@ -232,8 +232,8 @@ impl Nodes {
 
     /// Stops a node for good. Idle if it is unknown or has stopped.
     pub fn crash(&mut self, node: u8) -> Result<(), Idle>
-        ensures step { OnOk result (TakesIn node Item.Crash self.old self.new) }
-        ensures goes { LosesNothing self.old self.new →
+        ensures lossy { OnOk result (TakesIn node Item.Crash self.old self.new) }
+        ensures exact { LosesNothing self.old self.new →
             OnOk result (TakesExactly node Item.Crash self.old self.new) }
         ensures acts { OnOk result (Acts (node - 1) (takes Item.Crash) self.old self.new) }
         ensures quiet { RestsAt node Item.Crash self.old →
@@ -247,8 +247,8 @@ impl Nodes {
 
     /// Opens a stream at a node, at this time. Idle if the node is unknown or has stopped.
     pub fn opened(&mut self, node: u8, port: Port, now: u64) -> Result<(), Idle>
-        ensures step { OnOk result (TakesIn node (Item.Opened port now) self.old self.new) }
-        ensures goes { LosesNothing self.old self.new →
+        ensures lossy { OnOk result (TakesIn node (Item.Opened port now) self.old self.new) }
+        ensures exact { LosesNothing self.old self.new →
             OnOk result (TakesExactly node (Item.Opened port now) self.old self.new) }
         ensures acts { OnOk result
             (Acts (node - 1) (takes (Item.Opened port now)) self.old self.new) }
@@ -263,8 +263,8 @@ impl Nodes {
 
     /// Gives bytes to a stream of a node, at time 0. Idle if the node is unknown or has stopped.
     pub fn give_bytes(&mut self, node: u8, port: Port, piece: Piece) -> Result<(), Idle>
-        ensures step { OnOk result (TakesIn node (Item.Bytes port piece 0) self.old self.new) }
-        ensures goes { LosesNothing self.old self.new →
+        ensures lossy { OnOk result (TakesIn node (Item.Bytes port piece 0) self.old self.new) }
+        ensures exact { LosesNothing self.old self.new →
             OnOk result (TakesExactly node (Item.Bytes port piece 0) self.old self.new) }
         ensures acts { OnOk result
             (Acts (node - 1) (takes (Item.Bytes port piece 0)) self.old self.new) }
@@ -279,8 +279,8 @@ impl Nodes {
 
     /// Ends a stream of a node. Idle if the node is unknown or has stopped.
     pub fn ended(&mut self, node: u8, port: Port) -> Result<(), Idle>
-        ensures step { OnOk result (TakesIn node (Item.Ended port) self.old self.new) }
-        ensures goes { LosesNothing self.old self.new →
+        ensures lossy { OnOk result (TakesIn node (Item.Ended port) self.old self.new) }
+        ensures exact { LosesNothing self.old self.new →
             OnOk result (TakesExactly node (Item.Ended port) self.old self.new) }
         ensures acts { OnOk result (Acts (node - 1) (takes (Item.Ended port)) self.old self.new) }
         ensures quiet { RestsAt node (Item.Ended port) self.old →
@@ -296,13 +296,13 @@ impl Nodes {
     /// come. Idle if the node is unknown. If memory runs out, nothing is appended, more may come,
     /// and the step is counted; it does not run out if nothing was queued.
     pub fn hand_over(&mut self, node: u8, port: Port, out: &mut Vec<u8>) -> Result<Handed, Idle>
-        ensures goes { LosesNothing self.old self.new →
+        ensures exact { LosesNothing self.old self.new →
             OnOk result (GivesExactly node port self.old self.new) }
         ensures bytes { LosesNothing self.old self.new →
             OnOk result (HandsOver node port self.old out.old.items out.new.items) }
         ensures answer { LosesNothing self.old self.new →
             IfOk result (λ handed. AnswersFor node port self.old handed) }
-        ensures step { IfOk result (λ handed.
+        ensures lossy { IfOk result (λ handed.
             HandsIn node port self.old self.new out.old.items out.new.items handed) }
         ensures quiet { WaitsAtNone node port self.old →
             OnOk result (GivesExactly node port self.old self.new) }

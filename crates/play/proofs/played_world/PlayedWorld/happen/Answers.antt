@@ -7,4 +7,4 @@ returns-in-None-clause-comes c = no_event _ _ _ (sym c.in_ok-event.ensures.event
 
 pub returns-in-Some-clause-comes : goal.returns-in-Some-clause-comes
 returns-in-Some-clause-comes c =
-    happened _ _ _ _ _ (sym c.in_ok-event.ensures.event ∙ c.in-Some.is) c.step.ensures.happens c.step.ensures.goes c.step.ensures.reached c.step.ensures.exact
+    happened _ _ _ _ _ (sym c.in_ok-event.ensures.event ∙ c.in-Some.is) c.step.ensures.happens c.step.ensures.group c.step.ensures.reached c.step.ensures.exact

@@ -20,4 +20,4 @@ returns-clause-meets c =
       clients = c.self.inside.clients.items;
       connections = c.self.inside.connections.items;
       losses = c.self.inside.losses;
-    } in old) c.assign.new.self c.assign.ensures.step c.assign.ensures.idle c.assign.ensures.same)
+    } in old) c.assign.new.self c.assign.ensures.lossy c.assign.ensures.idle c.assign.ensures.same)

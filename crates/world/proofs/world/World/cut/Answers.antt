@@ -35,4 +35,4 @@ returns-clause-meets c =
       connections = c.self.inside.connections.items;
       losses = c.self.inside.losses;
     } in old) c.cut.new.self c.gather.new.self (λ stopped. both_ways false refl (c.in_ok-cut.ensures.idle.1 stopped))
-    c.in_ok-cut.ensures.step c.in_ok-cut.ensures.goes c.gather.ensures.gathers c.gather.ensures.still))
+    c.in_ok-cut.ensures.lossy c.in_ok-cut.ensures.exact c.gather.ensures.gathers c.gather.ensures.still))

@@ -37,7 +37,7 @@ returns-clause-meets c =
       connections = c.self.inside.connections.items;
       losses = c.self.inside.losses;
     } in old) c.deliver.new.self c.gather.new.self receiver
-    (λ nobody. both_ways false refl (c.in_ok-deliver.ensures.idle.1 nobody)) c.in_ok-deliver.ensures.step c.in_ok-deliver.ensures.goes c.gather.ensures.gathers c.gather.ensures.still))
+    (λ nobody. both_ways false refl (c.in_ok-deliver.ensures.idle.1 nobody)) c.in_ok-deliver.ensures.lossy c.in_ok-deliver.ensures.exact c.gather.ensures.gathers c.gather.ensures.still))
 
 pub returns-clause-quiet : goal.returns-clause-quiet
 returns-clause-quiet c =

@@ -42,7 +42,7 @@ returns-clause-meets c =
     } in
     rw (← c.self.view_is) (inl (noticed c.args.number old (connected old c.args.number c.args.slot c.self.invariant.0 stands c.requires.positive) c.ended.new.self c.gather.new.self
     (not_closed c.args.number old c.args.slot stands c.requires.positive c.requires.up (λ stopped. both_ways false refl (c.in_ok-ended.ensures.idle.1 stopped)))
-    c.in_ok-ended.ensures.step c.gather.ensures.gathers c.gather.ensures.still))
+    c.in_ok-ended.ensures.lossy c.gather.ensures.gathers c.gather.ensures.still))
 
 pub returns-clause-quiet : goal.returns-clause-quiet
 returns-clause-quiet c =

@@ -49,4 +49,4 @@ returns-clause-meets c =
       losses = c.self.inside.losses;
     } in old) c.index_of_client.result c.is_none.result (rw (← c.self.view_is) at c.index_of_client.ensures.exact) c.is_none.ensures c.if-is_none.false
     (λ full. both_ways false refl (c.in_ok-expel.ensures.idle.1 full)))
-    c.in_ok-expel.ensures.step c.in_ok-expel.ensures.goes c.gather.ensures.gathers c.gather.ensures.still))
+    c.in_ok-expel.ensures.lossy c.in_ok-expel.ensures.exact c.gather.ensures.gathers c.gather.ensures.still))

@@ -6,7 +6,7 @@ use Rattle.world.proofs.world.World.run.Given as goal
 
 abbrev pub invariant-loop-event : goal.invariant-loop-event
 invariant-loop-event l = record {
-  goes : KeepsGroup l.initial.self l.self;
+  group : KeepsGroup l.initial.self l.self;
   asks : HasAsked (take l.event-index l.events) l.initial.self l.self;
   runs : Run (take l.event-index l.events) l.initial.self l.self;
 }

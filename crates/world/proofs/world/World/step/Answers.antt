@@ -15,8 +15,8 @@ returns-in_err-happen-clause-exact c =
     let p = err_from_is_err_and c.from_residual.result c.from_residual.ensures.1 in
     idle_asks c.args.event.now c.args.self.now p.0 c.from_residual.result c.happen.new.self p.1 c.in_err-happen.ensures.meets.1
 
-pub returns-in_err-happen-clause-goes : goal.returns-in_err-happen-clause-goes
-returns-in_err-happen-clause-goes c = world_goes_on _ _ _ (goes_on_rest _ _ c.in_err-happen.ensures.meets.1)
+pub returns-in_err-happen-clause-group : goal.returns-in_err-happen-clause-group
+returns-in_err-happen-clause-group c = world_goes_on _ _ _ (goes_on_rest _ _ c.in_err-happen.ensures.meets.1)
 
 pub returns-in_err-happen-clause-reached : goal.returns-in_err-happen-clause-reached
 returns-in_err-happen-clause-reached c = stays_reached _ _ (goes_on_rest _ _ c.in_err-happen.ensures.meets.1).nodes.goes
@@ -26,8 +26,8 @@ returns-clause-exact c =
     step_asks c.args.event.now c.args.self.now c.happen.new.self c.count.new.self c.losses-before.result c.self.inside.losses (rw (← c.self.view_is) refl)
     c.in_ok-happen.ensures.asked c.count.ensures.counts (goes_on_still _ _ c.count.ensures.nodes c.count.ensures.clients c.count.ensures.rises)
 
-pub returns-clause-goes : goal.returns-clause-goes
-returns-clause-goes c =
+pub returns-clause-group : goal.returns-clause-group
+returns-clause-group c =
     world_goes_on _ _ _ (goes_on_then c.happen.ensures.asked.asked c.args.self.now c.happen.new.self c.count.new.self c.happen.ensures.asked.goes (goes_on_still _ _ c.count.ensures.nodes c.count.ensures.clients c.count.ensures.rises))
 
 pub returns-clause-reached : goal.returns-clause-reached

@@ -37,7 +37,7 @@ returns-clause-meets c =
       connections = c.self.inside.connections.items;
       losses = c.self.inside.losses;
     } in old) c.tick.new.self c.gather.new.self (λ stopped. both_ways false refl (c.in_ok-tick.ensures.idle.1 stopped))
-    c.in_ok-tick.ensures.step c.gather.ensures.gathers c.gather.ensures.still))
+    c.in_ok-tick.ensures.lossy c.gather.ensures.gathers c.gather.ensures.still))
 
 pub returns-clause-quiet : goal.returns-clause-quiet
 returns-clause-quiet c =

@@ -13,6 +13,6 @@ returns c =
     subst (λ (n : CountedCore). Stepped n (Peer c.args.message.now) (record { core = c.settle.new.self.core; losses = c.losses_after-self-inside.result })
     c.args.effects.now.items c.pass_over.new.effects.items) c.self.view_is
     (stepped_by _ (Peer c.args.message.now) c.begin_step.new.self c.pass_over.new.self c.settle.new.self.core c.losses_after-self-inside.result _ _
-    (core_of _ _ c.begin_step.ensures) c.pass_over.ensures.turns c.pass_over.ensures.run (core_of _ _ c.settle.ensures)
+    (core_of _ _ c.begin_step.ensures) c.pass_over.ensures.exact c.pass_over.ensures.lossy (core_of _ _ c.settle.ensures)
     (c.losses_after-self-inside.ensures ∙ ap (λ (w : Bool). if w then one_more c.self.inside.losses else c.self.inside.losses) c.is_out_of_memory.ensures)
     (ap (λ (r : Running). r.out_of_memory) c.begin_step.ensures) (λ _. c.pass_over.ensures.quiet))

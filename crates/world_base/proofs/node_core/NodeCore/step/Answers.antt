@@ -12,6 +12,6 @@ returns c =
     subst (λ (n : CountedCore). Stepped n c.args.item (record { core = c.settle.new.self.core; losses = c.losses_after-self-inside.result })
     c.args.effects.now.items c.act_on.new.effects.items) c.self.view_is
     (stepped_by _ c.args.item c.begin_step.new.self c.act_on.new.self c.settle.new.self.core c.losses_after-self-inside.result _ _
-    (core_of _ _ c.begin_step.ensures) c.act_on.ensures.turns c.act_on.ensures.run (core_of _ _ c.settle.ensures)
+    (core_of _ _ c.begin_step.ensures) c.act_on.ensures.exact c.act_on.ensures.lossy (core_of _ _ c.settle.ensures)
     (c.losses_after-self-inside.ensures ∙ ap (λ (w : Bool). if w then one_more c.self.inside.losses else c.self.inside.losses) c.is_out_of_memory.ensures)
     (ap (λ (r : Running). r.out_of_memory) c.begin_step.ensures) c.act_on.ensures.quiet)

@@ -3,20 +3,20 @@ use Rattle.world_base.proofs.Accounts.{ran_then}
 use Rattle.world_base.proofs.Idle.{quiet_ignored, quiet_otherwise, ran_ignored, turns_ignored}
 use Rattle.world_base.proofs.stepping_node.SteppingNode.act_on.Goals as goal
 
-pub returns-then-ignores-clause-turns : goal.returns-then-ignores-clause-turns
-returns-then-ignores-clause-turns c =
-    turns_ignored c.args.item _ _ _ _ (c.ignores.ensures.0 c.if-ignores.true) c.report_failed.ensures.turns
+pub returns-then-ignores-clause-exact : goal.returns-then-ignores-clause-exact
+returns-then-ignores-clause-exact c =
+    turns_ignored c.args.item _ _ _ _ (c.ignores.ensures.0 c.if-ignores.true) c.report_failed.ensures.exact
 
-pub returns-then-ignores-clause-run : goal.returns-then-ignores-clause-run
-returns-then-ignores-clause-run c =
-    ran_ignored c.args.item _ _ _ _ (c.ignores.ensures.0 c.if-ignores.true) c.report_failed.ensures.run
+pub returns-then-ignores-clause-lossy : goal.returns-then-ignores-clause-lossy
+returns-then-ignores-clause-lossy c =
+    ran_ignored c.args.item _ _ _ _ (c.ignores.ensures.0 c.if-ignores.true) c.report_failed.ensures.lossy
 
 pub returns-then-ignores-clause-quiet : goal.returns-then-ignores-clause-quiet
 returns-then-ignores-clause-quiet c = λ _ failed. quiet_ignored _ _ c.report_failed.ensures.none failed
 
-pub returns-clause-run : goal.returns-clause-run
-returns-clause-run c =
-    ran_then (DoesItem c.args.item) LosesAllFailed _ _ _ _ _ _ c.do_item.ensures.run c.report_failed-2.ensures.run
+pub returns-clause-lossy : goal.returns-clause-lossy
+returns-clause-lossy c =
+    ran_then (DoesItem c.args.item) LosesAllFailed _ _ _ _ _ _ c.do_item.ensures.lossy c.report_failed-2.ensures.lossy
 
 pub returns-clause-quiet : goal.returns-clause-quiet
 returns-clause-quiet c =

@@ -7,20 +7,20 @@ use Rattle.world_base.specs.LossyReading.{Closes}
 use Rattle.world_base.proofs.EndsRun.{core_of, ran_asked, ran_otherwise}
 use Rattle.world_base.proofs.stepping_node.SteppingNode.connect.Goals as goal
 
-pub returns-then-not-propose-clause-turns : goal.returns-then-not-propose-clause-turns
-returns-then-not-propose-clause-turns c =
+pub returns-then-not-propose-clause-exact : goal.returns-then-not-propose-clause-exact
+returns-then-not-propose-clause-exact c =
     closes_refused c.args.port (commands.Connect c.args.name c.args.connect.client c.args.connect.clean) _ _ _ _ _
     (λ whole. sym c.if-not-propose.true ∙ c.propose.ensures.taken
     (sym (ap (λ (r : Running). r.out_of_memory) c.close.ensures) ∙ whole))
-    c.propose.ensures.turns (λ _. c.close.ensures)
+    c.propose.ensures.exact (λ _. c.close.ensures)
 
-pub returns-then-not-propose-clause-run : goal.returns-then-not-propose-clause-run
-returns-then-not-propose-clause-run c =
+pub returns-then-not-propose-clause-lossy : goal.returns-then-not-propose-clause-lossy
+returns-then-not-propose-clause-lossy c =
     ran_otherwise c.propose.result (commands.Connect c.args.name c.args.connect.client c.args.connect.clean) (Closes c.args.port)
-    _ c.propose.new.self.core c.close.new.self.core _ _ c.if-not-propose.true c.propose.ensures.run
+    _ c.propose.new.self.core c.close.new.self.core _ _ c.if-not-propose.true c.propose.ensures.lossy
     (ap quietly (core_of _ _ c.close.ensures))
 
-pub returns-else-not-propose-clause-run : goal.returns-else-not-propose-clause-run
-returns-else-not-propose-clause-run c =
+pub returns-else-not-propose-clause-lossy : goal.returns-else-not-propose-clause-lossy
+returns-else-not-propose-clause-lossy c =
     ran_asked c.propose.result (commands.Connect c.args.name c.args.connect.client c.args.connect.clean) (Closes c.args.port)
-    _ _ _ _ c.if-not-propose.false c.propose.ensures.run
+    _ _ _ _ c.if-not-propose.false c.propose.ensures.lossy

@@ -6,37 +6,37 @@ use Rattle.world_base.proofs.EndsRun.{core_of, ran_none_open, ran_proposed, ran_
 use Rattle.world_base.proofs.Idle.{closes_nothing, proposed_then}
 use Rattle.world_base.proofs.stepping_node.SteppingNode.end.Goals as goal
 
-pub returns-in_default-clause-turns : goal.returns-in_default-clause-turns
-returns-in_default-clause-turns c =
+pub returns-in_default-clause-exact : goal.returns-in_default-clause-exact
+returns-in_default-clause-exact c =
     ends_none c.args.port _ _ (none_found (is_open_at c.args.port) _ (sym c.in_default.is ∙ c.index_at.ensures))
 
-pub returns-in_default-clause-run : goal.returns-in_default-clause-run
-returns-in_default-clause-run c =
+pub returns-in_default-clause-lossy : goal.returns-in_default-clause-lossy
+returns-in_default-clause-lossy c =
     ran_none_open c.args.port _ _ (none_found (is_open_at c.args.port) _ (sym c.in_default.is ∙ c.index_at.ensures))
 
-pub returns-then-proposed-clause-turns : goal.returns-then-proposed-clause-turns
-returns-then-proposed-clause-turns c =
+pub returns-then-proposed-clause-exact : goal.returns-then-proposed-clause-exact
+returns-then-proposed-clause-exact c =
     ends_proposed c.args.port c.index-connection.result.now _ c.close.new.self _ _ _
     (rw (← c.self.view_is) (found_there (is_open_at c.args.port) _ c.index_at.result c.in-Some.index _
     (rw (← c.self.view_is) at c.index_at.ensures) c.in-Some.is c.index-connection.ensures))
-    (sym c.is_proposed-proposed.ensures ∙ c.if-proposed.true) c.close.ensures c.propose.ensures.turns
+    (sym c.is_proposed-proposed.ensures ∙ c.if-proposed.true) c.close.ensures c.propose.ensures.exact
 
-pub returns-then-proposed-clause-run : goal.returns-then-proposed-clause-run
-returns-then-proposed-clause-run c =
+pub returns-then-proposed-clause-lossy : goal.returns-then-proposed-clause-lossy
+returns-then-proposed-clause-lossy c =
     ran_proposed c.args.port c.index-connection.result.now _ c.close.new.self.core _ c.propose.result _ _
     (rw (← c.self.view_is) (found_there (is_open_at c.args.port) _ c.index_at.result c.in-Some.index _
     (rw (← c.self.view_is) at c.index_at.ensures) c.in-Some.is c.index-connection.ensures))
-    (sym c.is_proposed-proposed.ensures ∙ c.if-proposed.true) (core_of _ _ c.close.ensures) c.propose.ensures.run
+    (sym c.is_proposed-proposed.ensures ∙ c.if-proposed.true) (core_of _ _ c.close.ensures) c.propose.ensures.lossy
 
-pub returns-else-proposed-clause-turns : goal.returns-else-proposed-clause-turns
-returns-else-proposed-clause-turns c =
+pub returns-else-proposed-clause-exact : goal.returns-else-proposed-clause-exact
+returns-else-proposed-clause-exact c =
     ends_other c.args.port c.index-connection.result.now _ c.close.new.self _
     (rw (← c.self.view_is) (found_there (is_open_at c.args.port) _ c.index_at.result c.in-Some.index _
     (rw (← c.self.view_is) at c.index_at.ensures) c.in-Some.is c.index-connection.ensures))
     (sym c.is_proposed-proposed.ensures ∙ c.if-proposed.false) c.close.ensures
 
-pub returns-else-proposed-clause-run : goal.returns-else-proposed-clause-run
-returns-else-proposed-clause-run c =
+pub returns-else-proposed-clause-lossy : goal.returns-else-proposed-clause-lossy
+returns-else-proposed-clause-lossy c =
     ran_unproposed c.args.port c.index-connection.result.now _ c.close.new.self.core _
     (rw (← c.self.view_is) (found_there (is_open_at c.args.port) _ c.index_at.result c.in-Some.index _
     (rw (← c.self.view_is) at c.index_at.ensures) c.in-Some.is c.index-connection.ensures))

@@ -7,6 +7,6 @@ use Rattle.world_base.proofs.stepping_node.SteppingNode.end_silent.Given as goal
 
 abbrev pub invariant-loop-connection : goal.invariant-loop-connection
 invariant-loop-connection l = record {
-  turns : DoesTurn l.initial.self l.self l.initial.effects.items l.effects.items (repeated l._connection (ends_silent l.initial.now) l.initial.self.core);
-  run : Ran (Repeated l._connection (EndsSilent l.initial.now)) l.initial.self.core l.self.core l.initial.effects.items l.effects.items;
+  exact : DoesTurn l.initial.self l.self l.initial.effects.items l.effects.items (repeated l._connection (ends_silent l.initial.now) l.initial.self.core);
+  lossy : Ran (Repeated l._connection (EndsSilent l.initial.now)) l.initial.self.core l.self.core l.initial.effects.items l.effects.items;
 }

@@ -1,5 +1,5 @@
 use Rattle.world_base.proofs.EndsRun.{ran_proposes}
 use Rattle.world_base.proofs.stepping_node.SteppingNode.expel.Goals as goal
 
-pub returns-clause-run : goal.returns-clause-run
-returns-clause-run c = ran_proposes _ c.propose.result _ _ _ _ c.propose.ensures.run
+pub returns-clause-lossy : goal.returns-clause-lossy
+returns-clause-lossy c = ran_proposes _ c.propose.result _ _ _ _ c.propose.ensures.lossy

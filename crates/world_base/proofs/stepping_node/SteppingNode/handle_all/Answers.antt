@@ -6,14 +6,14 @@ use Rattle.world_base.proofs.stepping_node.SteppingNode.handle_all.Goals as goal
 
 pub loop-effect-init : goal.loop-effect-init
 loop-effect-init c = record {
-  turns = turns_idle c.args.self.now c.args.effects.now.items;
-  run = delivered_none c.args.self.now.core c.args.effects.now.items;
+  exact = turns_idle c.args.self.now c.args.effects.now.items;
+  lossy = delivered_none c.args.self.now.core c.args.effects.now.items;
   nothing = λ _. refl;
 }
 
 pub loop-effect-preserved : goal.loop-effect-preserved
 loop-effect-preserved c = record {
-  turns = turns_push _ _ _ _ _ _ c.loop-effect.yielded c.in-Some.effect c.loop-effect.invariant.turns c.handle.ensures.turns;
-  run = delivered_push _ _ _ _ _ _ c.loop-effect.yielded c.in-Some.effect c.loop-effect.invariant.run c.handle.ensures.run;
+  exact = turns_push _ _ _ _ _ _ c.loop-effect.yielded c.in-Some.effect c.loop-effect.invariant.exact c.handle.ensures.exact;
+  lossy = delivered_push _ _ _ _ _ _ c.loop-effect.yielded c.in-Some.effect c.loop-effect.invariant.lossy c.handle.ensures.lossy;
   nothing = λ e. ends_some c.loop-effect.yielded c.in-Some.effect e;
 }

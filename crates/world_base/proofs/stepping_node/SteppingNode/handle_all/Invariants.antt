@@ -5,7 +5,7 @@ use Rattle.world_base.proofs.stepping_node.SteppingNode.handle_all.Given as goal
 
 abbrev pub invariant-loop-effect : goal.invariant-loop-effect
 invariant-loop-effect l = record {
-  turns : DoesTurn l.initial.self l.self l.initial.effects.items l.effects.items (handled_all l.yielded l.initial.self.core);
-  run : HandledAll l.yielded l.initial.self.core l.self.core l.initial.effects.items l.effects.items;
+  exact : DoesTurn l.initial.self l.self l.initial.effects.items l.effects.items (handled_all l.yielded l.initial.self.core);
+  lossy : HandledAll l.yielded l.initial.self.core l.self.core l.initial.effects.items l.effects.items;
   nothing : l.yielded ≡ [] → l.self ≡ l.initial.self;
 }

@@ -3,19 +3,19 @@ use Rattle.world_base.proofs.Answering.{proposed_all, proposed_not}
 use Rattle.world_base.proofs.Proposes.{turns_refused, turns_proposed}
 use Rattle.world_base.proofs.stepping_node.SteppingNode.propose.Goals as goal
 
-pub returns-then-not-serves-clause-turns : goal.returns-then-not-serves-clause-turns
-returns-then-not-serves-clause-turns c =
+pub returns-then-not-serves-clause-exact : goal.returns-then-not-serves-clause-exact
+returns-then-not-serves-clause-exact c =
     turns_refused _ c.args.command _ (sym c.serves.ensures ∙ c.if-not-serves.true)
 
-pub returns-then-not-serves-clause-run : goal.returns-then-not-serves-clause-run
-returns-then-not-serves-clause-run c =
+pub returns-then-not-serves-clause-lossy : goal.returns-then-not-serves-clause-lossy
+returns-then-not-serves-clause-lossy c =
     proposed_not c.args.command _ _ (sym c.serves.ensures ∙ c.if-not-serves.true)
 
-pub returns-clause-turns : goal.returns-clause-turns
-returns-clause-turns c =
+pub returns-clause-exact : goal.returns-clause-exact
+returns-clause-exact c =
     turns_proposed _ _ _ c.args.command _ _ _ (sym c.serves.ensures ∙ c.if-not-serves.false)
-    c.propose_to_replica-taken.ensures.hears c.handle_all.ensures.turns
+    c.propose_to_replica-taken.ensures.hears c.handle_all.ensures.exact
 
-pub returns-clause-run : goal.returns-clause-run
-returns-clause-run c =
-    proposed_all c.propose_to_replica-taken.result c.args.command _ _ _ _ _ _ c.propose_to_replica-taken.ensures.answered c.handle_all.ensures.run
+pub returns-clause-lossy : goal.returns-clause-lossy
+returns-clause-lossy c =
+    proposed_all c.propose_to_replica-taken.result c.args.command _ _ _ _ _ _ c.propose_to_replica-taken.ensures.answered c.handle_all.ensures.lossy

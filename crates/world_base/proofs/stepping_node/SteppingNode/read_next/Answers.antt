@@ -7,16 +7,16 @@ use Rattle.world_base.proofs.Fronts.{nothing_open, nothing_next, more_there, mor
 use Rattle.world_base.proofs.FrontsRun.{idle_open, idle_waits, ran_gone, ran_nothing_open, ran_packet, ran_waits, ran_out_of_memory}
 use Rattle.world_base.proofs.stepping_node.SteppingNode.read_next.Goals as goal
 
-pub returns-in_default-clause-turns : goal.returns-in_default-clause-turns
-returns-in_default-clause-turns c =
+pub returns-in_default-clause-exact : goal.returns-in_default-clause-exact
+returns-in_default-clause-exact c =
     nothing_open c.args.now c.args.port _ _ (none_found (is_open_at c.args.port) _ (sym c.in_default.is ∙ c.index_at.ensures))
 
 pub returns-in_default-clause-done : goal.returns-in_default-clause-done
 returns-in_default-clause-done c = λ _ _.
     nothing_next c.args.now c.args.port _ (none_found (is_open_at c.args.port) _ (sym c.in_default.is ∙ c.index_at.ensures))
 
-pub returns-in-More-clause-turns : goal.returns-in-More-clause-turns
-returns-in-More-clause-turns c =
+pub returns-in-More-clause-exact : goal.returns-in-More-clause-exact
+returns-in-More-clause-exact c =
     more_there c.args.now c.args.port c.index_mut-connection.result.now c.next.new.self _ _ _
     (rw (← c.self.view_is) (found_there (is_open_at c.args.port) _ c.index_at.result c.in-Some.index _
     (rw (← c.self.view_is) at c.index_at.ensures) c.in-Some.is c.index_mut-connection.ensures.value))
@@ -43,8 +43,8 @@ returns-in-More-clause-done c = λ _ _.
     c.index_mut-connection.result.now c.next.new.self (rw (← c.self.view_is) at c.index_at.ensures) c.in-Some.is
     c.index_mut-connection.ensures.value refl))
 
-pub returns-in-Packet-clause-turns : goal.returns-in-Packet-clause-turns
-returns-in-Packet-clause-turns c =
+pub returns-in-Packet-clause-exact : goal.returns-in-Packet-clause-exact
+returns-in-Packet-clause-exact c =
     packet_there c.args.now c.args.port c.index_mut-connection.result.now c.next.new.self c.in-Packet.packet _ _ _ _ _
     (rw (← c.self.view_is) (found_there (is_open_at c.args.port) _ c.index_at.result c.in-Some.index _
     (rw (← c.self.view_is) at c.index_at.ensures) c.in-Some.is c.index_mut-connection.ensures.value))
@@ -52,10 +52,10 @@ returns-in-Packet-clause-turns c =
     (rw (← c.self.view_is) (changed_there c.args.port (λ _. c.next.new.self) _ c.index_at.result c.in-Some.index
     c.index_mut-connection.result.now c.next.new.self (rw (← c.self.view_is) at c.index_at.ensures) c.in-Some.is
     c.index_mut-connection.ensures.value refl))
-    c.on_packet.ensures.turns
+    c.on_packet.ensures.exact
 
-pub returns-in-Refused-clause-turns : goal.returns-in-Refused-clause-turns
-returns-in-Refused-clause-turns c =
+pub returns-in-Refused-clause-exact : goal.returns-in-Refused-clause-exact
+returns-in-Refused-clause-exact c =
     gone_there c.args.now c.args.port c.index_mut-connection.result.now c.next.new.self c.next.result _ _ _ _ _
     (rw (← c.self.view_is) (found_there (is_open_at c.args.port) _ c.index_at.result c.in-Some.index _
     (rw (← c.self.view_is) at c.index_at.ensures) c.in-Some.is c.index_mut-connection.ensures.value))
@@ -63,18 +63,18 @@ returns-in-Refused-clause-turns c =
     (rw (← c.self.view_is) (changed_there c.args.port (λ _. c.next.new.self) _ c.index_at.result c.in-Some.index
     c.index_mut-connection.result.now c.next.new.self (rw (← c.self.view_is) at c.index_at.ensures) c.in-Some.is
     c.index_mut-connection.ensures.value refl))
-    c.report_lost.ensures.turns
+    c.report_lost.ensures.exact
 
-pub returns-in_default-clause-run : goal.returns-in_default-clause-run
-returns-in_default-clause-run c =
+pub returns-in_default-clause-lossy : goal.returns-in_default-clause-lossy
+returns-in_default-clause-lossy c =
     ran_nothing_open c.args.now c.args.port _ _ (none_found (is_open_at c.args.port) _ (sym c.in_default.is ∙ c.index_at.ensures))
 
 pub returns-in_default-clause-idle : goal.returns-in_default-clause-idle
 returns-in_default-clause-idle c = λ _.
     idle_open c.args.now c.args.port _ (none_found (is_open_at c.args.port) _ (sym c.in_default.is ∙ c.index_at.ensures))
 
-pub returns-in-More-clause-run : goal.returns-in-More-clause-run
-returns-in-More-clause-run c =
+pub returns-in-More-clause-lossy : goal.returns-in-More-clause-lossy
+returns-in-More-clause-lossy c =
     ran_waits c.args.now c.args.port c.index_mut-connection.result.now c.next.new.self _ _ _
     (rw (← c.self.view_is) (found_there (is_open_at c.args.port) _ c.index_at.result c.in-Some.index _
     (rw (← c.self.view_is) at c.index_at.ensures) c.in-Some.is c.index_mut-connection.ensures.value))
@@ -93,8 +93,8 @@ returns-in-More-clause-idle c = λ _.
     c.index_mut-connection.result.now c.next.new.self (rw (← c.self.view_is) at c.index_at.ensures) c.in-Some.is
     c.index_mut-connection.ensures.value refl))
 
-pub returns-in-Packet-clause-run : goal.returns-in-Packet-clause-run
-returns-in-Packet-clause-run c =
+pub returns-in-Packet-clause-lossy : goal.returns-in-Packet-clause-lossy
+returns-in-Packet-clause-lossy c =
     ran_packet c.args.now c.args.port c.index_mut-connection.result.now c.next.new.self c.in-Packet.packet _ _ _ _ _
     (rw (← c.self.view_is) (found_there (is_open_at c.args.port) _ c.index_at.result c.in-Some.index _
     (rw (← c.self.view_is) at c.index_at.ensures) c.in-Some.is c.index_mut-connection.ensures.value))
@@ -102,10 +102,10 @@ returns-in-Packet-clause-run c =
     (rw (← c.self.view_is) (core_changed c.args.port (λ _. c.next.new.self) _ c.index_at.result c.in-Some.index
     c.index_mut-connection.result.now c.next.new.self (rw (← c.self.view_is) at c.index_at.ensures) c.in-Some.is
     c.index_mut-connection.ensures.value refl))
-    c.on_packet.ensures.run
+    c.on_packet.ensures.lossy
 
-pub returns-in-Refused-clause-run : goal.returns-in-Refused-clause-run
-returns-in-Refused-clause-run c =
+pub returns-in-Refused-clause-lossy : goal.returns-in-Refused-clause-lossy
+returns-in-Refused-clause-lossy c =
     ran_gone c.args.now c.args.port c.index_mut-connection.result.now c.next.new.self c.next.result _ _ _ _ _
     (rw (← c.self.view_is) (found_there (is_open_at c.args.port) _ c.index_at.result c.in-Some.index _
     (rw (← c.self.view_is) at c.index_at.ensures) c.in-Some.is c.index_mut-connection.ensures.value))
@@ -113,10 +113,10 @@ returns-in-Refused-clause-run c =
     (rw (← c.self.view_is) (core_changed c.args.port (λ _. c.next.new.self) _ c.index_at.result c.in-Some.index
     c.index_mut-connection.result.now c.next.new.self (rw (← c.self.view_is) at c.index_at.ensures) c.in-Some.is
     c.index_mut-connection.ensures.value refl))
-    c.report_lost.ensures.run
+    c.report_lost.ensures.lossy
 
-pub returns-in-OutOfMemory-clause-run : goal.returns-in-OutOfMemory-clause-run
-returns-in-OutOfMemory-clause-run c =
+pub returns-in-OutOfMemory-clause-lossy : goal.returns-in-OutOfMemory-clause-lossy
+returns-in-OutOfMemory-clause-lossy c =
     ran_out_of_memory c.args.now c.args.port c.index_mut-connection.result.now c.next.new.self _ _ _ _ _
     (rw (← c.self.view_is) (found_there (is_open_at c.args.port) _ c.index_at.result c.in-Some.index _
     (rw (← c.self.view_is) at c.index_at.ensures) c.in-Some.is c.index_mut-connection.ensures.value))
@@ -124,4 +124,4 @@ returns-in-OutOfMemory-clause-run c =
     (rw (← c.self.view_is) (core_changed c.args.port (λ _. c.next.new.self) _ c.index_at.result c.in-Some.index
     c.index_mut-connection.result.now c.next.new.self (rw (← c.self.view_is) at c.index_at.ensures) c.in-Some.is
     c.index_mut-connection.ensures.value refl))
-    c.report_lost-in-OutOfMemory.ensures.run
+    c.report_lost-in-OutOfMemory.ensures.lossy

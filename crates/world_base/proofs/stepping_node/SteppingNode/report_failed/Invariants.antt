@@ -10,7 +10,7 @@ use Rattle.world_base.proofs.stepping_node.SteppingNode.report_failed.Given as g
 
 abbrev pub invariant-loop-connection : goal.invariant-loop-connection
 invariant-loop-connection l = record {
-  turns : DoesTurn l.initial.self l.self l.initial.effects.items l.effects.items (repeated l._connection (loses_failed) l.initial.self.core);
-  run : Ran (Repeated l._connection (LosesFailed)) l.initial.self.core l.self.core l.initial.effects.items l.effects.items;
+  exact : DoesTurn l.initial.self l.self l.initial.effects.items l.effects.items (repeated l._connection (loses_failed) l.initial.self.core);
+  lossy : Ran (Repeated l._connection (LosesFailed)) l.initial.self.core l.self.core l.initial.effects.items l.effects.items;
   none : find has_failed l.initial.self.core.connections ≡ None → l.self ≡ l.initial.self;
 }

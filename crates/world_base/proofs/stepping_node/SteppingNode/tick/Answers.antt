@@ -3,8 +3,8 @@ use Rattle.world_base.proofs.Answering.{drives_all}
 use Rattle.world_base.proofs.Proposes.{turns_driven}
 use Rattle.world_base.proofs.stepping_node.SteppingNode.tick.Goals as goal
 
-pub returns-clause-turns : goal.returns-clause-turns
-returns-clause-turns c = turns_driven _ _ _ Ticks _ _ _ c.tick_replica.ensures.hears c.handle_all.ensures.turns
+pub returns-clause-exact : goal.returns-clause-exact
+returns-clause-exact c = turns_driven _ _ _ Ticks _ _ _ c.tick_replica.ensures.hears c.handle_all.ensures.exact
 
-pub returns-clause-run : goal.returns-clause-run
-returns-clause-run c = drives_all Ticks _ _ _ _ _ _ c.tick_replica.ensures.acts c.handle_all.ensures.run
+pub returns-clause-lossy : goal.returns-clause-lossy
+returns-clause-lossy c = drives_all Ticks _ _ _ _ _ _ c.tick_replica.ensures.acts c.handle_all.ensures.lossy

@@ -9,8 +9,8 @@ use Rattle.world_nodes.proofs.Exactly.{exactly}
 use Rattle.world_nodes.proofs.Resting.{turn_rests}
 use Rattle.world_nodes.proofs.nodes.Nodes.act.Goals as goal
 
-pub returns-clause-step : goal.returns-clause-step
-returns-clause-step c =
+pub returns-clause-lossy : goal.returns-clause-lossy
+returns-clause-lossy c =
     let x = rw (← c.self.view_is) at c.in-Some.ensures.some in
     let took = took_by c.self.inside.nodes.items c.in-Some.at x.core c.index_mut-core.result.now c.args.item c.step_node-whole.new.node c.self.inside.sent.items
     c.step_node-whole.new.sent.items c.step_node-whole.result x.stands c.index_mut-core.ensures.value c.step_node-whole.ensures in
@@ -23,8 +23,8 @@ returns-clause-step c =
     } in old) c.args.node c.in-Some.at x c.step_node-whole.new.node c.args.item c.step_node-whole.new.sent.items c.step_node-whole.result c.counted-self-inside.result took
     c.counted-self-inside.ensures)
 
-pub returns-clause-goes : goal.returns-clause-goes
-returns-clause-goes c =
+pub returns-clause-exact : goal.returns-clause-exact
+returns-clause-exact c =
     let x = rw (← c.self.view_is) at c.in-Some.ensures.some in
     let took = took_by c.self.inside.nodes.items c.in-Some.at x.core c.index_mut-core.result.now c.args.item c.step_node-whole.new.node c.self.inside.sent.items
     c.step_node-whole.new.sent.items c.step_node-whole.result x.stands c.index_mut-core.ensures.value c.step_node-whole.ensures in

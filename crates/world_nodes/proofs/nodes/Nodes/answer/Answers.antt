@@ -8,8 +8,8 @@ use Rattle.world_nodes.proofs.MasterCounts.{answers_counting}
 use Rattle.world_nodes.proofs.MasterActs.{answers_ballot, answers_or_loses, master_turn}
 use Rattle.world_nodes.proofs.nodes.Nodes.answer.Goals as goal
 
-pub returns-clause-step : goal.returns-clause-step
-returns-clause-step c =
+pub returns-clause-lossy : goal.returns-clause-lossy
+returns-clause-lossy c =
     let m = c.self.inside.master in
     let body = answer_is c.args.ballot (is_granted m c.args.ballot m.waiting) c.activate-activation.result c.answer_of.result
     c.activate-activation.ensures.answer c.answer_of.ensures in

@@ -40,8 +40,8 @@ invariant_of-self c =
     let kept = c.truncate.ensures.items ∙ taken_back c.self.inside.archive.items c.record.new.archive.items c.len-before.result c.in_default.ensures.err whole in
     rests_counting old c.truncate.new.self.items c.counted-self-inside.result c.self.inside.counters.told c.self.inside.counters.next kept c.self.invariant
 
-pub returns-in_default-clause-step : goal.returns-in_default-clause-step
-returns-in_default-clause-step c =
+pub returns-in_default-clause-lossy : goal.returns-in_default-clause-lossy
+returns-in_default-clause-lossy c =
     let there = rw (← c.self.view_is) at c.requires in
     let old : NodesState = record {
       master = c.self.inside.master;
@@ -123,8 +123,8 @@ invariant_of-self-2 c =
     (heard_after c.self.inside.sent.items c.step_node-whole.new.sent.items c.deref.result.now _ c.len-from.result c.self.inside.counters.next c.count_from.new.self.next
     c.deref.ensures.value c.step_node-whole.ensures.is from c.count_from.ensures.next)
 
-pub returns-clause-step : goal.returns-clause-step
-returns-clause-step c =
+pub returns-clause-lossy : goal.returns-clause-lossy
+returns-clause-lossy c =
     let there = rw (← c.self.view_is) at c.requires in
     let old : NodesState = record {
       master = c.self.inside.master;

@@ -12,27 +12,27 @@ answer-requires c =
     asked_in c.args.self.now.sent c.args.number c.in-Some-asks_for.ballot c.in-Some.field-0.now c.in-Some.ensures.some c.if-receiver-eq0.true
     (sym c.asks_for.ensures ∙ c.in-Some-asks_for.is)
 
-pub returns-in-Some-asks_for-clause-step : goal.returns-in-Some-asks_for-clause-step
-returns-in-Some-asks_for-clause-step c =
+pub returns-in-Some-asks_for-clause-lossy : goal.returns-in-Some-asks_for-clause-lossy
+returns-in-Some-asks_for-clause-lossy c =
     came_to_master _ c.in-Some.field-0.now c.args.self.now c.answer.new.self c.in-Some.ensures.some c.if-receiver-eq0.true
     (heard_ballot c.in-Some.field-0.now.1.from c.in-Some-asks_for.ballot c.in-Some.field-0.now.1.body c.args.self.now c.answer.new.self
-    (sym c.asks_for.ensures ∙ c.in-Some-asks_for.is) c.answer.ensures.step)
+    (sym c.asks_for.ensures ∙ c.in-Some-asks_for.is) c.answer.ensures.lossy)
 
-pub returns-in-Some-asks_for-clause-goes : goal.returns-in-Some-asks_for-clause-goes
-returns-in-Some-asks_for-clause-goes c =
+pub returns-in-Some-asks_for-clause-exact : goal.returns-in-Some-asks_for-clause-exact
+returns-in-Some-asks_for-clause-exact c =
     comes_exactly _ c.args.self.now c.answer.new.self
     (came_to_master _ c.in-Some.field-0.now c.args.self.now c.answer.new.self c.in-Some.ensures.some c.if-receiver-eq0.true
     (heard_ballot c.in-Some.field-0.now.1.from c.in-Some-asks_for.ballot c.in-Some.field-0.now.1.body c.args.self.now c.answer.new.self
-    (sym c.asks_for.ensures ∙ c.in-Some-asks_for.is) c.answer.ensures.step))
+    (sym c.asks_for.ensures ∙ c.in-Some-asks_for.is) c.answer.ensures.lossy))
 
-pub returns-clause-step : goal.returns-clause-step
-returns-clause-step c =
-    came_on c.act.result _ c.in-Some.field-0.now c.in-Ok.message c.args.self.now c.act.new.self c.in-Some.ensures.some c.if-receiver-eq0.false c.in-Ok.ensures.same c.act.ensures.step
+pub returns-clause-lossy : goal.returns-clause-lossy
+returns-clause-lossy c =
+    came_on c.act.result _ c.in-Some.field-0.now c.in-Ok.message c.args.self.now c.act.new.self c.in-Some.ensures.some c.if-receiver-eq0.false c.in-Ok.ensures.same c.act.ensures.lossy
 
-pub returns-clause-goes : goal.returns-clause-goes
-returns-clause-goes c =
+pub returns-clause-exact : goal.returns-clause-exact
+returns-clause-exact c =
     comes_on c.act.result _ c.args.self.now c.act.new.self
-    (came_on c.act.result _ c.in-Some.field-0.now c.in-Ok.message c.args.self.now c.act.new.self c.in-Some.ensures.some c.if-receiver-eq0.false c.in-Ok.ensures.same c.act.ensures.step)
+    (came_on c.act.result _ c.in-Some.field-0.now c.in-Ok.message c.args.self.now c.act.new.self c.in-Some.ensures.some c.if-receiver-eq0.false c.in-Ok.ensures.same c.act.ensures.lossy)
 
 pub returns-clause-acts : goal.returns-clause-acts
 returns-clause-acts c =

@@ -8,8 +8,8 @@ use Rattle.world_nodes.proofs.MasterCounts.{gives_counting, no_refusal}
 use Rattle.world_nodes.proofs.MasterActs.{gives_ballot, gives_or_loses}
 use Rattle.world_nodes.proofs.nodes.Nodes.give.Goals as goal
 
-pub returns-clause-step : goal.returns-clause-step
-returns-clause-step c =
+pub returns-clause-lossy : goal.returns-clause-lossy
+returns-clause-lossy c =
     let m = c.self.inside.master in
     let granted = rw (← c.self.view_is) at c.requires in
     let given : c.in_ok-given.given ≡ c.args.config.now = c.in_ok-given.ensures in

@@ -8,8 +8,8 @@ use Rattle.world_nodes.proofs.Exactly.{gives_acts}
 use Rattle.world_nodes.proofs.HandsOver.{answers_so, hands, hands_bytes, is_there, rests, stands_there}
 use Rattle.world_nodes.proofs.nodes.Nodes.hand_over.Goals as goal
 
-pub returns-in-Ok-clause-goes : goal.returns-in-Ok-clause-goes
-returns-in-Ok-clause-goes c =
+pub returns-in-Ok-clause-exact : goal.returns-in-Ok-clause-exact
+returns-in-Ok-clause-exact c =
     let below : c.args.node ≤ length c.self.inside.nodes.items = omega (arith, c.self.inside.nodes.ok.0, c.len.ensures, c.if-node-len.false) in
     let found = stands_there c.self.inside.nodes.items c.args.node c.index_mut-core.result.now c.if-node-eq0.false below c.index_mut-core.ensures.value in
     let is : node_of c.self.inside.nodes.items c.args.node ≡ Some c.index_mut-core.result.now = is_there c.self.inside.nodes.items c.args.node c.index_mut-core.result.now c.if-node-eq0.false found in
@@ -61,8 +61,8 @@ returns-in-Ok-clause-answer c =
       losses = c.self.inside.losses;
     } in old) c.args.node c.args.port c.index_mut-core.result.now c.in-Ok.handed is c.in-Ok.ensures.answer)
 
-pub returns-in-Ok-clause-step : goal.returns-in-Ok-clause-step
-returns-in-Ok-clause-step c =
+pub returns-in-Ok-clause-lossy : goal.returns-in-Ok-clause-lossy
+returns-in-Ok-clause-lossy c =
     let below : c.args.node ≤ length c.self.inside.nodes.items = omega (arith, c.self.inside.nodes.ok.0, c.len.ensures, c.if-node-len.false) in
     let found = stands_there c.self.inside.nodes.items c.args.node c.index_mut-core.result.now c.if-node-eq0.false below c.index_mut-core.ensures.value in
     let is : node_of c.self.inside.nodes.items c.args.node ≡ Some c.index_mut-core.result.now = is_there c.self.inside.nodes.items c.args.node c.index_mut-core.result.now c.if-node-eq0.false found in
@@ -90,8 +90,8 @@ returns-in-Ok-clause-step c =
       } in old) c.args.node c.args.port c.index_mut-core.result.now c.in-Ok.handed is c.in-Ok.ensures.answer,
     ))
 
-pub returns-in-Err-clause-step : goal.returns-in-Err-clause-step
-returns-in-Err-clause-step c =
+pub returns-in-Err-clause-lossy : goal.returns-in-Err-clause-lossy
+returns-in-Err-clause-lossy c =
     let below : c.args.node ≤ length c.self.inside.nodes.items = omega (arith, c.self.inside.nodes.ok.0, c.len.ensures, c.if-node-len.false) in
     let found = stands_there c.self.inside.nodes.items c.args.node c.index_mut-core.result.now c.if-node-eq0.false below c.index_mut-core.ensures.value in
     inr (

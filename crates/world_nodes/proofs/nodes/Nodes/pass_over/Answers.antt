@@ -20,8 +20,8 @@ pass_over-whole-requires-clause-nothing c =
       losses = c.self.inside.losses;
     } in old) c.args.at c.args.number p c.index_mut-core.result.now c.index_mut-core.ensures.value
 
-pub returns-clause-step : goal.returns-clause-step
-returns-clause-step c =
+pub returns-clause-lossy : goal.returns-clause-lossy
+returns-clause-lossy c =
     let p = rw (← c.self.view_is) at c.requires in
     let took = passed_by (let old : NodesState = record {
       master = c.self.inside.master;
@@ -52,8 +52,8 @@ returns-clause-step c =
       losses = c.self.inside.losses;
     } in old) p.node c.args.at p.runs c.pass_over-whole.new.node (Peer p.message) c.pass_over-whole.new.sent.items c.pass_over-whole.result c.counted-self-inside.result took c.counted-self-inside.ensures))
 
-pub returns-clause-goes : goal.returns-clause-goes
-returns-clause-goes c =
+pub returns-clause-exact : goal.returns-clause-exact
+returns-clause-exact c =
     let p = rw (← c.self.view_is) at c.requires in
     let took = passed_by (let old : NodesState = record {
       master = c.self.inside.master;
