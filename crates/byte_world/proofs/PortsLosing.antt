@@ -138,7 +138,7 @@ module _ (P : Connection → Type 0) (follows : IsFollowed P) where
   reads_kept now port core did (refuses c code found awaits is runs) all =
       becomes (changes port (refused code) core) did runs
       (each_at P follows port (refused code) core (λ d e. record { port = refl; name = refl; lives = λ f. absurd cc }) all)
-  reads_kept now port core did (ends runs) all = ends_kept port core did runs all
+  reads_kept now port core did (ends may runs) all = ends_kept port core did runs all
 
   -- ---- an item
 

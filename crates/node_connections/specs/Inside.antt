@@ -1,20 +1,14 @@
 -- What reading the front of a connection's bytes does.
-use Rattle.std.specs.Prelude.{◌≡◌, ℕ, if◌then◌else◌, List, Result, Ok, Err}
-use Rattle.cutter.specs.packet.Stop.{Stop}
+use Rattle.std.specs.Prelude.{◌≡◌, ℕ, if◌then◌else◌, List, Ok, Err}
 use Rattle.cutter.specs.packet.Stop.TheVariants as stops
-use Rattle.cutter.specs.packet.declared.packet.Packet.{Packet}
-use Rattle.cutter.specs.packet.Verdict.{verdict}
+use Rattle.cutter.specs.packet.Verdict.{verdict, MayNeedMemory}
 use Rattle.broker_spec.specs.Sized.{IsSized}
 use Rattle.node_connections.specs.declared.connection.Connection.{Connection}
 use Rattle.node_connections.specs.declared.front.Front.{Front}
 use Rattle.node_connections.specs.declared.front.Front.TheVariants as fronts
 use Rattle.node_connections.specs.Connections.{is_first, left_with, closed}
+use Rattle.node_connections.specs.Fronts.{IsFault, FrontNeedsMemory}
 use Rattle.node_connections.specs.Refusing.{refused}
-
--- a fault of the bytes
-abbrev pub IsFault : Result (Packet × List ℕ) Stop → Type 0
-IsFault (Err (stops.Malformed kind)) = Unit {0}
-IsFault _ = ⊥
 
 -- what is at the front of the bytes of a connection, and what is left of them
 abbrev pub Reads : List ℕ → Front → List ℕ → Type 0
@@ -22,7 +16,7 @@ Reads bytes fronts.More left = (verdict bytes ≡ Err stops.More) × (left ≡ b
 Reads bytes (fronts.Packet packet) left = (verdict bytes ≡ Ok (packet, left)) × IsSized packet
 Reads bytes (fronts.Refused code) left = verdict bytes ≡ Err (stops.Refused code)
 Reads bytes fronts.Fault left = IsFault (verdict bytes)
-Reads bytes fronts.OutOfMemory left = Unit {0}
+Reads bytes fronts.OutOfMemory left = MayNeedMemory bytes × (left ≡ bytes)
 
 -- what reading the next packet at this time does to a connection
 abbrev pub TakesFront : ℕ → Connection → Front → Connection → Type 0
@@ -34,4 +28,4 @@ TakesFront now old (fronts.Refused code) new =
     (verdict old.unread ≡ Err (stops.Refused code))
     × (new ≡ (if is_first old.stage then refused code old else closed old))
 TakesFront now old fronts.Fault new = IsFault (verdict old.unread) × (new ≡ closed old)
-TakesFront now old fronts.OutOfMemory new = new ≡ closed old
+TakesFront now old fronts.OutOfMemory new = FrontNeedsMemory old × (new ≡ closed old)

@@ -1,4 +1,5 @@
 pub mod Connections
+pub mod Fronts
 pub mod Inside
 pub mod Pending
 pub mod Refusing

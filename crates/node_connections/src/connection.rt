@@ -191,6 +191,7 @@ impl Connection {
 
     /// Reads the next packet, which is whole at this time. Anything except a packet or less than
     /// one closes the connection; a first CONNECT that is refused with a code is answered before.
+    /// Memory runs out only for such an answer, and for a packet with a text or a list.
     pub fn next(&mut self, now: u64) -> Front
         ensures { TakesFront now self.old result self.new }
     {

@@ -219,7 +219,7 @@ still_reads now port core did (first c packet rest found awaits is runs) = still
 still_reads now port core did (later c packet rest found after_first is runs) = still_says now port c core packet rest did found after_first is runs
 still_reads now port core did (refuses_it c code found awaits is runs) =
     by_account core (changes port (refused code) core) did runs (calm_move (exactly (refuses port c code found awaits is)) (refl, refl, refl, λ x. refl))
-still_reads now port core did (ends runs) = still_ends port core did runs
+still_reads now port core did (ends may runs) = still_ends port core did runs
 
 -- ---- a step
 

@@ -248,7 +248,7 @@ keep_read now port core did (later c packet rest found after_first is runs) =
     (keep_asked (commands.Packet c.name packet) (Shuts port) (keep_shuts port) (changes port (left_with now rest) core) did runs)
 keep_read now port core did (refuses c code found awaits is runs) =
     by_account core (changes port (refused code) core) did runs (keep_at port (refused code) core (λ c. refl))
-keep_read now port core did (ends runs) = keep_ended port core did runs
+keep_read now port core did (ends may runs) = keep_ended port core did runs
 
 -- ---- a connection is opened
 

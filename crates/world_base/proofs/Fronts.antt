@@ -21,7 +21,8 @@ use Rattle.node_connections.specs.declared.connection.ConnectionStage.TheVariant
 use Rattle.node_connections.specs.declared.connection.Connection.{Connection}
 use Rattle.node_connections.specs.Connections.{changed, closed, left_with, is_first, is_proposed, is_open_at}
 use Rattle.world_base.specs.Core.{CoreState, Turn}
-use Rattle.node_connections.specs.Inside.{TakesFront, IsFault}
+use Rattle.node_connections.specs.Fronts.{IsFault}
+use Rattle.node_connections.specs.Inside.{TakesFront}
 use Rattle.world_base.specs.Inside.{Running, DoesTurn}
 use Rattle.world_base.specs.Reading.{begins, changes, loses, open_at, reads, reads_next, refused, says}
 use Rattle.world_base.specs.Turns.{proposes, quiet}

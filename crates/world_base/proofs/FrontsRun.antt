@@ -1,6 +1,6 @@
 -- FrontsRun.antt: what is done by what the unread bytes of a connection begin with, if memory may
 -- have run out.
-use Rattle.std.proofs.Common.{◌≡◌, ℕ, Bool, true, false, if◌then◌else◌, List, Some, None, ◌⊎◌, inl, inr, refl, sym, ap, subst, ◌∙◌}
+use Rattle.std.proofs.Common.{◌≡◌, ℕ, Bool, true, false, if◌then◌else◌, List, Option, Some, None, ◌⊎◌, inl, inr, refl, sym, ap, subst, ◌∙◌}
 use Rattle.node_connections.specs.packet.RefusalCode.{RefusalCode}
 use Rattle.node_connections.specs.packet.declared.packet.Packet.{Packet}
 use Rattle.node_connections.specs.packet.declared.packet.Packet.TheVariants as packets
@@ -17,10 +17,11 @@ use Rattle.node_connections.specs.declared.connection.ConnectionStage.TheVariant
 use Rattle.node_connections.specs.declared.connection.Connection.{Connection}
 use Rattle.node_connections.specs.Connections.{asked, closed, is_first, is_proposed, left_with}
 use Rattle.world_base.specs.Core.{CoreState}
+use Rattle.node_connections.specs.Fronts.{FrontNeedsMemory, HasNoPacket}
 use Rattle.node_connections.specs.Inside.{TakesFront}
 use Rattle.world_base.specs.Inside.{BeginsOrSays, Ran, ReportsLost}
 use Rattle.world_base.specs.Lossy.{quietly}
-use Rattle.world_base.specs.LossyReading.{Begins, Connects, Ends, ReadsNext, Says}
+use Rattle.world_base.specs.LossyReading.{Begins, Connects, Ends, MayEnd, ReadsNext, Says}
 use Rattle.world_base.specs.LossyReading.Ends.{none_open}
 use Rattle.world_base.specs.LossyReading.ReadsNext.{waits, first, later, refuses, ends}
 use Rattle.world_base.specs.Reading.{changes, open_at, refused}
@@ -29,13 +30,16 @@ use Rattle.world_base.proofs.EndsRun.{ran_lost, ran_none_open}
 use Rattle.world_base.proofs.Fronts.{becomes_itself, becomes_same}
 
 -- a connection ends
-ends_there : (now : ℕ) (port : Port) (a r : CoreState) (x y : List (Effect Command Output)) → Ran (Ends port) a r x y →
+ends_there : (now : ℕ) (port : Port) (a r : CoreState) (x y : List (Effect Command Output)) → MayEnd (open_at port a) → Ran (Ends port) a r x y →
     Ran (ReadsNext now port) a r x y
-ends_there now port a r x y ran = ran_as (Ends port) (ReadsNext now port) a a r x y (λ did runs. ends runs) ran
+ends_there now port a r x y may ran = ran_as (Ends port) (ReadsNext now port) a a r x y (λ did runs. ends may runs) ran
+
+none_ends : (port : Port) (core : CoreState) → open_at port core ≡ None → MayEnd (open_at port core)
+none_ends port core none = subst (λ (o : Option Connection). MayEnd o) (sym none) tt
 
 pub ran_nothing_open : (now : ℕ) (port : Port) (core : CoreState) (x : List (Effect Command Output)) → open_at port core ≡ None →
     Ran (ReadsNext now port) core core x x
-ran_nothing_open now port core x e = ends_there now port core core x x (ran_none_open port core x e)
+ran_nothing_open now port core x e = ends_there now port core core x x (none_ends port core e) (ran_none_open port core x e)
 
 -- less than a packet
 pub ran_waits : (now : ℕ) (port : Port) (c new : Connection) (a b : CoreState) (x : List (Effect Command Output)) →
@@ -93,10 +97,10 @@ ran_other awaits port name packet a b x is other shut =
 -- ---- no packet, or no memory
 
 closed_there : (now : ℕ) (port : Port) (c new : Connection) (a b r : CoreState) (x y : List (Effect Command Output)) →
-    open_at port a ≡ Some c → new ≡ closed c → b ≡ changes port (λ _. new) a →
+    open_at port a ≡ Some c → HasNoPacket c ⊎ FrontNeedsMemory c → new ≡ closed c → b ≡ changes port (λ _. new) a →
     Ran (ReportsLost (is_proposed c.stage) c.name) b r x y → Ran (ReadsNext now port) a r x y
-closed_there now port c new a b r x y found shut is ran =
-    ends_there now port a r x y (ran_lost port c a b r x y found (is ∙ becomes_same port a c new closed found shut) ran)
+closed_there now port c new a b r x y found may shut is ran =
+    ends_there now port a r x y (subst (λ (o : Option Connection). MayEnd o) (sym found) may) (ran_lost port c a b r x y found (is ∙ becomes_same port a c new closed found shut) ran)
 
 first_not_proposed : (stage : ConnectionStage) → is_first stage ≡ true → is_proposed stage ≡ false
 first_not_proposed Awaits e = refl
@@ -114,7 +118,7 @@ refused_there now port c new code a b r x y found did is ran = by (is_first c.st
         ran_as (ReportsLost false c.name) (ReadsNext now port) a b r x y
         (λ done runs. refuses c code found e did.0 (runs ∙ ap quietly (is ∙ becomes_same port a c new (refused code) found answered)))
         (subst (λ (p : Bool). Ran (ReportsLost p c.name) b r x y) (first_not_proposed c.stage e) ran)
-    by false e shut = closed_there now port c new a b r x y found shut is ran
+    by false e shut = closed_there now port c new a b r x y found (inl (inr (e, (code, did.0)))) shut is ran
 
 pub ran_gone : (now : ℕ) (port : Port) (c new : Connection) (front : Front) (a b r : CoreState) (x y : List (Effect Command Output)) →
     open_at port a ≡ Some c → TakesFront now c front new →
@@ -123,16 +127,18 @@ pub ran_gone : (now : ℕ) (port : Port) (c new : Connection) (front : Front) (a
 ran_gone now port c new front a b r x y found did (inl (code, e)) is ran =
     refused_there now port c new code a b r x y found (subst (λ (f : Front). TakesFront now c f new) e did) is ran
 ran_gone now port c new front a b r x y found did (inr e) is ran =
-    closed_there now port c new a b r x y found (subst (λ (f : Front). TakesFront now c f new) e did).1 is ran
+    let fault = subst (λ (f : Front). TakesFront now c f new) e did in
+    closed_there now port c new a b r x y found (inl (inl fault.0)) fault.1 is ran
 
 pub ran_out_of_memory : (now : ℕ) (port : Port) (c new : Connection) (a b r : CoreState) (x y : List (Effect Command Output)) →
     open_at port a ≡ Some c → TakesFront now c fronts.OutOfMemory new → b ≡ changes port (λ _. new) a →
     Ran (ReportsLost (is_proposed c.stage) c.name) b r x y → Ran (ReadsNext now port) a r x y
-ran_out_of_memory now port c new a b r x y found did is ran = closed_there now port c new a b r x y found did is ran
+ran_out_of_memory now port c new a b r x y found did is ran =
+    closed_there now port c new a b r x y found (inr did.0) did.1 is ran
 
 -- if no whole packet is at the front, the next time nothing is done either
 pub idle_open : (now : ℕ) (port : Port) (core : CoreState) → open_at port core ≡ None → ReadsNext now port core (quietly core)
-idle_open now port core e = ends (ends_none e)
+idle_open now port core e = ends (none_ends port core e) (ends_none e)
   where
     ends_none : open_at port core ≡ None → Ends port core (quietly core)
     ends_none none = none_open none refl

@@ -158,7 +158,7 @@ reads_on now port core did (later c packet rest found after_first is runs) =
     (asks_on (commands.Packet c.name packet) (Shuts port) (shuts_on port) (changes port (left_with now rest) core) did runs)
 reads_on now port core did (refuses c code found awaits is runs) =
     quietly_on core (changes port (refused code) core) did runs (changes_on port (refused code) core (goes_refused code))
-reads_on now port core did (ends runs) = ends_on port core did runs
+reads_on now port core did (ends may runs) = ends_on port core did runs
 
 -- ---- an item
 

@@ -1,5 +1,5 @@
 -- How a connection ends, and how its next packet is read, if memory may run out.
-use Rattle.std.specs.Prelude.{◌≡◌, ◌⊎◌, ℕ, true, false, List, Some, None, Ok, Err}
+use Rattle.std.specs.Prelude.{◌≡◌, ◌⊎◌, ℕ, true, false, List, Option, Some, None, Ok, Err}
 use Rattle.std.specs.List.{find}
 use Rattle.node_connections.specs.packet.Stop.TheVariants as stops
 use Rattle.node_connections.specs.packet.RefusalCode.{RefusalCode}
@@ -13,6 +13,7 @@ use Rattle.node_connections.specs.broker_spec.declared.command.Command.TheVarian
 use Rattle.node_connections.specs.declared.port.Port.{Port}
 use Rattle.node_connections.specs.declared.connection.Connection.{Connection}
 use Rattle.node_connections.specs.Connections.{asked, closed, failing, has_failed, is_first, is_proposed, left_with}
+use Rattle.node_connections.specs.Fronts.{FrontNeedsMemory, HasNoPacket}
 use Rattle.world_base.specs.Core.{CoreState}
 use Rattle.world_base.specs.Failing.{closes_failed}
 use Rattle.world_base.specs.KeepAlive.{lowest_silent}
@@ -76,9 +77,14 @@ Begins port name _ core did = Closes port core did
 abbrev pub Says : Port → ConnectionName → Packet → CoreState → Account → Type 0
 Says port name packet core did = Asks (commands.Packet name packet) (Shuts port) core did
 
+-- what is at the front of its bytes may end a connection: it is no packet, or may need memory
+abbrev pub MayEnd : Option Connection → Type 0
+MayEnd None = Unit {0}
+MayEnd (Some c) = HasNoPacket c ⊎ FrontNeedsMemory c
+
 -- The packet at the front of a port's bytes is removed and proposed, or there is less than a
 -- packet. Or the connection ends, because there is no packet, or because there is no memory to read
--- it.
+-- or to refuse it.
 pub data ReadsNext (now : ℕ) (port : Port) (core : CoreState) (did : Account) : Type 0 where
   -- less than a packet is there
   waits : (c : Connection) → open_at port core ≡ Some c →
@@ -97,5 +103,5 @@ pub data ReadsNext (now : ℕ) (port : Port) (core : CoreState) (did : Account) 
   refuses : (c : Connection) (code : RefusalCode) → open_at port core ≡ Some c →
       is_first c.stage ≡ true → verdict c.unread ≡ Err (stops.Refused code) →
       did ≡ quietly (changes port (refused code) core) → ReadsNext now port core did
-  -- the connection ends
-  ends : Ends port core did → ReadsNext now port core did
+  -- the connection ends, if one is open
+  ends : MayEnd (open_at port core) → Ends port core did → ReadsNext now port core did
