@@ -26,11 +26,11 @@ use Rattle.node_group.specs.world_base.declared.item.Item.{Item}
 use Rattle.node_group.specs.ballot.Cutting.{can_cut}
 use Rattle.node_group.specs.world_base.declared.item.Item.TheVariants.{Peer, Tick, Opened, Bytes, Ended, Expel, Cut, Crash}
 use Rattle.node_group.specs.world_base.declared.Port.{Port}
-use Rattle.node_group.specs.world_base.Connections.{asked, changed, closed, failing, fresh, handed, holding, is_at, is_first, is_listed, is_open_at, is_open_named, is_proposed, left_with, max_pending, put_out, putting}
+use Rattle.node_group.specs.world_base.Connections.{noted_proposed, changed, closed, failing, fresh, handed, holding, is_at, is_first, is_listed, is_open_at, is_open_named, is_proposed, left_with, max_pending, put_out, putting}
 use Rattle.node_group.specs.world_base.Core.{CoreState, Turn, serves}
 use Rattle.node_group.specs.world_base.Handing.{hands_over, left_by, listed_at}
 use Rattle.node_group.specs.world_base.KeepAlive.{ends_if, ends_silent, lowest_silent}
-use Rattle.node_group.specs.world_base.Reading.{begins, changes, ends, loses, loses_open, open_at, reads, reads_next, reads_of, refused, says, unread_of}
+use Rattle.node_group.specs.world_base.Reading.{takes_first_packet, changes, ends, loses, loses_open, open_at, reads, reads_next, reads_of, refused, proposes_packet, unread_of}
 use Rattle.node_group.specs.world_base.Step.{acts_on, next_name, opens, does_item, cuts, with_cut}
 use Rattle.node_group.specs.world_base.Turns.{changes_named, drives, has_room, heard, proposes, quiet, repeated, handled}
 use Rattle.node_group.specs.node_moves.Moves.{NodeCall, done}
@@ -138,11 +138,11 @@ module _ (P : Connection → Type 0) (follows : IsFollowed P) where
   proposed_or_shut port command core true all = each_proposed P kept command core all
   proposed_or_shut port command core false all = shut_at port core all
 
-  each_begun : (port : Port) (name : ConnectionName) (packet : Packet) (core : CoreState) → AllOf core → AllOf (begins port name packet core).core
+  each_begun : (port : Port) (name : ConnectionName) (packet : Packet) (core : CoreState) → AllOf core → AllOf (takes_first_packet port name packet core).core
   each_begun port name (packets.Connect connect) core all =
-      let asking : CoreState = changes port (asked connect.keep_alive) core in
+      let asking : CoreState = changes port (noted_proposed connect.keep_alive) core in
       proposed_or_shut port (commands.Connect name connect.client connect.clean) asking (has_room asking)
-      (each_at port (asked connect.keep_alive) core (λ c e. record { port = refl; name = refl; lives = λ f. left_true (live c) (is_at port c) e }) all)
+      (each_at port (noted_proposed connect.keep_alive) core (λ c e. record { port = refl; name = refl; lives = λ f. left_true (live c) (is_at port c) e }) all)
   each_begun port name _ core all = shut_at port core all
 
   read_packet : (now : ℕ) (port : Port) (c : Connection) (core : CoreState) (packet : Packet) (rest : List ℕ) → AllOf core → AllOf (reads now port c core (Ok (packet, rest))).core
@@ -154,7 +154,7 @@ module _ (P : Connection → Type 0) (follows : IsFollowed P) where
       all_left : AllOf left
       all_left = each_at port (left_with now rest) core (λ d e. record { port = refl; name = refl; lives = λ f. f }) all
 
-      by : (b : Bool) → AllOf (let t : Turn = if b then begins port c.name packet left else says port c.name packet left in t).core
+      by : (b : Bool) → AllOf (let t : Turn = if b then takes_first_packet port c.name packet left else proposes_packet port c.name packet left in t).core
       by true = each_begun port c.name packet left all_left
       by false = proposed_or_shut port (commands.Packet c.name packet) left (has_room left) all_left
 

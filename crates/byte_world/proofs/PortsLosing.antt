@@ -19,7 +19,7 @@ use Rattle.node_group.specs.world_base.declared.item.Item.{Item}
 use Rattle.node_group.specs.world_base.LossyStep.Cuts.{nothing_to_cut, cuts_log, forgets_cut}
 use Rattle.node_group.specs.world_base.declared.item.Item.TheVariants.{Peer, Tick, Opened, Bytes, Ended, Expel, Cut, Crash}
 use Rattle.node_group.specs.world_base.declared.Port.{Port}
-use Rattle.node_group.specs.world_base.Connections.{asked, closed, failing, has_failed, holding, is_at, left_with, put_out}
+use Rattle.node_group.specs.world_base.Connections.{noted_proposed, closed, failing, has_failed, holding, is_at, left_with, put_out}
 use Rattle.node_group.specs.world_base.Core.{CoreState}
 use Rattle.node_group.specs.world_base.Failing.{closes_failed}
 use Rattle.node_group.specs.world_base.Lossy.{Account, HandlesAll, Drives, Repeated, Performs, Takes, Then, quietly}
@@ -27,7 +27,7 @@ use Rattle.node_group.specs.world_base.LossyProposals.{Declines, Proposes}
 use Rattle.node_group.specs.world_base.LossyProposals.Declines.{no_room, forgets, stops}
 use Rattle.node_group.specs.world_base.Lossy.HandlesAll.{nothing, does, tells, loses}
 use Rattle.node_group.specs.world_base.LossyStep.{ActsOn, Holds, LosesAllFailed, Opens, ReadsAll, RunsOn, DoesItem}
-use Rattle.node_group.specs.world_base.LossyReading.{Asks, Begins, Closes, Ends, EndsSilent, LosesFailed, ReadsNext, Shuts}
+use Rattle.node_group.specs.world_base.LossyReading.{TakesOr, TakesFirstPacket, Closes, Ends, EndsSilent, LosesFailed, ReadsNext, Shuts}
 use Rattle.node_group.specs.world_base.LossyReading.Ends.{none_open, unproposed, proposed}
 use Rattle.node_group.specs.world_base.LossyReading.EndsSilent.{none_silent, ends_one}
 use Rattle.node_group.specs.world_base.LossyReading.LosesFailed.{none_failed, tells_one}
@@ -116,14 +116,14 @@ module _ (P : Connection → Type 0) (follows : IsFollowed P) where
   shuts_kept port core did (inl is) all = closes_kept port core did is all
   shuts_kept port core did (inr is) all = becomes (changes port failing core) did is (each_at P follows port failing core (λ c e. fails_later c) all)
 
-  asks_kept : (command : Command) (O : CoreState → Account → Type 0) → Keeps O → Keeps (Asks command O)
+  asks_kept : (command : Command) (O : CoreState → Account → Type 0) → Keeps O → Keeps (TakesOr command O)
   asks_kept command O o core did (inl taken) all = takes_kept command core did taken all
   asks_kept command O o core did (inr t) all = then_kept Declines O declines_kept o core did t all
 
-  begins_kept : (port : Port) (name : ConnectionName) (packet : Packet) → Keeps (Begins port name packet)
+  begins_kept : (port : Port) (name : ConnectionName) (packet : Packet) → Keeps (TakesFirstPacket port name packet)
   begins_kept port name (packets.Connect connect) core did runs all =
-      asks_kept (commands.Connect name connect.client connect.clean) (Closes port) (closes_kept port) (changes port (asked connect.keep_alive) core) did runs
-      (each_at P follows port (asked connect.keep_alive) core (λ c e. record { port = refl; name = refl; lives = λ f. left_true (live c) (is_at port c) e }) all)
+      asks_kept (commands.Connect name connect.client connect.clean) (Closes port) (closes_kept port) (changes port (noted_proposed connect.keep_alive) core) did runs
+      (each_at P follows port (noted_proposed connect.keep_alive) core (λ c e. record { port = refl; name = refl; lives = λ f. left_true (live c) (is_at port c) e }) all)
   begins_kept port name _ core did runs all = closes_kept port core did runs all
 
   left_kept : (now : ℕ) (port : Port) (rest : List ℕ) (core : CoreState) → All core → All (changes port (left_with now rest) core)

@@ -27,10 +27,10 @@ use Rattle.packet_world.specs.broker_spec.declared.command.Output.TheVariants as
 use Rattle.node_moves.specs.world_base.declared.Connection.{Connection}
 use Rattle.node_moves.specs.world_base.declared.item.Item.TheVariants.{Bytes}
 use Rattle.node_moves.specs.world_base.declared.Port.{Port}
-use Rattle.node_moves.specs.world_base.Connections.{asked, changed, closed, holding, is_at, is_first, is_open_at, is_open_named, is_over, is_proposed, left_with, max_pending}
+use Rattle.node_moves.specs.world_base.Connections.{noted_proposed, changed, closed, holding, is_at, is_first, is_open_at, is_open_named, is_over, is_proposed, left_with, max_pending}
 use Rattle.node_moves.specs.world_base.Core.{CoreState, Turn, rules, serves}
 use Rattle.node_moves.specs.world_base.Handing.{listed_at}
-use Rattle.node_moves.specs.world_base.Reading.{begins, changes, loses, open_at, reads, reads_all, reads_next, reads_of, refused, says, unread_of}
+use Rattle.node_moves.specs.world_base.Reading.{takes_first_packet, changes, loses, open_at, reads, reads_all, reads_next, reads_of, refused, proposes_packet, unread_of}
 use Rattle.node_moves.specs.world_base.Step.{node_step}
 use Rattle.node_moves.specs.world_base.Turns.{has_room, moved, proposes, quiet, repeated, handled}
 use Rattle.node_moves.proofs.Views.{found_passes}
@@ -72,10 +72,10 @@ module _ (at : Port) (front : List ℕ) (some : 0 < length front) where
   keeps_proposed port command core z true = front_proposed at front some command core z
   keeps_proposed port command core z false = keeps_change port closed core (closed_keeps at front some) z
 
-  keeps_begun : (port : Port) (x : ConnectionName) (packet : Packet) (core : CoreState) → HasFront core → HasFront (begins port x packet core).core
+  keeps_begun : (port : Port) (x : ConnectionName) (packet : Packet) (core : CoreState) → HasFront core → HasFront (takes_first_packet port x packet core).core
   keeps_begun port x (packets.Connect connect) core z =
-      let k = changes port (asked connect.keep_alive) core in
-      keeps_proposed port (commands.Connect x connect.client connect.clean) k (keeps_change port (asked connect.keep_alive) core (plain (asked connect.keep_alive) (λ d. refl) (λ d. refl)) z) (has_room k)
+      let k = changes port (noted_proposed connect.keep_alive) core in
+      keeps_proposed port (commands.Connect x connect.client connect.clean) k (keeps_change port (noted_proposed connect.keep_alive) core (plain (noted_proposed connect.keep_alive) (λ d. refl) (λ d. refl)) z) (has_room k)
   keeps_begun port x _ core z = keeps_change port closed core (closed_keeps at front some) z
 
   keeps_read : (now : ℕ) (port : Port) (c : Connection) (core : CoreState) (v : Result (Packet × List ℕ) Stop) → HasFront core → HasFront (reads now port c core v).core
@@ -91,7 +91,7 @@ module _ (at : Port) (front : List ℕ) (some : 0 < length front) where
       left : HasFront (changes port (left_with now rest) core)
       left = keeps_change port (left_with now rest) core (plain (left_with now rest) (λ d. refl) (λ d. refl)) z
 
-      by : (b : Bool) → HasFront (let t : Turn = if b then begins port c.name packet (changes port (left_with now rest) core) else says port c.name packet (changes port (left_with now rest) core) in t).core
+      by : (b : Bool) → HasFront (let t : Turn = if b then takes_first_packet port c.name packet (changes port (left_with now rest) core) else proposes_packet port c.name packet (changes port (left_with now rest) core) in t).core
       by true = keeps_begun port c.name packet (changes port (left_with now rest) core) left
       by false = keeps_proposed port (commands.Packet c.name packet) (changes port (left_with now rest) core) left (has_room (changes port (left_with now rest) core))
 
@@ -149,12 +149,12 @@ module _ (core : CoreState) (port : Port) (now : ℕ) (piece : List ℕ) (c : Co
   found = find_changed (is_open_at port) (holding piece) core.connections c (λ d e. e) opened
 
   asked_is : ◌≡◌ {A = CoreState} (record core {
-    connections = changed (is_open_at port) (asked connect.keep_alive)
+    connections = changed (is_open_at port) (noted_proposed connect.keep_alive)
         (changed (is_open_at port) (left_with now []) (changed (is_open_at port) (holding piece) core.connections));
   }) (with_change now_asked)
   asked_is = ap (λ (l : List Connection). let k : CoreState = record core { connections = l } in k)
-      (changed_twice (is_open_at port) (asked connect.keep_alive) (left_with now []) (changed (is_open_at port) (holding piece) core.connections) (λ d e. e)
-      ∙ changed_twice (is_open_at port) (λ (d : Connection). asked connect.keep_alive (left_with now [] d)) (holding piece) core.connections (λ d e. e))
+      (changed_twice (is_open_at port) (noted_proposed connect.keep_alive) (left_with now []) (changed (is_open_at port) (holding piece) core.connections) (λ d e. e)
+      ∙ changed_twice (is_open_at port) (λ (d : Connection). noted_proposed connect.keep_alive (left_with now [] d)) (holding piece) core.connections (λ d e. e))
 
   first_read : reads_next now port (with_change (holding piece)) ≡ proposes command (with_change now_asked)
   unfolding reads_next changes

@@ -24,7 +24,7 @@ use Rattle.packet_world.specs.broker_base.State.{State}
 use Rattle.node_moves.specs.world_base.declared.Connection.{Connection}
 use Rattle.node_moves.specs.world_base.declared.item.Item.TheVariants.{Bytes}
 use Rattle.node_moves.specs.world_base.declared.Port.{Port}
-use Rattle.node_moves.specs.world_base.Connections.{asked, changed, closed, has_failed, holding, is_at, is_first, is_listed, is_open_at, is_over, left_with}
+use Rattle.node_moves.specs.world_base.Connections.{noted_proposed, changed, closed, has_failed, holding, is_at, is_first, is_listed, is_open_at, is_over, left_with}
 use Rattle.node_moves.specs.world_base.Core.{CoreState, Turn, rules, serves}
 use Rattle.node_moves.specs.world_base.Failing.{loses_all_failed}
 use Rattle.node_moves.specs.world_base.Reading.{changes, open_at, reads, reads_all, reads_next, reads_of, unread_of}
@@ -154,12 +154,12 @@ module _ (core : CoreState) (port : Port) (now : ℕ) (piece : List ℕ) (c : Co
   found = find_changed (is_open_at port) (holding piece) core.connections c (λ d e. e) opened
 
   asked_is : ◌≡◌ {A = CoreState} (record core {
-    connections = changed (is_open_at port) (asked connect.keep_alive)
+    connections = changed (is_open_at port) (noted_proposed connect.keep_alive)
         (changed (is_open_at port) (left_with now []) (changed (is_open_at port) (holding piece) core.connections));
   }) (with_change (asked_now now connect.keep_alive))
   asked_is = ap (λ (l : List Connection). let k : CoreState = record core { connections = l } in k)
-      (changed_twice (is_open_at port) (asked connect.keep_alive) (left_with now []) (changed (is_open_at port) (holding piece) core.connections) (λ d e. e)
-      ∙ changed_twice (is_open_at port) (λ (d : Connection). asked connect.keep_alive (left_with now [] d)) (holding piece) core.connections (λ d e. e))
+      (changed_twice (is_open_at port) (noted_proposed connect.keep_alive) (left_with now []) (changed (is_open_at port) (holding piece) core.connections) (λ d e. e)
+      ∙ changed_twice (is_open_at port) (λ (d : Connection). noted_proposed connect.keep_alive (left_with now [] d)) (holding piece) core.connections (λ d e. e))
 
   abbrev first_turn : Turn
   first_turn = record { core = after; messages = (proposal_at core command).effects }

@@ -84,8 +84,8 @@ abbrev pub left_with : ℕ → List ℕ → Connection → Connection
 left_with now rest c = record c { unread = rest; last_packet = now }
 
 -- a connection's CONNECT, with this keep alive, is proposed
-abbrev pub asked : ℕ → Connection → Connection
-asked keep_alive c = record c { stage = Proposed; keep_alive = keep_alive }
+abbrev pub noted_proposed : ℕ → Connection → Connection
+noted_proposed keep_alive c = record c { stage = Proposed; keep_alive = keep_alive }
 
 -- closed: nothing more is read or waited for, and what was queued before is still handed over
 abbrev pub closed : Connection → Connection

@@ -1,7 +1,7 @@
 // One connection of a node.
 
 ghost use Rattle.std.specs.Prelude.{◌≡◌, ◌++◌, [], false, true, IsOk, OnOk, OnErr};
-ghost use Rattle.node_connections.specs.Connections.{asked, closed, failing, fresh, has_failed, put_out, handed, holding, is_at, is_first, is_listed, is_open_at, is_open_named, is_over, is_proposed, is_silent, putting};
+ghost use Rattle.node_connections.specs.Connections.{noted_proposed, closed, failing, fresh, has_failed, put_out, handed, holding, is_at, is_first, is_listed, is_open_at, is_open_named, is_over, is_proposed, is_silent, putting};
 ghost use Rattle.node_connections.specs.Pending.{answer_of, is_idle};
 ghost use Rattle.node_connections.specs.Inside.{TakesFront};
 ghost use Rattle.node_connections.specs.Stands.{standing_of};
@@ -213,7 +213,7 @@ impl Connection {
 
     /// Notes that its CONNECT, which has this keep alive, is proposed.
     pub fn note_proposed(&mut self, keep_alive: u16)
-        ensures { self.new ≡ asked keep_alive self.old }
+        ensures { self.new ≡ noted_proposed keep_alive self.old }
     {
         self.stage = ConnectionStage::Proposed;
         self.keep_alive = keep_alive;

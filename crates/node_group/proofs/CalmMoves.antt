@@ -5,7 +5,7 @@ use Rattle.node_moves.specs.ballot.Replica.{ReplicaState}
 use Rattle.packet_world.specs.broker_base.State.{State}
 use Rattle.packet_world.specs.broker_spec.declared.command.Command.{Command}
 use Rattle.packet_world.specs.broker_spec.declared.command.Command.TheVariants as commands
-use Rattle.node_moves.specs.world_base.Connections.{asked, closed, failing, left_with}
+use Rattle.node_moves.specs.world_base.Connections.{noted_proposed, closed, failing, left_with}
 use Rattle.node_moves.specs.world_base.Core.{CoreState, Turn, rules}
 use Rattle.node_moves.specs.world_base.Lossy.{Account, Takes}
 use Rattle.node_moves.specs.world_base.Reading.{changes}
@@ -31,8 +31,8 @@ pub calm_role : (core : CoreState) (turn : Turn) (m : LossyMoves core turn) → 
 calm_role core turn (exactly m) calm = (move_same core turn m calm).role
 calm_role core turn (hears_losing input did other drives) calm = absurd cc
 calm_role core turn (first_losing now port c connect rest did at first is taken) calm =
-    taken_role _ core (changes port (asked connect.keep_alive) (changes port (left_with now rest) core)) did
-    (changed_state port (asked connect.keep_alive) (changes port (left_with now rest) core) ∙ changed_state port (left_with now rest) core) taken
+    taken_role _ core (changes port (noted_proposed connect.keep_alive) (changes port (left_with now rest) core)) did
+    (changed_state port (noted_proposed connect.keep_alive) (changes port (left_with now rest) core) ∙ changed_state port (left_with now rest) core) taken
 calm_role core turn (later_losing now port c packet rest did at later is taken) calm =
     taken_role _ core (changes port (left_with now rest) core) did (changed_state port (left_with now rest) core) taken
 calm_role core turn (tells_losing name did taken) calm = taken_role (commands.Lost name) core core did refl taken

@@ -6,7 +6,7 @@ use Rattle.packet_world.specs.broker_spec.declared.command.Command.TheVariants a
 use Rattle.packet_world.specs.broker_spec.Connection.{ConnectionName, is_connection_name}
 use Rattle.node_moves.specs.world_base.declared.Port.{Port}
 use Rattle.node_moves.specs.world_base.declared.Connection.{Connection}
-use Rattle.node_moves.specs.world_base.Connections.{asked, closed, failing, fresh, is_at, left_with}
+use Rattle.node_moves.specs.world_base.Connections.{noted_proposed, closed, failing, fresh, is_at, left_with}
 use Rattle.node_moves.specs.world_base.Core.{CoreState, Turn, serves}
 use Rattle.node_moves.specs.world_base.Failing.{closes_failed}
 use Rattle.node_moves.specs.world_base.Lossy.{Account, Takes}
@@ -50,8 +50,8 @@ exactly_given x core turn (holds port piece) o given = by_same x core turn.core 
 exactly_given x core turn (reads_first now port c connect rest at first is room) o given =
     let left : CoreState = changes port (left_with now rest) core in
     by_same x core turn.core
-    (after _ core (changes port (asked connect.keep_alive) left) (at_orderly port (asked connect.keep_alive) left (at_orderly port (left_with now rest) core o (λ d. refl)) (λ d. refl))
-    (same_last port (asked connect.keep_alive) left ∙ same_last port (left_with now rest) core)) given
+    (after _ core (changes port (noted_proposed connect.keep_alive) left) (at_orderly port (noted_proposed connect.keep_alive) left (at_orderly port (left_with now rest) core o (λ d. refl)) (λ d. refl))
+    (same_last port (noted_proposed connect.keep_alive) left ∙ same_last port (left_with now rest) core)) given
 exactly_given x core turn (reads_later now port c packet rest at later is room) o given =
     by_same x core turn.core
     (after _ core (changes port (left_with now rest) core) (at_orderly port (left_with now rest) core o (λ d. refl)) (same_last port (left_with now rest) core)) given
@@ -78,8 +78,8 @@ stays_given x core turn (hears_losing input did other drives_so) o given = by_sa
 stays_given x core turn (first_losing now port c connect rest did at first is taken) o given =
     let left : CoreState = changes port (left_with now rest) core in
     by_same x core turn.core
-    (taken_last _ core (changes port (asked connect.keep_alive) left) did (at_orderly port (asked connect.keep_alive) left (at_orderly port (left_with now rest) core o (λ d. refl)) (λ d. refl))
-    (same_last port (asked connect.keep_alive) left ∙ same_last port (left_with now rest) core) taken) given
+    (taken_last _ core (changes port (noted_proposed connect.keep_alive) left) did (at_orderly port (noted_proposed connect.keep_alive) left (at_orderly port (left_with now rest) core o (λ d. refl)) (λ d. refl))
+    (same_last port (noted_proposed connect.keep_alive) left ∙ same_last port (left_with now rest) core) taken) given
 stays_given x core turn (later_losing now port c packet rest did at later is taken) o given =
     by_same x core turn.core
     (taken_last _ core (changes port (left_with now rest) core) did (at_orderly port (left_with now rest) core o (λ d. refl)) (same_last port (left_with now rest) core) taken) given

@@ -16,7 +16,7 @@ use Rattle.packet_world.specs.broker_spec.declared.command.Command.TheVariants a
 use Rattle.packet_world.specs.broker_spec.declared.command.Output.{Output}
 use Rattle.packet_world.specs.snapshots.Moments.{Moment, Moments}
 use Rattle.packet_world.specs.snapshots.World.{messages, outputs}
-use Rattle.node_moves.specs.world_base.Connections.{asked, closed, failing, left_with}
+use Rattle.node_moves.specs.world_base.Connections.{noted_proposed, closed, failing, left_with}
 use Rattle.node_moves.specs.world_base.Core.{CoreState, Turn, rules, serves}
 use Rattle.node_moves.specs.world_base.Lossy.{Account, Drives, Takes}
 use Rattle.node_moves.specs.world_base.Reading.{changes}
@@ -138,8 +138,8 @@ pub losses_happen : (g : Group) (n : ℕ) (core : CoreState) (turn : Turn) (m : 
 losses_happen g n core turn (exactly m) kept at sent frozen t = moves_happen g n core turn m kept at (sent_by g n m sent frozen) t
 losses_happen g n core turn (hears_losing input did other drives) kept at sent frozen t = drives_happen g n core input did kept at other sent.0 drives t
 losses_happen g n core turn (first_losing now port c connect rest did is_at first is taken) kept at sent frozen t =
-    takes_happen g n core (changes port (asked connect.keep_alive) (changes port (left_with now rest) core)) _ did kept at
-    (changes_keep port (asked connect.keep_alive) (changes port (left_with now rest) core) ∙ changes_keep port (left_with now rest) core) taken t
+    takes_happen g n core (changes port (noted_proposed connect.keep_alive) (changes port (left_with now rest) core)) _ did kept at
+    (changes_keep port (noted_proposed connect.keep_alive) (changes port (left_with now rest) core) ∙ changes_keep port (left_with now rest) core) taken t
 losses_happen g n core turn (later_losing now port c packet rest did is_at later is taken) kept at sent frozen t =
     takes_happen g n core (changes port (left_with now rest) core) _ did kept at (changes_keep port (left_with now rest) core) taken t
 losses_happen g n core turn (tells_losing name did taken) kept at sent frozen t = takes_happen g n core core (commands.Lost name) did kept at refl taken t

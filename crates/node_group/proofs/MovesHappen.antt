@@ -50,7 +50,7 @@ use Rattle.node_moves.specs.world_base.Core.{CoreState, Turn, rules, serves}
 use Rattle.node_moves.specs.world_base.Failing.{closes_failed}
 use Rattle.node_moves.specs.world_base.Reading.{changes}
 use Rattle.node_moves.specs.world_base.Turns.{drives, has_room, heard, moved, proposes, quiet}
-use Rattle.node_moves.specs.world_base.Connections.{asked, closed, holding, left_with}
+use Rattle.node_moves.specs.world_base.Connections.{noted_proposed, closed, holding, left_with}
 use Rattle.node_moves.specs.world_base.Handing.{hands_over}
 use Rattle.node_moves.specs.world_base.Reading.{refused}
 use Rattle.node_moves.specs.world_base.Step.{opens, settled, with_cut}
@@ -409,8 +409,8 @@ moves_happen g n core turn (hears input other) kept at sent t = heard_happens g 
 moves_happen g n core turn (opens_one port) kept at sent t = quietly g n core _ kept at (state_of (opens port core) core (opens_keeps port core)) t
 moves_happen g n core turn (holds port piece) kept at sent t = quietly g n core _ kept at (changed_state port (holding piece) core) t
 moves_happen g n core turn (reads_first now port c connect rest is_at first is room) kept at sent t =
-    put_happens g n core (changes port (asked connect.keep_alive) (changes port (left_with now rest) core)) _ kept at
-    (changes_keep port (asked connect.keep_alive) (changes port (left_with now rest) core) ∙ changes_keep port (left_with now rest) core)
+    put_happens g n core (changes port (noted_proposed connect.keep_alive) (changes port (left_with now rest) core)) _ kept at
+    (changes_keep port (noted_proposed connect.keep_alive) (changes port (left_with now rest) core) ∙ changes_keep port (left_with now rest) core)
     (room_serves core (nat_lt (places (replica_of core).log) max_places) room) (λ x is_one. room_is core room) t
 moves_happen g n core turn (reads_later now port c packet rest is_at later is room) kept at sent t =
     put_happens g n core (changes port (left_with now rest) core) _ kept at (changes_keep port (left_with now rest) core)

@@ -11,7 +11,7 @@ use Rattle.packet_world.specs.broker_spec.declared.command.Command.{Command}
 use Rattle.packet_world.specs.broker_spec.declared.command.Command.TheVariants as commands
 use Rattle.packet_world.specs.broker_spec.Connection.{ConnectionName}
 use Rattle.packet_world.specs.exactly_once.StoryCommands.{is_packet_of}
-use Rattle.node_moves.specs.world_base.Connections.{asked, left_with}
+use Rattle.node_moves.specs.world_base.Connections.{noted_proposed, left_with}
 use Rattle.node_moves.specs.world_base.Core.{CoreState, Turn, serves}
 use Rattle.node_moves.specs.world_base.Lossy.{Account, Takes}
 use Rattle.node_moves.specs.world_base.Reading.{changes}
@@ -77,8 +77,8 @@ puts_in : (core : CoreState) (turn : Turn) (m : LossyMoves core turn) → IsOrde
 puts_in core turn (exactly m) o of = exactly_in core turn m o of
 puts_in core turn (first_losing now port c connect rest did at first is taken) o of = (
   proposed_in core turn (first_losing now port c connect rest did at first is taken) (commands.Connect c.name connect.client connect.clean) o of
-      (serves_who_takes core (changes port (asked connect.keep_alive) (changes port (left_with now rest) core)) _ did
-      (changes_keep port (asked connect.keep_alive) (changes port (left_with now rest) core) ∙ changes_keep port (left_with now rest) core) taken) refl,
+      (serves_who_takes core (changes port (noted_proposed connect.keep_alive) (changes port (left_with now rest) core)) _ did
+      (changes_keep port (noted_proposed connect.keep_alive) (changes port (left_with now rest) core) ∙ changes_keep port (left_with now rest) core) taken) refl,
   tt,
 )
 puts_in core turn (later_losing now port c packet rest did at later is taken) o of = (

@@ -7,7 +7,7 @@ use Rattle.world_base.specs.ballot.Replica.{CountedReplica}
 use Rattle.exactly_once.specs.broker_base.State.{State}
 use Rattle.exactly_once.specs.broker_spec.declared.command.Command.{Command}
 use Rattle.exactly_once.specs.broker_spec.declared.command.Command.TheVariants as commands
-use Rattle.world_base.specs.Connections.{asked, closed, failing, left_with}
+use Rattle.world_base.specs.Connections.{noted_proposed, closed, failing, left_with}
 use Rattle.world_base.specs.Core.{CoreState, Turn}
 use Rattle.world_base.specs.Reading.{changes}
 use Rattle.world_base.specs.Step.{node_step}
@@ -34,8 +34,8 @@ pub calm_base : (core : CoreState) (turn : Turn) (m : LossyMoves core turn) → 
 calm_base core turn (exactly m) calm = (move_same core turn m calm).base
 calm_base core turn (hears_losing input did other drives) calm = absurd cc
 calm_base core turn (first_losing now port c connect rest did at first is taken) calm =
-    (taken_after _ core (changes port (asked connect.keep_alive) (changes port (left_with now rest) core)) did
-    (at_replica port (asked connect.keep_alive) (changes port (left_with now rest) core) ∙ at_replica port (left_with now rest) core) taken).base
+    (taken_after _ core (changes port (noted_proposed connect.keep_alive) (changes port (left_with now rest) core)) did
+    (at_replica port (noted_proposed connect.keep_alive) (changes port (left_with now rest) core) ∙ at_replica port (left_with now rest) core) taken).base
 calm_base core turn (later_losing now port c packet rest did at later is taken) calm =
     (taken_after _ core (changes port (left_with now rest) core) did (at_replica port (left_with now rest) core) taken).base
 calm_base core turn (tells_losing name did taken) calm = (taken_same (commands.Lost name) core did taken).base

@@ -14,7 +14,7 @@ use Rattle.exactly_once.specs.broker_spec.declared.command.Output.{Output}
 use Rattle.exactly_once.specs.lists.Lists.{In}
 use Rattle.exactly_once.specs.StoryCommands.{is_packet_of}
 use Rattle.world_base.specs.declared.Connection.{Connection}
-use Rattle.world_base.specs.Connections.{asked, failing, closed, is_over, left_with}
+use Rattle.world_base.specs.Connections.{noted_proposed, failing, closed, is_over, left_with}
 use Rattle.world_base.specs.Core.{CoreState, Turn, rules, serves}
 use Rattle.world_base.specs.Lossy.{Account, Drives, Takes}
 use Rattle.world_base.specs.Reading.{changes}
@@ -92,8 +92,8 @@ calm_keeps core turn (exactly m) o calm of = exact_calm core turn m o calm of
 calm_keeps core turn (hears_losing input did other drives) o calm of = absurd cc
 calm_keeps core turn (first_losing now port c connect rest did at first is taken) o calm of =
     by_same core turn (first_losing now port c connect rest did at first is taken) o tt
-    (taken_after _ core (changes port (asked connect.keep_alive) (changes port (left_with now rest) core)) did
-    (at_replica port (asked connect.keep_alive) (changes port (left_with now rest) core) ∙ at_replica port (left_with now rest) core) taken) of
+    (taken_after _ core (changes port (noted_proposed connect.keep_alive) (changes port (left_with now rest) core)) did
+    (at_replica port (noted_proposed connect.keep_alive) (changes port (left_with now rest) core) ∙ at_replica port (left_with now rest) core) taken) of
 calm_keeps core turn (later_losing now port c packet rest did at later is taken) o calm of =
     by_same core turn (later_losing now port c packet rest did at later is taken) o tt
     (taken_after _ core (changes port (left_with now rest) core) did (at_replica port (left_with now rest) core) taken) of

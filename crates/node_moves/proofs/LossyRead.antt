@@ -10,7 +10,7 @@ use Rattle.exactly_once.specs.broker_base.State.{State}
 use Rattle.exactly_once.specs.broker_spec.declared.command.Command.{Command}
 use Rattle.exactly_once.specs.broker_spec.Connection.{ConnectionName}
 use Rattle.exactly_once.specs.StoryCommands.{is_packet_of}
-use Rattle.world_base.specs.Connections.{asked, left_with}
+use Rattle.world_base.specs.Connections.{noted_proposed, left_with}
 use Rattle.world_base.specs.Core.{CoreState, Turn, rules}
 use Rattle.world_base.specs.Lossy.{Account, Takes}
 use Rattle.world_base.specs.Reading.{changes}
@@ -77,8 +77,8 @@ taken_log command core between did same t =
 pub losses_are_taken : LossesAreTaken
 losses_are_taken core turn (exactly m) read = reads_are_taken core turn m read
 losses_are_taken core turn (first_losing now port c connect rest did at first is taken) read =
-    taken_log _ core (changes port (asked connect.keep_alive) (changes port (left_with now rest) core)) did
-    (at_replica port (asked connect.keep_alive) (changes port (left_with now rest) core) ∙ at_replica port (left_with now rest) core) taken
+    taken_log _ core (changes port (noted_proposed connect.keep_alive) (changes port (left_with now rest) core)) did
+    (at_replica port (noted_proposed connect.keep_alive) (changes port (left_with now rest) core) ∙ at_replica port (left_with now rest) core) taken
 losses_are_taken core turn (later_losing now port c packet rest did at later is taken) read =
     taken_log _ core (changes port (left_with now rest) core) did (at_replica port (left_with now rest) core) taken
 losses_are_taken core turn (hears_losing input did other drives) read = absurd cc

@@ -16,7 +16,7 @@ use Rattle.exactly_once.proofs.of_broker_spec.ConnectionNames.{same_name}
 use Rattle.exactly_once.specs.StoryCommands.{is_packet_of}
 use Rattle.world_base.specs.declared.Port.{Port}
 use Rattle.world_base.specs.declared.Connection.{Connection}
-use Rattle.world_base.specs.Connections.{asked, closed, failing, is_at, is_first, is_open_at, left_with}
+use Rattle.world_base.specs.Connections.{noted_proposed, closed, failing, is_at, is_first, is_open_at, left_with}
 use Rattle.world_base.specs.Core.{CoreState, Turn, rules}
 use Rattle.world_base.specs.Lossy.{Account, Drives, Takes}
 use Rattle.world_base.specs.Reading.{changes, open_at}
@@ -91,7 +91,7 @@ stays_reads {core = core} {turn = turn} m s no_bytes none = (
 
 abbrev first_move : (now : ℕ) (core : CoreState) (port : Port) (c : Connection) (connect : Connect) (rest : List ℕ) (did : Account) → open_at port core ≡ Some c → is_first c.stage ≡ true
     → verdict c.unread ≡ Ok (packets.Connect connect, rest)
-    → Takes (commands.Connect c.name connect.client connect.clean) (changes port (asked connect.keep_alive) (changes port (left_with now rest) core)) did
+    → Takes (commands.Connect c.name connect.client connect.clean) (changes port (noted_proposed connect.keep_alive) (changes port (left_with now rest) core)) did
     → LossyMoves core (record { core = did.core; messages = did.messages })
 first_move now core port c connect rest did at first reads taken = first_losing now port c connect rest did at first reads taken
 
@@ -102,7 +102,7 @@ later_move now core port c packet rest did at later reads taken = later_losing n
 
 first_reads : (now : ℕ) (core : CoreState) (port : Port) (c : Connection) (connect : Connect) (rest : List ℕ) (did : Account) (at : open_at port core ≡ Some c) (first : is_first c.stage ≡ true)
     (reads : verdict c.unread ≡ Ok (packets.Connect connect, rest))
-    (taken : Takes (commands.Connect c.name connect.client connect.clean) (changes port (asked connect.keep_alive) (changes port (left_with now rest) core)) did) → IsOrderly core
+    (taken : Takes (commands.Connect c.name connect.client connect.clean) (changes port (noted_proposed connect.keep_alive) (changes port (left_with now rest) core)) did) → IsOrderly core
     → ReadsAll (first_move now core port c connect rest did at first reads taken)
 first_reads now core port c connect rest did at first reads taken o =
     (s.orderly, λ x written read in_transit rest_of end same. by x written read rest_of (subst (IsEnd x core written read) same end) (named x c) refl)
@@ -111,13 +111,13 @@ first_reads now core port c connect rest did at first reads taken o =
     command = commands.Connect c.name connect.client connect.clean
 
     between : CoreState
-    between = changes port (asked connect.keep_alive) (changes port (left_with now rest) core)
+    between = changes port (noted_proposed connect.keep_alive) (changes port (left_with now rest) core)
 
-    h : IsChange core between port c (λ d. asked connect.keep_alive (left_with now rest d))
+    h : IsChange core between port c (λ d. noted_proposed connect.keep_alive (left_with now rest d))
     h = asked_change connect.keep_alive now core port c rest at
 
     s : Stays between did.core
-    s = stays_takes command between did taken (changed_orderly core between (is_open_at port) (λ d. asked connect.keep_alive (left_with now rest d)) o h.are h.same h.up h.name)
+    s = stays_takes command between did taken (changed_orderly core between (is_open_at port) (λ d. noted_proposed connect.keep_alive (left_with now rest d)) o h.are h.same h.up h.name)
 
     with_name : (x : ConnectionName) (read : List Packet) (b : Bool) → named x c ≡ b → (more : List Packet) → more ≡ (if b then packets.Connect connect ∷ [] else [])
         → (b ≡ true → is_first c.stage ≡ is_nothing read) → filter (λ z. is_packet_of z x) (command ∷ []) ≡ commands_of x (length read) more
@@ -127,7 +127,7 @@ first_reads now core port c connect rest did at first reads taken o =
     by : (x : ConnectionName) (written read : List Packet) (rest_of : List ℕ) → IsEnd x core written read rest_of → (b : Bool) → named x c ≡ b
         → ReadsOn x (first_move now core port c connect rest did at first reads taken) written read rest_of
     by x written read rest_of end b e =
-        let z = read_then x core between did.core port c (λ d. asked connect.keep_alive (left_with now rest d)) written read rest_of rest (packets.Connect connect) o h refl refl reads s end b e in
+        let z = read_then x core between did.core port c (λ d. noted_proposed connect.keep_alive (left_with now rest d)) written read rest_of rest (packets.Connect connect) o h refl refl reads s end b e in
         record { more = z.0; end = z.1; proposed = with_name x read b e z.0 z.2 z.3 }
 
 later_reads : (now : ℕ) (core : CoreState) (port : Port) (c : Connection) (packet : Packet) (rest : List ℕ) (did : Account) (at : open_at port core ≡ Some c) (later : is_first c.stage ≡ false)

@@ -13,14 +13,14 @@ use Rattle.exactly_once.specs.broker_spec.Connection.{ConnectionName}
 use Rattle.exactly_once.specs.broker_spec.declared.command.Output.{Output}
 use Rattle.world_base.specs.declared.Port.{Port}
 use Rattle.world_base.specs.declared.Connection.{Connection}
-use Rattle.world_base.specs.Connections.{asked, closed, failing, is_at, is_first, is_open_at, is_over, left_with}
+use Rattle.world_base.specs.Connections.{noted_proposed, closed, failing, is_at, is_first, is_open_at, is_over, left_with}
 use Rattle.world_base.specs.Core.{CoreState, Turn}
 use Rattle.world_base.specs.Failing.{closes_failed}
 use Rattle.world_base.specs.Lossy.{Account, Repeated, Then, quietly}
 use Rattle.world_base.specs.LossyProposals.{Declines, Proposes}
 use Rattle.world_base.specs.LossyProposals.Declines.{no_room, forgets as forgets_it, stops}
 use Rattle.world_base.specs.LossyStep.{LosesAllFailed}
-use Rattle.world_base.specs.LossyReading.{Asks, Begins, Closes, Ends, EndsSilent, LosesFailed, ReadsNext, Shuts}
+use Rattle.world_base.specs.LossyReading.{TakesOr, TakesFirstPacket, Closes, Ends, EndsSilent, LosesFailed, ReadsNext, Shuts}
 use Rattle.world_base.specs.LossyReading.Ends.{none_open, unproposed, proposed}
 use Rattle.world_base.specs.LossyReading.EndsSilent.{none_silent, ends_one}
 use Rattle.world_base.specs.LossyReading.LosesFailed.{none_failed, tells_one}
@@ -143,11 +143,11 @@ failing_left : (now : ℕ) (port : Port) (rest : List ℕ) (core : CoreState) �
 unfolding changes
 failing_left now port rest core = ap (λ (l : List Connection). record core { connections = l }) (twice (is_open_at port) failing (left_with now rest) core.connections (λ c e. e))
 
-closed_asked : (keep_alive : ℕ) (port : Port) (core : CoreState) → changes port closed (changes port (asked keep_alive) core) ≡ changes port closed core
+closed_asked : (keep_alive : ℕ) (port : Port) (core : CoreState) → changes port closed (changes port (noted_proposed keep_alive) core) ≡ changes port closed core
 unfolding changes
 closed_asked keep_alive port core =
     ap (λ (l : List Connection). record core { connections = l })
-    (twice (is_open_at port) closed (asked keep_alive) core.connections (λ c e. right_true (not (is_over c.stage)) (is_at port c) e))
+    (twice (is_open_at port) closed (noted_proposed keep_alive) core.connections (λ c e. right_true (not (is_over c.stage)) (is_at port c) e))
 
 forgets_before : (port : Port) (f : Connection → Connection) (core : CoreState) → changes port f (with_loss core) ≡ with_loss (changes port f core)
 unfolding changes
@@ -182,15 +182,15 @@ declined port f core between did same change t =
 
 still_connects : (now : ℕ) (port : Port) (c : Connection) (core : CoreState) (connect : Connect) (rest : List ℕ) (did : Account) → open_at port core ≡ Some c → is_first c.stage ≡ true
     → verdict c.unread ≡ Ok (packets.Connect connect, rest)
-    → Asks (commands.Connect c.name connect.client connect.clean) (Closes port) (changes port (asked connect.keep_alive) (changes port (left_with now rest) core)) did → Still core did
+    → TakesOr (commands.Connect c.name connect.client connect.clean) (Closes port) (changes port (noted_proposed connect.keep_alive) (changes port (left_with now rest) core)) did → Still core did
 still_connects now port c core connect rest did at awaits is (inl taken) =
     calm_move (first_losing now port c connect rest did at awaits is taken) (refl, refl, refl, λ x. refl)
 still_connects now port c core connect rest did at awaits is (inr other) =
-    declined port closed core (changes port (asked connect.keep_alive) (changes port (left_with now rest) core)) did
+    declined port closed core (changes port (noted_proposed connect.keep_alive) (changes port (left_with now rest) core)) did
     (closed_asked connect.keep_alive port (changes port (left_with now rest) core) ∙ closed_left now port rest core) (closing port core) other
 
 still_begins : (now : ℕ) (port : Port) (c : Connection) (core : CoreState) (packet : Packet) (rest : List ℕ) (did : Account) → open_at port core ≡ Some c → is_first c.stage ≡ true
-    → verdict c.unread ≡ Ok (packet, rest) → Begins port c.name packet (changes port (left_with now rest) core) did → Still core did
+    → verdict c.unread ≡ Ok (packet, rest) → TakesFirstPacket port c.name packet (changes port (left_with now rest) core) did → Still core did
 still_begins now port c core (packets.Connect connect) rest did at awaits is runs = still_connects now port c core connect rest did at awaits is runs
 still_begins now port c core _ rest did at awaits is runs =
     by_account core (changes port closed (changes port (left_with now rest) core)) did runs
@@ -200,7 +200,7 @@ failing_at : (port : Port) (core : CoreState) → Calm core (quiet (changes port
 failing_at port core = calm_move (fails port) (refl, refl, refl, λ x. refl)
 
 still_says : (now : ℕ) (port : Port) (c : Connection) (core : CoreState) (packet : Packet) (rest : List ℕ) (did : Account) → open_at port core ≡ Some c → is_first c.stage ≡ false
-    → verdict c.unread ≡ Ok (packet, rest) → Asks (commands.Packet c.name packet) (Shuts port) (changes port (left_with now rest) core) did → Still core did
+    → verdict c.unread ≡ Ok (packet, rest) → TakesOr (commands.Packet c.name packet) (Shuts port) (changes port (left_with now rest) core) did → Still core did
 still_says now port c core packet rest did at after_first is (inl taken) =
     calm_move (later_losing now port c packet rest did at after_first is taken) (refl, refl, refl, λ x. refl)
 still_says now port c core packet rest did at after_first is (inr other) = by other.next

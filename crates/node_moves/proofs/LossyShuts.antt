@@ -7,7 +7,7 @@ use Rattle.exactly_once.specs.broker_spec.declared.command.Command.TheVariants a
 use Rattle.exactly_once.specs.broker_spec.Connection.{ConnectionName}
 use Rattle.exactly_once.specs.Sends.{sends_to}
 use Rattle.world_base.specs.declared.Connection.{Connection}
-use Rattle.world_base.specs.Connections.{asked, closed, failing, has_failed, is_open_named, left_with}
+use Rattle.world_base.specs.Connections.{noted_proposed, closed, failing, has_failed, is_open_named, left_with}
 use Rattle.world_base.specs.Core.{CoreState, Turn}
 use Rattle.world_base.specs.Lossy.{Account, Drives, Takes}
 use Rattle.world_base.specs.Reading.{changes}
@@ -66,8 +66,8 @@ lossy_shuts core turn (first_losing now port c connect rest did at first is take
     let ordered = at_orderly port (left_with now rest) core o (λ z. refl) in
     shuts_joined
     (shuts_joined (at_shuts x port (left_with now rest) core o (λ z. refl) (left_shuts now rest))
-    (at_shuts x port (asked connect.keep_alive) left ordered (λ z. refl) (asked_shuts connect.keep_alive)))
-    (taken_shuts x _ (changes port (asked connect.keep_alive) left) did taken (at_orderly port (asked connect.keep_alive) left ordered (λ z. refl)))
+    (at_shuts x port (noted_proposed connect.keep_alive) left ordered (λ z. refl) (asked_shuts connect.keep_alive)))
+    (taken_shuts x _ (changes port (noted_proposed connect.keep_alive) left) did taken (at_orderly port (noted_proposed connect.keep_alive) left ordered (λ z. refl)))
 lossy_shuts core turn (later_losing now port c packet rest did at later is taken) o x may =
     shuts_joined (at_shuts x port (left_with now rest) core o (λ z. refl) (left_shuts now rest))
     (taken_shuts x _ (changes port (left_with now rest) core) did taken (at_orderly port (left_with now rest) core o (λ z. refl)))

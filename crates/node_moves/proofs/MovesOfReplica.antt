@@ -14,7 +14,7 @@ use Rattle.exactly_once.specs.broker_spec.declared.command.Output.{Output}
 use Rattle.exactly_once.specs.broker_spec.declared.command.Output.TheVariants as outputs
 use Rattle.world_base.specs.declared.Port.{Port}
 use Rattle.world_base.specs.declared.Connection.{Connection}
-use Rattle.world_base.specs.Connections.{asked, closed, fresh, is_at, left_with, put_out}
+use Rattle.world_base.specs.Connections.{noted_proposed, closed, fresh, is_at, left_with, put_out}
 use Rattle.world_base.specs.Core.{CoreState, Turn, rules, serves}
 use Rattle.world_base.specs.Failing.{closes_failed}
 use Rattle.world_base.specs.Handing.{hands_over, left_by}
@@ -97,7 +97,7 @@ move_same core turn crashes calm = absurd cc
 move_same core turn (opens_one port) calm = same_replica core (opens port core) (opens_replica port core)
 move_same core turn (holds port piece) calm = same_replica core turn.core (at_replica port _ core)
 move_same core turn (reads_first now port c connect rest at first is room) calm =
-    after_same _ core (changes port (asked connect.keep_alive) (changes port (left_with now rest) core)) (at_replica port (asked connect.keep_alive) (changes port (left_with now rest) core) ∙ at_replica port (left_with now rest) core)
+    after_same _ core (changes port (noted_proposed connect.keep_alive) (changes port (left_with now rest) core)) (at_replica port (noted_proposed connect.keep_alive) (changes port (left_with now rest) core) ∙ at_replica port (left_with now rest) core)
 move_same core turn (reads_later now port c packet rest at later is room) calm = after_same _ core (changes port (left_with now rest) core) (at_replica port (left_with now rest) core)
 move_same core turn (closes port) calm = same_replica core turn.core (at_replica port closed core)
 move_same core turn (refuses port c code at first is) calm = same_replica core turn.core (at_replica port _ core)

@@ -20,7 +20,7 @@ use Rattle.world_base.specs.declared.Port.{Port}
 use Rattle.world_base.specs.declared.item.Item.{Item}
 use Rattle.world_base.specs.declared.item.Item.TheVariants.{Peer, Tick, Opened, Bytes, Ended, Expel, Cut, Crash}
 use Rattle.world_base.specs.declared.Connection.{Connection}
-use Rattle.world_base.specs.Connections.{asked, closed, failing, fresh, has_failed, holding, is_at, is_open_at, is_open_named, left_with, put_out, changed}
+use Rattle.world_base.specs.Connections.{noted_proposed, closed, failing, fresh, has_failed, holding, is_at, is_open_at, is_open_named, left_with, put_out, changed}
 use Rattle.world_base.specs.Core.{CoreState, rules, serves}
 use Rattle.world_base.specs.Failing.{closes_failed}
 use Rattle.world_base.specs.Handing.{hands_over}
@@ -29,7 +29,7 @@ use Rattle.world_base.specs.LossyProposals.{Declines, Proposes}
 use Rattle.world_base.specs.LossyProposals.Declines.{no_room, forgets, stops}
 use Rattle.world_base.specs.Lossy.HandlesAll.{nothing, does, tells, loses}
 use Rattle.world_base.specs.LossyStep.{ActsOn, Holds, RunsOn, DoesItem}
-use Rattle.world_base.specs.LossyReading.{Asks, Begins, Closes, Ends, EndsSilent, LosesFailed, ReadsNext, Shuts}
+use Rattle.world_base.specs.LossyReading.{TakesOr, TakesFirstPacket, Closes, Ends, EndsSilent, LosesFailed, ReadsNext, Shuts}
 use Rattle.world_base.specs.LossyReading.Ends.{none_open, unproposed, proposed}
 use Rattle.world_base.specs.LossyReading.EndsSilent.{none_silent, ends_one}
 use Rattle.world_base.specs.LossyReading.LosesFailed.{none_failed, tells_one}
@@ -195,7 +195,7 @@ keep_repeated zero Next on core did none = by_account core core did none (keep_s
 keep_repeated (suc n) Next on core did done = keep_then Next (Repeated n Next) on (keep_repeated n Next on) core did done
 
 keep_asked : (command : Command) (Otherwise : CoreState → Account → Type 0) → ((k : CoreState) (d : Account) → Otherwise k d → Keep k d.core) →
-    (core : CoreState) (did : Account) → Asks command Otherwise core did → Keep core did.core
+    (core : CoreState) (did : Account) → TakesOr command Otherwise core did → Keep core did.core
 keep_asked command Otherwise on core did (inl takes) = keep_taken command core did takes
 keep_asked command Otherwise on core did (inr other) = keep_then Declines Otherwise keep_declined on core did other
 
@@ -228,11 +228,11 @@ keep_shuts port core did (inl is) = keep_shut port core did is
 keep_shuts port core did (inr is) = by_account core (changes port failing core) did is (keep_at port failing core (λ c. refl))
 
 keep_begun : (port : Port) (name : ConnectionName) (packet : Packet) (core : CoreState) (did : Account) →
-    Begins port name packet core did → Keep core did.core
+    TakesFirstPacket port name packet core did → Keep core did.core
 keep_begun port name (packets.Connect connect) core did runs =
-    keep_both core (changes port (asked connect.keep_alive) core) did.core (keep_at port (asked connect.keep_alive) core (λ c. refl))
+    keep_both core (changes port (noted_proposed connect.keep_alive) core) did.core (keep_at port (noted_proposed connect.keep_alive) core (λ c. refl))
     (keep_asked (commands.Connect name connect.client connect.clean) (Closes port) (keep_shut port)
-    (changes port (asked connect.keep_alive) core) did runs)
+    (changes port (noted_proposed connect.keep_alive) core) did runs)
 keep_begun port name _ core did runs = keep_shut port core did runs
 
 keep_left : (port : Port) (now : ℕ) (rest : List ℕ) (core : CoreState) → Keep core (changes port (left_with now rest) core)

@@ -8,7 +8,7 @@ use Rattle.exactly_once.specs.broker_spec.Connection.{ConnectionName, is_connect
 use Rattle.exactly_once.specs.Sends.{sends_to}
 use Rattle.world_base.specs.declared.Port.{Port}
 use Rattle.world_base.specs.declared.Connection.{Connection}
-use Rattle.world_base.specs.Connections.{asked, closed, fresh, handed, has_failed, holding, is_at, is_failed, is_listed, is_over, left_with, changed}
+use Rattle.world_base.specs.Connections.{noted_proposed, closed, fresh, handed, has_failed, holding, is_at, is_failed, is_listed, is_over, left_with, changed}
 use Rattle.world_base.specs.declared.ConnectionStage.{ConnectionStage}
 use Rattle.world_base.specs.declared.ConnectionStage.TheVariants.{Awaits, Proposed, Over, Failed}
 use Rattle.world_base.specs.Failing.{closes_failed}
@@ -158,10 +158,10 @@ move_shuts core turn (holds port piece) o x may = at_shuts x port (holding piece
 move_shuts core turn (reads_first now port c connect rest at first is room) o x may =
     let left : CoreState = changes port (left_with now rest) core in
     let ordered = at_orderly port (left_with now rest) core o (λ z. refl) in
-    with_room x _ core (changes port (asked connect.keep_alive) left) room
-    (after_shuts x _ core (changes port (asked connect.keep_alive) left)
-    (shuts_joined (at_shuts x port (left_with now rest) core o (λ z. refl) (left_shuts now rest)) (at_shuts x port (asked connect.keep_alive) left ordered (λ z. refl) (asked_shuts connect.keep_alive)))
-    (at_orderly port (asked connect.keep_alive) left ordered (λ z. refl)) (at_replica port (asked connect.keep_alive) left ∙ at_replica port (left_with now rest) core))
+    with_room x _ core (changes port (noted_proposed connect.keep_alive) left) room
+    (after_shuts x _ core (changes port (noted_proposed connect.keep_alive) left)
+    (shuts_joined (at_shuts x port (left_with now rest) core o (λ z. refl) (left_shuts now rest)) (at_shuts x port (noted_proposed connect.keep_alive) left ordered (λ z. refl) (asked_shuts connect.keep_alive)))
+    (at_orderly port (noted_proposed connect.keep_alive) left ordered (λ z. refl)) (at_replica port (noted_proposed connect.keep_alive) left ∙ at_replica port (left_with now rest) core))
 move_shuts core turn (reads_later now port c packet rest at later is room) o x may =
     with_room x _ core (changes port (left_with now rest) core) room
     (after_shuts x _ core (changes port (left_with now rest) core) (at_shuts x port (left_with now rest) core o (λ z. refl) (left_shuts now rest))

@@ -21,7 +21,7 @@ use Rattle.world_base.specs.declared.Connection.{Connection}
 use Rattle.world_base.specs.ballot.Protocol.{Input}
 use Rattle.world_base.specs.ballot.Replica.{CountedReplica, ReplicaState}
 use Rattle.world_base.specs.Step.{settled, opens}
-use Rattle.world_base.specs.Connections.{asked, holding, left_with, is_listed, is_at, is_open_at, is_open_named, max_pending, closed, failing, put_out, putting, changed}
+use Rattle.world_base.specs.Connections.{noted_proposed, holding, left_with, is_listed, is_at, is_open_at, is_open_named, max_pending, closed, failing, put_out, putting, changed}
 use Rattle.world_base.specs.Core.{CoreState, Turn, rules, serves}
 use Rattle.world_base.specs.Failing.{closes_failed}
 use Rattle.world_base.specs.Reading.{changes, refused}
@@ -303,10 +303,10 @@ all_puts core turn (holds port piece) o no_hand x c there = at_puts x port (hold
 all_puts core turn (reads_first now port k connect rest at first is room) o no_hand x c there =
     let left : CoreState = changes port (left_with now rest) core in
     let ordered = at_orderly port (left_with now rest) core o (λ d. refl) in
-    with_room x _ core (changes port (asked connect.keep_alive) left) room
-    (after_puts x _ core (changes port (asked connect.keep_alive) left)
-    (puts_joined (at_puts x port (left_with now rest) core o (λ d. refl) (λ d. refl)) (at_puts x port (asked connect.keep_alive) left ordered (λ d. refl) (λ d. refl)))
-    (at_orderly port (asked connect.keep_alive) left ordered (λ d. refl)) (at_replica port (asked connect.keep_alive) left ∙ at_replica port (left_with now rest) core))
+    with_room x _ core (changes port (noted_proposed connect.keep_alive) left) room
+    (after_puts x _ core (changes port (noted_proposed connect.keep_alive) left)
+    (puts_joined (at_puts x port (left_with now rest) core o (λ d. refl) (λ d. refl)) (at_puts x port (noted_proposed connect.keep_alive) left ordered (λ d. refl) (λ d. refl)))
+    (at_orderly port (noted_proposed connect.keep_alive) left ordered (λ d. refl)) (at_replica port (noted_proposed connect.keep_alive) left ∙ at_replica port (left_with now rest) core))
 all_puts core turn (reads_later now port k packet rest at later is room) o no_hand x c there =
     with_room x _ core (changes port (left_with now rest) core) room
     (after_puts x _ core (changes port (left_with now rest) core) (at_puts x port (left_with now rest) core o (λ d. refl) (λ d. refl))

@@ -14,7 +14,7 @@ use Rattle.world_base.specs.cutter.Pipe.{Joins, IsPiped}
 use Rattle.exactly_once.specs.StoryCommands.{is_packet_of}
 use Rattle.world_base.specs.declared.Port.{Port}
 use Rattle.world_base.specs.declared.Connection.{Connection}
-use Rattle.world_base.specs.Connections.{is_first, is_at, is_open_at, asked, holding, left_with, closed, changed}
+use Rattle.world_base.specs.Connections.{is_first, is_at, is_open_at, noted_proposed, holding, left_with, closed, changed}
 use Rattle.world_base.specs.Core.{CoreState, Turn}
 use Rattle.world_base.specs.Reading.{changes, open_at, refused}
 use Rattle.world_base.specs.Failing.{closes_failed}
@@ -191,10 +191,10 @@ later_command x c packet [] is nothing = absurd cc
 later_command x c packet (p ∷ read) is nothing = ap (λ (y : ConnectionName). let one : Command = commands.Packet y packet in one ∷ []) (same_name c.name x is)
 
 pub asked_change : (keep_alive now : ℕ) (core : CoreState) (port : Port) (c : Connection) (rest : List ℕ) → open_at port core ≡ Some c
-    → IsChange core (changes port (asked keep_alive) (changes port (left_with now rest) core)) port c (λ d. asked keep_alive (left_with now rest d))
+    → IsChange core (changes port (noted_proposed keep_alive) (changes port (left_with now rest) core)) port c (λ d. noted_proposed keep_alive (left_with now rest d))
 unfolding changes
 asked_change keep_alive now core port c rest at =
-    record { are = twice (is_open_at port) (asked keep_alive) (left_with now rest) core.connections (λ d e. e); same = refl; up = same_le core.replica.state.joined; at = at; name = λ d. refl; lives = refl }
+    record { are = twice (is_open_at port) (noted_proposed keep_alive) (left_with now rest) core.connections (λ d e. e); same = refl; up = same_le core.replica.state.joined; at = at; name = λ d. refl; lives = refl }
 
 pub left_change : (now : ℕ) (core : CoreState) (port : Port) (c : Connection) (rest : List ℕ) → open_at port core ≡ Some c → IsChange core (changes port (left_with now rest) core) port c (left_with now rest)
 unfolding changes
@@ -210,7 +210,7 @@ left_change now core port c rest at =
 
 abbrev first_move : (now : ℕ) (core : CoreState) (port : Port) (c : Connection) (connect : Connect) (rest : List ℕ) → open_at port core ≡ Some c → is_first c.stage ≡ true
     → verdict c.unread ≡ Ok (packets.Connect connect, rest) → has_room core ≡ true
-    → Moves core (proposes (commands.Connect c.name connect.client connect.clean) (changes port (asked connect.keep_alive) (changes port (left_with now rest) core)))
+    → Moves core (proposes (commands.Connect c.name connect.client connect.clean) (changes port (noted_proposed connect.keep_alive) (changes port (left_with now rest) core)))
 first_move now core port c connect rest at first reads room = reads_first now port c connect rest at first reads room
 
 abbrev later_move : (now : ℕ) (core : CoreState) (port : Port) (c : Connection) (packet : Packet) (rest : List ℕ) → open_at port core ≡ Some c → is_first c.stage ≡ false
@@ -226,13 +226,13 @@ first_reads now core port c connect rest at first reads room o =
     command = commands.Connect c.name connect.client connect.clean
 
     between : CoreState
-    between = changes port (asked connect.keep_alive) (changes port (left_with now rest) core)
+    between = changes port (noted_proposed connect.keep_alive) (changes port (left_with now rest) core)
 
-    h : IsChange core between port c (λ d. asked connect.keep_alive (left_with now rest d))
+    h : IsChange core between port c (λ d. noted_proposed connect.keep_alive (left_with now rest d))
     h = asked_change connect.keep_alive now core port c rest at
 
     s : Stays between (proposes command between).core
-    s = stays_proposed command between (changed_orderly core between (is_open_at port) (λ d. asked connect.keep_alive (left_with now rest d)) o h.are h.same h.up h.name)
+    s = stays_proposed command between (changed_orderly core between (is_open_at port) (λ d. noted_proposed connect.keep_alive (left_with now rest d)) o h.are h.same h.up h.name)
 
     with_name : (x : ConnectionName) (read : List Packet) (b : Bool) → named x c ≡ b → (more : List Packet) → more ≡ (if b then packets.Connect connect ∷ [] else [])
         → (b ≡ true → is_first c.stage ≡ is_nothing read) → filter (λ z. is_packet_of z x) (command ∷ []) ≡ commands_of x (length read) more
@@ -242,7 +242,7 @@ first_reads now core port c connect rest at first reads room o =
     by : (x : ConnectionName) (written read : List Packet) (rest_of : List ℕ) → IsEnd x core written read rest_of → (b : Bool) → named x c ≡ b
         → ReadsOn x (first_move now core port c connect rest at first reads room) written read rest_of
     by x written read rest_of end b e =
-        let z = read_then x core between (proposes command between).core port c (λ d. asked connect.keep_alive (left_with now rest d)) written read rest_of rest (packets.Connect connect) o h refl refl reads s end b e in
+        let z = read_then x core between (proposes command between).core port c (λ d. noted_proposed connect.keep_alive (left_with now rest d)) written read rest_of rest (packets.Connect connect) o h refl refl reads s end b e in
         record { more = z.0; end = z.1; proposed = with_name x read b e z.0 z.2 z.3 }
 
 later_reads : (now : ℕ) (core : CoreState) (port : Port) (c : Connection) (packet : Packet) (rest : List ℕ) (at : open_at port core ≡ Some c) (later : is_first c.stage ≡ false)

@@ -15,7 +15,7 @@ use Rattle.exactly_once.specs.broker_spec.declared.command.Output.{Output}
 use Rattle.exactly_once.specs.broker_spec.Connection.{ConnectionName, same_connection}
 use Rattle.world_base.specs.declared.Port.{Port}
 use Rattle.world_base.specs.declared.Connection.{Connection}
-use Rattle.world_base.specs.Connections.{asked, holding, is_at, is_open_at, left_with}
+use Rattle.world_base.specs.Connections.{noted_proposed, holding, is_at, is_open_at, left_with}
 use Rattle.world_base.specs.Core.{CoreState, rules, serves}
 use Rattle.world_base.specs.Reading.{changes, open_at, refused}
 use Rattle.world_base.specs.Turns.{has_room, proposes}
@@ -51,7 +51,7 @@ holding_shuts piece d e = stays_open e e (sym (append-nil d.pending))
 pub left_shuts : (now : ℕ) (rest : List ℕ) (d : Connection) → live d ≡ true → Shuts [] (Some d) (Some (left_with now rest d))
 left_shuts now rest d e = stays_open e e (sym (append-nil d.pending))
 
-pub asked_shuts : (keep_alive : ℕ) (d : Connection) → live d ≡ true → Shuts [] (Some d) (Some (asked keep_alive d))
+pub asked_shuts : (keep_alive : ℕ) (d : Connection) → live d ≡ true → Shuts [] (Some d) (Some (noted_proposed keep_alive d))
 asked_shuts keep_alive d e = stays_open e refl (sym (append-nil d.pending))
 
 -- a proposal after a change of connections

@@ -18,9 +18,9 @@ use Rattle.world_base.specs.declared.Port.{Port}
 use Rattle.world_base.specs.declared.item.Item.{Item}
 use Rattle.world_base.specs.declared.item.Item.TheVariants.{Peer, Tick, Opened, Bytes, Ended, Expel, Cut, Crash}
 use Rattle.world_base.specs.declared.Connection.{Connection}
-use Rattle.world_base.specs.Connections.{is_over, is_first, is_proposed, has_failed, is_at, is_open_at, asked, holding, left_with, closed, changed}
+use Rattle.world_base.specs.Connections.{is_over, is_first, is_proposed, has_failed, is_at, is_open_at, noted_proposed, holding, left_with, closed, changed}
 use Rattle.world_base.specs.Core.{CoreState, Turn}
-use Rattle.world_base.specs.Reading.{changes, open_at, loses, loses_open, ends, asks, says, begins, reads, reads_of, reads_next, refused, unread_of}
+use Rattle.world_base.specs.Reading.{changes, open_at, loses, loses_open, ends, connects, proposes_packet, takes_first_packet, reads, reads_of, reads_next, refused, unread_of}
 use Rattle.world_base.specs.ballot.Cutting.{can_cut}
 use Rattle.world_base.specs.Step.{node_step, acts_on, cuts, settled, does_item, with_cut}
 use Rattle.world_base.specs.Failing.{loses_failed, loses_if}
@@ -107,12 +107,12 @@ right_true : (a b : Bool) → (a && b) ≡ true → b ≡ true
 right_true true b e = e
 right_true false b e = cc
 
-asked_open : (keep_alive : ℕ) (port : Port) (c : Connection) → is_open_at port c ≡ true → is_open_at port (asked keep_alive c) ≡ true
+asked_open : (keep_alive : ℕ) (port : Port) (c : Connection) → is_open_at port c ≡ true → is_open_at port (noted_proposed keep_alive c) ≡ true
 asked_open keep_alive port c e = right_true (not (is_over c.stage)) (is_at port c) e
 
 closed_asked : (keep_alive now : ℕ) (port : Port) (rest : List ℕ) (core : CoreState)
-    → changes port closed (changes port (asked keep_alive) (changes port (left_with now rest) core)) ≡ changes port closed core
-closed_asked keep_alive now port rest core = still_closed port (asked keep_alive) (changes port (left_with now rest) core) (asked_open keep_alive port) (λ c. refl) ∙ closed_left now port rest core
+    → changes port closed (changes port (noted_proposed keep_alive) (changes port (left_with now rest) core)) ≡ changes port closed core
+closed_asked keep_alive now port rest core = still_closed port (noted_proposed keep_alive) (changes port (left_with now rest) core) (asked_open keep_alive port) (λ c. refl) ∙ closed_left now port rest core
 
 -- ---- changes of connections leave the replica as it is
 
@@ -145,26 +145,26 @@ closes_with port core later same = subst (λ (z : CoreState). Calm core (quiet z
 
 first_runs : (now : ℕ) (port : Port) (c : Connection) (core : CoreState) (connect : Connect) (rest : List ℕ) → open_at port core ≡ Some c → is_first c.stage ≡ true
     → verdict c.unread ≡ Ok (packets.Connect connect, rest)
-    → Calm core (asks port c.name connect (changes port (asked connect.keep_alive) (changes port (left_with now rest) core)))
+    → Calm core (connects port c.name connect (changes port (noted_proposed connect.keep_alive) (changes port (left_with now rest) core)))
 first_runs now port c core connect rest at first is = by (has_room core) refl
   where
-    same : has_room (changes port (asked connect.keep_alive) (changes port (left_with now rest) core)) ≡ has_room core
-    same = room_kept port (asked connect.keep_alive) (changes port (left_with now rest) core) ∙ room_kept port (left_with now rest) core
+    same : has_room (changes port (noted_proposed connect.keep_alive) (changes port (left_with now rest) core)) ≡ has_room core
+    same = room_kept port (noted_proposed connect.keep_alive) (changes port (left_with now rest) core) ∙ room_kept port (left_with now rest) core
 
-    by : (b : Bool) → has_room core ≡ b → Calm core (asks port c.name connect (changes port (asked connect.keep_alive) (changes port (left_with now rest) core)))
+    by : (b : Bool) → has_room core ≡ b → Calm core (connects port c.name connect (changes port (noted_proposed connect.keep_alive) (changes port (left_with now rest) core)))
     by true room = rw (same ∙ room) (calm_move (reads_first now port c connect rest at first is room) (refl, refl))
     by false none = rw (same ∙ none) (closes_with port core _ (closed_asked connect.keep_alive now port rest core))
 
 begins_runs : (now : ℕ) (port : Port) (c : Connection) (core : CoreState) (packet : Packet) (rest : List ℕ) → open_at port core ≡ Some c → is_first c.stage ≡ true
-    → verdict c.unread ≡ Ok (packet, rest) → Calm core (begins port c.name packet (changes port (left_with now rest) core))
+    → verdict c.unread ≡ Ok (packet, rest) → Calm core (takes_first_packet port c.name packet (changes port (left_with now rest) core))
 begins_runs now port c core (packets.Connect connect) rest at first is = first_runs now port c core connect rest at first is
 begins_runs now port c core _ rest at first is = closes_with port core _ (closed_left now port rest core)
 
 says_runs : (now : ℕ) (port : Port) (c : Connection) (core : CoreState) (packet : Packet) (rest : List ℕ) → open_at port core ≡ Some c → is_first c.stage ≡ false
-    → verdict c.unread ≡ Ok (packet, rest) → Calm core (says port c.name packet (changes port (left_with now rest) core))
+    → verdict c.unread ≡ Ok (packet, rest) → Calm core (proposes_packet port c.name packet (changes port (left_with now rest) core))
 says_runs now port c core packet rest at later is = by (has_room core) refl
   where
-    by : (b : Bool) → has_room core ≡ b → Calm core (says port c.name packet (changes port (left_with now rest) core))
+    by : (b : Bool) → has_room core ≡ b → Calm core (proposes_packet port c.name packet (changes port (left_with now rest) core))
     by true room = rw (room_kept port (left_with now rest) core ∙ room) (calm_move (reads_later now port c packet rest at later is room) (refl, refl))
     by false none = rw (room_kept port (left_with now rest) core ∙ none) (closes_with port core _ (closed_left now port rest core))
 
@@ -173,7 +173,7 @@ packet_runs : (now : ℕ) (port : Port) (c : Connection) (core : CoreState) (pac
 packet_runs now port c core packet rest at is = by (is_first c.stage) refl
   where
     by : (b : Bool) → is_first c.stage ≡ b
-        → Calm core (if b then begins port c.name packet (changes port (left_with now rest) core) else says port c.name packet (changes port (left_with now rest) core))
+        → Calm core (if b then takes_first_packet port c.name packet (changes port (left_with now rest) core) else proposes_packet port c.name packet (changes port (left_with now rest) core))
     by true first = begins_runs now port c core packet rest at first is
     by false later = says_runs now port c core packet rest at later is
 

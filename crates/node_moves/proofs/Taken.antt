@@ -16,7 +16,7 @@ use Rattle.exactly_once.specs.broker_spec.declared.command.Output.TheVariants as
 use Rattle.exactly_once.specs.broker_spec.Connection.{ConnectionName}
 use Rattle.world_base.specs.declared.Port.{Port}
 use Rattle.world_base.specs.declared.Connection.{Connection}
-use Rattle.world_base.specs.Connections.{asked, left_with, closed, put_out}
+use Rattle.world_base.specs.Connections.{noted_proposed, left_with, closed, put_out}
 use Rattle.world_base.specs.Core.{CoreState, rules, serves}
 use Rattle.world_base.specs.Reading.{changes}
 use Rattle.world_base.specs.Turns.{moved, handled, proposes, has_room, changes_named}
@@ -76,8 +76,8 @@ taken_after command core between same room =
 
 pub reads_are_taken : ReadsAreTaken
 reads_are_taken core turn (reads_first now port c connect rest at first is room) read =
-    taken_after _ core (changes port (asked connect.keep_alive) (changes port (left_with now rest) core))
-    (changed_replica port (asked connect.keep_alive) (changes port (left_with now rest) core) ∙ changed_replica port (left_with now rest) core) room
+    taken_after _ core (changes port (noted_proposed connect.keep_alive) (changes port (left_with now rest) core))
+    (changed_replica port (noted_proposed connect.keep_alive) (changes port (left_with now rest) core) ∙ changed_replica port (left_with now rest) core) room
 reads_are_taken core turn (reads_later now port c packet rest at later is room) read =
     taken_after _ core (changes port (left_with now rest) core) (changed_replica port (left_with now rest) core) room
 reads_are_taken core turn (hears input other) read = absurd cc

@@ -12,7 +12,7 @@ use Rattle.exactly_once.specs.broker_spec.declared.command.Command.TheVariants a
 use Rattle.exactly_once.specs.broker_spec.Connection.{ConnectionName}
 use Rattle.world_base.specs.declared.Port.{Port}
 use Rattle.world_base.specs.declared.Connection.{Connection}
-use Rattle.world_base.specs.Connections.{asked, closed, failing, is_first, left_with}
+use Rattle.world_base.specs.Connections.{noted_proposed, closed, failing, is_first, left_with}
 use Rattle.world_base.specs.Core.{CoreState, Turn, rules}
 use Rattle.world_base.specs.Failing.{closes_failed}
 use Rattle.world_base.specs.Lossy.{Account, Drives, Takes}
@@ -54,7 +54,8 @@ pub data LossyMoves (core : CoreState) : Turn → Type 0 where
       (did : Account) → open_at port core ≡ Some c →
       is_first c.stage ≡ true → verdict c.unread ≡ Ok (packets.Connect connect, rest) →
       Takes (commands.Connect c.name connect.client connect.clean)
-      (changes port (asked connect.keep_alive) (changes port (left_with now rest) core)) did →
+      (changes port (noted_proposed connect.keep_alive) (changes port (left_with now rest) core))
+      did →
       LossyMoves core (turn_of did)
   -- a later packet is read and taken, perhaps with losses
   later_losing : (now : ℕ) (port : Port) (c : Connection) (packet : Packet) (rest : List ℕ)

@@ -15,7 +15,7 @@ use Rattle.exactly_once.specs.broker_spec.declared.command.Command.TheVariants a
 use Rattle.world_base.specs.declared.Port.{Port}
 use Rattle.world_base.specs.declared.item.Item.{Item}
 use Rattle.world_base.specs.declared.Connection.{Connection}
-use Rattle.world_base.specs.Connections.{has_failed, is_first, is_proposed, asked, holding, left_with, closed}
+use Rattle.world_base.specs.Connections.{has_failed, is_first, is_proposed, noted_proposed, holding, left_with, closed}
 use Rattle.world_base.specs.Core.{CoreState, Turn}
 use Rattle.world_base.specs.Failing.{closes_failed}
 use Rattle.world_base.specs.Handing.{hands_over}
@@ -43,7 +43,7 @@ pub data Moves (core : CoreState) : Turn → Type 0 where
       open_at port core ≡ Some c → is_first c.stage ≡ true →
       verdict c.unread ≡ Ok (packets.Connect connect, rest) → has_room core ≡ true →
       Moves core (proposes (commands.Connect c.name connect.client connect.clean)
-      (changes port (asked connect.keep_alive) (changes port (left_with now rest) core)))
+      (changes port (noted_proposed connect.keep_alive) (changes port (left_with now rest) core)))
   -- each later packet of an open connection is read and proposed, if the log has room for it
   reads_later : (now : ℕ) (port : Port) (c : Connection) (packet : Packet) (rest : List ℕ) →
       open_at port core ≡ Some c → is_first c.stage ≡ false →

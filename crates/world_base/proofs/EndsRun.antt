@@ -16,7 +16,7 @@ use Rattle.world_base.specs.KeepAlive.{lowest_silent}
 use Rattle.world_base.specs.Lossy.{Account, Then, quietly}
 use Rattle.world_base.specs.LossyProposals.{Declines, Proposes}
 use Rattle.world_base.specs.LossyStep.{Holds}
-use Rattle.world_base.specs.LossyReading.{Asks, Ends, EndsSilent, LosesFailed, Shuts}
+use Rattle.world_base.specs.LossyReading.{TakesOr, Ends, EndsSilent, LosesFailed, Shuts}
 use Rattle.world_base.specs.LossyReading.Ends.{none_open, unproposed, proposed}
 use Rattle.world_base.specs.LossyReading.EndsSilent.{none_silent, ends_one}
 use Rattle.world_base.specs.LossyReading.LosesFailed.{none_failed, tells_one}
@@ -100,16 +100,16 @@ ran_failed c a b r taken x y found shut ran =
 -- ---- a command is taken, or else something is done
 
 pub ran_asked : (taken : Bool) (command : Command) (Otherwise : CoreState → Account → Type 0) (a b : CoreState)
-    (x y : List (Effect Command Output)) → taken ≡ true → Ran (ProposedBy taken command) a b x y → Ran (Asks command Otherwise) a b x y
+    (x y : List (Effect Command Output)) → taken ≡ true → Ran (ProposedBy taken command) a b x y → Ran (TakesOr command Otherwise) a b x y
 ran_asked taken command Otherwise a b x y is ran =
-    ran_as (ProposedBy true command) (Asks command Otherwise) a a b x y (λ did runs. inl runs)
+    ran_as (ProposedBy true command) (TakesOr command Otherwise) a a b x y (λ did runs. inl runs)
     (subst (λ (t : Bool). Ran (ProposedBy t command) a b x y) is ran)
 
 pub ran_otherwise : (taken : Bool) (command : Command) (Otherwise : CoreState → Account → Type 0) (a b c : CoreState)
     (x y : List (Effect Command Output)) → taken ≡ false → Ran (ProposedBy taken command) a b x y → Otherwise b (quietly c) →
-    Ran (Asks command Otherwise) a c x y
+    Ran (TakesOr command Otherwise) a c x y
 ran_otherwise taken command Otherwise a b c x y is ran other =
-    ran_as (Then Declines Otherwise) (Asks command Otherwise) a a c x y (λ did runs. inr runs)
+    ran_as (Then Declines Otherwise) (TakesOr command Otherwise) a a c x y (λ did runs. inr runs)
     (ran_then Declines Otherwise a b c x y y (subst (λ (t : Bool). Ran (ProposedBy t command) a b x y) is ran)
     (ran_quietly Otherwise b c y other))
 

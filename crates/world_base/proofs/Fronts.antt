@@ -24,7 +24,7 @@ use Rattle.world_base.specs.Core.{CoreState, Turn}
 use Rattle.node_connections.specs.Fronts.{IsFault}
 use Rattle.node_connections.specs.Inside.{TakesFront}
 use Rattle.world_base.specs.Inside.{Running, DoesTurn}
-use Rattle.world_base.specs.Reading.{begins, changes, loses, open_at, reads, reads_next, refused, says}
+use Rattle.world_base.specs.Reading.{takes_first_packet, changes, loses, open_at, reads, reads_next, refused, proposes_packet}
 use Rattle.world_base.specs.Turns.{proposes, quiet}
 use Rattle.world_base.proofs.TurnsJoin.{turns_idle, turns_quiet, turns_after}
 
@@ -113,27 +113,27 @@ more_there now port c new a b out found did is =
 pub packet_there : (now : ℕ) (port : Port) (c new : Connection) (packet : Packet) (a b r : Running) (x y : List (Effect Command Output)) →
     open_at port a.core ≡ Some c → TakesFront now c (fronts.Packet packet) new →
     b ≡ record a { core = changes port (λ _. new) a.core } →
-    DoesTurn b r x y (if is_first c.stage then begins port c.name packet b.core else says port c.name packet b.core) →
+    DoesTurn b r x y (if is_first c.stage then takes_first_packet port c.name packet b.core else proposes_packet port c.name packet b.core) →
     DoesTurn a r x y (reads_next now port a.core)
 packet_there now port c new packet a b r x y found did is turns =
     let rest = did.0 in
     subst (λ (t : Turn). DoesTurn a r x y t) (reads_by now port a.core c (Ok (packet, rest)) found did.1)
     (turns_after a b r x y (changes port (left_with now rest) a.core)
-    (λ core. if is_first c.stage then begins port c.name packet core else says port c.name packet core)
+    (λ core. if is_first c.stage then takes_first_packet port c.name packet core else proposes_packet port c.name packet core)
     (is ∙ ap (λ (k : CoreState). record a { core = k }) (becomes_same port a.core c new (left_with now rest) found did.3)) turns)
 
 -- a first packet that is no CONNECT
 other_turns : (port : Port) (name : ConnectionName) (packet : Packet) (a b : Running) (x : List (Effect Command Output)) →
     ((connect : Connect) → packet ≡ packets.Connect connect → ⊥) → b ≡ record a { core = changes port closed a.core } →
-    DoesTurn a b x x (begins port name packet a.core)
+    DoesTurn a b x x (takes_first_packet port name packet a.core)
 other_turns port name (packets.Connect connect) a b x other shut = absurd (other connect refl)
 other_turns port name _ a b x other shut = turns_quiet a b x (changes port closed a.core) (λ _. shut)
 
 pub turns_other : (awaits : Bool) (port : Port) (name : ConnectionName) (packet : Packet) (a b : Running) (x : List (Effect Command Output)) →
     awaits ≡ true → ((connect : Connect) → packet ≡ packets.Connect connect → ⊥) → b ≡ record a { core = changes port closed a.core } →
-    DoesTurn a b x x (if awaits then begins port name packet a.core else says port name packet a.core)
+    DoesTurn a b x x (if awaits then takes_first_packet port name packet a.core else proposes_packet port name packet a.core)
 turns_other awaits port name packet a b x is other shut =
-    subst (λ (f : Bool). DoesTurn a b x x (if f then begins port name packet a.core else says port name packet a.core)) (sym is)
+    subst (λ (f : Bool). DoesTurn a b x x (if f then takes_first_packet port name packet a.core else proposes_packet port name packet a.core)) (sym is)
     (other_turns port name packet a b x other shut)
 
 -- a connection that is closed after a change, and its loss is reported to the broker if its CONNECT

@@ -15,13 +15,13 @@ use Rattle.node_connections.specs.declared.front.Front.TheVariants as fronts
 use Rattle.node_connections.specs.declared.connection.ConnectionStage.{ConnectionStage}
 use Rattle.node_connections.specs.declared.connection.ConnectionStage.TheVariants.{Awaits, Proposed, Over, Failed}
 use Rattle.node_connections.specs.declared.connection.Connection.{Connection}
-use Rattle.node_connections.specs.Connections.{asked, closed, is_first, is_proposed, left_with}
+use Rattle.node_connections.specs.Connections.{noted_proposed, closed, is_first, is_proposed, left_with}
 use Rattle.world_base.specs.Core.{CoreState}
 use Rattle.node_connections.specs.Fronts.{FrontNeedsMemory, HasNoPacket}
 use Rattle.node_connections.specs.Inside.{TakesFront}
-use Rattle.world_base.specs.Inside.{BeginsOrSays, Ran, ReportsLost}
+use Rattle.world_base.specs.Inside.{TakesPacket, Ran, ReportsLost}
 use Rattle.world_base.specs.Lossy.{quietly}
-use Rattle.world_base.specs.LossyReading.{Begins, Connects, Ends, MayEnd, ReadsNext, Says}
+use Rattle.world_base.specs.LossyReading.{TakesFirstPacket, Connects, Ends, MayEnd, ReadsNext, ProposesPacket}
 use Rattle.world_base.specs.LossyReading.Ends.{none_open}
 use Rattle.world_base.specs.LossyReading.ReadsNext.{waits, first, later, refuses, ends}
 use Rattle.world_base.specs.Reading.{changes, open_at, refused}
@@ -50,49 +50,49 @@ ran_waits now port c new a b x found did is =
 -- a packet
 pub ran_packet : (now : ℕ) (port : Port) (c new : Connection) (packet : Packet) (a b r : CoreState) (x y : List (Effect Command Output)) →
     open_at port a ≡ Some c → TakesFront now c (fronts.Packet packet) new → b ≡ changes port (λ _. new) a →
-    Ran (BeginsOrSays (is_first c.stage) port c.name packet) b r x y → Ran (ReadsNext now port) a r x y
+    Ran (TakesPacket (is_first c.stage) port c.name packet) b r x y → Ran (ReadsNext now port) a r x y
 ran_packet now port c new packet a b r x y found did is ran = by (is_first c.stage) refl ran
   where
     left : b ≡ changes port (left_with now did.0) a
     left = is ∙ becomes_same port a c new (left_with now did.0) found did.3
 
-    by : (f : Bool) → is_first c.stage ≡ f → Ran (BeginsOrSays f port c.name packet) b r x y →
+    by : (f : Bool) → is_first c.stage ≡ f → Ran (TakesPacket f port c.name packet) b r x y →
         Ran (ReadsNext now port) a r x y
     by true e begun =
-        ran_as (BeginsOrSays true port c.name packet) (ReadsNext now port) a b r x y
-        (λ done runs. first c packet did.0 found e did.1 (subst (λ (k : CoreState). Begins port c.name packet k done) left runs)) begun
+        ran_as (TakesPacket true port c.name packet) (ReadsNext now port) a b r x y
+        (λ done runs. first c packet did.0 found e did.1 (subst (λ (k : CoreState). TakesFirstPacket port c.name packet k done) left runs)) begun
     by false e said =
-        ran_as (BeginsOrSays false port c.name packet) (ReadsNext now port) a b r x y
-        (λ done runs. later c packet did.0 found e did.1 (subst (λ (k : CoreState). Says port c.name packet k done) left runs)) said
+        ran_as (TakesPacket false port c.name packet) (ReadsNext now port) a b r x y
+        (λ done runs. later c packet did.0 found e did.1 (subst (λ (k : CoreState). ProposesPacket port c.name packet k done) left runs)) said
 
 -- it is the first of its connection
 pub ran_later : (awaits : Bool) (port : Port) (name : ConnectionName) (packet : Packet) (a b : CoreState) (x y : List (Effect Command Output)) →
-    awaits ≡ false → Ran (Says port name packet) a b x y → Ran (BeginsOrSays awaits port name packet) a b x y
+    awaits ≡ false → Ran (ProposesPacket port name packet) a b x y → Ran (TakesPacket awaits port name packet) a b x y
 ran_later awaits port name packet a b x y is ran =
-    subst (λ (f : Bool). Ran (BeginsOrSays f port name packet) a b x y) (sym is)
-    (ran_as (Says port name packet) (BeginsOrSays false port name packet) a a b x y (λ did runs. runs) ran)
+    subst (λ (f : Bool). Ran (TakesPacket f port name packet) a b x y) (sym is)
+    (ran_as (ProposesPacket port name packet) (TakesPacket false port name packet) a a b x y (λ did runs. runs) ran)
 
 pub ran_connects : (awaits : Bool) (port : Port) (name : ConnectionName) (connect : Connect) (packet : Packet) (a b r : CoreState)
     (x y : List (Effect Command Output)) → awaits ≡ true → packet ≡ packets.Connect connect →
-    b ≡ changes port (asked connect.keep_alive) a → Ran (Connects port name connect) b r x y →
-    Ran (BeginsOrSays awaits port name packet) a r x y
+    b ≡ changes port (noted_proposed connect.keep_alive) a → Ran (Connects port name connect) b r x y →
+    Ran (TakesPacket awaits port name packet) a r x y
 ran_connects awaits port name connect packet a b r x y is connects left ran =
-    subst (λ (f : Bool). Ran (BeginsOrSays f port name packet) a r x y) (sym is)
-    (subst (λ (p : Packet). Ran (BeginsOrSays true port name p) a r x y) (sym connects)
-    (ran_as (Connects port name connect) (BeginsOrSays true port name (packets.Connect connect)) a b r x y
+    subst (λ (f : Bool). Ran (TakesPacket f port name packet) a r x y) (sym is)
+    (subst (λ (p : Packet). Ran (TakesPacket true port name p) a r x y) (sym connects)
+    (ran_as (Connects port name connect) (TakesPacket true port name (packets.Connect connect)) a b r x y
     (λ did runs. subst (λ (k : CoreState). Connects port name connect k did) left runs) ran))
 
 other_begins : (port : Port) (name : ConnectionName) (packet : Packet) (a b : CoreState) →
-    ((connect : Connect) → packet ≡ packets.Connect connect → ⊥) → b ≡ changes port closed a → Begins port name packet a (quietly b)
+    ((connect : Connect) → packet ≡ packets.Connect connect → ⊥) → b ≡ changes port closed a → TakesFirstPacket port name packet a (quietly b)
 other_begins port name (packets.Connect connect) a b other shut = absurd (other connect refl)
 other_begins port name _ a b other shut = ap quietly shut
 
 pub ran_other : (awaits : Bool) (port : Port) (name : ConnectionName) (packet : Packet) (a b : CoreState)
     (x : List (Effect Command Output)) → awaits ≡ true → ((connect : Connect) → packet ≡ packets.Connect connect → ⊥) →
-    b ≡ changes port closed a → Ran (BeginsOrSays awaits port name packet) a b x x
+    b ≡ changes port closed a → Ran (TakesPacket awaits port name packet) a b x x
 ran_other awaits port name packet a b x is other shut =
-    subst (λ (f : Bool). Ran (BeginsOrSays f port name packet) a b x x) (sym is)
-    (ran_quietly (BeginsOrSays true port name packet) a b x (other_begins port name packet a b other shut))
+    subst (λ (f : Bool). Ran (TakesPacket f port name packet) a b x x) (sym is)
+    (ran_quietly (TakesPacket true port name packet) a b x (other_begins port name packet a b other shut))
 
 -- ---- no packet, or no memory
 

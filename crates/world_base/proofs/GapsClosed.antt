@@ -17,7 +17,7 @@ use Rattle.node_connections.specs.declared.port.Port.{Port}
 use Rattle.world_base.specs.declared.item.Item.{Item}
 use Rattle.world_base.specs.declared.item.Item.TheVariants.{Peer, Tick, Opened, Bytes, Ended, Expel, Cut, Crash}
 use Rattle.node_connections.specs.declared.connection.Connection.{Connection}
-use Rattle.node_connections.specs.Connections.{asked, closed, failing, fresh, has_failed, holding, is_at, is_open_at, is_over, left_with}
+use Rattle.node_connections.specs.Connections.{noted_proposed, closed, failing, fresh, has_failed, holding, is_at, is_open_at, is_over, left_with}
 use Rattle.world_base.specs.Core.{CoreState, serves}
 use Rattle.world_base.specs.Failing.{closes_failed}
 use Rattle.world_base.specs.Going.{AGapIsClosed, AreNamedApart, EachGoesOn, GoOn, GoesOn, IsNew}
@@ -25,7 +25,7 @@ use Rattle.world_base.specs.Lossy.{Account, Drives, ReplicaSteps, Repeated, Take
 use Rattle.world_base.specs.LossyProposals.{Declines, Proposes}
 use Rattle.world_base.specs.LossyProposals.Declines.{no_room, forgets, stops}
 use Rattle.world_base.specs.LossyStep.{ActsOn, Cuts, Holds, Opens, DoesItem}
-use Rattle.world_base.specs.LossyReading.{Asks, Begins, Closes, Ends, EndsSilent, LosesFailed, ReadsNext, Shuts}
+use Rattle.world_base.specs.LossyReading.{TakesOr, TakesFirstPacket, Closes, Ends, EndsSilent, LosesFailed, ReadsNext, Shuts}
 use Rattle.world_base.specs.LossyStep.Cuts.{nothing_to_cut, cuts_log, forgets_cut}
 use Rattle.world_base.specs.LossyReading.Ends.{none_open, unproposed, proposed}
 use Rattle.world_base.specs.LossyReading.EndsSilent.{none_silent, ends_one}
@@ -77,8 +77,8 @@ changes_on port f core on =
 closes_on : (port : Port) (core : CoreState) → EachGoesOn [] core.connections (changes port closed core).connections
 closes_on port core = changes_on port closed core (λ c stays. goes_closed [] c)
 
-asked_on : (keep_alive : ℕ) (c : Connection) → is_over c.stage ≡ false → GoesOn [] c (asked keep_alive c)
-asked_on keep_alive c stays = goes_still c (asked keep_alive c) refl refl refl (λ over. absurd (both over))
+asked_on : (keep_alive : ℕ) (c : Connection) → is_over c.stage ≡ false → GoesOn [] c (noted_proposed keep_alive c)
+asked_on keep_alive c stays = goes_still c (noted_proposed keep_alive c) refl refl refl (λ over. absurd (both over))
   where
     both : is_over c.stage ≡ true → ⊥
     both over = absurd cc
@@ -101,7 +101,7 @@ proposes_on command core did (inl takes) = takes_on command core did takes
 proposes_on command core did (inr declines) = declines_on core did declines
 
 asks_on : (command : Command) (Otherwise : CoreState → Account → Type 0) → ((k : CoreState) (d : Account) → Otherwise k d → Goes k d) →
-    (core : CoreState) (did : Account) → Asks command Otherwise core did → Goes core did
+    (core : CoreState) (did : Account) → TakesOr command Otherwise core did → Goes core did
 asks_on command Otherwise on core did (inl takes) = takes_on command core did takes
 asks_on command Otherwise on core did (inr other) = then_on Declines Otherwise declines_on on core did other
 
@@ -135,12 +135,12 @@ shuts_on port core did (inr is) =
     quietly_on core (changes port failing core) did is (changes_on port failing core (λ c stays. goes_failing [] c))
 
 begins_on : (port : Port) (name : ConnectionName) (packet : Packet) (core : CoreState) (did : Account) →
-    Begins port name packet core did → Goes core did
+    TakesFirstPacket port name packet core did → Goes core did
 begins_on port name (packets.Connect connect) core did runs =
-    after_on core (changes port (asked connect.keep_alive) core) did
-    (changes_on port (asked connect.keep_alive) core (asked_on connect.keep_alive))
+    after_on core (changes port (noted_proposed connect.keep_alive) core) did
+    (changes_on port (noted_proposed connect.keep_alive) core (asked_on connect.keep_alive))
     (asks_on (commands.Connect name connect.client connect.clean) (Closes port) (shut_on port)
-    (changes port (asked connect.keep_alive) core) did runs)
+    (changes port (noted_proposed connect.keep_alive) core) did runs)
 begins_on port name _ core did runs = shut_on port core did runs
 
 left_on : (port : Port) (now : ℕ) (rest : List ℕ) (core : CoreState) →

@@ -15,7 +15,7 @@ use Rattle.node_connections.specs.packet.declared.packet.Packet.{Packet}
 use Rattle.world_base.specs.Core.{CoreState, Turn, rules}
 use Rattle.node_connections.specs.declared.port.Port.{Port}
 use Rattle.node_connections.specs.Connections.{has_failed}
-use Rattle.world_base.specs.LossyReading.{Begins, Says}
+use Rattle.world_base.specs.LossyReading.{TakesFirstPacket, ProposesPacket}
 use Rattle.world_base.specs.Lossy.{Account, HandlesAll, Takes, quietly}
 use Rattle.world_base.specs.LossyProposals.{Declines, Proposes}
 use Rattle.world_base.specs.Turns.{has_room}
@@ -96,9 +96,9 @@ ProposedBy true command core did = Takes command core did
 ProposedBy false command core did = Declines core did
 
 -- a packet that was read is the first of its connection, or a later one
-abbrev pub BeginsOrSays : Bool → Port → ConnectionName → Packet → CoreState → Account → Type 0
-BeginsOrSays true port name packet core did = Begins port name packet core did
-BeginsOrSays false port name packet core did = Says port name packet core did
+abbrev pub TakesPacket : Bool → Port → ConnectionName → Packet → CoreState → Account → Type 0
+TakesPacket true port name packet core did = TakesFirstPacket port name packet core did
+TakesPacket false port name packet core did = ProposesPacket port name packet core did
 
 -- a connection that was closed; it is reported to the broker if its CONNECT was proposed
 abbrev pub ReportsLost : Bool → ConnectionName → CoreState → Account → Type 0

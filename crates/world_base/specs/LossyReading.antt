@@ -12,7 +12,7 @@ use Rattle.node_connections.specs.broker_spec.declared.command.Command.{Command}
 use Rattle.node_connections.specs.broker_spec.declared.command.Command.TheVariants as commands
 use Rattle.node_connections.specs.declared.port.Port.{Port}
 use Rattle.node_connections.specs.declared.connection.Connection.{Connection}
-use Rattle.node_connections.specs.Connections.{asked, closed, failing, has_failed, is_first, is_proposed, left_with}
+use Rattle.node_connections.specs.Connections.{noted_proposed, closed, failing, has_failed, is_first, is_proposed, left_with}
 use Rattle.node_connections.specs.Fronts.{FrontNeedsMemory, HasNoPacket}
 use Rattle.world_base.specs.Core.{CoreState}
 use Rattle.world_base.specs.Failing.{closes_failed}
@@ -51,8 +51,8 @@ pub data LosesFailed (core : CoreState) (did : Account) : Type 0 where
       Proposes (commands.Lost c.name) (closes_failed core) did → LosesFailed core did
 
 -- a command is taken, or otherwise this is done
-abbrev pub Asks : Command → (CoreState → Account → Type 0) → CoreState → Account → Type 0
-Asks command Otherwise core did = Takes command core did ⊎ Then Declines Otherwise core did
+abbrev pub TakesOr : Command → (CoreState → Account → Type 0) → CoreState → Account → Type 0
+TakesOr command Otherwise core did = Takes command core did ⊎ Then Declines Otherwise core did
 
 -- a connection is closed
 abbrev pub Closes : Port → CoreState → Account → Type 0
@@ -62,20 +62,21 @@ Closes port core did = did ≡ quietly (changes port closed core)
 abbrev pub Shuts : Port → CoreState → Account → Type 0
 Shuts port core did = Closes port core did ⊎ (did ≡ quietly (changes port failing core))
 
--- a connection is closed if one of its packets is not taken
+-- a CONNECT is proposed; if it is not taken, the connection is closed
 abbrev pub Connects : Port → ConnectionName → Connect → CoreState → Account → Type 0
 Connects port name connect core did =
-    Asks (commands.Connect name connect.client connect.clean) (Closes port) core did
+    TakesOr (commands.Connect name connect.client connect.clean) (Closes port) core did
 
--- the first must be a CONNECT
-abbrev pub Begins : Port → ConnectionName → Packet → CoreState → Account → Type 0
-Begins port name (packets.Connect connect) core did =
-    Connects port name connect (changes port (asked connect.keep_alive) core) did
-Begins port name _ core did = Closes port core did
+-- the first packet of a connection must be a CONNECT
+abbrev pub TakesFirstPacket : Port → ConnectionName → Packet → CoreState → Account → Type 0
+TakesFirstPacket port name (packets.Connect connect) core did =
+    Connects port name connect (changes port (noted_proposed connect.keep_alive) core) did
+TakesFirstPacket port name _ core did = Closes port core did
 
 -- a later packet is proposed; if it is not taken, the connection ends
-abbrev pub Says : Port → ConnectionName → Packet → CoreState → Account → Type 0
-Says port name packet core did = Asks (commands.Packet name packet) (Shuts port) core did
+abbrev pub ProposesPacket : Port → ConnectionName → Packet → CoreState → Account → Type 0
+ProposesPacket port name packet core did =
+    TakesOr (commands.Packet name packet) (Shuts port) core did
 
 -- what is at the front of its bytes may end a connection: it is no packet, or may need memory
 abbrev pub MayEnd : Option Connection → Type 0
@@ -92,12 +93,12 @@ pub data ReadsNext (now : ℕ) (port : Port) (core : CoreState) (did : Account) 
   -- the first packet of the connection is there
   first : (c : Connection) (packet : Packet) (rest : List ℕ) → open_at port core ≡ Some c →
       is_first c.stage ≡ true → verdict c.unread ≡ Ok (packet, rest) →
-      Begins port c.name packet (changes port (left_with now rest) core) did →
+      TakesFirstPacket port c.name packet (changes port (left_with now rest) core) did →
       ReadsNext now port core did
   -- a later packet is there
   later : (c : Connection) (packet : Packet) (rest : List ℕ) → open_at port core ≡ Some c →
       is_first c.stage ≡ false → verdict c.unread ≡ Ok (packet, rest) →
-      Says port c.name packet (changes port (left_with now rest) core) did →
+      ProposesPacket port c.name packet (changes port (left_with now rest) core) did →
       ReadsNext now port core did
   -- its CONNECT is refused with a code
   refuses : (c : Connection) (code : RefusalCode) → open_at port core ≡ Some c →

@@ -11,7 +11,7 @@ use Rattle.node_connections.specs.broker_spec.Connection.{ConnectionName}
 use Rattle.node_connections.specs.broker_spec.declared.command.Command.TheVariants as commands
 use Rattle.node_connections.specs.declared.port.Port.{Port}
 use Rattle.node_connections.specs.declared.connection.Connection.{Connection}
-use Rattle.node_connections.specs.Connections.{is_open_at, is_first, is_proposed, asked, left_with, closed, changed}
+use Rattle.node_connections.specs.Connections.{is_open_at, is_first, is_proposed, noted_proposed, left_with, closed, changed}
 use Rattle.world_base.specs.Core.{CoreState, Turn}
 use Rattle.world_base.specs.Turns.{quiet, repeated, proposes, has_room}
 pub use Rattle.node_connections.specs.Refusing.{refused}
@@ -41,26 +41,25 @@ loses_open port core (Some c) = loses port c core
 unfoldable pub ends : Port → CoreState → Turn
 ends port core = loses_open port core (open_at port core)
 
--- a CONNECT is proposed (`connect` in code); a refused proposal closes the connection
-abbrev pub asks : Port → ConnectionName → Connect → CoreState → Turn
-asks port name connect core =
+-- a CONNECT is proposed; a refused proposal closes the connection
+abbrev pub connects : Port → ConnectionName → Connect → CoreState → Turn
+connects port name connect core =
     if has_room core
     then proposes (commands.Connect name connect.client connect.clean) core
     else quiet (changes port closed core)
 
--- a later packet, a CONNECT too, is proposed (`propose_packet` in code); a refused proposal
--- closes the connection
-abbrev pub says : Port → ConnectionName → Packet → CoreState → Turn
-says port name packet core =
+-- a later packet, a CONNECT too, is proposed; a refused proposal closes the connection
+abbrev pub proposes_packet : Port → ConnectionName → Packet → CoreState → Turn
+proposes_packet port name packet core =
     if has_room core
     then proposes (commands.Packet name packet) core
     else quiet (changes port closed core)
 
--- the first packet of a connection (`on_packet` in code) must be a CONNECT (MQTT-3.1.0-1)
-abbrev pub begins : Port → ConnectionName → Packet → CoreState → Turn
-begins port name (packets.Connect connect) core =
-    asks port name connect (changes port (asked connect.keep_alive) core)
-begins port name _ core = quiet (changes port closed core)
+-- the first packet of a connection must be a CONNECT (MQTT-3.1.0-1)
+abbrev pub takes_first_packet : Port → ConnectionName → Packet → CoreState → Turn
+takes_first_packet port name (packets.Connect connect) core =
+    connects port name connect (changes port (noted_proposed connect.keep_alive) core)
+takes_first_packet port name _ core = quiet (changes port closed core)
 
 -- what the front of a connection's bytes does to the node at this time: a later CONNECT that is
 -- refused with a code is a malformed packet
@@ -71,8 +70,8 @@ reads now port c core (Err (stops.Refused code)) =
     if is_first c.stage then quiet (changes port (refused code) core) else loses port c core
 reads now port c core (Ok (packet, rest)) =
     if is_first c.stage
-    then begins port c.name packet (changes port (left_with now rest) core)
-    else says port c.name packet (changes port (left_with now rest) core)
+    then takes_first_packet port c.name packet (changes port (left_with now rest) core)
+    else proposes_packet port c.name packet (changes port (left_with now rest) core)
 
 -- the packet at the front of its bytes is read, if there is a connection
 abbrev pub reads_of : ℕ → Port → CoreState → Option Connection → Turn

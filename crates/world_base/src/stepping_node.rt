@@ -7,7 +7,7 @@ ghost use Rattle.ballot.specs.LawfulConfig.{is_lawful};
 ghost use Rattle.ballot.specs.Cutting.{can_cut};
 ghost use Rattle.ballot.specs.Logs.{places};
 ghost use Rattle.ballot.specs.Replica.{status_of};
-ghost use Rattle.node_connections.specs.Connections.{asked, closed, failing, has_failed, holding, is_at, is_open_at, is_open_named, put_out};
+ghost use Rattle.node_connections.specs.Connections.{noted_proposed, closed, failing, has_failed, holding, is_at, is_open_at, is_open_named, put_out};
 ghost use Rattle.world_base.specs.Core.{opening_core, serves};
 ghost use Rattle.world_base.specs.Inside.{Does};
 ghost use Rattle.world_base.specs.KeepAlive.{lowest_silent};
@@ -207,7 +207,7 @@ impl SteppingNode {
     /// Notes that the CONNECT of the open connection of a port, with this keep alive, is proposed.
     pub fn note_proposed_at(&mut self, port: Port, keep_alive: u16)
         ensures { self.new
-            ≡ record self.old { core = changes port (asked keep_alive) self.old.core } }
+            ≡ record self.old { core = changes port (noted_proposed keep_alive) self.old.core } }
     {
         if let Some(index) = self.index_at(port) {
             self.connections[index].note_proposed(keep_alive);

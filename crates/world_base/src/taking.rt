@@ -5,16 +5,16 @@ ghost use Rattle.std.specs.List.{find};
 ghost use Rattle.node_connections.specs.broker_spec.declared.command.Command.TheVariants as commands;
 ghost use Rattle.node_connections.specs.broker_spec.Sized.{IsSized};
 ghost use Rattle.node_connections.specs.Connections.{closed, has_failed, holding, is_first, is_proposed};
-ghost use Rattle.world_base.specs.Inside.{BeginsOrSays, DoesTurn, Ran, ReportsLost, WithoutFailure};
+ghost use Rattle.world_base.specs.Inside.{TakesPacket, DoesTurn, Ran, ReportsLost, WithoutFailure};
 ghost use Rattle.world_base.specs.declared.item.Item.TheVariants as items;
 ghost use Rattle.world_base.specs.Losses.{DoesNothing, IsHeardQuietly, ReadsNone, TakesNoMemory, was_proposed};
 ghost use Rattle.world_base.specs.Lossy.{quietly};
 ghost use Rattle.world_base.specs.LossyProposals.{Proposes};
 ghost use Rattle.world_base.specs.LossyStep.{ActsOn, EndsAllSilent, Holds, LosesAllFailed, ReadsAll, DoesItem};
-ghost use Rattle.world_base.specs.LossyReading.{Connects, Ends, LosesFailed, ReadsNext, Says};
+ghost use Rattle.world_base.specs.LossyReading.{Connects, Ends, LosesFailed, ReadsNext, ProposesPacket};
 ghost use Rattle.world_base.specs.Failing.{loses_all_failed, loses_failed};
 ghost use Rattle.world_base.specs.KeepAlive.{ends_all_silent};
-ghost use Rattle.world_base.specs.Reading.{asks, begins, changes, ends, open_at, reads_all, reads_next, says};
+ghost use Rattle.world_base.specs.Reading.{connects, takes_first_packet, changes, ends, open_at, reads_all, reads_next, proposes_packet};
 ghost use Rattle.world_base.specs.Step.{acts_on, does_item};
 ghost use Rattle.world_base.specs.Turns.{proposes, quiet};
 
@@ -189,9 +189,9 @@ impl SteppingNode {
         requires sized { IsSized packet }
         ensures exact { DoesTurn self.old self.new effects.old.items effects.new.items
             (if is_first stage
-            then begins port name packet self.old.core
-            else says port name packet self.old.core) }
-        ensures lossy { Ran (BeginsOrSays (is_first stage) port name packet)
+            then takes_first_packet port name packet self.old.core
+            else proposes_packet port name packet self.old.core) }
+        ensures lossy { Ran (TakesPacket (is_first stage) port name packet)
             self.old.core self.new.core effects.old.items effects.new.items }
     {
         if !stage.is_first() {
@@ -215,7 +215,7 @@ impl SteppingNode {
         effects: &mut Vec<Effect<Command, Output>>,
     )
         ensures exact { DoesTurn self.old self.new effects.old.items effects.new.items
-            (asks port name connect self.old.core) }
+            (connects port name connect self.old.core) }
         ensures lossy { Ran (Connects port name connect)
             self.old.core self.new.core effects.old.items effects.new.items }
     {
@@ -235,8 +235,8 @@ impl SteppingNode {
     )
         requires sized { IsSized packet }
         ensures exact { DoesTurn self.old self.new effects.old.items effects.new.items
-            (says port name packet self.old.core) }
-        ensures lossy { Ran (Says port name packet)
+            (proposes_packet port name packet self.old.core) }
+        ensures lossy { Ran (ProposesPacket port name packet)
             self.old.core self.new.core effects.old.items effects.new.items }
     {
         let Ok(packet) = SizedPacket::new(packet) else {
