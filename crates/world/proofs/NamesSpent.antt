@@ -7,7 +7,7 @@ use Rattle.headline.specs.world_base.Core.{CountedCore}
 use Rattle.headline.specs.world_base.Step.{accepted}
 use Rattle.escaping_nodes.specs.world_nodes.Running.{node_of}
 use Rattle.world_events.specs.declared.event.Event.TheVariants as events
-use Rattle.world.specs.Opening.{OpensUnless, is_full}
+use Rattle.world.specs.Opening.{OpensUnless, has_no_name_left}
 use Rattle.world.specs.Happening.{Happens}
 use Rattle.world.specs.World.{WorldState}
 
@@ -15,7 +15,7 @@ both_but : (b : Bool) → (b && false) ≡ false
 both_but true = refl
 both_but false = refl
 
-spent : (core : CountedCore) → core.core.last_name ≡ record { ballot = core.core.replica.state.joined; count = 2 ^ 40 } → is_full (Some core) ≡ true
+spent : (core : CountedCore) → core.core.last_name ≡ record { ballot = core.core.replica.state.joined; count = 2 ^ 40 } → has_no_name_left (Some core) ≡ true
 spent core last =
     let joined = core.core.replica.state.joined in
     let count : accepted core.core ≡ 2 ^ 40 =
@@ -27,8 +27,8 @@ pub opens_past : (name : List ℕ) (node : ℕ) (core : CountedCore) (old new : 
     → core.core.last_name ≡ record { ballot = core.core.replica.state.joined; count = 2 ^ 40 } → old.nodes.losses < 2 ^ 64 - 1
     → Happens (events.Open name node) old (Ok tt) new → new ≡ old
 opens_past name node core old new there last low (inl exactly) =
-    subst (λ (full : Bool). OpensUnless full true name node old new) (ap is_full there ∙ spent core last) exactly.does
-opens_past name node core old new there last low (inr loses) = absurd (loses.needs (ap is_full there ∙ spent core last) low)
+    subst (λ (full : Bool). OpensUnless full true name node old new) (ap has_no_name_left there ∙ spent core last) exactly.does
+opens_past name node core old new there last low (inr loses) = absurd (loses.needs (ap has_no_name_left there ∙ spent core last) low)
 
 -- all four hold
 all_hold : (a b c d : Bool) → a ≡ true → b ≡ true → c ≡ true → d ≡ true → not ((a && b) && (c && d)) ≡ false
@@ -40,7 +40,7 @@ name_left ballot k positive high below =
     (lt-ltb 0 ballot positive) (le-leb ballot (2 ^ 32) high)
     (lt-ltb 0 (k + 1) (let e : 0 < k + 1 = omega arith in e)) (le-leb (k + 1) (2 ^ 40) (let e : k + 1 ≤ 2 ^ 40 = omega (arith, below) in e))
 
-pub room_before : (core : CountedCore) → 0 < core.core.replica.state.joined → core.core.replica.state.joined ≤ 2 ^ 32 → core.core.last_name.count < 2 ^ 40 → is_full (Some core) ≡ false
+pub room_before : (core : CountedCore) → 0 < core.core.replica.state.joined → core.core.replica.state.joined ≤ 2 ^ 32 → core.core.last_name.count < 2 ^ 40 → has_no_name_left (Some core) ≡ false
 room_before core positive high few = by (core.core.last_name.ballot == core.core.replica.state.joined)
   where
     by : (b : Bool) → not (is_connection_name (record { ballot = core.core.replica.state.joined; count = (if b then core.core.last_name.count else 0) + 1 })) ≡ false
@@ -48,7 +48,7 @@ room_before core positive high few = by (core.core.last_name.ballot == core.core
     by false = name_left core.core.replica.state.joined 0 positive high (let e : 0 < 2 ^ 40 = omega arith in e)
 
 -- a node that gave no name in its ballot has one left
-pub first_is_left : (core : CountedCore) → core.core.replica.state.joined ≤ 2 ^ 32 → core.core.last_name.ballot < core.core.replica.state.joined → is_full (Some core) ≡ false
+pub first_is_left : (core : CountedCore) → core.core.replica.state.joined ≤ 2 ^ 32 → core.core.last_name.ballot < core.core.replica.state.joined → has_no_name_left (Some core) ≡ false
 first_is_left core high low =
     ap (λ (b : Bool). not (is_connection_name (record { ballot = core.core.replica.state.joined; count = (if b then core.core.last_name.count else 0) + 1 })))
     (ne_eqb core.core.last_name.ballot core.core.replica.state.joined (λ e. omega (arith, e, low)))

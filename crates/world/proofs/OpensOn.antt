@@ -26,7 +26,7 @@ use Rattle.world.specs.declared.world.WorldClient.{WorldClient}
 use Rattle.world.specs.declared.connection_slot.ConnectionSlot.{ConnectionSlot}
 use Rattle.world.specs.Found.{Named, core_named, is_named, port_of, with_piped}
 use Rattle.world.specs.Doing.{Does as HappenDoes}
-use Rattle.world.specs.Opening.{NoneOpens, OpensNone, OpensOne, OpensUnless, is_full, next_number, with_connection}
+use Rattle.world.specs.Opening.{NoneOpens, OpensNone, OpensOne, OpensUnless, has_no_name_left, next_number, with_connection}
 use Rattle.world.specs.Happening.{HappensLosing}
 use Rattle.world.specs.Cannot.{CannotOpen, is_serving}
 use Rattle.world.specs.Gathering.{Gathers, TakesItem}
@@ -130,13 +130,13 @@ record IsOpened (name : List ℕ) (node : ℕ) (old new : WorldState) : Type 0 w
   exact : NodesLoseNothing old.nodes new.nodes → OpensOne true name node old new
 
 -- if its node has a name left
-roomy : (whole : Bool) (name : List ℕ) (node : ℕ) (old new : WorldState) → is_full (node_of old.nodes.nodes node) ≡ false → OpensOne whole name node old new
-    → OpensUnless (is_full (node_of old.nodes.nodes node)) whole name node old new
+roomy : (whole : Bool) (name : List ℕ) (node : ℕ) (old new : WorldState) → has_no_name_left (node_of old.nodes.nodes node) ≡ false → OpensOne whole name node old new
+    → OpensUnless (has_no_name_left (node_of old.nodes.nodes node)) whole name node old new
 roomy whole name node old new left one = subst (λ (full : Bool). OpensUnless full whole name node old new) (sym left) one
 
 -- and if it has none
-spent : (whole : Bool) (name : List ℕ) (node : ℕ) (old new : WorldState) → is_full (node_of old.nodes.nodes node) ≡ true → new ≡ old
-    → OpensUnless (is_full (node_of old.nodes.nodes node)) whole name node old new
+spent : (whole : Bool) (name : List ℕ) (node : ℕ) (old new : WorldState) → has_no_name_left (node_of old.nodes.nodes node) ≡ true → new ≡ old
+    → OpensUnless (has_no_name_left (node_of old.nodes.nodes node)) whole name node old new
 spent whole name node old new none same = subst (λ (full : Bool). OpensUnless full whole name node old new) (sym none) same
 
 opens_one : (name : List ℕ) (at node : ℕ) (old new : WorldState) → position (is_named name) old.clients ≡ Some at → OpensAt at node old new → IsOpened name node old new
@@ -151,7 +151,7 @@ opens_one name at node old new first o =
     }
 
 pub open_meets : (name : List ℕ) (at node : ℕ) (old new : WorldState) (client : WorldClient) → position (is_named name) old.clients ≡ Some at → slice_get old.clients at ≡ Some client
-    → is_holding client.piped ≡ false → is_serving (node_of old.nodes.nodes node) ≡ true → is_full (node_of old.nodes.nodes node) ≡ false → Begins at node old new
+    → is_holding client.piped ≡ false → is_serving (node_of old.nodes.nodes node) ≡ true → has_no_name_left (node_of old.nodes.nodes node) ≡ false → Begins at node old new
     → IsDone (events.Open name node) old new ⊎ HappensLosing (events.Open name node) old new
 open_meets name at node old new client first stands free serving left begins = by begins
   where
@@ -186,7 +186,7 @@ open_meets name at node old new client first stands free serving left begins = b
 
 -- a node that has no name left closes the connection at once
 pub full_meets : (name : List ℕ) (at node : ℕ) (old : WorldState) (client : WorldClient) → position (is_named name) old.clients ≡ Some at → slice_get old.clients at ≡ Some client
-    → is_holding client.piped ≡ false → is_serving (node_of old.nodes.nodes node) ≡ true → is_full (node_of old.nodes.nodes node) ≡ true
+    → is_holding client.piped ≡ false → is_serving (node_of old.nodes.nodes node) ≡ true → has_no_name_left (node_of old.nodes.nodes node) ≡ true
     → IsDone (events.Open name node) old old
 full_meets name at node old client first stands free serving none =
     record { can = can; does = inl refl; exact = λ whole. spent true name node old old none refl; uncounted = refl }

@@ -35,7 +35,7 @@ use Rattle.world_events.specs.declared.event.Event.TheVariants as events
 use Rattle.world.specs.declared.connection_slot.ConnectionSlot.{ConnectionSlot}
 use Rattle.world.specs.declared.world.WorldClient.{WorldClient}
 use Rattle.world.specs.Cannot.{CannotOpen, is_serving}
-use Rattle.world.specs.Opening.{OpensOne, OpensUnless, is_full, next_number, with_connection}
+use Rattle.world.specs.Opening.{OpensOne, OpensUnless, has_no_name_left, next_number, with_connection}
 use Rattle.world.specs.Found.{Named, core_named, is_named, port_of}
 use Rattle.world.specs.Gathering.{Gathers}
 use Rattle.world.specs.Trace.{LosesNothing, NodesGo}
@@ -82,10 +82,10 @@ module _ (name : List ℕ) (before : Core) (a : Moment State Command Output) (ba
   can_open_there closed (inl taken) = both_ways (is_open before.state.stage) closed (subst CannotOpen there taken)
   can_open_there closed (inr shut) = both_ways (is_serving (node_of old.nodes.nodes (suc place))) shut serving
 
-  has_name : is_full (node_of old.nodes.nodes (suc place)) ≡ false
+  has_name : has_no_name_left (node_of old.nodes.nodes (suc place)) ≡ false
   has_name =
       let joined = can.serves.leads.joined in let high = can.most in let low = can.low in
-      ap is_full can.stands ∙ first_is_left node (omega (arith, joined, high)) (omega (arith, joined, low))
+      ap has_no_name_left can.stands ∙ first_is_left node (omega (arith, joined, high)) (omega (arith, joined, low))
 
   module _ (after : WorldState) (does : OpensOne true name (suc place) old after) where
     abbrev number : ℕ

@@ -6,7 +6,7 @@ use Rattle.headline.specs.world_base.Core.{CountedCore}
 use Rattle.escaping_nodes.specs.world_nodes.Running.{node_of}
 use Rattle.world_events.specs.declared.event.Event.{Event}
 use Rattle.world_events.specs.declared.event.Event.TheVariants as events
-use Rattle.world.specs.Opening.{is_full}
+use Rattle.world.specs.Opening.{has_no_name_left}
 use Rattle.world.specs.Trace.{LosesNothing}
 use Rattle.world.specs.Happening.{Happens, HappensExactly}
 use Rattle.world.specs.World.{WorldState}
@@ -32,4 +32,4 @@ abbrev pub HasRoomBefore : Type 0
 HasRoomBefore =
     (core : CountedCore) → 0 < core.core.replica.state.joined →
     core.core.replica.state.joined ≤ max_ballot → core.core.last_name.count < max_count →
-    is_full (Some core) ≡ false
+    has_no_name_left (Some core) ≡ false

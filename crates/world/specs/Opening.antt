@@ -65,9 +65,9 @@ OpensNone name node old new =
 
 -- Whether the names of the node's ballot are used up. Then the connection is closed at once,
 -- without a byte: nothing is left of it.
-abbrev pub is_full : Option CountedCore → Bool
-is_full None = false
-is_full (Some node) = not (is_connection_name (next_name node.core))
+abbrev pub has_no_name_left : Option CountedCore → Bool
+has_no_name_left None = false
+has_no_name_left (Some node) = not (is_connection_name (next_name node.core))
 
 -- if the node's names are used up nothing changes; otherwise it takes the connection
 abbrev pub OpensUnless : Bool → Bool → List ℕ → ℕ → WorldState → WorldState → Type 0
@@ -77,7 +77,7 @@ OpensUnless false whole name node old new = OpensOne whole name node old new
 -- exactly that, or, if losses are allowed, perhaps no new connection
 abbrev pub OpensWhere : Bool → List ℕ → ℕ → WorldState → WorldState → Type 0
 OpensWhere true name node old new =
-    OpensUnless (is_full (node_of old.nodes.nodes node)) true name node old new
+    OpensUnless (has_no_name_left (node_of old.nodes.nodes node)) true name node old new
 OpensWhere false name node old new =
-    OpensUnless (is_full (node_of old.nodes.nodes node)) false name node old new
+    OpensUnless (has_no_name_left (node_of old.nodes.nodes node)) false name node old new
     ⊎ OpensNone name node old new

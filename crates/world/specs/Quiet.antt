@@ -12,7 +12,7 @@ use Rattle.escaping_nodes.specs.world_nodes.Quiet.{IsUnheeded, RestsAt}
 use Rattle.world_events.specs.declared.event.Event.{Event}
 use Rattle.world_events.specs.declared.event.Event.TheVariants as events
 use Rattle.world.specs.declared.connection_slot.ConnectionSlot.{ConnectionSlot}
-use Rattle.world.specs.Opening.{is_full}
+use Rattle.world.specs.Opening.{has_no_name_left}
 use Rattle.world.specs.Found.{slot_numbered, port_of}
 use Rattle.world.specs.World.{WorldState}
 
@@ -46,6 +46,6 @@ TakesNoMemory (events.Tick node) w = IsQuietAt node (items.Tick 0) w.nodes
 TakesNoMemory (events.Crash node) w = IsQuietAt node items.Crash w.nodes
 TakesNoMemory (events.Notice number) w =
     EndsQuietly number (slot_numbered number w.connections) w.nodes
-TakesNoMemory (events.Open name node) w = is_full (node_of w.nodes.nodes node) ≡ true
+TakesNoMemory (events.Open name node) w = has_no_name_left (node_of w.nodes.nodes node) ≡ true
 TakesNoMemory (events.Abandon name) w = Unit {0}
 TakesNoMemory event w = ⊥

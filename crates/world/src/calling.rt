@@ -6,7 +6,7 @@ ghost use Rattle.escaping_nodes.specs.world_nodes.Running.{node_of};
 ghost use Rattle.world_events.specs.world_pipes.Following.{CallingFollows, FollowsAll};
 ghost use Rattle.world_events.specs.world_pipes.Piped.{TakesLeave, is_holding, taken_back};
 ghost use Rattle.world.specs.Trace.{CountsOnce, NodesGoOn};
-ghost use Rattle.world.specs.Opening.{is_full};
+ghost use Rattle.world.specs.Opening.{has_no_name_left};
 ghost use Rattle.world.specs.ClientCalls.{Loses};
 ghost use Rattle.world.specs.Quiet.{TakesNoMemory};
 ghost use Rattle.world.specs.Cannot.{is_serving};
@@ -45,7 +45,7 @@ impl World {
             return Err(Idle);
         }
         // Closed at once, without a byte.
-        if self.is_full(node) {
+        if self.has_no_name_left(node) {
             return Ok(());
         }
         self.begin(at, node);
@@ -216,11 +216,11 @@ impl World {
     }
 
     // Says whether a node has no name left in its ballot.
-    fn is_full(&self, node: u8) -> bool
-        ensures { result ≡ is_full (node_of self.now.nodes.nodes node) }
+    fn has_no_name_left(&self, node: u8) -> bool
+        ensures { result ≡ has_no_name_left (node_of self.now.nodes.nodes node) }
     {
         match self.nodes.node(node) {
-            Some(core) => core.is_full(),
+            Some(core) => core.has_no_name_left(),
             None => false,
         }
     }

@@ -133,10 +133,10 @@ impl NodeCore {
 
     /// Says whether the numbers of the ballot are used up, so that no further connection is
     /// accepted in it.
-    pub fn is_full(&self) -> bool
+    pub fn has_no_name_left(&self) -> bool
         ensures { result ≡ not (is_connection_name (next_name self.now.core)) }
     {
-        self.stepping.is_full()
+        self.stepping.has_no_name_left()
     }
 
     /// Says whether a message of another node has an effect on the node; one without effect is

@@ -302,7 +302,7 @@ impl SteppingNode {
     }
 
     /// Says whether the numbers of this ballot are used up, so that no connection gets a name.
-    pub fn is_full(&self) -> bool
+    pub fn has_no_name_left(&self) -> bool
         ensures { result ≡ not (is_connection_name (next_name self.now.core)) }
     {
         self.next_name().is_none()

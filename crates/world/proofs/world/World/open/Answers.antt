@@ -53,14 +53,14 @@ returns-clause-meets c =
       losses = c.self.inside.losses;
     } in
     rw (← c.self.view_is) (open_meets c.args.client.now c.in-Some.at c.args.node old c.begin.new.self c.index.result.now (sym first) found (sym c.is_open.ensures ∙ c.if-is_open.false)
-    (rw (← c.self.view_is) at (sym c.serves.ensures ∙ c.if-not-serves.false)) (rw (← c.self.view_is) at (sym c.is_full.ensures ∙ c.if-is_full.false))
+    (rw (← c.self.view_is) at (sym c.serves.ensures ∙ c.if-not-serves.false)) (rw (← c.self.view_is) at (sym c.has_no_name_left.ensures ∙ c.if-has_no_name_left.false))
     (rw (← c.self.view_is) at c.begin.ensures.begins))
 
-pub returns-then-is_full-clause-goes : goal.returns-then-is_full-clause-goes
-returns-then-is_full-clause-goes c = goes_on_rest _ _ refl
+pub returns-then-has_no_name_left-clause-goes : goal.returns-then-has_no_name_left-clause-goes
+returns-then-has_no_name_left-clause-goes c = goes_on_rest _ _ refl
 
-pub returns-then-is_full-clause-meets : goal.returns-then-is_full-clause-meets
-returns-then-is_full-clause-meets c =
+pub returns-then-has_no_name_left-clause-meets : goal.returns-then-has_no_name_left-clause-meets
+returns-then-has_no_name_left-clause-meets c =
     let few : c.in-Some.at < length c.self.inside.clients.items = rw (← c.self.view_is) at c.in-Some.ensures.below in
     let found = get_there c.self.inside.clients.items c.in-Some.at c.index.result.now few c.index.ensures in
     let first = rw (← c.self.view_is) at c.in-Some.ensures.exact in
@@ -71,7 +71,7 @@ returns-then-is_full-clause-meets c =
       losses = c.self.inside.losses;
     } in
     rw (← c.self.view_is) (inl (full_meets c.args.client.now c.in-Some.at c.args.node old c.index.result.now (sym first) found (sym c.is_open.ensures ∙ c.if-is_open.false)
-    (rw (← c.self.view_is) at (sym c.serves.ensures ∙ c.if-not-serves.false)) (rw (← c.self.view_is) at (sym c.is_full.ensures ∙ c.if-is_full.true))))
+    (rw (← c.self.view_is) at (sym c.serves.ensures ∙ c.if-not-serves.false)) (rw (← c.self.view_is) at (sym c.has_no_name_left.ensures ∙ c.if-has_no_name_left.true))))
 
 pub returns-clause-quiet : goal.returns-clause-quiet
-returns-clause-quiet c = λ full. absurd (both_ways _ (sym c.is_full.ensures ∙ c.if-is_full.false) full)
+returns-clause-quiet c = λ full. absurd (both_ways _ (sym c.has_no_name_left.ensures ∙ c.if-has_no_name_left.false) full)
