@@ -21,7 +21,7 @@ use Rattle.node_moves.specs.world_base.Core.{CoreState, Turn, serves}
 use Rattle.node_moves.specs.world_base.Failing.{closes_failed, loses_all_failed, loses_failed, loses_if}
 use Rattle.node_moves.specs.world_base.Step.{node_step, settled}
 use Rattle.node_moves.specs.world_base.Turns.{drives, is_message, moved, proposes, quiet, repeated, handled, then_also}
-use Rattle.node_moves.proofs.LossesTold.{each_loss_is_told}
+use Rattle.node_moves.proofs.LossesReported.{each_loss_is_reported}
 use Rattle.escaping.specs.Delivery.{AStepIsADelivery, IsCalm, heard_by}
 
 -- ---- effects that give nothing
@@ -114,7 +114,7 @@ record Does (core : CoreState) (o : Outcome State Command Output) (turn : Turn) 
 
 pub a_step_is_a_delivery : AStepIsADelivery
 a_step_is_a_delivery core message runs silent calm =
-    record { replica = now.replica; last_name = now.last_name; messages = now.messages; calm = each_loss_is_told (Peer message) core }
+    record { replica = now.replica; last_name = now.last_name; messages = now.messages; calm = each_loss_is_reported (Peer message) core }
   where
     o : Outcome State Command Output
     o = heard_by core message

@@ -40,7 +40,7 @@ use Rattle.escaping.specs.world_base.Core.{CoreState, CountedCore, Turn, rules, 
 use Rattle.escaping.specs.world_base.Handing.{hands_over}
 use Rattle.escaping.specs.world_base.Step.{node_step}
 use Rattle.escaping.specs.world_base.Turns.{has_room}
-use Rattle.escaping.proofs.of_node_moves.LossesTold.{each_loss_is_told}
+use Rattle.escaping.proofs.of_node_moves.LossesReported.{each_loss_is_reported}
 use Rattle.ways_out.proofs.of_snapshots.Fronts.{whole_long}
 use Rattle.ways_out.proofs.of_snapshots.PastsKept.{StandsFor, past_stands}
 use Rattle.escaping.proofs.AnswerAlone.{answer_alone_is_put_out}
@@ -256,7 +256,7 @@ module _ (config : Config) (a : Moment State Command Output) (past : List (Momen
         }
 
     calm_first : AreCalm ballot first
-    calm_first = set_calm ballot n.nodes index node (record node { core = turn.core }) can.stands (inl (each_loss_is_told (Bytes port piece now) core)) can.calm
+    calm_first = set_calm ballot n.nodes index node (record node { core = turn.core }) can.stands (inl (each_loss_is_reported (Bytes port piece now) core)) can.calm
 
     waits_first : StillWaits ballot index port x first
     waits_first =

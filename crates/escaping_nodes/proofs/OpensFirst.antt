@@ -25,7 +25,7 @@ use Rattle.escaping.specs.world_base.Core.{CoreState, CountedCore, Turn, serves}
 use Rattle.escaping.specs.world_base.Handing.{hands_over}
 use Rattle.escaping.specs.world_base.Step.{node_step}
 use Rattle.escaping.specs.world_base.Turns.{quiet}
-use Rattle.escaping.proofs.of_node_moves.LossesTold.{each_loss_is_told}
+use Rattle.escaping.proofs.of_node_moves.LossesReported.{each_loss_is_reported}
 use Rattle.escaping.proofs.AnswerAwaited.{first_awaits_connect, handing_keeps_the_connect}
 use Rattle.escaping.proofs.FirstOpened.{first_is_opened}
 use Rattle.world_nodes.specs.ExactSteps.{after_node_call}
@@ -77,7 +77,7 @@ module _ (a : Moment State Command Output) (n : NodesState) (ballot index : ℕ)
           sent = can.seen.sent ∙ sym (ap (λ (t : Turn). n.sent ++ messages t.messages) step ∙ append-nil n.sent);
           archive = can.seen.archive;
         };
-        calm = set_calm ballot n.nodes index node after can.stands (inl (each_loss_is_told (Opened port now) core)) can.calm;
+        calm = set_calm ballot n.nodes index node after can.stands (inl (each_loss_is_reported (Opened port now) core)) can.calm;
         node = after;
         stands = get_set n.nodes index node after can.stands;
         serves = subst (λ (r : CountedReplica State Command). Serves ballot log others_of (index + 1) (whole a.world.archive r.state)) (sym same) can.serves;

@@ -18,7 +18,7 @@ pub mod NewNames
 pub mod Weights
 pub mod EachKept
 pub mod SilentEnd
-pub mod LossesTold
+pub mod LossesReported
 pub mod ReplicaStays
 pub mod ReplicaLeads
 pub mod MovesOfReplica

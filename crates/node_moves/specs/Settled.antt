@@ -15,7 +15,7 @@ NoneIsSilent =
     Each (λ (c : Connection). is_silent now c ≡ false) (node_step (Tick now) core).core.connections
 
 -- after a step there is no connection whose loss is still to be reported to the broker
-abbrev pub EachLossIsTold : Type 0
-EachLossIsTold =
+abbrev pub EachLossIsReported : Type 0
+EachLossIsReported =
     (item : Item) (core : CoreState) →
     Each (λ (c : Connection). has_failed c ≡ false) (node_step item core).core.connections

@@ -3,7 +3,7 @@
 // of it too.
 
 ghost use Rattle.node_moves.specs.Apart.{NamesStayApart};
-ghost use Rattle.node_moves.specs.Settled.{EachLossIsTold, NoneIsSilent};
+ghost use Rattle.node_moves.specs.Settled.{EachLossIsReported, NoneIsSilent};
 ghost use Rattle.node_moves.specs.Hearing.{NodeCallsHearAtFirst};
 ghost use Rattle.node_moves.specs.Keeping.{NamesKeepTheirBallot};
 ghost use Rattle.node_moves.specs.LossyLaws.{LossesAreTaken, LossesProposeInOrder, LossesPutInOrder, LossesPutNothingOnClosed, LossesReadInOrder, LossyNamesAreOfTheBallot, LossyNamesKeepTheirBallot};
@@ -31,8 +31,8 @@ pub fn none_is_silent()
 
 /// States that after each step the loss of every connection that was closed in it, because there
 /// was no room for what was to be sent, is reported to the broker.
-pub fn each_loss_is_told()
-    ensures { EachLossIsTold }
+pub fn each_loss_is_reported()
+    ensures { EachLossIsReported }
 {}
 
 /// States that each open connection of a node has a name of the ballot that the node leads, except

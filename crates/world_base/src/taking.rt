@@ -26,8 +26,8 @@ use node_connections::{ConnectionStage, Front, Piece, Port};
 use packet::{ClientId, Connect, Packet};
 
 impl SteppingNode {
-    /// Takes an item, and reports each connection that fails in it to the broker. Whether memory
-    /// ran out is then told by `is_out_of_memory`.
+    /// Takes an item, and reports each connection that fails in it to the broker. After it
+    /// `is_out_of_memory` says whether memory ran out.
     pub fn act_on(&mut self, item: Item, effects: &mut Vec<Effect<Command, Output>>)
         ensures exact { DoesTurn self.old self.new effects.old.items effects.new.items
             (acts_on item self.old.core) }

@@ -12,7 +12,7 @@ use Rattle.world_base.specs.Core.{CoreState}
 use Rattle.world_base.specs.Failing.{closes_failed, loses_failed, loses_if}
 use Rattle.world_base.specs.Step.{acts_on, does_item}
 use Rattle.world_base.specs.Turns.{quiet, proposes}
-use Rattle.node_moves.specs.Settled.{EachLossIsTold}
+use Rattle.node_moves.specs.Settled.{EachLossIsReported}
 use Rattle.node_moves.proofs.EachKept.{each_settled}
 use Rattle.node_moves.proofs.NamesInOrder.{same_le}
 use Rattle.node_moves.proofs.Views.{found_passes, some_none}
@@ -84,8 +84,8 @@ failed_step core = by (find has_failed core.connections) refl
     by None e = inl (none_found has_failed core.connections e, refl)
     by (Some c) e = inr (lowers c e)
 
-pub each_loss_is_told : EachLossIsTold
-each_loss_is_told item core =
+pub each_loss_is_reported : EachLossIsReported
+each_loss_is_reported item core =
     each_settled (λ (c : Connection). has_failed c ≡ false) (λ c other. refl) (acts_on item core).core
     (comes_to_end loses_failed NoneFailed untold_weight failed_step (length taken.connections) taken
     (total_few untold_weight taken.connections (λ c. one_untold c.stage)))
