@@ -50,7 +50,7 @@ pub record HasPipe (w : World) (i : ℕ) (c : ClientPipes) (j : ℕ) (κ : Conne
   pub connection : slice_get c.connections j ≡ Some κ
   pub pipe : slice_get c.pipes j ≡ Some p
 
--- no pipe ever led to this port of the node
+-- whether a pipe leads to this port of node n
 abbrev pub leads_to : ℕ → Port → Pipe → Bool
 leads_to n port p = (p.node == n) && (p.port.0 == port.0)
 
