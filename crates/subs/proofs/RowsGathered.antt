@@ -22,7 +22,7 @@ use Rattle.subs_base.specs.ListIndex.{Filters, Clients, at, content_of}
 use Rattle.subs_base.specs.Inside.{listed, AreOrdered}
 use Rattle.subs.specs.declared.group.Group.{Group}
 use Rattle.subs.specs.declared.group.Group.TheVariants.{One}
-use Rattle.subs.specs.Gathered.{Groups, row_in, told, groups_of, gathered, all_put, filters_told, clients_told}
+use Rattle.subs.specs.Gathered.{Groups, row_in, rows_of_group, groups_of, gathered, all_put, filters_set, clients_set}
 use Rattle.subs.specs.declared.rows.Rows.{Rows}
 use Rattle.subs.specs.declared.rows.Rows.TheVariants as kept
 use Rattle.subs.specs.Rows.{row_at}
@@ -38,19 +38,19 @@ of_rows c o = option_and_then (λ rows. row_in rows c) o
 -- ---- one more row
 
 abbrev in_group : List ℕ → Option Group → Option QoS
-in_group c o = option_and_then (λ group. row_in (told group) c) o
+in_group c o = option_and_then (λ group. row_in (rows_of_group group) c) o
 
 gathered_held : (es : List (List ℕ × Group)) (c f : List ℕ) → gathered (groups_of es) c f ≡ in_group c (lookup (bytes_eq f) es)
-gathered_held es c f = ap (of_rows c) (lookup-map_values told (bytes_eq f) es) ∙ opened (lookup (bytes_eq f) es)
+gathered_held es c f = ap (of_rows c) (lookup-map_values rows_of_group (bytes_eq f) es) ∙ opened (lookup (bytes_eq f) es)
   where
-    opened : (o : Option Group) → of_rows c (option_map told o) ≡ in_group c o
+    opened : (o : Option Group) → of_rows c (option_map rows_of_group o) ≡ in_group c o
     opened None = refl
     opened (Some rows) = refl
 
 pub row_added :
     (old new : List (List ℕ × Group)) (filter : List ℕ) (row : List ℕ × QoS) (rows : Group)
     → ((f : List ℕ) → lookup (bytes_eq f) new ≡ cond (bytes_eq filter f) (Some rows) (lookup (bytes_eq f) old))
-    → ((c : List ℕ) → row_in (told rows) c ≡ cond (bytes_eq row.0 c) (Some row.1) (in_group c (lookup (bytes_eq filter) old)))
+    → ((c : List ℕ) → row_in (rows_of_group rows) c ≡ cond (bytes_eq row.0 c) (Some row.1) (in_group c (lookup (bytes_eq filter) old)))
     → gathered (groups_of new) ≡ with_row (gathered (groups_of old)) row.0 filter row.1
 row_added old new filter row rows outer inner = λ i c f. go c f i
   where
@@ -80,18 +80,18 @@ row_added old new filter row rows outer inner = λ i c f. go c f i
 -- the row came after those of the filter
 pub row_pushed :
     (old : List (List ℕ × Group)) (filter : List ℕ) (row : List ℕ × QoS) (was is : Group)
-    → Some was ≡ lookup (bytes_eq filter) old → told is ≡ told was ++ row ∷ []
-    → (c : List ℕ) → row_in (told is) c ≡ cond (bytes_eq row.0 c) (Some row.1) (in_group c (lookup (bytes_eq filter) old))
+    → Some was ≡ lookup (bytes_eq filter) old → rows_of_group is ≡ rows_of_group was ++ row ∷ []
+    → (c : List ℕ) → row_in (rows_of_group is) c ≡ cond (bytes_eq row.0 c) (Some row.1) (in_group c (lookup (bytes_eq filter) old))
 row_pushed old filter row was is there items c =
     ap (λ rows. row_in rows c) items
-    ∙ sym (update_all_push bytes_eq (λ _. None) (row_in (told was)) (told was) row c refl)
+    ∙ sym (update_all_push bytes_eq (λ _. None) (row_in (rows_of_group was)) (rows_of_group was) row c refl)
     ∙ ap (λ o. cond (bytes_eq row.0 c) (Some row.1) (in_group c o)) there
 
 -- it is the first of the filter
 pub row_first :
     (old : List (List ℕ × Group)) (filter : List ℕ) (row : List ℕ × QoS)
     → None ≡ lookup (bytes_eq filter) old
-    → (c : List ℕ) → row_in (told (One row.0 row.1)) c ≡ cond (bytes_eq row.0 c) (Some row.1) (in_group c (lookup (bytes_eq filter) old))
+    → (c : List ℕ) → row_in (rows_of_group (One row.0 row.1)) c ≡ cond (bytes_eq row.0 c) (Some row.1) (in_group c (lookup (bytes_eq filter) old))
 row_first old filter row none c =
     ap (λ o. cond (bytes_eq row.0 c) (Some row.1) (in_group c o)) none
 
@@ -101,13 +101,13 @@ keys_same (e ∷ es) = ap (λ ks. e.0 ∷ ks) (keys_same es)
 
 -- ---- the whole list
 
-told_at : (d : List ℕ) (fs : Filters) (content : Content) (c f : List ℕ) → filters_told d fs content c f ≡ cond (bytes_eq d c) (update_all bytes_eq (content c) fs f) (content c f)
-told_at d [] content c f = by (bytes_eq d c)
+filters_set_at : (d : List ℕ) (fs : Filters) (content : Content) (c f : List ℕ) → filters_set d fs content c f ≡ cond (bytes_eq d c) (update_all bytes_eq (content c) fs f) (content c f)
+filters_set_at d [] content c f = by (bytes_eq d c)
   where
     by : (b : Bool) → content c f ≡ cond b (content c f) (content c f)
     by true = refl
     by false = refl
-told_at d (held ∷ more) content c f = told_at d more (with_row content d held.0 held.1) c f ∙ by (bytes_eq d c) refl
+filters_set_at d (held ∷ more) content c f = filters_set_at d more (with_row content d held.0 held.1) c f ∙ by (bytes_eq d c) refl
   where
     by : (b : Bool) → bytes_eq d c ≡ b →
         cond b (update_all bytes_eq (with_row content d held.0 held.1 c) more f) (with_row content d held.0 held.1 c f)
@@ -115,19 +115,19 @@ told_at d (held ∷ more) content c f = told_at d more (with_row content d held.
     by true e = ap (λ b. update_all bytes_eq (λ g. cond (b && bytes_eq held.0 g) (Some held.1) (content c g)) more f) e
     by false e = ap (λ b. cond (b && bytes_eq held.0 f) (Some held.1) (content c f)) e
 
-held_told : (d : List ℕ) (fs : Filters) (content : Content) (c f : List ℕ) → IsStrictlySortedBy (slice_cmp nat_cmp) (keys_of fs) →
-    filters_told d fs content c f ≡ cond (bytes_eq d c) (option_or (at f fs) (content c f)) (content c f)
-held_told d fs content c f sorted =
-    told_at d fs content c f
+held_set : (d : List ℕ) (fs : Filters) (content : Content) (c f : List ℕ) → IsStrictlySortedBy (slice_cmp nat_cmp) (keys_of fs) →
+    filters_set d fs content c f ≡ cond (bytes_eq d c) (option_or (at f fs) (content c f)) (content c f)
+held_set d fs content c f sorted =
+    filters_set_at d fs content c f
     ∙ ap (λ o. cond (bytes_eq d c) o (content c f))
     (update_all_distinct (eq_by_cmp_equiv nat_list_cmp_total) bytes_eq texts_ties (content c) fs f (IsDistinct-from_sorted (slice_cmp nat_cmp) (keys_of fs) sorted))
 
-all_told : (es : Clients) (content : Content) (c f : List ℕ) → IsStrictlySortedBy (slice_cmp nat_cmp) (keys_of es) → AreOrdered es →
-    clients_told es content c f ≡ option_or (content_of es c f) (content c f)
-all_told [] content c f sorted ordered = refl
-all_told (e ∷ es) content c f sorted ordered =
-    all_told es (filters_told e.0 e.1 content) c f (sorted_tail (slice_cmp nat_cmp) e.0 (keys_of es) sorted) ordered.1
-    ∙ ap (option_or (content_of es c f)) (held_told e.0 e.1 content c f ordered.0)
+all_set : (es : Clients) (content : Content) (c f : List ℕ) → IsStrictlySortedBy (slice_cmp nat_cmp) (keys_of es) → AreOrdered es →
+    clients_set es content c f ≡ option_or (content_of es c f) (content c f)
+all_set [] content c f sorted ordered = refl
+all_set (e ∷ es) content c f sorted ordered =
+    all_set es (filters_set e.0 e.1 content) c f (sorted_tail (slice_cmp nat_cmp) e.0 (keys_of es) sorted) ordered.1
+    ∙ ap (option_or (content_of es c f)) (held_set e.0 e.1 content c f ordered.0)
     ∙ by (bytes_eq e.0 c) refl
   where
     by : (b : Bool) → bytes_eq e.0 c ≡ b →
@@ -149,17 +149,17 @@ keys_listed [] = refl
 keys_listed (e ∷ es) = ap (λ ks. e.0 ∷ ks) (keys_listed es)
 
 -- all that the list holds was added
-pub list_told : (es : List (List ℕ × BTreeMap (List ℕ) QoS)) → IsStrictlySortedBy (slice_cmp nat_cmp) (keys_of es) → AreOrdered (listed es) →
-    clients_told (listed es) no_subscriptions ≡ content_of (listed es)
-list_told es sorted ordered = λ i c f. go c f i
+pub list_set : (es : List (List ℕ × BTreeMap (List ℕ) QoS)) → IsStrictlySortedBy (slice_cmp nat_cmp) (keys_of es) → AreOrdered (listed es) →
+    clients_set (listed es) no_subscriptions ≡ content_of (listed es)
+list_set es sorted ordered = λ i c f. go c f i
   where
     alone : (o : Option QoS) → option_or o None ≡ o
     alone None = refl
     alone (Some q) = refl
 
-    go : (c f : List ℕ) → clients_told (listed es) no_subscriptions c f ≡ content_of (listed es) c f
+    go : (c f : List ℕ) → clients_set (listed es) no_subscriptions c f ≡ content_of (listed es) c f
     go c f =
-        all_told (listed es) no_subscriptions c f (subst (λ ks. IsStrictlySortedBy (slice_cmp nat_cmp) ks) (sym (keys_listed es)) sorted) ordered
+        all_set (listed es) no_subscriptions c f (subst (λ ks. IsStrictlySortedBy (slice_cmp nat_cmp) ks) (sym (keys_listed es)) sorted) ordered
         ∙ alone (content_of (listed es) c f)
 
 -- ---- the nodes
@@ -203,12 +203,12 @@ map_made list clients made = λ i q. (made q ∙ ap (λ e. update_all e (λ _. N
 pub one_made : (client : List ℕ) (qos : QoS) → row_at (kept.One client qos) ≡ row_in ((client, qos) ∷ [])
 one_made client qos = λ i q. one_at client qos q i
 
-put_told : (gs : Groups) (g : List ℕ → Option (List (List ℕ × QoS))) (c f : List ℕ) →
+put_in_turn : (gs : Groups) (g : List ℕ → Option (List (List ℕ × QoS))) (c f : List ℕ) →
     all_put gs (λ d h. of_rows d (g h)) c f ≡ of_rows c (update_all bytes_eq g gs f)
-put_told [] g c f = refl
-put_told (e ∷ gs) g c f =
+put_in_turn [] g c f = refl
+put_in_turn (e ∷ gs) g c f =
     ap (λ content. all_put gs content c f) (λ i d h. into (bytes_eq e.0 h) d h i)
-    ∙ put_told gs (update bytes_eq g e.0 (Some e.1)) c f
+    ∙ put_in_turn gs (update bytes_eq g e.0 (Some e.1)) c f
   where
     into : (b : Bool) (d h : List ℕ) → cond b (row_in e.1 d) (of_rows d (g h)) ≡ of_rows d (cond b (Some e.1) (g h))
     into true d h = refl
@@ -220,5 +220,5 @@ groups_put es distinct = λ i c f. go c f i
   where
     go : (c f : List ℕ) → all_put (groups_of es) no_subscriptions c f ≡ gathered (groups_of es) c f
     go c f =
-        put_told (groups_of es) (λ _. None) c f
+        put_in_turn (groups_of es) (λ _. None) c f
         ∙ ap (of_rows c) (update_all_none nat_list_eq_equiv bytes_eq (λ x y. refl) (groups_of es) f (subst (IsDistinct bytes_eq) (sym (keys_same es)) distinct))

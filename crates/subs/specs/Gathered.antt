@@ -17,13 +17,13 @@ abbrev pub Groups : Type 0
 Groups = List (List ℕ × List (List ℕ × QoS))
 
 -- the rows of a group, in the order in which they came
-abbrev pub told : Group → List (List ℕ × QoS)
-told (kinds.One client qos) = (client, qos) ∷ []
-told (kinds.More rows) = rows.items
+abbrev pub rows_of_group : Group → List (List ℕ × QoS)
+rows_of_group (kinds.One client qos) = (client, qos) ∷ []
+rows_of_group (kinds.More rows) = rows.items
 
 -- the groups as lists
 abbrev pub groups_of : List (List ℕ × Group) → Groups
-groups_of entries = map (λ entry. (entry.0, told entry.1)) entries
+groups_of entries = map (λ entry. (entry.0, rows_of_group entry.1)) entries
 
 -- the QoS at each client and filter
 abbrev pub gathered : Groups → Content
@@ -38,12 +38,12 @@ all_put (group ∷ groups) content =
     else content client filter)
 
 -- these filters of a client are set, one by one
-abbrev pub filters_told : List ℕ → Filters → Content → Content
-filters_told client [] content = content
-filters_told client (held ∷ more) content =
-    filters_told client more (with_row content client held.0 held.1)
+abbrev pub filters_set : List ℕ → Filters → Content → Content
+filters_set client [] content = content
+filters_set client (held ∷ more) content =
+    filters_set client more (with_row content client held.0 held.1)
 
 -- the filters of all clients are set
-abbrev pub clients_told : Clients → Content → Content
-clients_told [] content = content
-clients_told (entry ∷ rest) content = clients_told rest (filters_told entry.0 entry.1 content)
+abbrev pub clients_set : Clients → Content → Content
+clients_set [] content = content
+clients_set (entry ∷ rest) content = clients_set rest (filters_set entry.0 entry.1 content)

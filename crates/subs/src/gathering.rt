@@ -8,7 +8,7 @@ ghost use Rattle.std.specs.Ordering.{nat_cmp};
 ghost use Rattle.subs_base.specs.Content.{no_subscriptions, with_row};
 ghost use Rattle.subs_base.specs.ListIndex.{content_of};
 ghost use Rattle.subs_base.specs.Inside.{listed};
-ghost use Rattle.subs.specs.Gathered.{gathered, groups_of, clients_told, filters_told};
+ghost use Rattle.subs.specs.Gathered.{gathered, groups_of, clients_set, filters_set};
 ghost use Rattle.subs.specs.Shown.{content_in, IsSound};
 
 use crate::group::Group;
@@ -46,7 +46,7 @@ fn gather_filters(
 ) -> Result<(), AllocError>
     ensures rows { OnOk result
         (gathered (groups_of groups.new.entries)
-        ≡ filters_told client.now filters.now.entries (gathered (groups_of groups.old.entries))) }
+        ≡ filters_set client.now filters.now.entries (gathered (groups_of groups.old.entries))) }
     ensures ordered { IsOrdered (slice_cmp nat_cmp) filters.now }
 {
     for (filter, qos) in filters {

@@ -1,7 +1,7 @@
 // The rows of one filter while a list is gathered.
 
 ghost use Rattle.std.specs.Prelude.{◌≡◌, ◌++◌, ◌∷◌, [], OnOk, IfOk};
-ghost use Rattle.subs.specs.Gathered.{told, row_in};
+ghost use Rattle.subs.specs.Gathered.{rows_of_group, row_in};
 ghost use Rattle.subs.specs.Rows.{row_at};
 
 use crate::rows::Rows;
@@ -19,7 +19,7 @@ pub(crate) enum Group {
 impl Group {
     /// Adds a row after the others.
     pub(crate) fn add(&mut self, alloc: Global, row: (ClientId, QoS)) -> Result<(), AllocError>
-        ensures { OnOk result (told self.new ≡ told self.old ++ row ∷ []) }
+        ensures { OnOk result (rows_of_group self.new ≡ rows_of_group self.old ++ row ∷ []) }
     {
         match self {
             Group::One(client, qos) => {
@@ -33,7 +33,7 @@ impl Group {
 
     /// Returns the same rows by their clients; of each client the last row counts.
     pub(crate) fn into_rows(self, alloc: Global) -> Result<Rows, AllocError>
-        ensures { IfOk result (λ rows. row_at rows ≡ row_in (told self)) }
+        ensures { IfOk result (λ rows. row_at rows ≡ row_in (rows_of_group self)) }
     {
         match self {
             Group::One(client, qos) => Ok(Rows::One(client, qos)),

@@ -1,7 +1,7 @@
 -- The filter at the head was put in; at the end none is left.
 use Rattle.std.proofs.Common.{rules, ◌≡◌, ◌∷◌, [], ◌∙◌, sym, ap}
 use Rattle.topics.specs.Text.{levels}
-use Rattle.subs.specs.Gathered.{all_put, told, groups_of}
+use Rattle.subs.specs.Gathered.{all_put, rows_of_group, groups_of}
 use Rattle.subs.specs.Shown.{content_in, rows_of}
 use Rattle.subs.proofs.RowsGathered.{group_put, groups_put}
 use Rattle.subs.proofs.gathering.nodes_of.Goals as goal
@@ -21,7 +21,7 @@ loop-filter-preserved c =
     let cut : c.loop-filter.filter-iterator ≡ (c.in-Some.filter, c.in-Some.group) ∷ c.next.new.self = search rules in
     record {
       whole = ap (all_put (groups_of c.next.new.self))
-          (group_put (rows_of c.loop-filter.nodes) (rows_of c.put.new.self) c.as_bytes.result.now c.in-Some.filter (told c.in-Some.group) c.in_ok-rows.rows
+          (group_put (rows_of c.loop-filter.nodes) (rows_of c.put.new.self) c.as_bytes.result.now c.in-Some.filter (rows_of_group c.in-Some.group) c.in_ok-rows.rows
           (c.as_bytes.ensures.value ∙ c.as_str.ensures.value) c.in_ok-rows.ensures c.in_ok-put.ensures.ok)
           ∙ ap (λ es. all_put (groups_of es) (content_in c.loop-filter.nodes)) (sym cut)
           ∙ c.loop-filter.invariant.whole;
