@@ -223,7 +223,7 @@ impl SessionQueue {
         requires awaited { IsAwaited id self.old.in_flight }
         ensures { self.new ≡ with_flights (released_with id self.old.in_flight) self.old }
     {
-        let after = self.released();
+        let after = self.released_count();
         if let Some(index) = self.in_flight.get_index_of(&id) {
             mark_released(&mut self.in_flight, id);
             self.in_flight.move_index(index, after);
@@ -231,7 +231,7 @@ impl SessionQueue {
     }
 
     // Returns how many entries are released.
-    fn released(&self) -> usize
+    fn released_count(&self) -> usize
         ensures { result ≡ length (filter is_released self.now.in_flight) }
     {
         // This call shows that the entries can be counted.
@@ -260,15 +260,16 @@ impl SessionQueue {
         ensures quiet { self.now.in_flight ≡ [] → IsOk result }
     {
         let before = out.len();
-        let appended = self.append_anew(out);
+        let appended = self.resend_each(out);
         if appended.is_err() {
             out.truncate(before);
         }
         appended
     }
 
-    // Appends it. If memory runs out some of it may have been appended.
-    fn append_anew(&self, out: &mut Vec<Packet>) -> Result<(), AllocError>
+    // Appends what is sent for each entry in flight. If memory runs out, a part of it may have been
+    // appended.
+    fn resend_each(&self, out: &mut Vec<Packet>) -> Result<(), AllocError>
         ensures ok { OnOk result (out.new.items ≡ out.old.items ++ resend self.now.in_flight) }
         ensures err { OnErr result (out.old.items ≡ take (length out.old.items) out.new.items) }
         ensures quiet { self.now.in_flight ≡ [] → IsOk result }

@@ -13,7 +13,7 @@ move_index-requires-clause-to_in_bounds c =
     let few = few_released c.args.id c.args.self.now.in_flight c.requires.awaited in
     let same : length c.self.inside.in_flight.entries ≡ length c.args.self.now.in_flight = ap (λ (q : Queue). length q.in_flight) c.self.view_is in
     let many : length c.mark_released.new.in_flight.entries ≡ length c.self.inside.in_flight.entries = c.mark_released.ensures.len in
-    omega (arith, few, same, many, c.released-after.ensures)
+    omega (arith, few, same, many, c.released_count-after.ensures)
 
 pub returns-in-Some : goal.returns-in-Some
 returns-in-Some c =
@@ -23,7 +23,7 @@ returns-in-Some c =
     = ap (λ (fs : List Flight). position (λ k. c.args.id == k) (keys_of fs)) (sym same) ∙ sym c.get_index_of.ensures.index ∙ c.in-Some.is in
     ap₂ (λ fs ms. record { in_flight = fs; waiting = ms })
     (c.move_index.ensures.entries
-    ∙ ap₂ (λ fs n. move_index fs c.in-Some.index n) (c.mark_released.ensures.entries ∙ ap (with_released c.args.id) same) c.released-after.ensures
+    ∙ ap₂ (λ fs n. move_index fs c.in-Some.index n) (c.mark_released.ensures.entries ∙ ap (with_released c.args.id) same) c.released_count-after.ensures
     ∙ released_in_place c.args.id c.args.self.now.in_flight c.in-Some.index distinct c.requires.first c.requires.awaited at)
     (ap (λ (q : Queue). q.waiting) c.self.view_is)
 

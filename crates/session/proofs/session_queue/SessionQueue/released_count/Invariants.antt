@@ -1,7 +1,7 @@
 -- The released ones so far are counted, and are no more than there are.
 use Rattle.std.proofs.Common.{◌≡◌, ◌≤◌, ◌+◌, length, filter}
 use Rattle.session_base.specs.Queue.{is_released}
-use Rattle.session.proofs.session_queue.SessionQueue.released.Given as goal
+use Rattle.session.proofs.session_queue.SessionQueue.released_count.Given as goal
 
 abbrev pub invariant-loop-awaits : goal.invariant-loop-awaits
 invariant-loop-awaits l = record {
