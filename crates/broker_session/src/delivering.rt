@@ -63,7 +63,7 @@ pub(crate) fn put_copy(
         (sent.new.items ≡ sent.old.items ++ copies_sent window (copy ∷ []) session.old.queue) }
 {
     if copy.qos == QoS::AtMostOnce {
-        sent.push(unanswered(copy))?;
+        sent.push(unanswered_publish(copy))?;
         return Ok(());
     }
     session.enqueue_within_room(copy)?;
@@ -71,9 +71,10 @@ pub(crate) fn put_copy(
     Ok(())
 }
 
-// Returns the PUBLISH at QoS 0.
-fn unanswered(copy: Publication) -> Packet
-    ensures { copy.qos ≡ qualities.AtMostOnce → result ≡ packets.Publish (publish_of false 0 copy) }
+// Returns the PUBLISH of a copy at QoS 0, which no packet answers (MQTT 4.3.1).
+fn unanswered_publish(copy: Publication) -> Packet
+    requires { copy.qos ≡ qualities.AtMostOnce }
+    ensures { result ≡ packets.Publish (publish_of false 0 copy) }
 {
     Packet::Publish(Publish {
         topic: copy.topic,
