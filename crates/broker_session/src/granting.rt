@@ -6,7 +6,7 @@ ghost use Rattle.broker_rows.specs.broker_spec.Marks.{is_one_too_many};
 ghost use Rattle.broker_rows.specs.CopyLaws.{is_granted_in, subscribed_by, sent_by};
 ghost use Rattle.broker_rows.specs.CopyLaws.{granted_in_turn, subscribed_in_turn, sent_in_turn};
 
-use crate::retained_copies::{copies_for, put_copies, queued};
+use crate::retained_copies::{copies_for, put_copies, queued_count};
 use broker_spec::Window;
 use machine::Halted;
 use packet::{Packet, Subscription};
@@ -59,7 +59,7 @@ fn grant(
         ≡ sent.old.items ++ sent_by usual_limits window retained.now session.old subscription.now) }
 {
     let copies = copies_for(*sent.allocator(), retained, subscription)?;
-    if is_one_too_many(session, subscription) || session.room() < queued(&copies) {
+    if is_one_too_many(session, subscription) || session.room() < queued_count(&copies) {
         return Ok(false);
     }
     session.subscribe(subscription.filter.clone()?, subscription.qos)?;

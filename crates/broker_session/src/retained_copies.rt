@@ -48,7 +48,7 @@ pub(crate) fn copies_for(
 }
 
 /// Returns how many of these are queued: those of QoS 1 and 2.
-pub(crate) fn queued(copies: &[Publication]) -> usize
+pub(crate) fn queued_count(copies: &[Publication]) -> usize
     ensures { result ≡ length (queued copies.now) }
 {
     let mut many = 0;
