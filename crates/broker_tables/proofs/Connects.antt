@@ -25,7 +25,6 @@ use Rattle.broker_session.proofs.of_broker_rows.maps.OwnersConnect.{connecting_s
 use Rattle.broker_session.proofs.of_broker_rows.maps.ContentOfSteps.{beginning_drops, writing_keeps_content}
 use Rattle.broker_session.specs.broker_rows.Touched.{written}
 use Rattle.broker_tables.specs.declared.tables.Tables.{Tables}
-use Rattle.broker_tables.specs.declared.connecting.ConnectOutcome.{ConnectOutcome}
 use Rattle.broker_tables.specs.declared.connecting.ConnectOutcome.TheVariants as outcomes
 use Rattle.broker_tables.specs.Tables.{owners_at, state_in, stepped, IsTied, IsConsistent}
 use Rattle.broker_session.specs.OneSession.{sent_to_resumed}

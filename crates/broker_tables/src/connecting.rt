@@ -17,7 +17,7 @@ ghost use Rattle.broker_tables.specs.Inside.{HasOthersOf, HasOthersThanOwners};
 ghost use Rattle.broker_tables.specs.Connecting.{connect_outcome, TakesOver};
 ghost use Rattle.broker_session.specs.OneSession.{sent_to_resumed};
 
-use crate::expelling::shut;
+use crate::leaving::{push_close, remove_owner};
 use crate::limits::MAX_SESSIONS;
 use crate::tables::Tables;
 use broker_session::{ClientRow, send_all};
@@ -113,7 +113,7 @@ impl Tables {
             ++ (stepped self.old (commands.Connect connection client.now clean)).1) }
         ensures tied { OnOk result (IsTied self.new) }
     {
-        self.welcome(connection, client, false, out)?;
+        self.take_client_over(connection, client, false, out)?;
         let row = ClientRow::new(self.alloc, connection, clean);
         self.sessions.insert(client.clone()?, row)?;
         self.index.drop_client(client);
@@ -122,7 +122,7 @@ impl Tables {
 
     // Serves the client on this connection from now on, and tells it whether a session continues
     // (MQTT 3.2.2.2). The connection that it had is closed (MQTT 3.1.4).
-    fn welcome(
+    fn take_client_over(
         &mut self,
         connection: ConnectionName,
         client: &ClientId,
@@ -136,9 +136,9 @@ impl Tables {
             ++ welcome connection present ∷ [])) }
         ensures others { HasOthersThanOwners self.old self.new }
     {
-        greet(self.connection_of(client), connection, present, out)?;
+        answer_connect(self.connection_of(client), connection, present, out)?;
         let left = self.connection_of(client);
-        take_over(&mut self.owners, left, connection, client)
+        move_client(&mut self.owners, left, connection, client)
     }
 
     /// Returns the connection on which a client is served, if it is.
@@ -171,7 +171,7 @@ impl Tables {
             ++ (stepped self.old (commands.Connect connection client.now clean)).1) }
         ensures tied { OnOk result (IsTied self.new) }
     {
-        self.welcome(connection, client, true, out)?;
+        self.take_client_over(connection, client, true, out)?;
         self.resume_row(connection, client, out)?;
         Ok(())
     }
@@ -202,8 +202,8 @@ impl Tables {
     }
 }
 
-// Gives a connection to the client, and takes its old one from it.
-fn take_over(
+// Enters the client in the map of connections at this connection, and removes its old one.
+fn move_client(
     owners: &mut BTreeMap<ConnectionName, ClientId>,
     left: Option<ConnectionName>,
     connection: ConnectionName,
@@ -214,24 +214,14 @@ fn take_over(
         owners_at owners.new.entries q
         ≡ with_owner connection client.now (without_owner left (owners_at owners.old.entries)) q) }
 {
-    release(owners, left);
+    remove_owner(owners, left);
     owners.insert(connection, client.clone()?)?;
     Ok(())
 }
 
-/// Takes a connection, if there is one, from its client.
-pub(crate) fn release(owners: &mut BTreeMap<ConnectionName, ClientId>, left: Option<ConnectionName>)
-    ensures { (q : SpecName) →
-        owners_at owners.new.entries q ≡ without_owner left (owners_at owners.old.entries) q }
-{
-    if let Some(left) = left {
-        owners.remove(&left);
-    }
-}
-
-// Closes the connection that the client had (MQTT 3.1.4), and answers the Connect: whether a
-// session continues (MQTT 3.2.2.2).
-fn greet(
+// Appends the answers to a Connect that is accepted: the Close of the connection that the client
+// had (MQTT 3.1.4), and a CONNACK that says whether a session continues (MQTT 3.2.2.2).
+fn answer_connect(
     left: Option<ConnectionName>,
     connection: ConnectionName,
     present: bool,
@@ -240,7 +230,7 @@ fn greet(
     ensures { OnOk result
         (out.new.items ≡ out.old.items ++ (closed left ++ welcome connection present ∷ [])) }
 {
-    shut(left, out)?;
+    push_close(left, out)?;
     out.push(Output::Send(connection, Packet::Connack(Connack::Accepted(present))))?;
     Ok(())
 }

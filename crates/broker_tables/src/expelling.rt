@@ -1,13 +1,12 @@
 // An Expel: an administrator ends a client's session.
 
 ghost use Rattle.std.specs.Prelude.{◌≡◌, ◌++◌, OnOk, OnErr};
-ghost use Rattle.broker_session.specs.broker_spec.Answers.{closed};
 ghost use Rattle.broker_session.specs.broker_spec.declared.command.Command.TheVariants as commands;
 ghost use Rattle.broker_tables.specs.Tables.{IsConsistent, IsTied, state_in, stepped};
 
-use crate::connecting::release;
+use crate::leaving::{push_close, remove_owner};
 use crate::tables::Tables;
-use broker_spec::{ConnectionName, Output};
+use broker_spec::Output;
 use machine::Halted;
 use packet::ClientId;
 use subs::SubIndex;
@@ -29,22 +28,11 @@ impl Tables {
         let Some(_row) = self.sessions.get(client) else {
             return Ok(());
         };
-        shut(self.connection_of(client), out)?;
+        push_close(self.connection_of(client), out)?;
         let left = self.connection_of(client);
-        release(&mut self.owners, left);
+        remove_owner(&mut self.owners, left);
         self.sessions.remove(client);
         self.index.drop_client(client);
         Ok(())
     }
-}
-
-/// Closes a connection, if there is one.
-pub(crate) fn shut(left: Option<ConnectionName>, out: &mut Vec<Output>) -> Result<(), Halted>
-    ensures closes { OnOk result (out.new.items ≡ out.old.items ++ closed left) }
-    ensures unsent { OnErr result (out.new.items ≡ out.old.items) }
-{
-    if let Some(left) = left {
-        out.push(Output::Close(left))?;
-    }
-    Ok(())
 }

@@ -1,19 +1,25 @@
 // The end of a connection: its loss, a DISCONNECT, and what MQTT forbids (MQTT 3.1.2.4, 3.14.4,
 // 4.8).
 
-ghost use Rattle.std.specs.Prelude.{◌≡◌, ◌++◌, [], ◌∷◌, OnOk};
+ghost use Rattle.std.specs.Prelude.{◌≡◌, ◌++◌, [], ◌∷◌, OnOk, OnErr};
+ghost use Rattle.broker_session.specs.broker_spec.Answers.{closed};
+ghost use Rattle.broker_session.specs.broker_spec.Connection.{ConnectionName as SpecName};
 ghost use Rattle.broker_session.specs.broker_spec.declared.command.Command.TheVariants as commands;
 ghost use Rattle.broker_session.specs.broker_spec.declared.command.Output.TheVariants as outputs;
-ghost use Rattle.broker_tables.specs.Tables.{IsConsistent, IsTied, state_in, stepped};
+ghost use Rattle.broker_session.specs.broker_rows.Owners.{without_owner};
+ghost use Rattle.broker_tables.specs.Tables.{IsConsistent, IsTied, owners_at, state_in, stepped};
 
 use crate::tables::Tables;
 use broker_spec::{ConnectionName, Output};
 use machine::Halted;
+use packet::ClientId;
+use std::collections::BTreeMap;
 use subs::SubIndex;
 
 impl Tables {
-    /// Ends a connection: its client is no longer served, and a clean session ends with it,
-    /// including its subscriptions. A connection that is no client's current one changes nothing.
+    /// Ends a connection in the tables, and appends nothing: its client is no longer served, and a
+    /// clean session ends with it, including its subscriptions. A connection that is no client's
+    /// current one changes nothing.
     pub(crate) fn end_connection(&mut self, connection: ConnectionName)
         requires { IsConsistent self.old }
         ensures state { state_in self.new ≡ (stepped self.old (commands.Lost connection)).0 }
@@ -31,7 +37,7 @@ impl Tables {
         row.connection = None;
     }
 
-    /// Closes a connection, which ends then.
+    /// Closes a connection: appends its Close, and ends it in the tables.
     pub(crate) fn close(
         &mut self,
         connection: ConnectionName,
@@ -47,5 +53,30 @@ impl Tables {
         out.push(Output::Close(connection))?;
         self.end_connection(connection);
         Ok(())
+    }
+}
+
+/// Appends the Close of a connection, if there is one. The tables stay as they are.
+pub(crate) fn push_close(left: Option<ConnectionName>, out: &mut Vec<Output>) -> Result<(), Halted>
+    ensures closes { OnOk result (out.new.items ≡ out.old.items ++ closed left) }
+    ensures unsent { OnErr result (out.new.items ≡ out.old.items) }
+{
+    if let Some(left) = left {
+        out.push(Output::Close(left))?;
+    }
+    Ok(())
+}
+
+/// Removes a connection, if there is one, from the map of connections. The session of its client
+/// stays as it is.
+pub(crate) fn remove_owner(
+    owners: &mut BTreeMap<ConnectionName, ClientId>,
+    left: Option<ConnectionName>,
+)
+    ensures { (q : SpecName) →
+        owners_at owners.new.entries q ≡ without_owner left (owners_at owners.old.entries) q }
+{
+    if let Some(left) = left {
+        owners.remove(&left);
     }
 }

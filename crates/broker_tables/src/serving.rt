@@ -31,7 +31,7 @@ impl Tables {
             ≡ out.old.items ++ (stepped self.old (commands.Packet connection packet.now)).1) }
         ensures tied { OnOk result (IsTied self.new) }
     {
-        match self.served(connection)? {
+        match self.owner_of(connection)? {
             Some(client) => self.serve(connection, &client, packet, out)?,
             None => {}
         }
@@ -65,7 +65,9 @@ impl Tables {
         match packet {
             Packet::Publish(publish) => self.publish(connection, client, publish, out),
             Packet::Subscribe(subscribe) => self.subscribe(connection, client, subscribe, out),
-            Packet::Unsubscribe(given_up) => self.unsubscribe(connection, client, given_up, out),
+            Packet::Unsubscribe(unsubscribe) => {
+                self.unsubscribe(connection, client, unsubscribe, out)
+            }
             // A PINGREQ: the proof shows that no other is left, and would fail for a new one.
             _ => {
                 out.push(Output::Send(connection, Packet::Pingresp))?;
@@ -75,7 +77,7 @@ impl Tables {
     }
 
     // Returns the client that is served on a connection, if one is.
-    fn served(&self, connection: ConnectionName) -> Result<Option<ClientId>, AllocError>
+    fn owner_of(&self, connection: ConnectionName) -> Result<Option<ClientId>, AllocError>
         requires { IsTied self.now }
         ensures { IfOk result (λ client. client ≡ owners_in self.now.sessions.entries connection) }
     {

@@ -23,7 +23,7 @@ impl Tables {
         ensures state { state_in self.new ≡ (stepped self.old (commands.Start ballot)).0 }
         ensures tied { IsTied self.new }
     {
-        drop_clean(&mut self.index, &self.sessions);
+        drop_clean_clients(&mut self.index, &self.sessions);
         leave_off_all(&mut self.sessions);
         self.owners.clear();
         self.window = Window::wide();
@@ -31,7 +31,7 @@ impl Tables {
 }
 
 // Drops the clients of the clean sessions from the index.
-fn drop_clean(index: &mut TreeIndex, sessions: &BTreeMap<ClientId, ClientRow>)
+fn drop_clean_clients(index: &mut TreeIndex, sessions: &BTreeMap<ClientId, ClientRow>)
     ensures { content_of index.new
         ≡ all_dropped (clean_clients sessions.now.entries) (content_of index.old) }
 {
@@ -46,11 +46,11 @@ fn drop_clean(index: &mut TreeIndex, sessions: &BTreeMap<ClientId, ClientRow>)
 fn leave_off_all(sessions: &mut BTreeMap<ClientId, ClientRow>)
     ensures { sessions.new.entries ≡ all_left_off sessions.old.entries }
 {
-    sessions.retain(|_, row| stays(row));
+    sessions.retain(|_, row| leave_off(row));
 }
 
 // Leaves a session without a connection, and says whether it stays.
-fn stays(row: &mut ClientRow) -> bool
+fn leave_off(row: &mut ClientRow) -> bool
     ensures { left_off row.old ≡ if result then Some row.new else None }
 {
     row.connection = None;

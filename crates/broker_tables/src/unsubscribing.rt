@@ -38,7 +38,7 @@ impl Tables {
         ensures tied { OnOk result (IsTied self.new) }
     {
         let row = self.sessions.get_mut(client).unwrap();
-        give_up(&mut row.state, unsubscribe.filters.as_slice());
+        unsubscribe_all(&mut row.state, unsubscribe.filters.as_slice());
         clear_all(&mut self.index, client, unsubscribe.filters.as_slice());
         out.push(Output::Send(connection, Packet::Unsuback(unsubscribe.id)))?;
         Ok(())
@@ -46,7 +46,7 @@ impl Tables {
 }
 
 // Removes these filters from the session, one by one.
-fn give_up(session: &mut Session, filters: &[Filter])
+fn unsubscribe_all(session: &mut Session, filters: &[Filter])
     ensures { session.new
         ≡ with_filters (without_filters filters.now session.old.subscriptions) session.old }
 {

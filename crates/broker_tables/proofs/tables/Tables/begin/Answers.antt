@@ -10,10 +10,10 @@ pub returns-clause-state : goal.returns-clause-state
 returns-clause-state c =
     let t = c.args.self.now in
     (λ i. record {
-      window = c.in_ok-welcome.ensures.others.window i;
+      window = c.in_ok-take_client_over.ensures.others.window i;
       sessions = (c.in_ok-insert.ensures.entries
-          ∙ (λ j. insert_entry by_bytes (c.in_ok-welcome.ensures.others.sessions j) (c.in_ok-clone.ensures.cases j) (c.new-row.ensures j))) i;
-      retained = c.in_ok-welcome.ensures.others.retained i;
+          ∙ (λ j. insert_entry by_bytes (c.in_ok-take_client_over.ensures.others.sessions j) (c.in_ok-clone.ensures.cases j) (c.new-row.ensures j))) i;
+      retained = c.in_ok-take_client_over.ensures.others.retained i;
     })
     ∙ sym (ap (λ p. p.0)
     (beginning_of t c.args.connection c.args.client.now c.args.clean c.requires.consistent c.requires.nobodys c.requires.room c.requires.begins))
@@ -21,7 +21,7 @@ returns-clause-state c =
 pub returns-clause-outputs : goal.returns-clause-outputs
 returns-clause-outputs c =
     let t = c.args.self.now in
-    c.in_ok-welcome.ensures.outputs
+    c.in_ok-take_client_over.ensures.outputs
     ∙ ap (λ given. c.args.out.now.items ++ given)
     (sym (ap (λ p. p.1)
     (beginning_of t c.args.connection c.args.client.now c.args.clean c.requires.consistent c.requires.nobodys c.requires.room c.requires.begins)))
@@ -31,6 +31,6 @@ returns-clause-tied c =
     let t = c.args.self.now in
     ties_of_beginning t c.args.connection c.args.client.now c.args.clean c.requires.consistent c.requires.nobodys _
     (c.in_ok-insert.ensures.entries
-    ∙ (λ j. insert_entry by_bytes (c.in_ok-welcome.ensures.others.sessions j) (c.in_ok-clone.ensures.cases j) (c.new-row.ensures j)))
-    c.in_ok-welcome.ensures.owners
-    (c.drop_client.ensures ∙ ap (λ content. without_client content c.args.client.now) c.in_ok-welcome.ensures.others.index)
+    ∙ (λ j. insert_entry by_bytes (c.in_ok-take_client_over.ensures.others.sessions j) (c.in_ok-clone.ensures.cases j) (c.new-row.ensures j)))
+    c.in_ok-take_client_over.ensures.owners
+    (c.drop_client.ensures ∙ ap (λ content. without_client content c.args.client.now) c.in_ok-take_client_over.ensures.others.index)

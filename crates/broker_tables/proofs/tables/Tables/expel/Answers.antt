@@ -1,5 +1,5 @@
 -- The client's session is removed, and its connection has no client.
-use Rattle.std.proofs.Common.{◌≡◌, ◌∙◌, [], ◌++◌, ap, sym}
+use Rattle.std.proofs.Common.{◌∙◌, ◌++◌, ap, sym}
 use Rattle.std.proofs.lemmas.List.{append-nil}
 use Rattle.broker_session.specs.broker_spec.Answers.{closed}
 use Rattle.broker_session.specs.broker_base.State.{Sessions}
@@ -23,7 +23,7 @@ returns-clause-state c =
 
 pub returns-clause-outputs : goal.returns-clause-outputs
 returns-clause-outputs c =
-    c.in_ok-shut.ensures.closes
+    c.in_ok-push_close.ensures.closes
     ∙ ap (λ given. c.args.out.now.items ++ given)
     (ap closed (c.connection_of.ensures ∙ ap connection_of (sym c.in-Some.ensures.value))
     ∙ sym (ap (λ p. p.1) (expelled c.args.self.now c.args.client.now c.in-Some._row.now c.requires (sym c.in-Some.ensures.value))))
@@ -31,4 +31,4 @@ returns-clause-outputs c =
 pub returns-clause-tied : goal.returns-clause-tied
 returns-clause-tied c =
     ties_expelled c.args.self.now _ c.args.client.now c.in-Some._row.now c.connection_of-left.result c.requires (sym c.in-Some.ensures.value)
-    (c.connection_of-left.ensures ∙ ap connection_of (sym c.in-Some.ensures.value)) c.release.ensures c.remove.ensures.entries c.drop_client.ensures
+    (c.connection_of-left.ensures ∙ ap connection_of (sym c.in-Some.ensures.value)) c.remove_owner.ensures c.remove.ensures.entries c.drop_client.ensures

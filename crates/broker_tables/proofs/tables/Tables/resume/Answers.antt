@@ -16,10 +16,10 @@ use Rattle.broker_tables.proofs.tables.Tables.resume.Goals as goal
 pub returns-clause-state : goal.returns-clause-state
 returns-clause-state c =
     (λ i. record {
-      window = (c.in_ok-resume_row.ensures.others.window ∙ c.in_ok-welcome.ensures.others.window) i;
+      window = (c.in_ok-resume_row.ensures.others.window ∙ c.in_ok-take_client_over.ensures.others.window) i;
       sessions = (c.in_ok-resume_row.ensures.sessions
-          ∙ (λ j. changed c.args.client.now (kept_resumed (c.in_ok-welcome.ensures.others.window j) (c.args.connection, false)) (c.in_ok-welcome.ensures.others.sessions j))) i;
-      retained = (c.in_ok-resume_row.ensures.others.retained ∙ c.in_ok-welcome.ensures.others.retained) i;
+          ∙ (λ j. changed c.args.client.now (kept_resumed (c.in_ok-take_client_over.ensures.others.window j) (c.args.connection, false)) (c.in_ok-take_client_over.ensures.others.sessions j))) i;
+      retained = (c.in_ok-resume_row.ensures.others.retained ∙ c.in_ok-take_client_over.ensures.others.retained) i;
     })
     ∙ sym (ap (λ p. p.0)
     (resuming_of c.args.self.now c.args.connection c.args.client.now c.args.clean c.requires.consistent c.requires.nobodys c.requires.resumes))
@@ -27,14 +27,14 @@ returns-clause-state c =
 pub returns-clause-outputs : goal.returns-clause-outputs
 returns-clause-outputs c =
     let t = c.args.self.now in
-    let greeting = closed (connection_of (session_in c.args.client.now t.sessions.entries)) in
+    let closes = closed (connection_of (session_in c.args.client.now t.sessions.entries)) in
     let sent = map (outputs.Send c.args.connection) (sent_to_resumed t.window (session_in c.args.client.now t.sessions.entries)) in
     c.in_ok-resume_row.ensures.sends
-    ∙ (λ i. c.in_ok-welcome.ensures.outputs i
-    ++ map (outputs.Send c.args.connection) (sent_to_resumed (c.in_ok-welcome.ensures.others.window i) (session_in c.args.client.now (c.in_ok-welcome.ensures.others.sessions i))))
-    ∙ append_assoc c.args.out.now.items (greeting ++ welcome c.args.connection true ∷ []) sent
+    ∙ (λ i. c.in_ok-take_client_over.ensures.outputs i
+    ++ map (outputs.Send c.args.connection) (sent_to_resumed (c.in_ok-take_client_over.ensures.others.window i) (session_in c.args.client.now (c.in_ok-take_client_over.ensures.others.sessions i))))
+    ∙ append_assoc c.args.out.now.items (closes ++ welcome c.args.connection true ∷ []) sent
     ∙ ap (λ given. c.args.out.now.items ++ given)
-    (append_assoc greeting (welcome c.args.connection true ∷ []) sent
+    (append_assoc closes (welcome c.args.connection true ∷ []) sent
     ∙ sym (ap (λ p. p.1)
     (resuming_of t c.args.connection c.args.client.now c.args.clean c.requires.consistent c.requires.nobodys c.requires.resumes)))
 
@@ -42,6 +42,6 @@ pub returns-clause-tied : goal.returns-clause-tied
 returns-clause-tied c =
     ties_of_resuming c.args.self.now c.args.connection c.args.client.now c.args.clean c.requires.consistent c.requires.nobodys _ c.requires.resumes
     (c.in_ok-resume_row.ensures.sessions
-    ∙ (λ j. changed c.args.client.now (kept_resumed (c.in_ok-welcome.ensures.others.window j) (c.args.connection, false)) (c.in_ok-welcome.ensures.others.sessions j)))
-    (λ q. ap (λ entries. owners_at entries q) c.in_ok-resume_row.ensures.others.owners ∙ c.in_ok-welcome.ensures.owners q)
-    (c.in_ok-resume_row.ensures.others.index ∙ c.in_ok-welcome.ensures.others.index)
+    ∙ (λ j. changed c.args.client.now (kept_resumed (c.in_ok-take_client_over.ensures.others.window j) (c.args.connection, false)) (c.in_ok-take_client_over.ensures.others.sessions j)))
+    (λ q. ap (λ entries. owners_at entries q) c.in_ok-resume_row.ensures.others.owners ∙ c.in_ok-take_client_over.ensures.owners q)
+    (c.in_ok-resume_row.ensures.others.index ∙ c.in_ok-take_client_over.ensures.others.index)

@@ -10,4 +10,4 @@ returns-clause-state c =
 
 pub returns-clause-tied : goal.returns-clause-tied
 returns-clause-tied c =
-    ties_of_start c.args.self.now _ c.requires c.leave_off_all.ensures c.clear.ensures.empty c.drop_clean.ensures
+    ties_of_start c.args.self.now _ c.requires c.leave_off_all.ensures c.clear.ensures.empty c.drop_clean_clients.ensures

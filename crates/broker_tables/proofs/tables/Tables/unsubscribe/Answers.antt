@@ -32,7 +32,7 @@ returns-clause-state c =
     ((c.get_mut.follows.holds _).0
     ∙ ap (λ (s : ClientSession). set_value (is_at (by_bytes c.args.client.now)) t.sessions.entries s)
     (ap (λ s. record { clean = c.row.inside.clean; connection = c.row.inside.connection; state = s })
-    (c.give_up.ensures ∙ ap (λ filters. with_filters (without_filters filters c.row.inside.state.subscriptions) c.row.inside.state) c.as_slice.ensures)
+    (c.unsubscribe_all.ensures ∙ ap (λ filters. with_filters (without_filters filters c.row.inside.state.subscriptions) c.row.inside.state) c.as_slice.ensures)
     ∙ ap (λ (k : ClientSession). holding (handled_state t.window (packets.Unsubscribe c.args.unsubscribe.now) k.state) k) c.row.view_is))
     ∙ sym (ap (λ p. p.0)
     (unsubscribe_of t c.args.connection c.args.client.now kept c.args.unsubscribe.now
@@ -58,7 +58,7 @@ returns-clause-tied c =
     = sym c.get_mut.ensures.value ∙ ap option_copied_mut c.unwrap-row.ensures in
     ties_of_unsubscribe t _ c.args.client.now kept _ c.args.unsubscribe.now c.requires.consistent held
     (ap (λ (k : ClientSession). k.connection) c.row.view_is)
-    (ap (λ s. s.subscriptions) c.give_up.ensures
+    (ap (λ s. s.subscriptions) c.unsubscribe_all.ensures
     ∙ ap (λ filters. without_filters filters c.row.inside.state.subscriptions) c.as_slice.ensures
     ∙ ap (λ (k : ClientSession). without_filters c.args.unsubscribe.now.filters k.state.subscriptions) c.row.view_is)
     (c.get_mut.follows.holds _).0 refl

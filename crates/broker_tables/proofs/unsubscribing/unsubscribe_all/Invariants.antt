@@ -2,7 +2,7 @@ use Rattle.std.proofs.Common.{◌≡◌}
 use Rattle.std.specs.Prelude.{drop}
 use Rattle.broker_session.specs.session_base.Subscriptions.{without_filters}
 use Rattle.broker_session.specs.session_base.Session.{with_filters}
-use Rattle.broker_tables.proofs.unsubscribing.give_up.Given as goal
+use Rattle.broker_tables.proofs.unsubscribing.unsubscribe_all.Given as goal
 
 abbrev pub invariant-loop-filter : goal.invariant-loop-filter
 invariant-loop-filter l =

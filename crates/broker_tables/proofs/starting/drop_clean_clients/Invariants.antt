@@ -1,7 +1,7 @@
 use Rattle.std.proofs.Common.{◌≡◌}
 use Rattle.broker_session.specs.subs_base.ListIndex.{content_of}
 use Rattle.broker_session.specs.broker_rows.Indexed.{all_dropped, clean_clients}
-use Rattle.broker_tables.proofs.starting.drop_clean.Given as goal
+use Rattle.broker_tables.proofs.starting.drop_clean_clients.Given as goal
 
 abbrev pub invariant-loop-client : goal.invariant-loop-client
 invariant-loop-client l =
