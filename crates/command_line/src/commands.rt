@@ -9,8 +9,9 @@ use clap::{Arg, Command};
 use std::alloc::{AllocError, Global};
 
 /// What `vbroker --help` prints at its end.
-const AFTER_HELP: &str = "Exit status: 0 done; 1 a fault of file, network or memory;
-2 a refused command line, or help; 3 a refused table, script, topic or other argument.
+const AFTER_HELP: &str = "Exit status: 0 done; 1 a fault of file, network, memory, clock or threads,
+`session present` or `lost`; 2 a refused command line, or help;
+3 a refused table, script, topic or other argument, or no way out.
 
 Example:
   vbroker serve --config examples/one.toml";

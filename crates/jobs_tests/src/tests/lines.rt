@@ -219,7 +219,7 @@ const HELPED: &[(&str, &str)] = &[
     ("vbroker", "  vbroker serve --config examples/one.toml\n"),
     (
         "vbroker --help",
-        "Exit status: 0 done; 1 a fault of file, network or memory;\n",
+        " 1 a fault of file, network, memory, clock or threads,\n`session present` or `lost`; 2 ",
     ),
     (
         "vbroker serve --help",
