@@ -1,3 +1,4 @@
+pub mod Hearing
 pub mod Listening
 pub mod Losing
 pub mod Printing

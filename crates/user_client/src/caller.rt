@@ -1,10 +1,12 @@
 // A client, and whether a server has accepted one of its connections.
 
-ghost use Rattle.std.specs.Prelude.{◌≡◌, ◌≢◌, ◌++◌, IfErr, OnOk, OnErr, Err, []};
+ghost use Rattle.std.specs.Prelude.{◌≡◌, ◌≢◌, ◌++◌, IfErr, IfOk, OnOk, OnErr, Err, []};
+ghost use Rattle.std.specs.Result.{is_ok};
 ghost use Rattle.client.specs.client_base.declared.error.ClientError.TheVariants as errors;
 ghost use Rattle.client.specs.client_base.State.{kept_count};
 ghost use Rattle.client.specs.client_base.Steps.{Call, keeper_step};
 ghost use Rattle.client.specs.Core.{publication_with};
+ghost use Rattle.user_client.specs.Hearing.{IsNews, news_of};
 ghost use Rattle.user_client.specs.Losing.{IsLostBy};
 ghost use Rattle.user_client.specs.Refusals.{IsRefusedFor};
 ghost use Rattle.user_client.specs.Tracing.{IsAsked, IsFirst, Trace, new_called};
@@ -123,6 +125,7 @@ impl Caller {
     /// accepted connection, or lost it later.
     pub(crate) fn receive(&mut self, piece: &[u8]) -> Result<News, UserClientError>
         ensures trace { OnOk result (Trace self.old [] self.new) }
+        ensures news { IfOk result (IsNews self.old self.new) }
         ensures lost { IfErr result (IsLostBy self.old self.new) }
     {
         let was_connected = self.core.is_connected();
@@ -149,6 +152,7 @@ impl Caller {
 // and it is a fault too if memory ran out.
 fn goes_on(heard: Result<(), ClientError>) -> Result<bool, UserClientError>
     ensures ok { OnOk result (heard ≢ Err errors.SessionLost) }
+    ensures open { IfOk result (λ is_open. is_open ≡ is_ok heard) }
     ensures lost { IfErr result (λ fault.
         fault ≡ UserClientError.Lost → heard ≡ Err errors.SessionLost) }
 {
@@ -162,7 +166,9 @@ fn goes_on(heard: Result<(), ClientError>) -> Result<bool, UserClientError>
 
 // Returns what came, by whether the server had accepted the connection before, and whether it has
 // now.
-fn news_of(goes_on: bool, was_connected: bool, is_connected: bool) -> News {
+fn news_of(goes_on: bool, was_connected: bool, is_connected: bool) -> News
+    ensures { result ≡ news_of goes_on was_connected is_connected }
+{
     if !goes_on {
         News::Lost
     } else if !is_connected {
