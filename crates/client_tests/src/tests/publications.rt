@@ -155,16 +155,22 @@ fn written_len(client: &mut ClientCore, alloc: Global) -> Option<usize> {
 
 const ONE: &Row<'static> = &(Act::Publish(QoS::ExactlyOnce, b'x'), None, PUBLISH, 1, 0);
 
-// Says whether a payload of one length is refused and nothing changes, and one of another length
-// is sent in a packet of 1,048,576 bytes.
-fn is_limited(alloc: Global, qos: QoS, refused: usize, largest: usize) -> bool {
-    let Some(mut client) = online(alloc) else {
-        return false;
-    };
-    publish_bytes(&mut client, alloc, qos, refused) == Some(ClientError::TooLarge)
-        && came_instead(&mut client, alloc, ONE, None).is_none()
-        && publish_bytes(&mut client, alloc, qos, largest).is_none()
-        && written_len(&mut client, alloc) == Some(1_048_576)
+// Two refusals, what came of a publication between them, and how many bytes were written last.
+type Offered = (
+    Option<ClientError>,
+    Option<Came>,
+    Option<ClientError>,
+    Option<usize>,
+);
+
+// Publishes a payload of one length, then `x`, then one of another length. Returns the refusals of
+// both, what came of `x` in place of its PUBLISH, and how many bytes the last wrote.
+fn offered(alloc: Global, qos: QoS, first: usize, last: usize) -> Option<Offered> {
+    let mut client = online(alloc)?;
+    let refused = publish_bytes(&mut client, alloc, qos, first);
+    let came = came_instead(&mut client, alloc, ONE, None);
+    let other = publish_bytes(&mut client, alloc, qos, last);
+    Some((refused, came, other, written_len(&mut client, alloc)))
 }
 
 // A QoS, how many bytes of payload are refused at it, and how many are sent. After the fixed header
@@ -180,7 +186,9 @@ const LIMITS: &[(QoS, usize, usize)] = &[
 #[test]
 fn a_publication_too_large_is_refused(rt: HostRuntime) {
     for (qos, refused, largest) in LIMITS {
-        assert!(rt; is_limited(rt.alloc(), *qos, *refused, *largest), "{qos:?}");
+        let came = offered(rt.alloc(), *qos, *refused, *largest);
+        let wanted = (Some(ClientError::TooLarge), None, None, Some(1_048_576));
+        assert_eq!(rt; came, Some(wanted), "{qos:?}");
     }
 }
 
