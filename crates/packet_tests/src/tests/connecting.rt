@@ -4,6 +4,7 @@ use super::answers::*;
 use super::spelling::{Made, other_spelling};
 use packet::*;
 use std::alloc::Global;
+use std::cmp::Ordering;
 use std::test::*;
 use topics::MalformedKind;
 
@@ -269,9 +270,11 @@ fn faults_have_their_numbers_and_texts(rt: HostRuntime) -> Result<(), Fail> {
 
 #[test]
 fn levels_of_service_are_ordered(rt: HostRuntime) {
-    assert_eq!(rt; QoS::ExactlyOnce.number(), 2);
-    assert!(rt;
-        QoS::AtMostOnce < QoS::AtLeastOnce,
-        "QoS 0 comes before QoS 1"
+    assert_eq!(rt;
+        (
+            QoS::ExactlyOnce.number(),
+            QoS::AtMostOnce.cmp(&QoS::AtLeastOnce)
+        ),
+        (2, Ordering::Less)
     );
 }

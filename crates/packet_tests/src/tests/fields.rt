@@ -16,18 +16,23 @@ const LENGTHS: &[(u32, &[u8])] = &[
     (268_435_455, &[0xFF, 0xFF, 0xFF, 0x7F]),
 ];
 
-// Appends the bytes of a length, and says whether there is room for them and it is not too great.
-fn is_put(out: &mut Vec<u8>, length: u32) -> bool {
-    if length >= 268_435_456 || out.reserve(length_size(length)).is_err() {
-        return false;
+// Returns how many bytes these are, and the first four, with zeros after the last.
+fn first_four(bytes: &[u8]) -> (usize, [u8; 4]) {
+    let mut first = [0; 4];
+    for (to, byte) in first.iter_mut().zip(bytes) {
+        *to = *byte;
     }
-    put_length(out, length);
-    true
+    (bytes.len(), first)
 }
 
-fn is_spelled(alloc: Global, length: u32, bytes: &[u8]) -> bool {
+// Returns the bytes of a length, none if there is no memory for them or it is too great.
+fn spelled(alloc: Global, length: u32) -> Option<(usize, [u8; 4])> {
     let mut out = Vec::new(alloc);
-    is_put(&mut out, length) && out.as_slice() == bytes
+    if length >= 268_435_456 || out.reserve(length_size(length)).is_err() {
+        return None;
+    }
+    put_length(&mut out, length);
+    Some(first_four(out.as_slice()))
 }
 
 // Returns the length that these bytes have, all of them; none if they have no length.
@@ -41,8 +46,11 @@ fn length_of(bytes: &[u8]) -> Option<u32> {
 #[test]
 fn lengths_are_those_of_the_standard(rt: HostRuntime) {
     for (length, bytes) in LENGTHS {
-        assert!(rt; is_spelled(rt.alloc(), *length, bytes), "{length}");
-        assert_eq!(rt; length_of(bytes), Some(*length), "{length}");
+        assert_eq!(rt;
+            (spelled(rt.alloc(), *length), length_of(bytes)),
+            (Some(first_four(bytes)), Some(*length)),
+            "{length}"
+        );
     }
 }
 
