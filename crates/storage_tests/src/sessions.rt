@@ -165,13 +165,8 @@ fn refusals_have_their_numbers_and_texts(rt: HostRuntime) -> Result<(), Fail> {
     Ok(())
 }
 
-fn thawed(alloc: Global, bytes: &[u8]) -> Option<Session> {
-    let mut reader = Reader::new(bytes);
-    Session::read(alloc, 64, &mut reader).ok()
-}
-
 // Returns the first of these that is not so of the session of the bytes.
-fn missed_by(alloc: Global, session: &Session) -> Option<&'static str> {
+fn missed_of(alloc: Global, session: &Session) -> Option<&'static str> {
     if !is_received(session, 7) {
         Some("identifier 7 was received")
     } else if is_received(session, 8) {
@@ -185,13 +180,24 @@ fn missed_by(alloc: Global, session: &Session) -> Option<&'static str> {
     }
 }
 
+const UNREAD: Option<&str> = Some("the bytes are read");
+
+// Returns the first of these that is not so of these bytes.
+fn missed_by(alloc: Global, bytes: &[u8]) -> Option<&'static str> {
+    let mut reader = Reader::new(bytes);
+    match Session::read(alloc, 64, &mut reader) {
+        Ok(session) => {
+            let missed = missed_of(alloc, &session);
+            drop(session);
+            missed
+        }
+        Err(_) => UNREAD,
+    }
+}
+
 #[test]
 fn a_frozen_session_is_read(rt: HostRuntime) {
-    let missed = match thawed(rt.alloc(), &FROZEN) {
-        Some(session) => missed_by(rt.alloc(), &session),
-        None => Some("the bytes are read"),
-    };
-    assert_eq!(rt; missed, None);
+    assert_eq!(rt; missed_by(rt.alloc(), &FROZEN), None);
 }
 
 #[test]
@@ -201,10 +207,7 @@ fn other_bytes_are_no_session(rt: HostRuntime) {
     for (index, byte) in rows {
         let mut bytes = FROZEN;
         bytes[index] = byte;
-        assert!(rt; thawed(rt.alloc(), &bytes).is_none(), "{index}");
+        assert_eq!(rt; missed_by(rt.alloc(), &bytes), UNREAD, "{index}");
     }
-    assert!(rt;
-        thawed(rt.alloc(), &FROZEN[..26]).is_none(),
-        "the last byte is missing"
-    );
+    assert_eq!(rt; missed_by(rt.alloc(), &FROZEN[..26]), UNREAD);
 }
