@@ -100,26 +100,31 @@ const ROWS: &[Row] = &[
     (false, 0, Ending::Refused, 0),
 ];
 
-// Says whether a connection that runs in this way is reported in this way.
-fn hears<J: Naming, R: Wait + Clock>(rt: &R, alloc: Global, inbox: Inbox<Item>, row: &Row) -> bool
+// How a connection ended and how many faults were counted (none without a lane), and how many first
+// bytes of the CONNECT came (none if something else was reported).
+type Heard = (Option<(Ending, u64)>, Option<usize>);
+
+// Returns how a connection that runs in this way is reported.
+fn heard<J: Naming, R: Wait + Clock>(rt: &R, alloc: Global, inbox: Inbox<Item>, row: &Row) -> Heard
     requires { inbox ≡ J.inbox_of 1 }
 {
     match inbox.named::<J>(1, 1) {
         Ok((mut receiver, mut lanes)) => {
-            ends(rt, alloc, lanes.pop(), row) && tells(rt, alloc, &mut receiver, row.3)
+            let ended = end_of(rt, alloc, lanes.pop(), row);
+            (ended, told(rt, alloc, &mut receiver))
         }
-        Err(_) => false,
+        Err(_) => (None, None),
     }
 }
 
-// Says whether a connection that is reported to this lane ends in this way.
-fn ends<J: Naming, R: Wait + Clock>(
+// Returns how a connection that is reported to this lane ends, and how many faults were counted.
+fn end_of<J: Naming, R: Wait + Clock>(
     rt: &R,
     alloc: Global,
     lane: Option<Lane<Item, J>>,
     row: &Row,
-) -> bool {
-    let (is_open, bad_call, ending, _) = *row;
+) -> Option<(Ending, u64)> {
+    let (is_open, bad_call, _, _) = *row;
     match lane {
         Some(lane) => {
             let mut source = Counted::new(Source::new(CONNECT, 4, bad_call));
@@ -130,9 +135,9 @@ fn ends<J: Naming, R: Wait + Clock>(
                 &mut source,
                 &mut OneLane { lane, is_open },
             );
-            ended == ending && source.faults() == u64::from(ending == Ending::Fault)
+            Some((ended, source.faults()))
         }
-        None => false,
+        None => None,
     }
 }
 
@@ -175,29 +180,30 @@ fn take_all<J: Naming, R: Wait>(
     false
 }
 
-// Says whether a connection was opened, this many first bytes of the CONNECT came, it ended, and
-// nothing more was reported.
-fn tells<J: Naming, R: Wait>(
+// Returns how many first bytes of the CONNECT came, if a connection was opened, these came, it
+// ended, and nothing more was reported.
+fn told<J: Naming, R: Wait>(
     rt: &R,
     alloc: Global,
     receiver: &mut Receiver<Item, J>,
-    count: usize,
-) -> bool {
+) -> Option<usize> {
     let mut came = Vec::new(alloc);
     let opened = matches!(take_one(rt, receiver), Some((_, Item::Opened(PORT, 5))));
-    opened
+    let is_whole = opened
         && take_all(rt, receiver, &mut came)
         && take_one(rt, receiver).is_none()
-        && came.len() == count
-        && CONNECT.starts_with(came.as_slice())
+        && CONNECT.starts_with(came.as_slice());
+    if is_whole { Some(came.len()) } else { None }
 }
 
 #[test]
 fn a_connection_is_reported_whole(rt: HostRuntime) -> Result<(), Fail> {
     for row in ROWS {
         let inbox = Inbox::new(rt.alloc())?;
-        let reported = hears::<Brand, HostRuntime>(&rt, rt.alloc(), inbox, row);
-        assert!(rt; reported, "{row:?}");
+        let heard = heard::<Brand, HostRuntime>(&rt, rt.alloc(), inbox, row);
+        let (_, _, ending, count) = *row;
+        let faults = u64::from(ending == Ending::Fault);
+        assert_eq!(rt; heard, (Some((ending, faults)), Some(count)), "{row:?}");
     }
     Ok(())
 }
