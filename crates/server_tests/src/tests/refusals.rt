@@ -8,25 +8,29 @@ use std::test::Fail;
 use std::thread::Threads;
 use std::time::Clock;
 
-// Whether nothing is served at listeners of these numbers, since no nodes may have them.
-fn are_refused<R>(rt: &R, numbers: &[u8]) -> bool
+// Returns what comes of serving at listeners of these numbers; none if they do not listen.
+fn served<R>(rt: &R, numbers: &[u8]) -> Option<Result<bool, ServeError>>
 where
     R: AllocGlobal + Threads + Wait + Clock + Sync,
     R: Net<Listener = TcpListener, Stream = TcpStream>,
 {
     let Ok(config) = opening(rt.alloc(), &[1]) else {
-        return false;
+        return None;
     };
     let mut listeners = Vec::new(rt.alloc());
     let are_there = listen_all(rt, numbers, &mut listeners);
     let served = serve_while(rt, rt.alloc(), listeners.as_slice(), &config, |_| true);
-    are_there && served == Err(ServeError::BadMembers)
+    if are_there { Some(served) } else { None }
 }
 
 #[test]
 fn numbers_of_listeners_are_refused(rt: HostRuntime) {
     for numbers in [[1, 1].as_slice(), [1, 16].as_slice(), [0, 1].as_slice()] {
-        assert!(rt; are_refused(&rt, numbers), "{numbers:?}");
+        assert_eq!(rt;
+            served(&rt, numbers),
+            Some(Err(ServeError::BadMembers)),
+            "{numbers:?}"
+        );
     }
 }
 

@@ -120,7 +120,6 @@ const TABLES: &[(&str, &[Row<'static>])] = &[
 #[test]
 fn a_client_with_its_pipes_does_as_its_rows_say(rt: HostRuntime) {
     for (name, rows) in TABLES {
-        let fault = fault_of(rt.alloc(), rows);
-        assert!(rt; fault.is_none(), "{name}: row {fault:?}");
+        assert_eq!(rt; fault_of(rt.alloc(), rows), None, "{name}");
     }
 }
