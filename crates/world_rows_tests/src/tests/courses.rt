@@ -33,8 +33,7 @@ const CHANGED: &[Row] = &[
     Row::Does(Action::Deliver(8), 10, 1),
 ];
 
-/// A client that has a session in the log that is fetched, after this many rows and until this
-/// many.
+/// A client that has a session in the log that is fetched, from one number of rows to another.
 pub type Kept = (&'static str, usize, usize);
 
 /// A course of events in a world of this many nodes, with these members of ballot 1. One of the
@@ -122,32 +121,23 @@ pub fn all_hold(alloc: Global, world: &mut World, rows: &[Row]) -> bool {
 
 // Says whether a node has crashed in these rows.
 fn has_crashed(rows: &[Row], node: u8) -> bool {
-    rows.iter().any(|row| is_crash(row, node))
-}
-
-// Says whether a row is the crash of this node.
-fn is_crash(row: &Row, node: u8) -> bool {
-    matches!(row, Row::Does(Action::Crash(crashed), _, _) if *crashed == node)
+    rows.iter().any(
+        |row| matches!(row, Row::Does(Action::Crash(crashed), _, _) if *crashed == node),
+    )
 }
 
 /// Returns the ballot that is given last in these rows.
 pub fn last_ballot(rows: &[Row]) -> u64 {
     let mut ballot: u64 = 1;
     for row in rows {
-        if is_assign(row) {
+        if matches!(row, Row::Does(Action::Assign(_, _), _, _)) {
             ballot = ballot.saturating_add(1);
         }
     }
     ballot
 }
 
-// Says whether a row asks for a ballot.
-fn is_assign(row: &Row) -> bool {
-    matches!(row, Row::Does(Action::Assign(_, _), _, _))
-}
-
-/// Says whether members may form the next ballot after these rows: they rise, and are nodes that
-/// live.
+/// Says whether members may form the next ballot after these rows: they rise, and they live.
 pub fn may_lead(course: &Course, rows: &[Row], members: &[u8]) -> bool {
     let mut last = 0;
     for member in members {

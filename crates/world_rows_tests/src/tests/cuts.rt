@@ -1,5 +1,4 @@
-// A node cuts its log after a row of a table, each node after each row, and all other rows hold as
-// usual.
+// A node cuts its log after a row of a table, each after each row; all other rows hold as usual.
 
 use crate::tests::crashes::CRASHED;
 use crate::tests::row::{Row, is_right, opened};
@@ -52,8 +51,7 @@ fn changed_by(alloc: Global, rows: &[Row], node: u8) -> Option<usize> {
     None
 }
 
-// A cut changes no message, no agreed command, no byte on a connection and no publication that is
-// accepted.
+// A cut changes no message, agreed command, byte on a connection and accepted publication.
 #[test]
 fn cuts_change_nothing_else(rt: HostRuntime) {
     for node in [1, 2] {

@@ -126,6 +126,9 @@ fn config_of(alloc: Global, members: &[u8], primary: u8) -> Option<Config> {
     })
 }
 
+/// How many bytes wait or publications are accepted, the last session, the first sixteen bytes.
+pub type Came = (usize, u64, [u8; 16]);
+
 /// A row that does not hold, and what the world shows then.
 #[derive(Clone, Copy, Debug, PartialEq, Eq)]
 pub struct Fault {
@@ -135,6 +138,8 @@ pub struct Fault {
     pub messages: u64,
     pub agreed: u64,
     pub ballot: u64,
+    /// What came in place of what the row says.
+    pub came: Came,
 }
 
 /// What is told of a table whose world does not open.
@@ -143,6 +148,7 @@ pub const UNOPENED: Fault = Fault {
     messages: 0,
     agreed: 0,
     ballot: 0,
+    came: (0, 0, [0; 16]),
 };
 
 /// Returns the first of these tables that has a row which does not hold, and the first such row.
@@ -171,24 +177,47 @@ fn fault_of(alloc: Global, nodes: u8, members: &[u8], rows: &[Row]) -> Option<Fa
 fn first_fault(alloc: Global, world: &mut World, rows: &[Row]) -> Option<Fault> {
     for (at, row) in rows.iter().enumerate() {
         if !is_right(alloc, world, row) {
-            return Some(fault_at(world, at));
+            return Some(fault_at(world, at, came(alloc, world, row)));
         }
     }
     if world.losses() == 0 {
         None
     } else {
-        Some(fault_at(world, rows.len()))
+        Some(fault_at(world, rows.len(), UNOPENED.came))
     }
 }
 
 /// Returns what this world shows at a row.
-pub fn fault_at(world: &World, row: usize) -> Fault {
+pub fn fault_at(world: &World, row: usize, came: Came) -> Fault {
     Fault {
         row,
         messages: world.messages(),
         agreed: world.agreed_len(),
         ballot: world.active().0,
+        came,
     }
+}
+
+/// Returns what a world shows of what a row says.
+pub fn came(alloc: Global, world: &World, row: &Row) -> Came {
+    match row {
+        Row::HasUp(connection, _) => waiting(world.up(*connection)),
+        Row::HasDown(connection, _) => waiting(world.down(*connection)),
+        Row::Took(client, _, _) => {
+            let (count, session) = accepted(alloc, world, client).unwrap_or((0, 0));
+            (count, session, [0; 16])
+        }
+        _ => (0, 0, [0; 16]),
+    }
+}
+
+// Returns how many bytes wait, and the first of them.
+fn waiting(bytes: &[u8]) -> Came {
+    let mut first = [0; 16];
+    for (to, byte) in first.iter_mut().zip(bytes) {
+        *to = *byte;
+    }
+    (bytes.len(), 0, first)
 }
 
 /// Says whether a row holds for a world.
@@ -200,23 +229,18 @@ pub fn is_right(alloc: Global, world: &mut World, row: &Row) -> bool {
                 && world.agreed_len() == *agreed
         }
         Row::Idle(action) => !does(alloc, world, action),
-        Row::HasUp(connection, bytes) => has_up(world, *connection, bytes),
-        Row::HasDown(connection, bytes) => has_down(world, *connection, bytes),
-        Row::Took(client, count, session) => took(alloc, world, client, *count, *session),
+        Row::HasUp(connection, bytes) => are_same(world.up(*connection), bytes),
+        Row::HasDown(connection, bytes) => are_same(world.down(*connection), bytes),
+        Row::Took(client, count, session) => match accepted(alloc, world, client) {
+            Some((found, last)) => found == *count && (found == 0 || last == *session),
+            None => false,
+        },
         Row::Active(ballot) => world.active().0 == *ballot,
         Row::Agrees(list) => agrees_on(world, list),
     }
 }
 
-// Says whether these bytes wait to go up on a connection.
-fn has_up(world: &World, connection: u64, bytes: &[u8]) -> bool {
-    let waiting = world.up(connection);
-    waiting == bytes
-}
-
-// Says whether they wait to go down.
-fn has_down(world: &World, connection: u64, bytes: &[u8]) -> bool {
-    let waiting = world.down(connection);
+fn are_same(waiting: &[u8], bytes: &[u8]) -> bool {
     waiting == bytes
 }
 
@@ -312,17 +336,10 @@ fn publication(alloc: Global) -> Option<Publication> {
     })
 }
 
-// Says whether a client accepted this many publications, the last of them in this session.
-fn took(alloc: Global, world: &World, client: &str, count: usize, session: u64) -> bool {
-    let Some(name) = named(alloc, client) else {
-        return false;
-    };
-    let Some(core) = world.client(&name) else {
-        return false;
-    };
-    let accepted = core.accepted();
-    match accepted.last() {
-        Some(last) => accepted.len() == count && last.session == session,
-        None => count == 0,
-    }
+// Returns how many publications a client accepted, and the session of the last, or 0.
+fn accepted(alloc: Global, world: &World, client: &str) -> Option<(usize, u64)> {
+    let name = named(alloc, client)?;
+    let accepted = world.client(&name)?.accepted();
+    let session = accepted.last().map(|last| last.session).unwrap_or(0);
+    Some((accepted.len(), session))
 }

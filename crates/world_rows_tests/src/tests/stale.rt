@@ -1,8 +1,8 @@
 // A primary of a ballot that is over.
 
 use crate::tests::row::{
-    Action, Fault, NOTHING, PRESENT_AND_PUBLISH, PUBREC, Row, Said, Table, UNOPENED, fault_at,
-    fault_in, is_right, opened,
+    Action, Fault, NOTHING, PRESENT_AND_PUBLISH, PUBREC, Row, Said, Table, UNOPENED, came,
+    fault_at, fault_in, is_right, opened,
 };
 use std::alloc::Global;
 use world::World;
@@ -91,10 +91,12 @@ fn is_free_of_pubrel(world: &World) -> bool {
 fn first_pubrel(alloc: Global, world: &mut World) -> Option<(&'static str, Fault)> {
     for (at, row) in STALE.iter().enumerate() {
         if !is_right(alloc, world, row) {
-            return Some(("the row does not hold", fault_at(world, at)));
+            let came = came(alloc, world, row);
+            return Some(("the row does not hold", fault_at(world, at, came)));
         }
         if !is_free_of_pubrel(world) {
-            return Some(("a PUBREL waits", fault_at(world, at)));
+            let came = came(alloc, world, row);
+            return Some(("a PUBREL waits", fault_at(world, at, came)));
         }
     }
     None
