@@ -1,7 +1,7 @@
 -- What a lane reports of a connection.
-use Rattle.std.specs.Prelude.{◌≡◌, ℕ, ◌+◌, ◌^◌, List, [], ◌∷◌, ◌++◌, Option, None, Some}
+use Rattle.std.specs.Prelude.{◌≡◌, ℕ, ◌+◌, ◌^◌, List, [], ◌∷◌, ◌++◌, length, Option, None, Some}
 use Rattle.post.specs.node.declared.Item.{Item}
-use Rattle.post.specs.node.declared.Item.TheVariants.{Tick, Cut}
+use Rattle.post.specs.node.declared.Item.TheVariants.{Bytes, Tick, Cut}
 use Rattle.post.specs.node.declared.Port.{Port}
 use Rattle.post.specs.mailbox.Ends.{Sender}
 use Rattle.streams.specs.connection.declared.ending.Ending.{Ending}
@@ -32,6 +32,11 @@ pub data ReportsEach (lane : ℕ) (before : List Item) : ℕ → List Item → T
   goes_on : {count : ℕ} {sent : List Item} (after : List Item)
       → ReportsEach lane before count sent → ReportsOne (port_of lane count) sent after
       → ReportsEach lane before (count + 1) after
+
+-- how many bytes of a client an item carries
+abbrev pub client_bytes : Item → ℕ
+client_bytes (Bytes port piece now) = length piece
+client_bytes _ = 0
 
 -- a lane sent what any number of its connections bring
 pub record SendsRow (lane : ℕ) (before after : List Item) : Type 0 where

@@ -1,6 +1,7 @@
 // A connection's lane, by which the connection is reported to the node.
 
-ghost use Rattle.std.specs.Prelude.{◌≡◌, ◌≤◌, ◌++◌, ◌∷◌, []};
+ghost use Rattle.std.specs.Prelude.{◌≡◌, ◌≤◌, ◌++◌, ◌∷◌, [], min};
+ghost use Rattle.node_threads.specs.Serving.{client_bytes};
 
 use crate::served_node::ServedNode;
 use connection::{Hearer, PIECE_BYTES};
@@ -64,7 +65,8 @@ impl<'e, 'a, J: NodeNaming, S: Stated<J>, G: Gate> Hearer for LaneReporter<'e, '
 
 // Returns how many bytes of a client an item carries, at most as many as a read returns.
 fn size_of(item: &Item) -> u64
-    ensures { result ≤ PIECE_BYTES }
+    ensures size { result ≡ min (client_bytes item.now) PIECE_BYTES }
+    ensures most { result ≤ PIECE_BYTES }
 {
     match item {
         Item::Bytes(_, piece, _) => piece.as_slice().len().min(PIECE_BYTES) as u64,
