@@ -1,6 +1,6 @@
 // Bytes of clients, which wait until the node takes more of them.
 
-ghost use Rattle.std.specs.Prelude.{◌≡◌, ◌≤◌, IfSome};
+ghost use Rattle.std.specs.Prelude.{◌≡◌, ◌≤◌, IfSome, None, length};
 
 use crate::shared::Shared;
 use node::{Gate, NodeNaming, PIECE_BYTES, Port, Standing, Stated};
@@ -17,7 +17,9 @@ impl<'a, J: NodeNaming, S: Stated<J>, G: Gate> Shared<'a, J, S, G> {
     /// transit. None count if there is only one node, or the node has closed the connection.
     pub(crate) fn admit<R: Wait + Clock>(&self, rt: &R, port: Port, bytes: u64) -> Option<Entering>
         requires { bytes ≤ PIECE_BYTES }
-        ensures { IfSome result (λ entering. entering ≡ bytes) }
+        ensures all { IfSome result (λ entering. entering ≡ bytes) }
+        ensures none { bytes ≡ 0 → result ≡ None }
+        ensures alone { length self.now.context.cluster.now ≤ 1 → result ≡ None }
     {
         if bytes == 0 || !self.context.cluster.are_several() {
             return None;
