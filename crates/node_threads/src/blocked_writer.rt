@@ -1,6 +1,6 @@
 // The thread that continues with connections whose sockets were full.
 
-ghost use Rattle.std.specs.Prelude.{◌≡◌, IfSome};
+ghost use Rattle.std.specs.Prelude.{◌≡◌, ◌<◌, ◌≤◌, ◌*◌, IfSome, min};
 ghost use Rattle.std.specs.Arc.{arc_value};
 ghost use Rattle.streams.specs.WriteTokens.{IsTokenOf};
 
@@ -116,7 +116,13 @@ impl<'a, J: NodeNaming, S: Stated<J>, G: Gate> Shared<'a, J, S, G> {
 
 // Returns how long the thread sleeps next, by how many connections it tried and how many of these
 // are still blocked.
-fn next_pause(pause: u64, tried: usize, left: usize) -> u64 {
+fn next_pause(pause: u64, tried: usize, left: usize) -> u64
+    ensures none { left ≡ 0 → result ≡ FIRST_PAUSE_MILLIS }
+    ensures fewer { left < tried → result ≡ FIRST_PAUSE_MILLIS }
+
+    // While all stay full it sleeps longer each time.
+    ensures all { 0 < left → tried ≤ left → result ≡ min (2 * pause) MAX_PAUSE_MILLIS }
+{
     if left == 0 || left < tried {
         FIRST_PAUSE_MILLIS
     } else {
