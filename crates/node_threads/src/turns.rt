@@ -63,8 +63,8 @@ impl<'a, J: NodeNaming, S: Stated<J>, G: Gate> Shared<'a, J, S, G> {
     // first. Capacity is allocated before a lock is taken. If memory runs out, idle ones are among
     // them, or some are missing.
     fn busy_links<R: Wait>(&self, rt: &R, first: usize) -> Vec<Arc<Link, Global>> {
-        let mut idle = room_for(self.alloc, usize::from(MAX_CONNECTIONS));
-        let mut busy = room_for(self.alloc, BUSY_CAPACITY);
+        let mut idle = list_with_capacity(self.alloc, usize::from(MAX_CONNECTIONS));
+        let mut busy = list_with_capacity(self.alloc, BUSY_CAPACITY);
         let _ = self.node.lock(rt).state().idle_ports(&mut idle);
         self.context
             .listener
@@ -155,7 +155,9 @@ fn take_up_to<J: NodeNaming, R: Wait>(
 }
 
 // Returns a list with capacity for this many, or without capacity if memory runs out.
-fn room_for<T: Drop>(alloc: Global, count: usize) -> Vec<T> {
+fn list_with_capacity<T: Drop>(alloc: Global, count: usize) -> Vec<T>
+    ensures { result.items ≡ [] }
+{
     match Vec::with_capacity(alloc, count) {
         Ok(list) => list,
         Err(_) => Vec::new(alloc),

@@ -10,23 +10,23 @@ use std::sync::Wait;
 use std::time::Clock;
 use streams::Closed;
 
-/// Closes the listeners of all nodes. Returns the witnesses, in the order of the nodes; there is
-/// room for them.
+/// Closes the listeners of all nodes. Returns the witnesses, in the order of the nodes; the list
+/// has capacity for them.
 pub(crate) fn close_all<J, S, G, R>(
     rt: &R,
     nodes: &[ServedNode<'_, J, S, G>],
-    room: Vec<Closed>,
+    closings_with_capacity: Vec<Closed>,
 ) -> Vec<Closed>
 where
     J: NodeNaming,
     S: Stated<J>,
     G: Gate,
     R: Wait + Clock + Net<Stream = TcpStream>,
-    requires empty { room.items ≡ [] }
-    requires room { length nodes.now ≤ vec_capacity room }
+    requires empty { closings_with_capacity.items ≡ [] }
+    requires capacity { length nodes.now ≤ vec_capacity closings_with_capacity }
     ensures { result.items ≡ map (λ node. node.number) nodes.now }
 {
-    let mut closings = room;
+    let mut closings = closings_with_capacity;
     for node in nodes {
         closings.push_reserved(node.close_listener(rt));
     }

@@ -154,10 +154,10 @@ where
     let Ok(mut outcome) = Outcome::new(alloc, nodes.len()) else {
         return Err(ServeError::Memory);
     };
-    let Ok(room) = Vec::with_capacity(alloc, nodes.len()) else {
+    let Ok(closings) = Vec::with_capacity(alloc, nodes.len()) else {
         return Err(ServeError::Memory);
     };
-    let served = serve_states(rt, contexts.cluster, nodes.as_slice(), room, attend);
+    let served = serve_states(rt, contexts.cluster, nodes.as_slice(), closings, attend);
     if !served.all_started {
         outcome.fail(ServeError::Threads);
     }
@@ -181,7 +181,7 @@ fn serve_states<J, R, G, T, F>(
     rt: &R,
     cluster: &Cluster,
     nodes: &[ServedNode<'_, J, NodeState<J>, G>],
-    room: Vec<Closed>,
+    closings_with_capacity: Vec<Closed>,
     attend: F,
 ) -> Served<T>
 where
@@ -191,21 +191,21 @@ where
     T: Drop,
     F: FnOnce(&Cluster) -> T,
     requires callable { F.IsAlwaysCallable attend }
-    requires empty { room.items ≡ [] }
-    requires room { length nodes.now ≤ vec_capacity room }
+    requires empty { closings_with_capacity.items ≡ [] }
+    requires capacity { length nodes.now ≤ vec_capacity closings_with_capacity }
     ensures attended { FnOnceReturnsAt F.FnOnce attend cluster.now result.answer }
     ensures closed { result.closings.items ≡ map (λ node. node.number) nodes.now }
 {
-    serve_by::<J, NodeState<J>, R, G, T, F>(rt, cluster, nodes, room, attend)
+    serve_by::<J, NodeState<J>, R, G, T, F>(rt, cluster, nodes, closings_with_capacity, attend)
 }
 
-// Serves with these nodes while `attend` runs, and then closes their listeners. There is room for
-// the witnesses.
+// Serves with these nodes while `attend` runs, and then closes their listeners. The list has
+// capacity for the witnesses.
 fn serve_by<J, S, R, G, T, F>(
     rt: &R,
     cluster: &Cluster,
     nodes: &[ServedNode<'_, J, S, G>],
-    room: Vec<Closed>,
+    closings_with_capacity: Vec<Closed>,
     attend: F,
 ) -> Served<T>
 where
@@ -216,8 +216,8 @@ where
     T: Drop,
     F: FnOnce(&Cluster) -> T,
     requires callable { F.IsAlwaysCallable attend }
-    requires empty { room.items ≡ [] }
-    requires room { length nodes.now ≤ vec_capacity room }
+    requires empty { closings_with_capacity.items ≡ [] }
+    requires capacity { length nodes.now ≤ vec_capacity closings_with_capacity }
     ensures attended { FnOnceReturnsAt F.FnOnce attend cluster.now result.answer }
     ensures closed { result.closings.items ≡ map (λ node. node.number) nodes.now }
 {
@@ -226,8 +226,8 @@ where
         rt,
         move |scope|
             requires callable { F.IsAlwaysCallable attend }
-            requires empty { room.items ≡ [] }
-            requires room { length nodes.now ≤ vec_capacity room }
+            requires empty { closings_with_capacity.items ≡ [] }
+            requires capacity { length nodes.now ≤ vec_capacity closings_with_capacity }
             ensures attended { FnOnceReturnsAt F.FnOnce attend cluster.entry.now result.answer }
             ensures closed { result.closings.items ≡ map (λ node. node.number) nodes.entry.now }
         {
@@ -238,7 +238,7 @@ where
                 }
             }
             let answer = attend(cluster);
-            let closings = close_all(rt, nodes, room);
+            let closings = close_all(rt, nodes, closings_with_capacity);
             Served {
                 answer,
                 all_started,

@@ -23,7 +23,7 @@ impl Outcome {
     pub(crate) fn new(alloc: Global, nodes: usize) -> Result<Outcome, AllocError>
         ensures empty { IfOk result (λ outcome. outcome.reports.items ≡ []) }
         ensures served { IfOk result (λ outcome. outcome.failure ≡ None) }
-        ensures room { IfOk result (λ outcome. nodes ≤ vec_capacity outcome.reports) }
+        ensures capacity { IfOk result (λ outcome. nodes ≤ vec_capacity outcome.reports) }
     {
         Ok(Outcome {
             reports: Vec::with_capacity(alloc, nodes)?,
@@ -37,8 +37,8 @@ impl Outcome {
         ensures report { IfOk closed (λ report.
             Adds report self.old self.new ⊎ Fails ServeError.Memory self.old self.new) }
 
-        // If there is room for the report, it is kept.
-        ensures room { IfOk closed (λ report.
+        // If there is capacity for the report, it is kept.
+        ensures capacity { IfOk closed (λ report.
             vec_len self.old.reports < vec_capacity self.old.reports
             → Adds report self.old self.new) }
         ensures none { OnErr closed (Fails ServeError.Memory self.old self.new) }

@@ -12,7 +12,7 @@ scoped-requires g c =
         (
           c.requires.empty,
           (
-            c.requires.room,
+            c.requires.capacity,
             (
               record { owned = t.send-J.owned; leaving = λ k. Quiet-if (k (of_param 0)) unseen unseen (λ x w. tt) (λ x w. tt) },
               record { owned = t.send-S.owned; leaving = λ k. Quiet-if (k (of_param 1)) unseen unseen (λ x w. tt) (λ x w. tt) },
