@@ -59,8 +59,8 @@ abbrev pub command_bytes : ℕ
 command_bytes = 128
 
 -- up to this size a log is not cut because of it: 16 MiB
-abbrev pub max_small : ℕ
-max_small = 16777216
+abbrev pub max_uncut_bytes : ℕ
+max_uncut_bytes = 16777216
 
 -- Whether the log of a node that took these items is to be cut because of its size. It is if there
 -- are commands to drop, and what was taken since the last cut counts more than 16 MiB and more than
@@ -68,7 +68,7 @@ max_small = 16777216
 abbrev pub wants_cut : List (ℕ × Item) → CoreState → Bool
 wants_cut taken core =
     can_drop core
-    && nat_lt (max max_small (length core.replica.state.log.snapshot))
+    && nat_lt (max max_uncut_bytes (length core.replica.state.log.snapshot))
     (bytes_since_cut taken
     + command_bytes * (core.replica.state.committed - core.replica.state.log.base))
 

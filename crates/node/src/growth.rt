@@ -2,13 +2,13 @@
 
 ghost use Rattle.std.specs.Prelude.{◌≡◌, ◌+◌, ◌*◌, ℕ, length, max, nat_lt, sum_by};
 ghost use Rattle.node.specs.Growth.{bytes_of_body, bytes_of_command, bytes_of_packet, command_bytes};
-ghost use Rattle.node.specs.Growth.{counted, grown, max_small};
+ghost use Rattle.node.specs.Growth.{counted, grown, max_uncut_bytes};
 
 use packet::{Packet, Subscribe, Unsubscribe};
 use world_base::{Body, Command, Item};
 
 /// Up to this size a log is not cut because of it.
-const MAX_SMALL: u64 = 16_777_216;
+const MAX_UNCUT_BYTES: u64 = 16_777_216;
 
 /// What a command of the log counts in addition to the bytes of its packet.
 const COMMAND_BYTES: u64 = 128;
@@ -17,10 +17,11 @@ const COMMAND_BYTES: u64 = 128;
 /// the snapshot has bytes.
 pub(crate) fn is_large(bytes: u64, commands: u64, snapshot: &[u8]) -> bool
     ensures { (all : ℕ) → bytes ≡ counted all →
-        result ≡ nat_lt (max max_small (length snapshot.now)) (all + command_bytes * commands) }
+        result ≡ nat_lt
+        (max max_uncut_bytes (length snapshot.now)) (all + command_bytes * commands) }
 {
     let size = commands.saturating_mul(COMMAND_BYTES).saturating_add(bytes);
-    size > MAX_SMALL.max(snapshot.len() as u64)
+    size > MAX_UNCUT_BYTES.max(snapshot.len() as u64)
 }
 
 /// Returns how many bytes items brought since the last cut, after one more item. The count
