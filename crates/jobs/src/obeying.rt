@@ -49,7 +49,7 @@ where
         match next_order(rt.alloc(), input)? {
             Ok(Order::Quit) => return Ok(()),
             Ok(order) => answer(rt, cluster, nodes, order, output),
-            Err(fault) => refuse(output, fault.number()),
+            Err(fault) => print_refusal(output, fault.number()),
         }
         let _ = output.flush();
     }
@@ -150,15 +150,15 @@ where
             Ok(ballot) => {
                 let _ = writeln!(output, "ballot {ballot}");
             }
-            Err(error) => refuse(output, error.number()),
+            Err(error) => print_refusal(output, error.number()),
         },
         Order::Crash(number) => match cluster.crash(rt, number) {
             Ok(true) => {
                 let _ = writeln!(output, "crashed {number}");
             }
             // The node does not run.
-            Ok(false) => refuse(output, Idle.number()),
-            Err(error) => refuse(output, error.number()),
+            Ok(false) => print_refusal(output, Idle.number()),
+            Err(error) => print_refusal(output, error.number()),
         },
         Order::Expel(client) => expel(rt, cluster, &client, output),
     }
@@ -174,13 +174,13 @@ where
         Ok(true) => {
             let _ = writeln!(output, "expel {client}");
         }
-        Ok(false) => refuse(output, ProposeError::NotActive.number()),
-        Err(error) => refuse(output, error.number()),
+        Ok(false) => print_refusal(output, ProposeError::NotActive.number()),
+        Err(error) => print_refusal(output, error.number()),
     }
 }
 
 // Prints that an order is refused, with the number of the refusal.
-fn refuse<O: Write>(output: &mut O, number: u8) {
+fn print_refusal<O: Write>(output: &mut O, number: u8) {
     let _ = writeln!(output, "refused {number}");
 }
 

@@ -38,9 +38,9 @@ where
     let text = str::from_utf8(bytes.as_slice())
         .ok()
         .ok_or(JobError::Config)?;
-    let read = table(rt.alloc(), text)?;
-    find_files(rt, read.nodes.len().saturating_mul(FILES))?;
-    serve_nodes(rt, &read, input, output, faults)
+    let table = table(rt.alloc(), text)?;
+    find_files(rt, table.nodes.len().saturating_mul(FILES))?;
+    serve_nodes(rt, &table, input, output, faults)
 }
 
 // Checks whether this many files can be open at once.
@@ -78,7 +78,7 @@ where
 // Serves clients as a table of nodes says.
 fn serve_nodes<R, I, O, E>(
     rt: &R,
-    read: &NodeTable,
+    table: &NodeTable,
     input: &mut I,
     output: &mut O,
     faults: &mut E,
@@ -90,13 +90,13 @@ where
     O: Write,
     E: Write,
 {
-    let nodes = read.nodes.as_slice();
+    let nodes = table.nodes.as_slice();
     let listeners = listen_all(rt, nodes, faults)?;
     serve_while(
         rt,
         rt.alloc(),
         listeners.as_slice(),
-        &read.config,
+        &table.config,
         |cluster| { obey(rt, cluster, nodes, input, output) },
     )??;
     writeln!(output, "bye").ok().ok_or(JobError::Output)
