@@ -1,9 +1,18 @@
--- How the order to end a client's session, or to lead a client out, is refused.
-use Rattle.std.specs.Prelude.{◌≡◌, ℕ, ◌⊎◌, List, Some, None, option_map}
+-- What a line orders, the word for what a node does, and how an order is refused.
+use Rattle.std.specs.Prelude.{◌≡◌, ◌==◌, ℕ, ◌⊎◌, List, [], ◌∷◌, ◌++◌, Option, Some, None, option_map, codes, if◌then◌else◌, map, min}
+use Rattle.std.specs.List.{Contains}
+use Rattle.std.specs.Str.Parse.{digits_value}
+use Rattle.script.specs.Fields.{Text, fields_of, is_decimal, parts_of}
+use Rattle.script.specs.ballot_base.declared.config.Config.{Config}
+use Rattle.script.specs.ballot_base.declared.status.Role.{Role}
+use Rattle.script.specs.ballot_base.declared.status.Role.TheVariants as roles
+use Rattle.script.specs.ballot_base.declared.status.Status.{Status}
 use Rattle.command_line.specs.packet.ClientId.{client_fault}
 use Rattle.command_line.specs.topics.Refusals.{number_of}
 use Rattle.command_line.specs.topics.declared.malformed.MalformedKind.{MalformedKind}
 use Rattle.command_line.specs.topics.declared.malformed.MalformedKind.TheVariants as kinds
+use Rattle.jobs.specs.declared.obeying.Order.{Order}
+use Rattle.jobs.specs.declared.obeying.Order.TheVariants as orders
 use Rattle.jobs.specs.declared.word_fault.WordFault.{WordFault}
 use Rattle.jobs.specs.declared.word_fault.WordFault.TheVariants as faults
 
@@ -23,3 +32,54 @@ abbrev pub IsRefusedBy : List ℕ → WordFault → Type 0
 IsRefusedBy client fault =
     (option_map fault_of (client_fault client) ≡ Some fault)
     ⊎ ((client_fault client ≡ None) × (fault ≡ faults.Memory))
+
+-- the refusal of what is no order
+abbrev pub no_order : WordFault
+no_order = faults.Refused 24
+
+-- the number of a word of digits alone, 255 in place of more; any other word has none
+unfoldable pub node_of : Text → Option ℕ
+node_of word = if is_decimal word then Some (min (digits_value 10 word) 255) else None
+
+-- these are the numbers of the words between the commas
+abbrev pub AreNumbers : Text → List ℕ → Type 0
+AreNumbers word numbers = map node_of (parts_of word) ≡ map Some numbers
+
+-- a word between the commas has no number
+abbrev pub LacksNumber : Text → Type 0
+LacksNumber word = (part : Text) × Contains (parts_of word) part × (node_of part ≡ None)
+
+-- what has no meaning is no order; what has one is refused only because memory ran out
+abbrev pub IsNoOrder : Type 0 → WordFault → Type 0
+IsNoOrder Lacks fault = (fault ≡ no_order × Lacks) ⊎ (fault ≡ faults.Memory)
+
+-- the words of an order, apart from `expel`
+pub data Orders : List Text → Order → Type 0 where
+  quit : Orders (codes "quit" ∷ []) orders.Quit
+  status : Orders (codes "status" ∷ []) orders.Status
+  -- `crash 1`
+  crash : {n : Text} {node : ℕ} → node_of n ≡ Some node
+      → Orders (codes "crash" ∷ n ∷ []) (orders.Crash node)
+  -- `assign 2,3 2`
+  assign : {m p : Text} {config : Config}
+      → AreNumbers m config.members → node_of p ≡ Some config.primary
+      → Orders (codes "assign" ∷ m ∷ p ∷ []) (orders.Assign config)
+
+-- what a line orders; after `expel` and one blank everything is the identifier
+abbrev pub IsOrder : Text → Order → Type 0
+IsOrder line order =
+    ((client : Text) × (line ≡ codes "expel " ++ client) × (order ≡ orders.Expel client))
+    ⊎ Orders (fields_of line) order
+
+-- the word for a role in a ballot
+abbrev pub word_of : Role → Text
+word_of roles.Backup = codes "backup"
+word_of roles.Fetching = codes "fetching"
+word_of roles.Installing = codes "installing"
+word_of roles.Active = codes "primary"
+
+-- the word for what a node does: it crashed, joined no ballot yet, or has a role in one
+abbrev pub role_of : Status → Text
+role_of shown =
+    if shown.stopped then codes "crashed" else
+    if shown.ballot == 0 then codes "none" else word_of shown.role

@@ -1,8 +1,11 @@
 // Orders to the nodes of a server: lines of its input.
 
-ghost use Rattle.std.specs.Prelude.{◌≡◌, None, IfErr, IfOk, OnOk};
+ghost use Rattle.std.specs.Prelude.{◌≡◌, Some, None, IfErr, IfOk, OnOk};
 ghost use Rattle.command_line.specs.packet.ClientId.{client_fault};
-ghost use Rattle.jobs.specs.Orders.{IsRefusedBy};
+ghost use Rattle.std.specs.Char.{is_ascii_digit};
+ghost use Rattle.std.specs.List.{list_all};
+ghost use Rattle.script.specs.Fields.{is_decimal};
+ghost use Rattle.jobs.specs.Orders.{AreNumbers, IsNoOrder, IsOrder, IsRefusedBy, LacksNumber, no_order, node_of, role_of};
 ghost use Rattle.jobs.specs.declared.obeying.Order.TheVariants as orders;
 
 use crate::job_error::JobError;
@@ -10,6 +13,7 @@ use crate::scripts::client_of;
 use crate::word_fault::WordFault;
 use command_line::ListeningNode;
 use packet::ClientId;
+use script::{fields_of, parts_of};
 use server::{Cluster, Config, Idle, MAX_NODE, Members, ProposeError, Status};
 use std::alloc::Global;
 use std::io::{BufRead, ErrorKind, Write};
@@ -78,25 +82,32 @@ fn next_order<I: BufRead>(
 }
 
 // Returns what a line orders, or why it is refused.
-fn order_of(alloc: Global, line: &str) -> Result<Order, WordFault> {
+fn order_of(alloc: Global, line: &str) -> Result<Order, WordFault>
+    ensures { IfOk result (IsOrder line.now) }
+{
     if let Some(client) = line.strip_prefix("expel ") {
         return expel_of(alloc, client);
     }
-    let mut words = line.split(' ');
-    match (words.next(), words.next(), words.next(), words.next()) {
-        (Some("quit"), None, None, None) => Ok(Order::Quit),
-        (Some("status"), None, None, None) => Ok(Order::Status),
-        (Some("crash"), Some(node), None, None) => Ok(Order::Crash(number_of(node)?)),
-        (Some("assign"), Some(members), Some(primary), None) => Ok(Order::Assign(Config {
-            members: members_of(alloc, members)?,
-            primary: number_of(primary)?,
-        })),
+    let Ok(fields) = fields_of(alloc, line) else {
+        return Err(WordFault::Memory);
+    };
+    match fields.as_slice() {
+        ["quit"] => Ok(Order::Quit),
+        ["status"] => Ok(Order::Status),
+        ["crash", node] => Ok(Order::Crash(number_of(node)?)),
+        ["assign", members, primary] => {
+            let members = members_of(alloc, members)?;
+            let primary = number_of(primary)?;
+            Ok(Order::Assign(Config { members, primary }))
+        }
         _ => Err(no_order()),
     }
 }
 
 // Returns the refusal of a line that is no order.
-fn no_order() -> WordFault {
+fn no_order() -> WordFault
+    ensures { result ≡ no_order }
+{
     WordFault::Refused(Idle.number())
 }
 
@@ -110,22 +121,42 @@ fn expel_of(alloc: Global, client: &str) -> Result<Order, WordFault>
     Ok(Order::Expel(client_of(alloc, client)?))
 }
 
-// Returns the number that a word says. A number above 255 counts as 255, which no node has. A sign
-// is not part of a number.
-fn number_of(word: &str) -> Result<u8, WordFault> {
-    if word.starts_with('+') {
+// Returns the number of a word of digits alone, or 255, which no node has, in place of more.
+fn number_of(word: &str) -> Result<u8, WordFault>
+    ensures number { IfOk result (λ number. node_of word.now ≡ Some number) }
+    ensures refused { IfErr result (IsNoOrder (node_of word.now ≡ None)) }
+{
+    if !is_decimal(word) {
         return Err(no_order());
     }
-    match word.parse::<u64>() {
-        Ok(number) => Ok(u8::try_from(number).unwrap_or(u8::MAX)),
-        Err(_) => Err(no_order()),
-    }
+    Ok(word.parse::<u8>().unwrap_or(u8::MAX))
+}
+
+// Says whether a word is one decimal digit or more.
+fn is_decimal(word: &str) -> bool
+    ensures { result ≡ is_decimal word.now }
+{
+    !word.is_empty() && are_digits(word.as_bytes())
+}
+
+// Says whether each byte is a decimal digit.
+fn are_digits(bytes: &[u8]) -> bool
+    ensures { result ≡ list_all is_ascii_digit bytes.now }
+{
+    bytes.iter().all(|byte| byte.is_ascii_digit())
 }
 
 /// Returns the numbers of a word, with commas between them, or why it is refused.
-pub(crate) fn members_of(alloc: Global, word: &str) -> Result<Members, WordFault> {
+pub(crate) fn members_of(alloc: Global, word: &str) -> Result<Members, WordFault>
+    ensures members { IfOk result (AreNumbers word.now) }
+    ensures refused { IfErr result (IsNoOrder (LacksNumber word.now)) }
+{
+    let Ok(parts) = parts_of(alloc, word) else {
+        return Err(WordFault::Memory);
+    };
+    let parts = parts.as_slice();
     let mut numbers = Vec::new(alloc);
-    for part in word.split(',') {
+    for part in parts {
         let number = number_of(part)?;
         if numbers.push(number).is_err() {
             return Err(WordFault::Memory);
@@ -212,7 +243,9 @@ fn print_status<O: Write>(number: u8, status: &Status, output: &mut O) {
 }
 
 // Returns the word for what a node does.
-fn role_of(status: &Status) -> &'static str {
+fn role_of(status: &Status) -> &'static str
+    ensures { result.now ≡ role_of status.now }
+{
     if status.stopped {
         return "crashed";
     }

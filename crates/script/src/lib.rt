@@ -14,6 +14,7 @@ mod script_line;
 mod values;
 
 pub use error::ScriptFault;
+pub use fields::{fields_of, parts_of};
 pub use laws::{no_script_is_refused, one_meaning_a_line};
 pub use numbers::Numbers;
 pub use opening::Opening;

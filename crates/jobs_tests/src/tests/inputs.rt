@@ -29,6 +29,10 @@ const WHOLE: &[(&str, &str)] = &[
         "crash +1\nassign +1 1\nassign 1 +1\ncrash 1 \n\n",
         "refused 24\nrefused 24\nrefused 24\nrefused 24\nrefused 24\nbye\n",
     ),
+    (
+        "assign 256 1\nassign 1 256\nassign 18446744073709551616 1\n",
+        "refused 20\nrefused 20\nrefused 20\nbye\n",
+    ),
 ];
 
 #[test]

@@ -1,0 +1,2 @@
+pub mod NumbersSaid
+pub mod FieldsGiven
