@@ -8,6 +8,7 @@ use Rattle.script.specs.Scripts.{IsScript, lines_of}
 use Rattle.script.specs.declared.script_line.ScriptLine.{ScriptLine}
 use Rattle.script.specs.declared.reading.Script.{Script}
 use Rattle.play.specs.Lines.{end_line}
+use Rattle.world.specs.Happening.{WorldOpens}
 use Rattle.world.specs.Trace.{AreReached}
 use Rattle.world.specs.StandsFor.{IsReached, asked_on}
 use Rattle.world.specs.World.{WorldState}
@@ -46,6 +47,16 @@ pub opened_exact : {nodes : ℕ} {config : Config} {ids clients : List (List ℕ
     → AreApart clients → (reached : IsReached nodes config clients world) × (asked_on reached ≡ [])
 opened_exact {nodes = nodes} {config = config} {world = world} is exact =
     subst (λ (cs : List (List ℕ)). AreApart cs → (reached : IsReached nodes config cs world) × (asked_on reached ≡ [])) is exact
+
+pub opened_first : {nodes : ℕ} {config : Config} {ids clients : List (List ℕ)} {world : WorldState} → ids ≡ clients
+    → WorldOpens nodes config ids world → WorldOpens nodes config clients world
+opened_first {nodes = nodes} {config = config} {world = world} is begun =
+    subst (λ (cs : List (List ℕ)). WorldOpens nodes config cs world) is begun
+
+-- a world that opens has lost nothing
+pub opens_whole : {nodes : ℕ} {config : Config} {clients : List (List ℕ)} {world : WorldState}
+    → WorldOpens nodes config clients world → world.losses ≡ 0
+opens_whole begun = ap (λ (w : WorldState). w.losses) begun.is
 
 -- ---- agreement
 

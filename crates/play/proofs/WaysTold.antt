@@ -10,8 +10,7 @@ use Rattle.world.specs.world_events.declared.event.Event.{Event}
 use Rattle.world.specs.world_events.declared.escape_error.EscapeError.{EscapeError}
 use Rattle.world.specs.world_events.declared.escape_error.EscapeError.TheVariants as escapes
 use Rattle.world.specs.Escaping.{CanEscape, LeadsOut}
-use Rattle.world.specs.Trace.{AreReached}
-use Rattle.world.specs.StandsFor.{IsReached, asked_on}
+use Rattle.world.specs.Happening.{WorldOpens}
 use Rattle.world.specs.World.{WorldState}
 use Rattle.play.specs.declared.error.PlayError.{PlayError}
 use Rattle.play.specs.declared.error.PlayError.TheVariants as faults
@@ -49,18 +48,16 @@ one_more_member xs i d old mid new below before one =
 -- ---- the world in which a script ends
 
 pub ends_in : (text old new : List ℕ) (script : Script) (first last : WorldState) (clients : List (List ℕ)) (script_lines : List ScriptLine) → IsScript (lines_of text) script
-    → AreReached script.opening.nodes script.opening.config first.nodes
-    → (reached : IsReached script.opening.nodes script.opening.config script.opening.clients.items first) × (asked_on reached ≡ [])
+    → WorldOpens script.opening.nodes script.opening.config script.opening.clients.items first
     → clients ≡ script.opening.clients.items → script_lines ≡ script.lines.items → AppendsAll clients script_lines first last old new → last.losses ≡ 0 → EndsIn text last
-ends_in text old new script first last clients script_lines is opened exact named all on none =
+ends_in text old new script first last clients script_lines is opens named all on none =
     let whole : AppendsAll script.opening.clients.items script.lines.items first last old new =
     subst (λ (o : List ScriptLine). AppendsAll script.opening.clients.items o first last old new) all (subst (λ (n : List (List ℕ)). AppendsAll n script_lines first last old new) named on) in
     record {
       script = script;
       is_script = is;
       first = first;
-      opened = opened;
-      exact = exact.0;
+      opens = opens;
       lines = whole.lines;
       played = whole.played;
       whole = none;

@@ -6,8 +6,7 @@ use Rattle.script.specs.declared.reading.Script.{Script}
 use Rattle.world.specs.world_events.declared.event.Event.{Event}
 use Rattle.world.specs.world_events.declared.event.Event.TheVariants as events
 use Rattle.world.specs.Escaping.{CanEscape, LeadsOut}
-use Rattle.world.specs.Trace.{AreReached}
-use Rattle.world.specs.StandsFor.{IsReached}
+use Rattle.world.specs.Happening.{WorldOpens}
 use Rattle.world.specs.World.{WorldState}
 use Rattle.play.specs.Transcripts.{Played}
 
@@ -51,15 +50,14 @@ event_lines (event ∷ more) = event_line event ++ event_lines more
 
 -- ---- the world in which a script ends
 
--- a text is a script, whose lines lead from the world that it opens to this one, and memory ran
--- out in none of them
+-- a text is a script, whose lines lead from its world as it opens to this one, and memory ran out
+-- in none of them
 pub record EndsIn (text : List ℕ) (last : WorldState) : Type 0 where
   pub script : Script
   pub is_script : IsScript (lines_of text) script
   pub first : WorldState
-  pub opened : AreReached script.opening.nodes script.opening.config first.nodes
-  pub exact :
-      IsReached script.opening.nodes script.opening.config script.opening.clients.items first
+  pub opens :
+      WorldOpens script.opening.nodes script.opening.config script.opening.clients.items first
   pub lines : List ℕ
   pub played : Played script.opening.clients.items first script.lines.items lines last
   pub whole : last.losses ≡ 0

@@ -3,6 +3,7 @@
 ghost use Rattle.std.specs.Prelude.{◌≡◌, ◌<◌, ◌++◌, ℕ, false, [], map, IfOk, OnOk, OnErr, IsErrOf};
 ghost use Rattle.world.specs.agreement.World.{can_open};
 ghost use Rattle.world.specs.packet_world.World.{AreApart};
+ghost use Rattle.world.specs.Happening.{WorldOpens};
 ghost use Rattle.world.specs.Trace.{AreReached};
 ghost use Rattle.world.specs.StandsFor.{IsReached, asked_on};
 ghost use Rattle.play.specs.Inside.{Appends, AreWritten, Comes, Ends, Written, lines_unwritten, names_of, new_recipient, written_at};
@@ -39,7 +40,8 @@ impl PlayedWorld {
         ensures exact { AreApart opening.clients.items → IfOk result (λ played. (reached
             : IsReached opening.nodes opening.config opening.clients.items played.world)
             × (asked_on reached ≡ [])) }
-        ensures losses { IfOk result (λ played. played.world.losses ≡ 0) }
+        ensures opens { IfOk result (λ played.
+            WorldOpens opening.nodes opening.config opening.clients.items played.world) }
         ensures named { IfOk result (λ played.
             names_of played.recipients.items ≡ opening.clients.items) }
         ensures written { IfOk result (λ played.

@@ -1,6 +1,6 @@
 use Rattle.std.proofs.Common.{◌≡◌, arith}
 use Rattle.play.specs.Inside.{names_of}
-use Rattle.play.proofs.ScriptsOpen.{other_err, script_apart, script_opens}
+use Rattle.play.proofs.ScriptsOpen.{other_err, script_opens}
 use Rattle.play.proofs.WaysTold.{ends_in, no_way, tells_way}
 use Rattle.play.proofs.leading_out.escape.Goals as goal
 
@@ -13,8 +13,8 @@ returns-in_err-events-clause-idle c = λ is.
     let whole : c.play_all.new.played.world.losses ≡ 0 = omega arith in
     no_way c.from_residual-in_err-events.result c.in_err-events.field-0.0 c.args.text.now c.args.members.now c.args.client.now c.play_all.new.played.world
     (ends_in c.args.text.now c.new-transcript.result.items c.play_all.new.transcript.items c.in_ok-opening.field-0 c.in-Ok.played.world c.play_all.new.played.world
-    (names_of c.in-Ok.played.recipients.items) c.as_slice.result.now c.in_ok-opening.ensures.script c.in-Ok.ensures.opened
-    (c.in-Ok.ensures.exact (script_apart _ c.in_ok-opening.field-0 c.in_ok-opening.ensures.script)) c.in-Ok.ensures.named c.as_slice.ensures.value c.in_ok-play_all.ensures.lines whole)
+    (names_of c.in-Ok.played.recipients.items) c.as_slice.result.now c.in_ok-opening.ensures.script c.in-Ok.ensures.opens
+    c.in-Ok.ensures.named c.as_slice.ensures.value c.in_ok-play_all.ensures.lines whole)
     c.from_residual-in_err-events.ensures.1 c.in_err-events.ensures.idle is
 
 pub returns-clause-told : goal.returns-clause-told
@@ -23,6 +23,6 @@ returns-clause-told c =
     tells_way c.write_events.result c.args.text.now c.args.members.now c.args.client.now c.args.way.now.items c.write_events.new.way.items c.play_all.new.played.world c.in_ok-events.events.items
     c.as_slice-2.result.now
     (ends_in c.args.text.now c.new-transcript.result.items c.play_all.new.transcript.items c.in_ok-opening.field-0 c.in-Ok.played.world c.play_all.new.played.world
-    (names_of c.in-Ok.played.recipients.items) c.as_slice.result.now c.in_ok-opening.ensures.script c.in-Ok.ensures.opened
-    (c.in-Ok.ensures.exact (script_apart _ c.in_ok-opening.field-0 c.in_ok-opening.ensures.script)) c.in-Ok.ensures.named c.as_slice.ensures.value c.in_ok-play_all.ensures.lines whole)
+    (names_of c.in-Ok.played.recipients.items) c.as_slice.result.now c.in_ok-opening.ensures.script c.in-Ok.ensures.opens
+    c.in-Ok.ensures.named c.as_slice.ensures.value c.in_ok-play_all.ensures.lines whole)
     c.in_ok-events.ensures.can c.in_ok-events.ensures.leads_out c.as_slice-2.ensures.value c.write_events.ensures.lines

@@ -3,7 +3,7 @@ use Rattle.world.specs.World.{WorldState}
 use Rattle.play.specs.declared.played_world.Recipient.{Recipient}
 use Rattle.play.specs.Inside.{AreWritten, names_of, new_recipient}
 use Rattle.play.proofs.LinesAppended.{new_names, none_written}
-use Rattle.play.proofs.PlayedToTheEnd.{opened_exact}
+use Rattle.play.proofs.PlayedToTheEnd.{opened_exact, opened_first}
 use Rattle.play.proofs.played_world.PlayedWorld.new.Goals as goal
 
 pub returns-clause-named : goal.returns-clause-named
@@ -19,3 +19,6 @@ returns-clause-written c =
 
 pub returns-clause-exact : goal.returns-clause-exact
 returns-clause-exact c = opened_exact c.as_slice-2.ensures.value c.in_ok-world.ensures.exact
+
+pub returns-clause-opens : goal.returns-clause-opens
+returns-clause-opens c = opened_first c.as_slice-2.ensures.value c.in_ok-world.ensures.opens
