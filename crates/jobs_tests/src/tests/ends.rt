@@ -3,7 +3,6 @@
 use crate::tests::hand::{does, serves, text_of};
 use command_line::LineFault;
 use jobs::{JobError, print_fault, refuse};
-use std::alloc::Global;
 use std::net::{Net, TcpListener, TcpStream};
 use std::rt::Files;
 use std::sync::Wait;
@@ -108,79 +107,91 @@ fn lines_are_refused_with_a_status(rt: HostRuntime) {
     }
 }
 
-// Says whether a refusal that no words lead to has this exit status and this message.
-fn is_refused_as(alloc: Global, fault: &LineFault, status: u8, told: &str) -> bool {
-    let mut output = Vec::new(alloc);
-    let mut faults = Vec::new(alloc);
-    refuse(fault, &mut output, &mut faults) == status
-        && output.is_empty()
-        && faults.as_slice() == told.as_bytes()
+// A refusal that no words lead to: its exit status, and what it prints on both outputs.
+fn refused<'a>(
+    fault: &LineFault,
+    output: &'a mut Vec<u8>,
+    faults: &'a mut Vec<u8>,
+) -> (u8, &'a str, &'a str) {
+    let status = refuse(fault, output, faults);
+    (
+        status,
+        text_of(output.as_slice()),
+        text_of(faults.as_slice()),
+    )
 }
 
 #[test]
 fn other_refusals_have_their_status(rt: HostRuntime) {
-    let told = "vbroker: out of memory\n";
-    assert!(rt; is_refused_as(rt.alloc(), &LineFault::Memory, 1, told));
+    let (mut output, mut faults) = (Vec::new(rt.alloc()), Vec::new(rt.alloc()));
+    let came = refused(&LineFault::Memory, &mut output, &mut faults);
+    assert_eq!(rt; came, (1, "", "vbroker: out of memory\n"));
+    faults.clear();
     let told = "vbroker: the words of the command line could not be read; try vbroker --help\n";
-    assert!(rt; is_refused_as(rt.alloc(), &LineFault::Incomplete, 2, told));
+    let came = refused(&LineFault::Incomplete, &mut output, &mut faults);
+    assert_eq!(rt; came, (2, "", told));
 }
 
-// Tables of nodes that are refused, and one whose address no program may bind.
-const REFUSED: &[(&str, &str)] = &[
-    ("members = [1]\nprimary = 1\n", "vbroker: config\n"),
+// Tables of nodes that are refused, and one whose address no program may bind; the exit status and
+// what comes on standard error.
+const REFUSED: &[(&str, u8, &str)] = &[
+    ("members = [1]\nprimary = 1\n", 3, "vbroker: config\n"),
     (
         "members = [1]\nprimary = 2\n[[node]]\nid = 1\nlisten = \"127.0.0.1:0\"\n",
+        3,
         "vbroker: config\n",
     ),
     (
         "members = [1]\nprimary = 1\n[[node]]\nid = 1\nlisten = \"192.0.2.1:1883\"\n",
+        1,
         "vbroker: cannot listen on 192.0.2.1:1883: address not available\n",
     ),
 ];
 
 #[test]
 fn tables_are_refused_with_their_text(rt: HostRuntime) {
-    for (text, told) in REFUSED {
+    for (text, status, told) in REFUSED {
         let mut output = Vec::new(rt.alloc());
         let mut faults = Vec::new(rt.alloc());
         let mut input = b"quit\n".as_slice();
-        let is_served = serves(&rt, text, &mut input, &mut output, &mut faults) == 0;
+        let ended = serves(&rt, text, &mut input, &mut output, &mut faults);
         let came = (
-            is_served,
+            ended,
             text_of(output.as_slice()),
             text_of(faults.as_slice()),
         );
-        assert_eq!(rt; came, (false, "", *told), "{text}");
+        assert_eq!(rt; came, (*status, "", *told), "{text}");
     }
 }
 
-// Says whether a fault has this text and this exit status.
-fn is_told(alloc: Global, fault: JobError, text: &str, status: u8) -> bool {
-    let mut faults = Vec::new(alloc);
-    print_fault(&mut faults, &fault) == status && faults.as_slice() == text.as_bytes()
+// Returns the exit status for a fault, and its text.
+fn told(fault: JobError, faults: &mut Vec<u8>) -> (u8, &str) {
+    faults.clear();
+    let status = print_fault(faults, &fault);
+    (status, text_of(faults.as_slice()))
 }
 
 #[test]
 fn faults_have_their_texts(rt: HostRuntime) {
-    let alloc = rt.alloc();
+    let faults = &mut Vec::new(rt.alloc());
     let text = "vbroker: out of memory\n";
-    assert!(rt; is_told(alloc, JobError::Memory, text, 1), "{text}");
+    assert_eq!(rt; told(JobError::Memory, faults), (1, text));
     let text = "vbroker: standard input could not be read\n";
-    assert!(rt; is_told(alloc, JobError::Input, text, 1), "{text}");
+    assert_eq!(rt; told(JobError::Input, faults), (1, text));
     let text = "vbroker: standard output could not be written\n";
-    assert!(rt; is_told(alloc, JobError::Output, text, 1), "{text}");
+    assert_eq!(rt; told(JobError::Output, faults), (1, text));
     let text = "vbroker: the clock could not be read\n";
-    assert!(rt; is_told(alloc, JobError::Clock, text, 1), "{text}");
+    assert_eq!(rt; told(JobError::Clock, faults), (1, text));
     let text = "vbroker: too few threads could be started: a node needs 63\n";
-    assert!(rt; is_told(alloc, JobError::Threads, text, 1), "{text}");
+    assert_eq!(rt; told(JobError::Threads, faults), (1, text));
     let text = "vbroker: too few files can be open at once: 38 more are needed (ulimit -n)\n";
-    assert!(rt; is_told(alloc, JobError::Files(38), text, 1), "{text}");
+    assert_eq!(rt; told(JobError::Files(38), faults), (1, text));
     let text = "vbroker: the words of the command line could not be read; try vbroker --help\n";
-    assert!(rt; is_told(alloc, JobError::Words, text, 2), "{text}");
+    assert_eq!(rt; told(JobError::Words, faults), (2, text));
     let text = "vbroker: script line 3\n";
-    assert!(rt; is_told(alloc, JobError::Script(3), text, 3), "{text}");
+    assert_eq!(rt; told(JobError::Script(3), faults), (3, text));
     let text = "vbroker: out of memory: the transcript shows a world that lost something\n";
-    assert!(rt; is_told(alloc, JobError::Losses, text, 1), "{text}");
+    assert_eq!(rt; told(JobError::Losses, faults), (1, text));
     let text = "vbroker: session present\n";
-    assert!(rt; is_told(alloc, JobError::SessionPresent, text, 1), "{text}");
+    assert_eq!(rt; told(JobError::SessionPresent, faults), (1, text));
 }

@@ -2,7 +2,7 @@
 
 use clap::Error;
 use clap::error::ErrorKind;
-use command_line::{Job, LineFault, Play, Publish, Subscribe, line};
+use command_line::{Job, LineFault, Publish, Subscribe, line};
 use packet::QoS;
 use std::alloc::Global;
 
@@ -48,55 +48,51 @@ const NEGATIVE: [&str; 8] = [
 ];
 
 // The result of the words of a command line.
-#[derive(Clone, Copy)]
+#[derive(Clone, Copy, Debug, PartialEq, Eq)]
 enum Outcome<'a> {
     // They ask for a server with this file.
     Serves(&'a str),
     // For a script, in this file or in none.
     Plays(Option<&'a str>),
-    // For a way out to these members with this client.
-    Escapes(&'a str, &'a str),
+    // For a way out to these members with this client, in the script of this file or of none.
+    Escapes(Option<&'a str>, &'a str, &'a str),
     // For the publication that is above: the first one, or the one that is retained.
     Publishes,
     Retains,
     // For the subscription that is above.
     Subscribes,
+    // For another job.
+    Differs,
     // They are refused for this.
     Refused(ErrorKind),
     // One of the words that go together is missing.
     Incomplete,
+    // Memory ran out.
+    Memory,
     // They are answered by a text that contains this.
     Answered(&'a str),
 }
 
-// Says whether the words have this outcome.
-fn comes(alloc: Global, words: &[&str], outcome: Outcome<'_>) -> bool {
+// Returns the outcome of the words; that they are answered by a text, only if this is wanted.
+fn outcome_of<'a>(alloc: Global, words: &'a [&'a str], wanted: Outcome<'a>) -> Outcome<'a> {
     match line(alloc, words) {
-        Ok(job) => is_job(&job, outcome),
-        Err(fault) => is_fault(alloc, &fault, outcome),
+        Ok(job) => outcome_of_job(&job),
+        Err(fault) => outcome_of_fault(alloc, &fault, wanted),
     }
 }
 
-// Says whether a job is that of an outcome.
-fn is_job(job: &Job<'_>, outcome: Outcome<'_>) -> bool {
-    match (job, outcome) {
-        (Job::Serve(job), Outcome::Serves(config)) => job.config == config,
-        (Job::Play(job), Outcome::Plays(script)) => job.script == script && job.escape.is_none(),
-        (Job::Play(job), Outcome::Escapes(members, client)) => is_way(job, members, client),
-        (Job::Publish(job), Outcome::Publishes) => is_usual(job),
-        (Job::Publish(job), Outcome::Retains) => job.retain && job.message == "-5",
-        (Job::Subscribe(job), Outcome::Subscribes) => is_wanted(job),
-        _ => false,
-    }
-}
-
-// Says whether it asks for a way out of these words, in the script of the input.
-fn is_way(job: &Play<'_>, members: &str, client: &str) -> bool {
-    match &job.escape {
-        Some(escape) => {
-            job.script.is_none() && escape.members == members && escape.client == client
-        }
-        None => false,
+// Returns the outcome that a job is.
+fn outcome_of_job<'a>(job: &Job<'a>) -> Outcome<'a> {
+    match job {
+        Job::Serve(job) => Outcome::Serves(job.config),
+        Job::Play(job) => match &job.escape {
+            Some(way) => Outcome::Escapes(job.script, way.members, way.client),
+            None => Outcome::Plays(job.script),
+        },
+        Job::Publish(job) if is_usual(job) => Outcome::Publishes,
+        Job::Publish(job) if job.retain && job.message == "-5" => Outcome::Retains,
+        Job::Subscribe(job) if is_wanted(job) => Outcome::Subscribes,
+        Job::Publish(_) | Job::Subscribe(_) => Outcome::Differs,
     }
 }
 
@@ -114,12 +110,13 @@ fn is_wanted(job: &Subscribe<'_>) -> bool {
         && job.addresses.as_slice() == ["h:1"].as_slice()
 }
 
-fn is_fault(alloc: Global, fault: &LineFault, outcome: Outcome<'_>) -> bool {
-    match (fault, outcome) {
-        (LineFault::Words(error), Outcome::Refused(kind)) => error.kind() == kind,
-        (LineFault::Words(error), Outcome::Answered(text)) => says(alloc, error, text),
-        (LineFault::Incomplete, Outcome::Incomplete) => true,
-        _ => false,
+// Returns the outcome that a fault is, or the wanted text that answers the words.
+fn outcome_of_fault<'a>(alloc: Global, fault: &LineFault, wanted: Outcome<'a>) -> Outcome<'a> {
+    match (fault, wanted) {
+        (LineFault::Words(error), Outcome::Answered(text)) if says(alloc, error, text) => wanted,
+        (LineFault::Words(error), _) => Outcome::Refused(error.kind()),
+        (LineFault::Incomplete, _) => Outcome::Incomplete,
+        (LineFault::Memory, _) => Outcome::Memory,
     }
 }
 
@@ -130,12 +127,15 @@ fn says(alloc: Global, error: &Error, wanted: &str) -> bool {
     }
 }
 
-// Says whether the words, separated by blanks, have this outcome.
-fn comes_of(alloc: Global, words: &str, outcome: Outcome<'_>) -> bool {
+// Returns the outcome of words that are separated by blanks and ask for no job.
+fn outcome_of_line<'a>(alloc: Global, words: &str, wanted: Outcome<'a>) -> Outcome<'a> {
     let parted: Result<Vec<&str>, _> = words.split(' ').collect(alloc);
-    match parted {
-        Ok(parted) => comes(alloc, parted.as_slice(), outcome),
-        Err(_) => false,
+    let Ok(parted) = parted else {
+        return Outcome::Memory;
+    };
+    match line(alloc, parted.as_slice()) {
+        Ok(_) => Outcome::Differs,
+        Err(fault) => outcome_of_fault(alloc, &fault, wanted),
     }
 }
 
@@ -153,7 +153,7 @@ const ROWS: &[(&[&str], Outcome<'static>)] = &[
     (&["vbroker", "play", "s"], Outcome::Plays(Some("s"))),
     (
         &["vbroker", "play", "--client=a", "--escape", "1,2"],
-        Outcome::Escapes("1,2", "a"),
+        Outcome::Escapes(None, "1,2", "a"),
     ),
     (
         &["vbroker", "play", "--escape", "1,2", "s"],
@@ -246,18 +246,17 @@ const HELPED: &[(&str, &str)] = &[
 #[test]
 fn lines_are_read(rt: HostRuntime) {
     for (words, outcome) in ROWS {
-        assert!(rt; comes(rt.alloc(), words, *outcome), "{words:?}");
+        let came = outcome_of(rt.alloc(), words, *outcome);
+        assert_eq!(rt; came, *outcome, "{words:?}");
     }
     for (words, kind) in REFUSED {
-        assert!(rt;
-            comes_of(rt.alloc(), words, Outcome::Refused(*kind)),
-            "{words}"
-        );
+        let wanted = Outcome::Refused(*kind);
+        let came = outcome_of_line(rt.alloc(), words, wanted);
+        assert_eq!(rt; came, wanted, "{words}");
     }
     for (words, text) in HELPED {
-        assert!(rt;
-            comes_of(rt.alloc(), words, Outcome::Answered(text)),
-            "{words}"
-        );
+        let wanted = Outcome::Answered(text);
+        let came = outcome_of_line(rt.alloc(), words, wanted);
+        assert_eq!(rt; came, wanted, "{words}");
     }
 }

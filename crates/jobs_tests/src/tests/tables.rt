@@ -1,6 +1,6 @@
 // Tables of nodes.
 
-use command_line::{NodeTable, TableFault, table};
+use command_line::{TableFault, table};
 use std::alloc::{AllocError, Global};
 use std::test::Fail;
 
@@ -10,40 +10,9 @@ const NODE_1: &str = "[[node]]\nid = 1\nlisten = \"h:1\"\n";
 const TWO: &str = "primary = 2 # keys in any order\nmembers = [1, 2]\n\
     [[node]]\nlisten = \"h:2\"\nid = 2\n[[node]]\nid = 1\nlisten = \"h:1\"\n";
 
-// The result of a text.
-#[derive(Clone, Copy)]
-enum Outcome {
-    // It is the table of two nodes.
-    Two,
-    // It is a table.
-    Read,
-    // It is none.
-    Refused,
-}
-
-// Says whether reading a text has this outcome.
-fn comes(alloc: Global, text: &str, outcome: Outcome) -> bool {
-    match table(alloc, text) {
-        Ok(read) => is_read(&read, outcome),
-        Err(fault) => fault == TableFault::Shape && matches!(outcome, Outcome::Refused),
-    }
-}
-
-fn is_read(read: &NodeTable, outcome: Outcome) -> bool {
-    match outcome {
-        Outcome::Two => is_two(read),
-        Outcome::Read => true,
-        Outcome::Refused => false,
-    }
-}
-
-fn is_two(read: &NodeTable) -> bool {
-    let Some(first) = read.nodes.first() else {
-        return false;
-    };
-    read.config.members.as_slice() == [1, 2].as_slice()
-        && (read.config.primary, read.nodes.len()) == (2, 2)
-        && (first.id, first.listen.as_str()) == (2, "h:2")
+// Returns why a text is refused, if it is.
+fn refusal_of(alloc: Global, text: &str) -> Option<TableFault> {
+    table(alloc, text).err()
 }
 
 const REFUSED: &[&str] = &[
@@ -68,34 +37,32 @@ const REFUSED: &[&str] = &[
     "members = [257]\nprimary = 257\n[[node]]\nid = 257\nlisten = \"h:1\"\n",
 ];
 
-// The members of ballot 1, the last of the nodes 1, 2, .., one of them that occurs twice, and
-// whether the table is read: at most 15 nodes, none of them twice, and at most seven members in
-// rising order.
-const NODES: &[(&str, u32, u32, bool)] = &[
-    ("[1]", 15, 0, true),
-    ("[1]", 16, 0, false),
-    ("[1]", 3, 1, false),
-    ("[1]", 3, 3, false),
-    ("[1, 2, 3, 4, 5, 6, 7]", 8, 0, true),
-    ("[2, 8]", 8, 0, false),
-    ("[1, 8]", 8, 0, true),
-    ("[1, 2, 3, 4, 5, 6, 7, 8]", 8, 0, false),
-    ("[3, 1]", 8, 0, false),
-    ("[1, 2, 2]", 8, 0, false),
-    ("[1, 9]", 8, 0, false),
+// The members of ballot 1, the last of the nodes 1, 2, .., one of them that occurs twice, and why
+// the table is refused, if it is: it has at most 15 nodes, none of them twice, and at most seven
+// members in rising order.
+const NODES: &[(&str, u32, u32, Option<TableFault>)] = &[
+    ("[1]", 15, 0, None),
+    ("[1]", 16, 0, Some(TableFault::Shape)),
+    ("[1]", 3, 1, Some(TableFault::Shape)),
+    ("[1]", 3, 3, Some(TableFault::Shape)),
+    ("[1, 2, 3, 4, 5, 6, 7]", 8, 0, None),
+    ("[2, 8]", 8, 0, Some(TableFault::Shape)),
+    ("[1, 8]", 8, 0, None),
+    ("[1, 2, 3, 4, 5, 6, 7, 8]", 8, 0, Some(TableFault::Shape)),
+    ("[3, 1]", 8, 0, Some(TableFault::Shape)),
+    ("[1, 2, 2]", 8, 0, Some(TableFault::Shape)),
+    ("[1, 9]", 8, 0, Some(TableFault::Shape)),
 ];
 
-// Says whether a table of these members and nodes is read, or refused.
-fn is_so(alloc: Global, members: &str, last: u32, twice: u32, is_read: bool) -> bool {
+// Returns why a table of these members and nodes is refused, if it is.
+fn refusal_with(alloc: Global, members: &str, last: u32, twice: u32) -> Option<TableFault> {
     let Ok(mut text) = head(alloc, members) else {
-        return false;
+        return Some(TableFault::Memory);
     };
-    let outcome = if is_read {
-        Outcome::Read
-    } else {
-        Outcome::Refused
-    };
-    add_nodes(alloc, &mut text, last, twice) && comes(alloc, text.as_str(), outcome)
+    if !add_nodes(alloc, &mut text, last, twice) {
+        return Some(TableFault::Memory);
+    }
+    refusal_of(alloc, text.as_str())
 }
 
 // Returns a table's lines before its nodes.
@@ -125,14 +92,25 @@ fn node(alloc: Global, id: u32) -> Result<String, AllocError> {
 }
 
 #[test]
-fn tables_are_read(rt: HostRuntime) {
-    assert!(rt; comes(rt.alloc(), TWO, Outcome::Two));
-    for text in REFUSED {
-        assert!(rt; comes(rt.alloc(), text, Outcome::Refused), "{text}");
+fn a_table_has_what_its_text_says(rt: HostRuntime) {
+    let read = table(rt.alloc(), TWO).ok().expect(&rt, "it is a table");
+    let config = (read.config.members.as_slice(), read.config.primary);
+    assert_eq!(rt; config, ([1, 2].as_slice(), 2));
+    assert_eq!(rt; read.nodes.len(), 2);
+    for (node, wanted) in read.nodes.iter().zip([(2, "h:2"), (1, "h:1")]) {
+        assert_eq!(rt; (node.id, node.listen.as_str()), wanted);
     }
-    for (members, last, twice, is_read) in NODES {
-        let is_so = is_so(rt.alloc(), members, *last, *twice, *is_read);
-        assert!(rt; is_so, "{members}, {last}, {twice}");
+}
+
+#[test]
+fn tables_are_read(rt: HostRuntime) {
+    for text in REFUSED {
+        let refusal = refusal_of(rt.alloc(), text);
+        assert_eq!(rt; refusal, Some(TableFault::Shape), "{text}");
+    }
+    for (members, last, twice, refusal) in NODES {
+        let came = refusal_with(rt.alloc(), members, *last, *twice);
+        assert_eq!(rt; came, *refusal, "{members}, {last}, {twice}");
     }
 }
 
