@@ -93,10 +93,10 @@ pub accepted_in_order : (limits : Limits) (s : Story) → IsGood (as_subscriber 
 accepted_in_order limits s g =
     let x = good_exact (as_subscriber limits s) g in
     let es = entries_of limits s.past s.keeper.client in
-    let cut = split_map item_of (two_entries es) x.old x.new (items_are es ∙ x.is) in
+    let cut = split_map item_of (two_entries es) x.front x.others (items_are es ∙ x.is) in
     record {
-      old = cut.front;
-      new = cut.behind;
+      front = cut.front;
+      others = cut.behind;
       is = cut.is;
       accepted = x.accepted ∙ ap (map value_of) (sym cut.front_is) ∙ values_are cut.front;
       rest = nones_over cut.behind (subst (Each (λ item. is_over item ≡ false)) (sym cut.behind_is) x.rest);
@@ -120,6 +120,6 @@ pub numbers_in_order : (limits : Limits) (s : Story) → IsGood (as_publisher li
 numbers_in_order limits s g =
     let x = good_exact (as_publisher limits s) g in
     record {
-      rest = map value_of x.new;
-      is = sym (numbers_are s.keeper.own) ∙ ap (map value_of) x.is ∙ map-append value_of x.old x.new ∙ ap (λ l. l ++ map value_of x.new) (sym x.accepted);
+      rest = map value_of x.others;
+      is = sym (numbers_are s.keeper.own) ∙ ap (map value_of) x.is ∙ map-append value_of x.front x.others ∙ ap (λ l. l ++ map value_of x.others) (sym x.accepted);
     }

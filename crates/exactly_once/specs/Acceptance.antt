@@ -34,8 +34,8 @@ is_released entry = is_there (release_place entry)
 -- the client accepted a prefix of the QoS 2 entries of its session, and each that is released is
 -- among them
 pub record AcceptedInOrder (limits : Limits) (s : Story) : Type 0 where
-  pub old : List Entry
-  pub new : List Entry
-  pub is : two_entries (entries_of limits s.past s.keeper.client) ≡ old ++ new
-  pub accepted : accepted_on s.connections ≡ map publication_in old
-  pub rest : Each (λ entry. is_released entry ≡ false) new
+  pub front : List Entry
+  pub others : List Entry
+  pub is : two_entries (entries_of limits s.past s.keeper.client) ≡ front ++ others
+  pub accepted : accepted_on s.connections ≡ map publication_in front
+  pub rest : Each (λ entry. is_released entry ≡ false) others

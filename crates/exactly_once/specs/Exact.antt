@@ -14,11 +14,11 @@ is_over _ = false
 
 -- What is accepted is a prefix of the items, in order, and each that is released is among them.
 pub record IsExact {V : Type 0} (h : Handshake V) : Type 0 where
-  pub old : List (Item V)
-  pub new : List (Item V)
-  pub is : h.items ≡ old ++ new
-  pub accepted : h.accepted ≡ map value_of old
-  pub rest : Each (λ item. is_over item ≡ false) new
+  pub front : List (Item V)
+  pub others : List (Item V)
+  pub is : h.items ≡ front ++ others
+  pub accepted : h.accepted ≡ map value_of front
+  pub rest : Each (λ item. is_over item ≡ false) others
 
 -- each run from the opening leads to an exact handshake
 abbrev pub RunsAreExact : Type 0 → Type 0
