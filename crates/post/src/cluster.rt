@@ -20,7 +20,7 @@ use std::alloc::Global;
 use std::marker::Model;
 use std::sync::{Mutex, Wait};
 use std::thread;
-use std::time::{Clock, Duration};
+use std::time::{Clock, Duration, Instant};
 
 /// How long to wait between two looks, in milliseconds.
 const NODE_LOOK_MILLIS: u64 = 1;
@@ -28,8 +28,8 @@ const NODE_LOOK_MILLIS: u64 = 1;
 /// How many times to look whether a node is served.
 const LOOKS: u32 = 1_000;
 
-/// How many times to look whether a node has stopped that was ordered to crash.
-const STOP_LOOKS: u32 = 40;
+/// How long to wait until a node has stopped that was ordered to crash, in milliseconds.
+const STOP_MILLIS: u64 = 40;
 
 /// The nodes that serve in one program, with what they send each other, and the master that gives
 /// ballots their configurations.
@@ -94,8 +94,8 @@ impl Cluster {
 
     /// Crashes a node, for good. Returns whether there is a node of this number that has not
     /// stopped, and was not ordered to crash before. The order is queued for the node, and then the
-    /// call waits until the node has stopped, for some 40 ms at most (`STOP_LOOKS`). If memory runs
-    /// out, the node is not crashed.
+    /// call waits until the node has stopped, for 40 ms at most (`STOP_MILLIS`) and the last look.
+    /// If memory runs out, the node is not crashed.
     pub fn crash<R: Wait + Clock>(&self, rt: &R, number: u8) -> Result<bool, Memory>
         ensures none { is_node self.now number ≡ false → result ≡ Ok false }
     {
@@ -240,13 +240,31 @@ impl Cluster {
     }
 }
 
-// Waits until a node has stopped, but not for long.
+// Waits until a node has stopped, but not for long. On a busy machine a sleep takes longer than it
+// is asked to, so the time counts and not the looks.
 fn await_stop<R: Wait + Clock>(rt: &R, node: &Peer) {
-    for _ in 0..STOP_LOOKS {
-        if matches!(node.status(rt), Some(status) if status.stopped) {
+    let Ok(start) = Instant::now(rt) else {
+        return;
+    };
+    for _ in 0..STOP_MILLIS {
+        if has_stopped(rt, node) || is_over(rt, start) {
             return;
         }
         thread::sleep(rt, Duration::from_millis(NODE_LOOK_MILLIS));
+    }
+}
+
+// Says whether a node has stopped, by its status after its last change.
+fn has_stopped<R: Wait>(rt: &R, node: &Peer) -> bool {
+    matches!(node.status(rt), Some(status) if status.stopped)
+}
+
+// Says whether a node that was ordered to crash then had its time to stop. If the clock cannot be
+// read, nobody waits any longer.
+fn is_over<R: Clock>(rt: &R, start: Instant) -> bool {
+    match start.elapsed(rt) {
+        Ok(time) => time.as_millis() >= u128::from(STOP_MILLIS),
+        Err(_) => true,
     }
 }
 
