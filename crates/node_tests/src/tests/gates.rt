@@ -13,11 +13,12 @@ use std::thread;
 use std::thread::Threads;
 use std::time::Clock;
 
-// What was reported to a gate about a node: how many takings are done, and whether each call named
-// the next taking.
+// What was reported to a gate about a node: how many takings are done, how many times it was asked
+// for the second one, and whether each call named the next taking.
 #[derive(Clone, Copy)]
 struct Heard {
     done: u64,
+    asks: u64,
     is_there: bool,
     is_right: bool,
 }
@@ -35,6 +36,7 @@ impl Meeting {
     fn new(shut_after: u64) -> Meeting {
         let heard = Heard {
             done: 0,
+            asks: 0,
             is_there: false,
             is_right: true,
         };
@@ -44,13 +46,19 @@ impl Meeting {
         }
     }
 
-    // Says whether each node took this many times, and each taking was asked for and reported by
-    // its number.
+    // Says whether each node took this many times, asked for its second taking as many times as it
+    // has to, and whether each taking was asked for and reported by its number.
     fn heard_all<R: Wait>(&self, rt: &R, done: u64) -> bool {
-        self.heard
-            .lock(rt)
-            .iter()
-            .all(|heard| heard.is_right && heard.done == done)
+        let asks = self.asks();
+        self.heard.lock(rt).iter().all(|heard| heard.is_right
+            && heard.done == done
+            && heard.asks == asks)
+    }
+
+    // Returns how many times a node asks for its second taking: once if the gate is open, since
+    // both nodes are there by then, and else ten thousand times.
+    fn asks(&self) -> u64 {
+        if self.shut_after < 2 { 10_000 } else { 1 }
     }
 
     // Returns how many of a node's first two takings it is shut for.
@@ -66,6 +74,8 @@ fn note(all: &mut [Heard], node: u8, taking: u64, is_done: bool) {
         heard.is_right = heard.is_right && taking == heard.done.saturating_add(1);
         if is_done {
             heard.done = taking;
+        } else if taking == 2 {
+            heard.asks = heard.asks.saturating_add(1);
         }
     }
 }
@@ -250,7 +260,7 @@ where
             let closed = closes(rt, node, lanes, 2, gate.missed());
             missed.or(unless(closed, "each node reports so")).or(unless(
                 gate.heard_all(rt, 2),
-                "the gate is informed of each taking",
+                "the gate is asked for and informed of each taking",
             ))
         }
         Err(_) => {
