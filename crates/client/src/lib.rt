@@ -1,6 +1,6 @@
-//! A client of an MQTT 3.1.1 server that keeps its side of the handshakes: its input are calls and
-//! bytes from the server, its output bytes to the server and publications. It knows its own
-//! connection and nothing else.
+//! A client of an MQTT 3.1.1 server that keeps its side of the handshakes. It takes calls and bytes
+//! from the server, and gives bytes to the server and publications. It knows its own connection and
+//! nothing else.
 #![tactic(auto)]
 
 mod asking;

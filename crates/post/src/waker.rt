@@ -29,7 +29,7 @@ impl Waker {
         }
     }
 
-    /// Says whether the thread sleeps or is about to.
+    /// Says whether the thread sleeps, or said that it is about to: it may have found work instead.
     pub(crate) fn is_asleep<R: Wait>(&self, rt: &R) -> bool {
         *self.asleep.lock(rt)
     }

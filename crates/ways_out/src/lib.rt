@@ -1,5 +1,5 @@
-//! A way out of every state of a group: the messages that lead a new ballot to its start. No code
-//! runs here; the laws are contracts of calls that do nothing.
+//! A way out of every state of a group: the messages that lead a new ballot to its start. `way_out`
+//! and `answers` compute their numbers. Every other call is a law, which does nothing.
 #![tactic(auto)]
 
 mod cut_laws;

@@ -36,9 +36,11 @@ pub enum Event {
     /// reach its client. Idle if the client holds another connection or none, for no bytes, and for
     /// more than wait.
     CarryDown(u64, u64),
-    /// A client loses its connection; what it wrote is still in transit. Idle if it has none.
+    /// A client loses its connection; what it wrote is still in transit. Idle if there is no such
+    /// client, or it has no connection.
     Abandon(ClientId),
-    /// A client disconnects, and ends its connection. Idle if it has none.
+    /// A client disconnects, and ends its connection. Idle if there is no such client, or it has no
+    /// connection.
     Disconnect(ClientId),
     /// A node notices the end of a connection. Idle if its end at the node is closed, or the node
     /// has stopped.
