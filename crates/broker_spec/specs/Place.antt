@@ -20,7 +20,7 @@ same_client c d = is_eq (by_bytes c d)
 -- what a command did, decided by the places below it; the client is the one that the connection
 -- serves
 pub data Mark : Type 0 where
-  NoPart : Mark  -- no Connect, and on no current connection
+  NoPart : Mark  -- a packet on no current connection; every Lost, Start and Expel
   Accepted : Mark  -- a Connect that made its connection current
   Full : Mark  -- a Connect that would have begun one session too many
   Leaves : (client : Client) → Mark  -- a DISCONNECT or a violation, which ends the connection

@@ -1,4 +1,5 @@
--- Copies of retained publications that come to a queue one by one, at a SUBSCRIBE (MQTT 3.3.1.3).
+-- Copies of publications that come to a queue one by one: that of a PUBLISH, and at a SUBSCRIBE
+-- those of retained publications (MQTT 3.3.1.3, 3.3.5).
 use Rattle.std.specs.Prelude.{ℕ, if◌then◌else◌, List, [], ◌∷◌, ◌++◌, filter}
 use Rattle.session_base.specs.declared.publication.Publication.{Publication}
 use Rattle.session_base.specs.Publication.{is_answered}

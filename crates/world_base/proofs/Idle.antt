@@ -163,7 +163,7 @@ none_open_at port core (Some i) true at is = absurd cc
 none_open_at port core (Some i) false at is =
     ((λ e. absurd cc), (λ found. absurd (none_indexed (is_open_at port) core.connections i at found)))
 
--- the losses that follow from it, if any, are all that is done
+-- the reports of connections that failed, if there are any, are all that is done
 pub turns_ignored : (item : Item) (a b : Running) (x y : List (Effect Command Output)) → DoesNothing item a.core →
     DoesTurn a b x y (loses_all_failed a.core) → DoesTurn a b x y (acts_on item a.core)
 turns_ignored item a b x y idle turns =

@@ -56,7 +56,7 @@ LosesAllFailed core did = Repeated (length core.connections) LosesFailed core di
 abbrev pub ReadsAll : ℕ → Port → CoreState → Account → Type 0
 ReadsAll now port core did = Repeated (unread_of (open_at port core)) (ReadsNext now port) core did
 
--- what an item asks for, without the losses that follow from it
+-- what an item asks for, without the reports of connections that failed in the step
 abbrev pub DoesItem : Item → CoreState → Account → Type 0
 DoesItem (Peer message) core did = Drives (Receives message) core did
 DoesItem (Tick now) core did = Then (Drives Ticks) (EndsAllSilent now) core did
@@ -67,7 +67,7 @@ DoesItem (Expel client) core did = Proposes (commands.Expel client) core did
 DoesItem Cut core did = Cuts core did
 DoesItem Crash core did = did ≡ quietly (crashed core)
 
--- an item, and the losses that follow from it
+-- what an item asks for, and then the reports of connections that failed in the step
 abbrev pub ActsOn : Item → CoreState → Account → Type 0
 ActsOn item core did = Then (DoesItem item) LosesAllFailed core did
 

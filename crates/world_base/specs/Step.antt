@@ -65,7 +65,7 @@ abbrev pub crashed : CoreState → CoreState
 crashed core =
     record core { replica = record core.replica { state = halted rules core.replica.state } }
 
--- what an item asks for, without the losses that follow from it
+-- what an item asks for, without the reports of connections that failed in the step
 abbrev pub does_item : Item → CoreState → Turn
 does_item (Peer message) core = drives (Receives message) core
 does_item (Tick now) core = then_also (drives Ticks core) (ends_all_silent now)
@@ -77,7 +77,7 @@ does_item (Expel client) core = proposes (commands.Expel client) core
 does_item Cut core = quiet (cuts core)
 does_item Crash core = quiet (crashed core)
 
--- an item, and the losses that follow from it
+-- what an item asks for, and then the reports of connections that failed in the step
 abbrev pub acts_on : Item → CoreState → Turn
 acts_on item core = then_also (does_item item core) loses_all_failed
 

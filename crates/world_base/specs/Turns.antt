@@ -18,7 +18,7 @@ use Rattle.node_connections.specs.Connections.{is_open_named, closed, put_out, c
 use Rattle.world_base.specs.Core.{CoreState, Turn, rules, serves}
 use Rattle.node_connections.specs.packet.Spelling.{spelling}
 
--- no message is sent
+-- the node as it is, and no message is sent
 abbrev pub quiet : CoreState → Turn
 quiet core = record { core = core; messages = [] }
 

@@ -61,7 +61,7 @@ impl SteppingNode {
         self.report_failed(effects);
     }
 
-    // Does what the item says, without the losses that follow from it.
+    // Does what the item says, and reports no connection that fails in the step.
     fn do_item(&mut self, item: Item, effects: &mut Vec<Effect<Command, Output>>)
         ensures exact { DoesTurn self.old self.new effects.old.items effects.new.items
             (does_item item self.old.core) }

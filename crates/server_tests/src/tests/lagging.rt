@@ -73,8 +73,8 @@ fn open_places<R: Wait + Clock>(rt: &R, cluster: &Cluster) -> Option<u64> {
 }
 
 /// Returns the first step that is not so: of 150 MB that a client sends while a member is held, no
-/// more than 64 MiB become places and the rest is not read. Once the member continues, another
-/// client is answered.
+/// more than 72 MB become places, 64 MiB and what was in transit, and the rest is not read. Once
+/// the member continues, another client is answered.
 pub(super) fn unbounded_bytes<R>(
     rt: &R,
     bar: &Bar,
