@@ -138,8 +138,8 @@ impl<'g, J: NodeNaming, S: Stated<J>, G: Gate> Node<'g, J, S, G> {
         if lanes.len() != self.report.taken.len() {
             return false;
         }
-        for (place, lane) in lanes.iter().enumerate() {
-            if lane.number() != self.number || usize::from(lane.lane()) != place {
+        for (index, lane) in lanes.iter().enumerate() {
+            if lane.number() != self.number || usize::from(lane.lane()) != index {
                 return false;
             }
         }
