@@ -80,7 +80,7 @@ impl PlayedWorld {
             (names_of self.new.recipients.items ≡ names_of self.old.recipients.items) }
         ensures memory { OnErr result (IsErrOf result PlayError.Memory) }
     {
-        let came = self.happen(line)?;
+        let came = self.do_line(line)?;
         self.write_line(index, came, transcript)?;
         write_all_new(
             self.alloc,
@@ -91,7 +91,7 @@ impl PlayedWorld {
     }
 
     // Does what a line asks for, if it can happen.
-    fn happen(&mut self, line: &ScriptLine) -> Result<Result<(), Idle>, PlayError>
+    fn do_line(&mut self, line: &ScriptLine) -> Result<Result<(), Idle>, PlayError>
         ensures comes { IfOk result (λ result.
             Comes line.now self.old.world result self.new.world) }
         ensures recipients { self.new.recipients.items ≡ self.old.recipients.items }
