@@ -87,7 +87,7 @@ pub fn escape_text<O: Write>(
     client: &ClientId,
     output: &mut O,
 ) -> Result<(), JobError>
-    ensures told { OnOk result (PrintsWay text.now members.now client.now
+    ensures printed { OnOk result (PrintsWay text.now members.now client.now
         (O.contents output.old) (O.contents output.new)) }
 
     // If there is none, nothing is written.

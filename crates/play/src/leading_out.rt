@@ -23,7 +23,7 @@ pub fn escape(
     client: &ClientId,
     way: &mut Vec<u8>,
 ) -> Result<(), PlayError>
-    ensures told { OnOk result
+    ensures written { OnOk result
         (TellsWay text.now members.now client.now way.old.items way.new.items) }
     ensures idle { IsErrOf result PlayError.Idle → HasNoWay text.now members.now client.now }
 

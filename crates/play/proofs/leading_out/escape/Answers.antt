@@ -17,8 +17,8 @@ returns-in_err-events-clause-idle c = λ is.
     c.in-Ok.ensures.named c.as_slice.ensures.value c.in_ok-play_all.ensures.lines whole)
     c.from_residual-in_err-events.ensures.1 c.in_err-events.ensures.idle is
 
-pub returns-clause-told : goal.returns-clause-told
-returns-clause-told c =
+pub returns-clause-written : goal.returns-clause-written
+returns-clause-written c =
     let whole : c.play_all.new.played.world.losses ≡ 0 = omega arith in
     tells_way c.write_events.result c.args.text.now c.args.members.now c.args.client.now c.args.way.now.items c.write_events.new.way.items c.play_all.new.played.world c.in_ok-events.events.items
     c.as_slice-2.result.now
