@@ -40,7 +40,7 @@ impl<'e, 'a, J: NodeNaming, S: Stated<J>, G: Gate> Hearer for LaneReporter<'e, '
         let all = self.all;
         let shared = &served.shared;
         let index = self.link.index;
-        let entering = shared.admit(rt, self.link.port, size_of(&item));
+        let entering = shared.admit(rt, self.link.port, client_bytes_of(&item));
         shared.send_and_take(rt, &mut self.lane, item);
         shared.context.peer.count_taken(rt, entering);
         served.help(rt, all);
@@ -64,7 +64,7 @@ impl<'e, 'a, J: NodeNaming, S: Stated<J>, G: Gate> Hearer for LaneReporter<'e, '
 }
 
 // Returns how many bytes of a client an item carries, at most as many as a read returns.
-fn size_of(item: &Item) -> u64
+fn client_bytes_of(item: &Item) -> u64
     ensures size { result ≡ min (client_bytes item.now) PIECE_BYTES }
     ensures most { result ≤ PIECE_BYTES }
 {
