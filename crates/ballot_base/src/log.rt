@@ -83,7 +83,7 @@ impl<C: Drop> Log<C> {
     {
         let length = self.snapshot.len();
         match Vec::with_capacity(alloc, length.saturating_add(length / 8)) {
-            Ok(room) => room,
+            Ok(buffer) => buffer,
             Err(_) => Vec::new(alloc),
         }
     }

@@ -99,12 +99,12 @@ impl Pair {
 
 /// Says whether these bytes are answered by those, of which there are at most ten.
 pub fn is_answered(stream: &mut TcpStream, sent: &[u8], wanted: &[u8]) -> bool {
-    let mut room = [0; 10];
-    let is_filled = match room.get_mut(..wanted.len()) {
+    let mut buffer = [0; 10];
+    let is_filled = match buffer.get_mut(..wanted.len()) {
         Some(got) => fills(stream, sent, got),
         None => false,
     };
-    is_filled && room.starts_with(wanted)
+    is_filled && buffer.starts_with(wanted)
 }
 
 /// Says whether a publication at QoS 2 is answered by PUBREC, and its PUBREL by PUBCOMP.
@@ -114,9 +114,9 @@ pub fn is_delivered(speaker: &mut TcpStream, publish: [u8; 10]) -> bool {
         && is_answered(speaker, &[0x62, 2, 0, id], &[0x70, 2, 0, id])
 }
 
-/// Says whether these bytes are answered by as many as there is room for.
-pub fn fills(stream: &mut TcpStream, sent: &[u8], room: &mut [u8]) -> bool {
-    stream.write_all(sent).is_ok() && stream.read_exact(room).is_ok()
+/// Says whether these bytes are answered by as many as fill the buffer.
+pub fn fills(stream: &mut TcpStream, sent: &[u8], buffer: &mut [u8]) -> bool {
+    stream.write_all(sent).is_ok() && stream.read_exact(buffer).is_ok()
 }
 
 /// Says whether nothing comes for a third of a second, and the stream stays open.
@@ -126,12 +126,12 @@ pub fn is_silent(stream: &mut TcpStream) -> bool {
 
 /// Says whether nothing comes for this many milliseconds, and the stream stays open.
 pub fn is_open_for(stream: &mut TcpStream, milliseconds: u64) -> bool {
-    let mut room = [0; 1];
-    waits_for(stream, milliseconds) && stream.read(&mut room).is_err() && waits_for(stream, 10_000)
+    let mut byte = [0; 1];
+    waits_for(stream, milliseconds) && stream.read(&mut byte).is_err() && waits_for(stream, 10_000)
 }
 
 /// Says whether the server ends the stream within two seconds, and sends nothing.
 pub fn is_closed(stream: &mut TcpStream) -> bool {
-    let mut room = [0; 1];
-    waits_for(stream, 2_000) && matches!(stream.read(&mut room), Ok(0))
+    let mut byte = [0; 1];
+    waits_for(stream, 2_000) && matches!(stream.read(&mut byte), Ok(0))
 }

@@ -5,12 +5,12 @@ use std::alloc::{AllocError, Global};
 use std::io::{Read, Write};
 use std::net::TcpStream;
 
-/// What is sent in a flood, what has to be answered, and room for what is.
+/// What is sent in a flood, what has to be answered, and a buffer for what is.
 #[derive(Drop)]
 pub struct Flood {
     sent: Vec<u8>,
     wanted: Vec<u8>,
-    room: Vec<u8>,
+    buffer: Vec<u8>,
 }
 
 impl Flood {
@@ -19,7 +19,7 @@ impl Flood {
         Ok(Flood {
             sent: packets(alloc, 0xC0)?,
             wanted: packets(alloc, 0xD0)?,
-            room: packets(alloc, 0)?,
+            buffer: packets(alloc, 0)?,
         })
     }
 
@@ -30,7 +30,7 @@ impl Flood {
 
     /// Says whether the PINGRESP come.
     pub fn is_heard(&mut self, stream: &mut TcpStream) -> bool {
-        stream.read_exact(self.room.as_mut_slice()).is_ok() && self.room == self.wanted
+        stream.read_exact(self.buffer.as_mut_slice()).is_ok() && self.buffer == self.wanted
     }
 }
 
@@ -43,11 +43,11 @@ fn packets(alloc: Global, first: u8) -> Result<Vec<u8>, AllocError> {
     Ok(bytes)
 }
 
-/// A PUBLISH of 1 MB, and room for what comes of it.
+/// A PUBLISH of 1 MB, and a buffer for what comes of it.
 #[derive(Drop)]
 pub struct Large {
     sent: Vec<u8>,
-    room: Vec<u8>,
+    buffer: Vec<u8>,
 }
 
 impl Large {
@@ -55,7 +55,7 @@ impl Large {
     pub fn new(alloc: Global) -> Result<Large, AllocError> {
         Ok(Large {
             sent: large_publish(alloc)?,
-            room: large_publish(alloc)?,
+            buffer: large_publish(alloc)?,
         })
     }
 
@@ -65,8 +65,8 @@ impl Large {
             *byte = last;
         }
         pair.speaker.write_all(self.sent.as_slice()).is_ok()
-            && pair.hearer.read_exact(self.room.as_mut_slice()).is_ok()
-            && self.room == self.sent
+            && pair.hearer.read_exact(self.buffer.as_mut_slice()).is_ok()
+            && self.buffer == self.sent
     }
 }
 

@@ -26,9 +26,9 @@ pub fn visits<R>(rt: &R, listener: Option<&Listener>) -> bool
 where
     R: Net<Stream = TcpStream>,
 {
-    let mut room = [0; ANSWERED];
+    let mut buffer = [0; ANSWERED];
     match open(rt, listener) {
-        Some(mut stream) => fills(&mut stream, &SENT, &mut room) && are_answers(&room),
+        Some(mut stream) => fills(&mut stream, &SENT, &mut buffer) && are_answers(&buffer),
         None => false,
     }
 }

@@ -61,10 +61,10 @@ where
 fn silence_on<R: Clock>(rt: &R, start: Instant, stream: &mut TcpStream) -> Missed {
     let mut sent = connect(b'a', false);
     sent[11] = 1;
-    let mut room = [0; 4];
-    if !fills(stream, &sent, &mut room) {
+    let mut buffer = [0; 4];
+    if !fills(stream, &sent, &mut buffer) {
         Some("the CONNECT is answered")
-    } else if !matches!(stream.read(&mut room), Ok(0)) {
+    } else if !matches!(stream.read(&mut buffer), Ok(0)) {
         Some("the stream ends, and nothing more is sent")
     } else {
         unless(has_taken(rt, start), "it ends after 1.5 to 5 seconds")

@@ -58,9 +58,11 @@ fn finds<R>(rt: &R, listener: Option<&Listener>) -> bool
 where
     R: Net<Stream = TcpStream>,
 {
-    let mut room = [0; 14];
+    let mut buffer = [0; 14];
     match open(rt, listener) {
-        Some(mut stream) => fills(&mut stream, &connect(b'a', false), &mut room) && room == FOUND,
+        Some(mut stream) => {
+            fills(&mut stream, &connect(b'a', false), &mut buffer) && buffer == FOUND
+        }
         None => false,
     }
 }
