@@ -25,7 +25,7 @@ use Rattle.node_group.specs.world_base.Failing.{closes_failed}
 use Rattle.node_group.specs.world_base.Lossy.{Account, HandlesAll, Drives, Repeated, Performs, Takes, Then, quietly}
 use Rattle.node_group.specs.world_base.LossyProposals.{Declines, Proposes}
 use Rattle.node_group.specs.world_base.LossyProposals.Declines.{no_room, forgets, stops}
-use Rattle.node_group.specs.world_base.Lossy.HandlesAll.{nothing, does, tells, loses}
+use Rattle.node_group.specs.world_base.Lossy.HandlesAll.{nothing, does, sends, loses}
 use Rattle.node_group.specs.world_base.LossyStep.{ActsOn, Holds, LosesAllFailed, Opens, ReadsAll, RunsOn, DoesItem}
 use Rattle.node_group.specs.world_base.LossyReading.{TakesOr, TakesFirstPacket, Closes, Ends, EndsSilent, LosesFailed, ReadsNext, Shuts}
 use Rattle.node_group.specs.world_base.LossyReading.Ends.{none_open, unproposed, proposed}
@@ -73,7 +73,7 @@ module _ (P : Connection → Type 0) (follows : IsFollowed P) where
   delivers_kept _ core _ _ nothing all = all
   delivers_kept _ core new _ (does {place} {output} {core = k} {next = next} {given = given} served more) all =
       delivers_kept given next new _ more (serves_kept output core next served all)
-  delivers_kept _ core new _ (tells {receiver} {message} {given = given} more) all = delivers_kept given core new _ more all
+  delivers_kept _ core new _ (sends {receiver} {message} {given = given} more) all = delivers_kept given core new _ more all
   delivers_kept _ core new _ (loses {receiver} {message} {given = given} more) all = delivers_kept given core new _ more all
 
   drives_kept : (input : Input Command) → Keeps (Drives input)

@@ -13,7 +13,7 @@ use Rattle.packet_world.specs.broker_spec.declared.command.Output.{Output}
 use Rattle.packet_world.specs.snapshots.World.{messages, outputs}
 use Rattle.node_moves.specs.world_base.Core.{CoreState, rules}
 use Rattle.node_moves.specs.world_base.Lossy.{HandlesAll}
-use Rattle.node_moves.specs.world_base.Lossy.HandlesAll.{nothing, does, tells, loses as loses_one}
+use Rattle.node_moves.specs.world_base.Lossy.HandlesAll.{nothing, does, sends, loses as loses_one}
 use Rattle.node_moves.specs.world_base.Turns.{is_message}
 
 abbrev pub Given : Type 0
@@ -84,9 +84,9 @@ kept_of_told _ core _ _ [] nothing none = record { thin = []; thinned = none; se
 kept_of_told _ core _ _ (e ∷ kept) nothing t = elim t [ ]
 kept_of_told _ core new told kept (does {place} {output} {core = k} {next = next} {given = given} served more) t =
     kept_output place output kept given (kept_of_told given next new told kept more t)
-kept_of_told _ core new _ (d ∷ kept) (tells {receiver} {message} {given = given} {messages = told} more) (keeps t) =
+kept_of_told _ core new _ (d ∷ kept) (sends {receiver} {message} {given = given} {messages = told} more) (keeps t) =
     kept_message receiver message kept given (kept_of_told given core new told kept more t)
-kept_of_told _ core new _ kept (tells {receiver} {message} {given = given} {messages = told} more) (loses t) =
+kept_of_told _ core new _ kept (sends {receiver} {message} {given = given} {messages = told} more) (loses t) =
     lost_message receiver message kept given (kept_of_told given core new told kept more t)
 kept_of_told _ core new told kept (loses_one {receiver} {message} {given = given} more) t =
     lost_message receiver message kept given (kept_of_told given core new told kept more t)

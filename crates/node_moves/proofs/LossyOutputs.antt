@@ -15,7 +15,7 @@ use Rattle.world_base.specs.declared.Connection.{Connection}
 use Rattle.world_base.specs.Connections.{changed, closed, failing, is_open_named, put_out}
 use Rattle.world_base.specs.Core.{CoreState}
 use Rattle.world_base.specs.Lossy.{HandlesAll, Performs}
-use Rattle.world_base.specs.Lossy.HandlesAll.{nothing, does, tells, loses}
+use Rattle.world_base.specs.Lossy.HandlesAll.{nothing, does, sends, loses}
 use Rattle.world_base.specs.Turns.{changes_named}
 use Rattle.node_moves.specs.Closed.{listed_named}
 use Rattle.node_moves.specs.Ends.{AtMostOne, IsOrderly}
@@ -44,7 +44,7 @@ pub delivers_replica : (given : Given) (core new : CoreState) (messages : Given)
 delivers_replica _ core _ _ nothing = refl
 delivers_replica _ core new _ (does {place} {output} {core = k} {next = next} {given = given} served more) =
     delivers_replica given next new _ more ∙ serves_replica output core next served
-delivers_replica _ core new _ (tells {receiver} {message} {given = given} more) = delivers_replica given core new _ more
+delivers_replica _ core new _ (sends {receiver} {message} {given = given} more) = delivers_replica given core new _ more
 delivers_replica _ core new _ (loses {receiver} {message} {given = given} more) = delivers_replica given core new _ more
 
 -- ---- each connection stays as it is read, or is closed
@@ -62,7 +62,7 @@ pub stays_delivers : (given : Given) (core new : CoreState) (messages : Given) �
 stays_delivers _ core _ _ nothing o = stays_same core o
 stays_delivers _ core new _ (does {place} {output} {core = k} {next = next} {given = given} served more) o =
     let s = stays_serves output core next served o in stays_joined core next new s (stays_delivers given next new _ more s.orderly)
-stays_delivers _ core new _ (tells {receiver} {message} {given = given} more) o = stays_delivers given core new _ more o
+stays_delivers _ core new _ (sends {receiver} {message} {given = given} more) o = stays_delivers given core new _ more o
 stays_delivers _ core new _ (loses {receiver} {message} {given = given} more) o = stays_delivers given core new _ more o
 
 -- ---- what is queued on one that may be closed
@@ -130,5 +130,5 @@ delivers_shuts x _ core _ _ nothing o = shuts_same (listed_named x core)
 delivers_shuts x _ core new _ (does {place} {output} {core = k} {next = next} {given = given} served more) o =
     subst (λ (l : List ℕ). Shuts l (listed_named x core) (listed_named x new)) (sym (bytes_join x (Out place output) given))
     (shuts_joined (serves_shuts x output core next served o) (delivers_shuts x given next new _ more (stays_serves output core next served o).orderly))
-delivers_shuts x _ core new _ (tells {receiver} {message} {given = given} more) o = delivers_shuts x given core new _ more o
+delivers_shuts x _ core new _ (sends {receiver} {message} {given = given} more) o = delivers_shuts x given core new _ more o
 delivers_shuts x _ core new _ (loses {receiver} {message} {given = given} more) o = delivers_shuts x given core new _ more o

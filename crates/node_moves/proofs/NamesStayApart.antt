@@ -27,7 +27,7 @@ use Rattle.world_base.specs.Handing.{hands_over}
 use Rattle.world_base.specs.Lossy.{Account, HandlesAll, Drives, ReplicaSteps, Repeated, Performs, Takes, Then, quietly}
 use Rattle.world_base.specs.LossyProposals.{Declines, Proposes}
 use Rattle.world_base.specs.LossyProposals.Declines.{no_room, forgets, stops}
-use Rattle.world_base.specs.Lossy.HandlesAll.{nothing, does, tells, loses}
+use Rattle.world_base.specs.Lossy.HandlesAll.{nothing, does, sends, loses}
 use Rattle.world_base.specs.LossyStep.{ActsOn, Holds, RunsOn, DoesItem}
 use Rattle.world_base.specs.LossyReading.{TakesOr, TakesFirstPacket, Closes, Ends, EndsSilent, LosesFailed, ReadsNext, Shuts}
 use Rattle.world_base.specs.LossyReading.Ends.{none_open, unproposed, proposed}
@@ -148,7 +148,7 @@ keep_delivered : (given : List (Effect Command Output)) (core new : CoreState) (
 keep_delivered _ core _ _ nothing = keep_same core
 keep_delivered _ core new _ (does {place} {output} {core = k} {next = next} {given = given} served more) =
     keep_both core next new (keep_served output core next served) (keep_delivered given next new _ more)
-keep_delivered _ core new _ (tells {receiver} {message} {given = given} more) = keep_delivered given core new _ more
+keep_delivered _ core new _ (sends {receiver} {message} {given = given} more) = keep_delivered given core new _ more
 keep_delivered _ core new _ (loses {receiver} {message} {given = given} more) = keep_delivered given core new _ more
 
 keep_moved : (outcome : Outcome State Command Output) (core : CoreState) (did : Account) → Up core.replica.state outcome →

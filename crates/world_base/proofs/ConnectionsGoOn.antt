@@ -21,7 +21,7 @@ use Rattle.node_connections.specs.Connections.{changed, closed, failing, is_open
 use Rattle.world_base.specs.Core.{CoreState}
 use Rattle.world_base.specs.Going.{AreNamedApart, EachGoesOn, GoesOn, bytes_by, bytes_for}
 use Rattle.world_base.specs.Lossy.{HandlesAll, Performs}
-use Rattle.world_base.specs.Lossy.HandlesAll.{nothing, does, tells, loses}
+use Rattle.world_base.specs.Lossy.HandlesAll.{nothing, does, sends, loses}
 use Rattle.world_base.specs.Reading.{refused}
 use Rattle.world_base.specs.Turns.{changes_named}
 
@@ -303,7 +303,7 @@ delivers_on _ core new _ (does {place} {output} {core = k} {next = next} {given 
     let first = serves_on place output core next served apart in
     each_both (Out place output ∷ []) given core.connections next.connections new.connections first
     (delivers_on given next new _ more (apart_on (Out place output ∷ []) core.connections next.connections first apart))
-delivers_on _ core new _ (tells {receiver} {message} {given = given} more) apart =
+delivers_on _ core new _ (sends {receiver} {message} {given = given} more) apart =
     each_message receiver message given core.connections new.connections (delivers_on given core new _ more apart)
 delivers_on _ core new _ (loses {receiver} {message} {given = given} more) apart =
     each_message receiver message given core.connections new.connections (delivers_on given core new _ more apart)

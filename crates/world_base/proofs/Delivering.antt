@@ -9,13 +9,13 @@ use Rattle.ballot.specs.Message.{Message}
 use Rattle.world_base.specs.Core.{CoreState}
 use Rattle.world_base.specs.Inside.{HandledAll}
 use Rattle.world_base.specs.Lossy.{HandlesAll, Performs}
-use Rattle.world_base.specs.Lossy.HandlesAll.{nothing, does, tells, loses}
+use Rattle.world_base.specs.Lossy.HandlesAll.{nothing, does, sends, loses}
 
 delivers_both : (xs ys : List (Effect Command Output)) (a b c : CoreState) (m n : List (Effect Command Output)) →
     HandlesAll xs a b m → HandlesAll ys b c n → HandlesAll (xs ++ ys) a c (m ++ n)
 delivers_both _ ys _ _ c _ n nothing after = after
 delivers_both _ ys _ _ c _ n (does served more) after = does served (delivers_both _ ys _ _ c _ n more after)
-delivers_both _ ys _ _ c _ n (tells more) after = tells (delivers_both _ ys _ _ c _ n more after)
+delivers_both _ ys _ _ c _ n (sends more) after = sends (delivers_both _ ys _ _ c _ n more after)
 delivers_both _ ys _ _ c _ n (loses more) after = loses (delivers_both _ ys _ _ c _ n more after)
 
 -- if nothing was given nothing is done
@@ -23,7 +23,7 @@ pub delivers_nothing : (given : List (Effect Command Output)) (a b : CoreState) 
     HandlesAll given a b messages → given ≡ [] → (b ≡ a) × (messages ≡ [])
 delivers_nothing _ _ _ _ nothing none = (refl, refl)
 delivers_nothing _ _ _ _ (does served more) none = absurd cc
-delivers_nothing _ _ _ _ (tells more) none = absurd cc
+delivers_nothing _ _ _ _ (sends more) none = absurd cc
 delivers_nothing _ _ _ _ (loses more) none = absurd cc
 
 -- ---- what the code did
@@ -49,6 +49,6 @@ delivered_output place output a b x served =
 pub delivered_message : (receiver : ℕ) (message : Message Command) (sent : Bool) (a : CoreState) (x y : List (Effect Command Output)) →
     y ≡ (if sent then x ++ To receiver message ∷ [] else x) → HandledAll (To receiver message ∷ []) a a x y
 delivered_message receiver message true a x y pushed =
-    record { messages = To receiver message ∷ []; handles = tells nothing; appended = pushed }
+    record { messages = To receiver message ∷ []; handles = sends nothing; appended = pushed }
 delivered_message receiver message false a x y same =
     record { messages = []; handles = loses nothing; appended = same ∙ sym (append-nil x) }

@@ -73,7 +73,7 @@ pub data HandlesAll : List (Effect Command Output) → CoreState → CoreState �
       Performs output core next → HandlesAll given next new messages →
       HandlesAll (Out place output ∷ given) core new messages
   -- a message is sent
-  tells : {receiver : ℕ} {message : Message Command} {core new : CoreState}
+  sends : {receiver : ℕ} {message : Message Command} {core new : CoreState}
       {given messages : List (Effect Command Output)} →
       HandlesAll given core new messages →
       HandlesAll (To receiver message ∷ given) core new (To receiver message ∷ messages)
