@@ -15,7 +15,7 @@ use Rattle.node_group.specs.snapshots.Moments.{Moment, Moments}
 use Rattle.node_group.proofs.of_snapshots.PastsAgree.{one_primary_a_ballot}
 use Rattle.node_group.specs.world_base.declared.Connection.{Connection}
 use Rattle.node_group.specs.world_base.Core.{CoreState, Turn, rules}
-use Rattle.node_group.specs.world_base.Turns.{quiet}
+use Rattle.node_group.specs.world_base.Turns.{without_messages}
 use Rattle.node_group.specs.node_moves.Closed.{listed_named}
 use Rattle.node_group.specs.node_moves.Ends.{IsOrderly}
 use Rattle.node_group.specs.node_moves.LossyMoves.{LossyMoves}
@@ -82,7 +82,7 @@ run_led : {config : Config} (g : Group) (n : ℕ) (core : CoreState) (turn : Tur
     → LedOn g came (after_turn (with_record g (recorded_in g.archive run)) n (keeping kept turn) (all_given run)) (put_in_run run)
 run_led g n core turn rests kept o at sent frozen t came =
     subst (λ (h : Group). LedOn g came h [])
-    (same_group g n core at ∙ ap (λ (l : Given). after_turn g n (keeping l (quiet core)) []) (sym (nothing_kept kept t))) (record { further = unchanged came; led = λ before. before })
+    (same_group g n core at ∙ ap (λ (l : Given). after_turn g n (keeping l (without_messages core)) []) (sym (nothing_kept kept t))) (record { further = unchanged came; led = λ before. before })
 run_led g n core turn (goes_on {first = first} {next = next} m run) kept o at sent frozen t came =
     let k = kept_of_both first.messages next.messages kept t in
     let s = were_both g n (inputs_in m) (all_inputs run) sent in

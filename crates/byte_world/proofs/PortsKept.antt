@@ -32,7 +32,7 @@ use Rattle.node_group.specs.world_base.Handing.{hands_over, left_by, listed_at}
 use Rattle.node_group.specs.world_base.KeepAlive.{ends_if, ends_silent, lowest_silent}
 use Rattle.node_group.specs.world_base.Reading.{takes_first_packet, changes, ends, loses, loses_open, open_at, reads, reads_next, reads_of, refused, proposes_packet, unread_of}
 use Rattle.node_group.specs.world_base.Step.{acts_on, next_name, opens, does_item, cuts, with_cut}
-use Rattle.node_group.specs.world_base.Turns.{changes_named, drives, has_room, heard, proposes, quiet, repeated, handled}
+use Rattle.node_group.specs.world_base.Turns.{changes_named, drives, has_room, heard, proposes, without_messages, repeated, handled}
 use Rattle.node_group.specs.node_moves.Moves.{NodeCall, done}
 use Rattle.node_group.specs.node_moves.Moves.NodeCall.{takes, gives}
 use Rattle.node_group.proofs.of_node_moves.EachKept.{IsKept, each_proposed, each_repeated, each_settled}
@@ -111,7 +111,7 @@ module _ (P : Connection → Type 0) (follows : IsFollowed P) where
   lost_one : (port : Port) (c : Connection) (core : CoreState) → AllOf core → AllOf (loses port c core).core
   lost_one port c core all = by (is_proposed c.stage)
     where
-      by : (b : Bool) → AllOf (let t : Turn = if b then proposes (commands.Lost c.name) (changes port closed core) else quiet (changes port closed core) in t).core
+      by : (b : Bool) → AllOf (let t : Turn = if b then proposes (commands.Lost c.name) (changes port closed core) else without_messages (changes port closed core) in t).core
       by true = each_proposed P kept (commands.Lost c.name) (changes port closed core) (shut_at port core all)
       by false = shut_at port core all
 
@@ -134,7 +134,7 @@ module _ (P : Connection → Type 0) (follows : IsFollowed P) where
   -- ---- packets
 
   proposed_or_shut : (port : Port) (command : Command) (core : CoreState) (b : Bool) → AllOf core
-      → AllOf (let t : Turn = if b then proposes command core else quiet (changes port closed core) in t).core
+      → AllOf (let t : Turn = if b then proposes command core else without_messages (changes port closed core) in t).core
   proposed_or_shut port command core true all = each_proposed P kept command core all
   proposed_or_shut port command core false all = shut_at port core all
 
@@ -161,7 +161,7 @@ module _ (P : Connection → Type 0) (follows : IsFollowed P) where
   read_refused : (now : ℕ) (port : Port) (c : Connection) (core : CoreState) (code : RefusalCode) → AllOf core → AllOf (reads now port c core (Err (stops.Refused code))).core
   read_refused now port c core code all = by (is_first c.stage)
     where
-      by : (b : Bool) → AllOf (let t : Turn = if b then quiet (changes port (refused code) core) else loses port c core in t).core
+      by : (b : Bool) → AllOf (let t : Turn = if b then without_messages (changes port (refused code) core) else loses port c core in t).core
       by true = each_at port (refused code) core (λ d e. record { port = refl; name = refl; lives = λ f. absurd cc }) all
       by false = lost_one port c core all
 

@@ -24,7 +24,7 @@ use Rattle.node_moves.specs.world_base.Core.{CoreState, Turn, rules, serves}
 use Rattle.node_moves.specs.world_base.Failing.{closes_failed, loses_all_failed, loses_failed, loses_if}
 use Rattle.node_moves.specs.world_base.Handing.{listed_at}
 use Rattle.node_moves.specs.world_base.Step.{node_step, settled}
-use Rattle.node_moves.specs.world_base.Turns.{changes_named, drives, moved, proposes, quiet, repeated, handled, performed_by}
+use Rattle.node_moves.specs.world_base.Turns.{changes_named, drives, moved, proposes, without_messages, repeated, handled, performed_by}
 use Rattle.node_moves.proofs.Views.{found_passes}
 use Rattle.escaping.specs.Answering.{AnswerIsPutOut, PutsOutFirst}
 use Rattle.escaping.specs.Delivery.{heard_by}
@@ -144,7 +144,7 @@ module _ (port : Port) (front : List ℕ) (some : 0 < length front) where
   unfolding proposes
   front_proposed command core z = by (serves core)
     where
-      by : (b : Bool) → FrontOf (let t : Turn = if b then moved (proposed rules core.replica.state command) core else quiet core in t).core.connections
+      by : (b : Bool) → FrontOf (let t : Turn = if b then moved (proposed rules core.replica.state command) core else without_messages core in t).core.connections
       by true = front_delivered (with_replica (proposed rules core.replica.state command).state core) (proposed rules core.replica.state command).effects z
       by false = z
 

@@ -29,7 +29,7 @@ use Rattle.node_moves.specs.world_base.Core.{CoreState, Turn, rules, serves}
 use Rattle.node_moves.specs.world_base.Failing.{loses_all_failed}
 use Rattle.node_moves.specs.world_base.Reading.{changes, open_at, reads, reads_all, reads_next, reads_of, unread_of}
 use Rattle.node_moves.specs.world_base.Step.{node_step, settled}
-use Rattle.node_moves.specs.world_base.Turns.{has_room, is_message, proposes, quiet, repeated, handled, then_also}
+use Rattle.node_moves.specs.world_base.Turns.{has_room, is_message, proposes, without_messages, repeated, handled, then_also}
 use Rattle.node_moves.proofs.Views.{each_kept}
 use Rattle.escaping.specs.Asking.{ConnectIsProposed, asked_now, proposal_at, with_asked}
 use Rattle.escaping.specs.Delivery.{IsCalm}
@@ -102,13 +102,13 @@ pub two_kinds : {A : Type 0} (a : A) (x : Stop) → (let b : Result A Stop = Ok 
 two_kinds a x f = cc
 
 -- the same next turn, that changes nothing, as often as it may come
-repeated_rests : (n : ℕ) (next : CoreState → Turn) (core : CoreState) → next core ≡ quiet core → repeated n next core ≡ quiet core
+repeated_rests : (n : ℕ) (next : CoreState → Turn) (core : CoreState) → next core ≡ without_messages core → repeated n next core ≡ without_messages core
 unfolding repeated
 repeated_rests zero next core rests = refl
 repeated_rests (suc n) next core rests = ap (λ (t : Turn). then_also t (repeated n next)) rests ∙ repeated_rests n next core rests
 
 -- one turn, and then none
-repeated_once : (n : ℕ) (next : CoreState → Turn) (core : CoreState) (t : Turn) → next core ≡ t → next t.core ≡ quiet t.core → repeated (suc n) next core ≡ t
+repeated_once : (n : ℕ) (next : CoreState → Turn) (core : CoreState) (t : Turn) → next core ≡ t → next t.core ≡ without_messages t.core → repeated (suc n) next core ≡ t
 unfolding repeated
 repeated_once n next core t first rests =
     ap (λ (u : Turn). then_also u (repeated n next)) first
@@ -138,7 +138,7 @@ module _ (core : CoreState) (port : Port) (now : ℕ) (piece : List ℕ) (c : Co
   proposed_silently : (k : CoreState) → k.replica ≡ core.replica → proposes command k ≡ record { core = with_replica (proposal_at core command).state k; messages = (proposal_at core command).effects }
   unfolding proposes
   proposed_silently k same =
-      ap (λ (b : Bool). if b then delivered_of (proposed rules k.replica.state command) k else quiet k)
+      ap (λ (b : Bool). if b then delivered_of (proposed rules k.replica.state command) k else without_messages k)
       (ap (λ (r : CountedReplica State Command). is_active r.state.role && not r.state.stopped) same ∙ leads)
       ∙ ap (λ (r : CountedReplica State Command). let t : Turn = delivered_of (proposed rules r.state command) k in t) same
       ∙ ap (λ (x : CoreState). let t : Turn = record { core = x; messages = filter is_message (proposal_at core command).effects } in t)
@@ -174,7 +174,7 @@ module _ (core : CoreState) (port : Port) (now : ℕ) (piece : List ℕ) (c : Co
       rest : reads now port (holding piece c) (with_change (holding piece)) (Ok (packets.Connect connect, [])) ≡ first_turn
       rest = rw (awaits, room) (ap (proposes command) asked_is ∙ proposed_silently (with_change (asked_now now connect.keep_alive)) refl)
 
-  then_rests : reads_next now port after ≡ quiet after
+  then_rests : reads_next now port after ≡ without_messages after
   unfolding reads_next
   then_rests =
       ap (reads_of now port after) (find_changed (is_open_at port) (asked_now now connect.keep_alive) core.connections c still_open opened)

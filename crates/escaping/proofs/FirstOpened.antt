@@ -12,7 +12,7 @@ use Rattle.node_moves.specs.world_base.Connections.{closed, fresh, has_failed, i
 use Rattle.node_moves.specs.world_base.Core.{CoreState, Turn, serves}
 use Rattle.node_moves.specs.world_base.Failing.{loses_all_failed}
 use Rattle.node_moves.specs.world_base.Step.{next_name, opens, settled}
-use Rattle.node_moves.specs.world_base.Turns.{quiet}
+use Rattle.node_moves.specs.world_base.Turns.{without_messages}
 use Rattle.escaping.specs.Opening.{FirstIsOpened, first_name, with_first}
 use Rattle.escaping.proofs.OneDelivery.{calm_finds, none_lost}
 
@@ -57,11 +57,11 @@ settled_new core port leads =
 
 pub first_is_opened : FirstIsOpened
 first_is_opened core port now leads calm low most new =
-    ap (λ (k : CoreState). ending (quiet k)) (opens_first core port leads low most new)
+    ap (λ (k : CoreState). ending (without_messages k)) (opens_first core port leads low most new)
     ∙ ap (λ (t : Turn). let u : Turn = record { core = settled t.core; messages = [] ++ t.messages } in u)
     (none_lost (length (with_new port core).connections) (with_new port core) (calm_finds (with_new port core).connections
     (each_append (λ (c : Connection). has_failed c ≡ false) core.connections (fresh port (first_name core) ∷ []) calm (refl, tt))))
-    ∙ ap quiet (settled_new core port leads)
+    ∙ ap without_messages (settled_new core port leads)
   where
     ending : Turn → Turn
     ending first = record { core = settled (loses_all_failed first.core).core; messages = first.messages ++ (loses_all_failed first.core).messages }

@@ -20,7 +20,7 @@ use Rattle.node_moves.specs.world_base.Connections.{has_failed}
 use Rattle.node_moves.specs.world_base.Core.{CoreState, Turn, serves}
 use Rattle.node_moves.specs.world_base.Failing.{closes_failed, loses_all_failed, loses_failed, loses_if}
 use Rattle.node_moves.specs.world_base.Step.{node_step, settled}
-use Rattle.node_moves.specs.world_base.Turns.{drives, is_message, moved, proposes, quiet, repeated, handled, then_also}
+use Rattle.node_moves.specs.world_base.Turns.{drives, is_message, moved, proposes, without_messages, repeated, handled, then_also}
 use Rattle.node_moves.proofs.LossesReported.{each_loss_is_reported}
 use Rattle.escaping.specs.Delivery.{AStepIsADelivery, IsCalm, heard_by}
 
@@ -64,7 +64,7 @@ loses_quietly core idle = by (find has_failed core.connections)
     by : (o : Option Connection) → KeepsReplica core (loses_if o core)
     by None = record { replica = refl; last_name = refl; messages = refl }
     by (Some c) =
-        subst (λ (t : Turn). KeepsReplica core t) (sym (rw idle refl)) (let k : KeepsReplica core (quiet (closes_failed core)) = record { replica = refl; last_name = refl; messages = refl } in k)
+        subst (λ (t : Turn). KeepsReplica core t) (sym (rw idle refl)) (let k : KeepsReplica core (without_messages (closes_failed core)) = record { replica = refl; last_name = refl; messages = refl } in k)
 
 all_lost_quietly : (n : ℕ) (core : CoreState) → serves core ≡ false → KeepsReplica core (repeated n loses_failed core)
 unfolding repeated
@@ -83,11 +83,11 @@ pub calm_finds : (cs : List Connection) → Each (λ (c : Connection). has_faile
 calm_finds [] calm = refl
 calm_finds (c ∷ cs) (first, calm) = ap (λ (b : Bool). if b then Some c else find has_failed cs) first ∙ calm_finds cs calm
 
-failed_next : (core : CoreState) → find has_failed core.connections ≡ None → loses_failed core ≡ quiet core
+failed_next : (core : CoreState) → find has_failed core.connections ≡ None → loses_failed core ≡ without_messages core
 unfolding loses_failed
 failed_next core none = rw none refl
 
-pub none_lost : (n : ℕ) (core : CoreState) → find has_failed core.connections ≡ None → repeated n loses_failed core ≡ quiet core
+pub none_lost : (n : ℕ) (core : CoreState) → find has_failed core.connections ≡ None → repeated n loses_failed core ≡ without_messages core
 unfolding repeated
 none_lost zero core none = refl
 none_lost (suc n) core none = ap (λ (t : Turn). then_also t (repeated n loses_failed)) (failed_next core none) ∙ none_lost n core none
@@ -95,7 +95,7 @@ none_lost (suc n) core none = ap (λ (t : Turn). then_also t (repeated n loses_f
 all_keep : (core : CoreState) → IsCalm core ⊎ (is_active core.replica.state.role ≡ false) → KeepsReplica core (loses_all_failed core)
 all_keep core (inl calm) =
     subst (λ (t : Turn). KeepsReplica core t) (sym (none_lost (length core.connections) core (calm_finds core.connections calm)))
-    (let k : KeepsReplica core (quiet core) = record { replica = refl; last_name = refl; messages = refl } in k)
+    (let k : KeepsReplica core (without_messages core) = record { replica = refl; last_name = refl; messages = refl } in k)
 all_keep core (inr idle) = all_lost_quietly (length core.connections) core (ap (λ (b : Bool). b && not core.replica.state.stopped) idle)
 
 -- ---- the step

@@ -7,7 +7,7 @@ use Rattle.node_moves.specs.world_base.declared.Port.{Port}
 use Rattle.node_moves.specs.world_base.Connections.{fresh, is_at, is_listed}
 use Rattle.node_moves.specs.world_base.Core.{CoreState, serves}
 use Rattle.node_moves.specs.world_base.Step.{node_step}
-use Rattle.node_moves.specs.world_base.Turns.{quiet}
+use Rattle.node_moves.specs.world_base.Turns.{without_messages}
 use Rattle.escaping.specs.Delivery.{IsCalm}
 
 -- the first name of the ballot that the node joined
@@ -29,4 +29,4 @@ FirstIsOpened =
     (core : CoreState) (port : Port) (now : ℕ) → serves core ≡ true → IsCalm core →
     core.last_name.ballot < core.replica.state.joined →
     core.replica.state.joined ≤ max_ballot → list_any (is_at port) core.connections ≡ false →
-    node_step (Opened port now) core ≡ quiet (with_first port core)
+    node_step (Opened port now) core ≡ without_messages (with_first port core)

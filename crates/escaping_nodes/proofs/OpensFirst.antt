@@ -24,7 +24,7 @@ use Rattle.escaping.specs.world_base.Connections.{is_open_named}
 use Rattle.escaping.specs.world_base.Core.{CoreState, CountedCore, Turn, serves}
 use Rattle.escaping.specs.world_base.Handing.{hands_over}
 use Rattle.escaping.specs.world_base.Step.{node_step}
-use Rattle.escaping.specs.world_base.Turns.{quiet}
+use Rattle.escaping.specs.world_base.Turns.{without_messages}
 use Rattle.escaping.proofs.of_node_moves.LossesReported.{each_loss_is_reported}
 use Rattle.escaping.proofs.AnswerAwaited.{first_awaits_connect, handing_keeps_the_connect}
 use Rattle.escaping.proofs.FirstOpened.{first_is_opened}
@@ -56,7 +56,7 @@ module _ (a : Moment State Command Output) (n : NodesState) (ballot index : ℕ)
   leads : serves core ≡ true
   leads = ap (λ (b : Bool). b && not core.replica.state.stopped) (ap is_active can.serves.leads.role) ∙ ap not can.serves.leads.runs
 
-  step : node_step (Opened port now) core ≡ quiet (with_first port core)
+  step : node_step (Opened port now) core ≡ without_messages (with_first port core)
   step =
       first_is_opened core port now leads (calm_there ballot node joined (can.calm index node can.stands))
       (subst (λ (b : ℕ). core.last_name.ballot < b) (sym joined) can.low) (subst (λ (b : ℕ). b ≤ 2 ^ 32) (sym joined) can.most) can.free

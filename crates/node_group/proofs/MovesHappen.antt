@@ -49,7 +49,7 @@ use Rattle.node_moves.specs.world_base.declared.Port.{Port}
 use Rattle.node_moves.specs.world_base.Core.{CoreState, Turn, rules, serves}
 use Rattle.node_moves.specs.world_base.Failing.{closes_failed}
 use Rattle.node_moves.specs.world_base.Reading.{changes}
-use Rattle.node_moves.specs.world_base.Turns.{drives, has_room, heard, moved, proposes, quiet}
+use Rattle.node_moves.specs.world_base.Turns.{drives, has_room, heard, moved, proposes, without_messages}
 use Rattle.node_moves.specs.world_base.Connections.{noted_proposed, closed, holding, left_with}
 use Rattle.node_moves.specs.world_base.Handing.{hands_over}
 use Rattle.node_moves.specs.world_base.Reading.{refused}
@@ -219,9 +219,9 @@ one_stop g n core turn given config earlier came at replica none_sent none_left 
 pub one_cut : (g : Group) (n : ℕ) (core : CoreState) (config : Config) (earlier : List (Moment State Command Output))
     (came : Moments rules config (moment_of g ∷ earlier)) → slice_get g.nodes n ≡ Some core → can_cut (replica_of core) ≡ true
     → rules.thawed (rules.frozen (replica_of core).machine) ≡ Some (replica_of core).machine
-    → Once came (moment_of (after_turn (with_record g (recorded g.archive (replica_of core))) n (quiet (with_cut core)) [])) [] n []
+    → Once came (moment_of (after_turn (with_record g (recorded g.archive (replica_of core))) n (without_messages (with_cut core)) [])) [] n []
 one_cut g n core config earlier came at can reads =
-    subst (λ z. Once came z [] n []) (after_is (with_record g (recorded g.archive (replica_of core))) n (quiet (with_cut core)) [] [] (cut rules (replica_of core)) refl refl refl)
+    subst (λ z. Once came z [] n []) (after_is (with_record g (recorded g.archive (replica_of core))) n (without_messages (with_cut core)) [] [] (cut rules (replica_of core)) refl refl refl)
     (by_event came _ step [] n [] refl (λ x. refl) refl)
   where
     going : (b : Bool) → not b ≡ true → b ≡ false
@@ -254,9 +254,9 @@ Happens g n core turn m kept = (config : Config) (earlier : List (Moment State C
 
 pub quietly : (g : Group) (n : ℕ) (core later : CoreState) (kept : Given) → slice_get g.nodes n ≡ Some core → replica_of later ≡ replica_of core → Thinned kept []
     → (config : Config) (earlier : List (Moment State Command Output)) (came : Moments rules config (moment_of g ∷ earlier))
-    → Once came (moment_of (after_turn g n (keeping kept (quiet later)) [])) [] n []
+    → Once came (moment_of (after_turn g n (keeping kept (without_messages later)) [])) [] n []
 quietly g n core later kept at same t config earlier came =
-    no_step g n core (keeping kept (quiet later)) [] config earlier came at same (ap messages (nothing_kept kept t)) refl
+    no_step g n core (keeping kept (without_messages later)) [] config earlier came at same (ap messages (nothing_kept kept t)) refl
 
 pub state_of : (a b : CoreState) → a.replica ≡ b.replica → replica_of a ≡ replica_of b
 state_of a b same = ap (λ (r : CountedReplica State Command). r.state) same
@@ -297,12 +297,12 @@ put_happens g n core between command kept at same serving room t config earlier 
     serving_between = serves_as between core same ∙ serving
 
     core_if : Bool → CoreState
-    core_if b = (let u : Turn = if b then moved (proposed rules (replica_of between) command) between else quiet between in u).core
+    core_if b = (let u : Turn = if b then moved (proposed rules (replica_of between) command) between else without_messages between in u).core
 
     is : core_if (serves between) ≡ (moved (proposed rules (replica_of core) command) between).core
     is = ap core_if serving_between ∙ ap (λ (r : ReplicaState State Command). (moved (proposed rules r command) between).core) (state_of between core same)
 
-    by : {b : Bool} → b ≡ true → Thinned kept (let u : Turn = if b then moved (proposed rules (replica_of between) command) between else quiet between in u).messages
+    by : {b : Bool} → b ≡ true → Thinned kept (let u : Turn = if b then moved (proposed rules (replica_of between) command) between else without_messages between in u).messages
         → Thinned kept (moved (proposed rules (replica_of core) command) between).messages
     by {b = true} e f = subst (λ (r : ReplicaState State Command). Thinned kept (moved (proposed rules r command) between).messages) (state_of between core same) f
     by {b = false} e f = absurd cc
@@ -366,8 +366,8 @@ lost_unheard : (g : Group) (n : ℕ) (core between : CoreState) (command : Comma
 unfolding proposes
 lost_unheard g n core between command kept at same none_served t config earlier came = by (serves between) (serves_as between core same ∙ none_served) t
   where
-    by : (b : Bool) → b ≡ false → Thinned kept (let u : Turn = if b then moved (proposed rules (replica_of between) command) between else quiet between in u).messages
-        → Once came (moment_of (after_turn g n (keeping kept (let u : Turn = if b then moved (proposed rules (replica_of between) command) between else quiet between in u)) [])) [] n []
+    by : (b : Bool) → b ≡ false → Thinned kept (let u : Turn = if b then moved (proposed rules (replica_of between) command) between else without_messages between in u).messages
+        → Once came (moment_of (after_turn g n (keeping kept (let u : Turn = if b then moved (proposed rules (replica_of between) command) between else without_messages between in u)) [])) [] n []
     by true e f = absurd cc
     by false e f = quietly g n core between kept at (state_of between core same) f config earlier came
 
@@ -398,9 +398,9 @@ expel_is_none core client x is = let e : is_packet_of (commands.Expel client) x 
 cut_happens : (g : Group) (n : ℕ) (core : CoreState) (kept : Given) → slice_get g.nodes n ≡ Some core → can_cut (replica_of core) ≡ true
     → rules.thawed (rules.frozen (replica_of core).machine) ≡ Some (replica_of core).machine → Thinned kept []
     → (config : Config) (earlier : List (Moment State Command Output)) (came : Moments rules config (moment_of g ∷ earlier))
-    → Once came (moment_of (after_turn (with_record g (recorded g.archive (replica_of core))) n (keeping kept (quiet (with_cut core))) [])) [] n []
+    → Once came (moment_of (after_turn (with_record g (recorded g.archive (replica_of core))) n (keeping kept (without_messages (with_cut core))) [])) [] n []
 cut_happens g n core kept at can reads t config earlier came =
-    subst (λ (l : Given). Once came (moment_of (after_turn (with_record g (recorded g.archive (replica_of core))) n (keeping l (quiet (with_cut core))) [])) [] n [])
+    subst (λ (l : Given). Once came (moment_of (after_turn (with_record g (recorded g.archive (replica_of core))) n (keeping l (without_messages (with_cut core))) [])) [] n [])
     (sym (nothing_kept kept t)) (one_cut g n core config earlier came at can reads)
 
 pub moves_happen : (g : Group) (n : ℕ) (core : CoreState) (turn : Turn) (m : Moves core turn) (kept : Given) → slice_get g.nodes n ≡ Some core → WasSent g n m

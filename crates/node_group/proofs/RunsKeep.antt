@@ -17,7 +17,7 @@ use Rattle.packet_world.specs.snapshots.Proposals.{proposals_of, taken_of}
 use Rattle.packet_world.proofs.of_snapshots.PastsAgree.{has_agreed}
 use Rattle.node_moves.specs.world_base.Connections.{is_over}
 use Rattle.node_moves.specs.world_base.Core.{CoreState, Turn, rules}
-use Rattle.node_moves.specs.world_base.Turns.{quiet}
+use Rattle.node_moves.specs.world_base.Turns.{without_messages}
 use Rattle.node_moves.specs.Ends.{IsOrderly}
 use Rattle.node_moves.specs.Keeping.{AreOfTheBallot}
 use Rattle.node_moves.specs.LossyMoves.{LossyMoves}
@@ -84,7 +84,7 @@ nothing_steps {config = config} g {earlier = earlier} came =
           (subst (λ (l : List ℕ). Good config x written later g (moment_of g ∷ earlier) put l) (sym (append-nil sent)) good);
     }
 
-pub same_group : (g : Group) (n : ℕ) (core : CoreState) → slice_get g.nodes n ≡ Some core → g ≡ after_turn g n (quiet core) []
+pub same_group : (g : Group) (n : ℕ) (core : CoreState) → slice_get g.nodes n ≡ Some core → g ≡ after_turn g n (without_messages core) []
 same_group g n core at = sym (rw (set_same g.nodes n core at, append-nil g.sent, append-nil g.left) refl)
 
 -- ---- one move
@@ -168,10 +168,10 @@ move_and_run g n core first next m run kept k came step rest =
 
 no_move : {config : Config} (g : Group) (n : ℕ) (core : CoreState) (kept : Given) → slice_get g.nodes n ≡ Some core → Thinned kept []
     → {earlier : List (Moment State Command Output)} (came : Moments rules config (moment_of g ∷ earlier))
-    → Steps g came (after_turn g n (keeping kept (quiet core)) []) [] (λ x. []) (λ x. [])
+    → Steps g came (after_turn g n (keeping kept (without_messages core)) []) [] (λ x. []) (λ x. [])
 no_move g n core kept at t came =
     subst (λ (h : Group). Steps g came h [] (λ x. []) (λ x. []))
-    (same_group g n core at ∙ ap (λ (l : Given). after_turn g n (keeping l (quiet core)) []) (sym (nothing_kept kept t))) (nothing_steps g came)
+    (same_group g n core at ∙ ap (λ (l : Given). after_turn g n (keeping l (without_messages core)) []) (sym (nothing_kept kept t))) (nothing_steps g came)
 
 calm_steps : {config : Config} (g : Group) (n : ℕ) (core : CoreState) (turn : Turn) (run : LossyRuns core turn) (kept : Given) → HearsNothing run → IsOrderly core → slice_get g.nodes n ≡ Some core
     → WereSent g n (all_inputs run) → AllFreeze run → Thinned kept turn.messages → {earlier : List (Moment State Command Output)} (came : Moments rules config (moment_of g ∷ earlier))

@@ -24,7 +24,7 @@ use Rattle.world_base.specs.Failing.{closes_failed}
 use Rattle.world_base.specs.Handing.{hands_over, left_by, listed_at}
 use Rattle.world_base.specs.Reading.{changes}
 use Rattle.world_base.specs.Step.{settled, crashed, with_cut}
-use Rattle.world_base.specs.Turns.{quiet, moved, handled, proposes, drives, heard, changes_named}
+use Rattle.world_base.specs.Turns.{without_messages, moved, handled, proposes, drives, heard, changes_named}
 use Rattle.node_moves.specs.Ends.{AtMostOne, IsGiven, IsOrderly, open_named}
 use Rattle.node_moves.proofs.JoinedGrows.{Up, up_if, up_nothing, up_proposed, joined_grows}
 use Rattle.node_moves.proofs.NamesInOrder.{same_le}
@@ -198,7 +198,7 @@ pub stays_proposed : (command : Command) (core : CoreState) → IsOrderly core �
 unfolding proposes
 stays_proposed command core o = by (serves core)
   where
-    by : (b : Bool) → Stays core (let t : Turn = if b then moved (proposed rules core.replica.state command) core else quiet core in t).core
+    by : (b : Bool) → Stays core (let t : Turn = if b then moved (proposed rules core.replica.state command) core else without_messages core in t).core
     by true = stays_moved (proposed rules core.replica.state command) core (up_proposed rules core.replica.state command) o
     by false = stays_same core o
 

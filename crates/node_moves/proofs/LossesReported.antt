@@ -11,7 +11,7 @@ use Rattle.world_base.specs.Connections.{is_proposed, is_failed, has_failed, clo
 use Rattle.world_base.specs.Core.{CoreState}
 use Rattle.world_base.specs.Failing.{closes_failed, loses_failed, loses_if}
 use Rattle.world_base.specs.Step.{acts_on, does_item}
-use Rattle.world_base.specs.Turns.{quiet, proposes}
+use Rattle.world_base.specs.Turns.{without_messages, proposes}
 use Rattle.node_moves.specs.Settled.{EachLossIsReported}
 use Rattle.node_moves.proofs.EachKept.{each_settled}
 use Rattle.node_moves.proofs.NamesInOrder.{same_le}
@@ -67,7 +67,7 @@ none_found test (c ∷ cs) e = by (test c) refl (none_found test cs) e
 abbrev NoneFailed : CoreState → Type 0
 NoneFailed core = Each (λ (c : Connection). has_failed c ≡ false) core.connections
 
-failed_step : (core : CoreState) → (NoneFailed core × (loses_failed core ≡ quiet core))
+failed_step : (core : CoreState) → (NoneFailed core × (loses_failed core ≡ without_messages core))
     ⊎ (total untold_weight (loses_failed core).core.connections < total untold_weight core.connections)
 unfolding loses_failed
 failed_step core = by (find has_failed core.connections) refl
@@ -79,7 +79,7 @@ failed_step core = by (find has_failed core.connections) refl
         let most = total_proposed untold_weight untold_light (commands.Lost c.name) (closes_failed core) in
         omega (arith, less, most)
 
-    by : (o : Option Connection) → find has_failed core.connections ≡ o → (NoneFailed core × (loses_if o core ≡ quiet core))
+    by : (o : Option Connection) → find has_failed core.connections ≡ o → (NoneFailed core × (loses_if o core ≡ without_messages core))
         ⊎ (total untold_weight (loses_if o core).core.connections < total untold_weight core.connections)
     by None e = inl (none_found has_failed core.connections e, refl)
     by (Some c) e = inr (lowers c e)

@@ -26,7 +26,7 @@ use Rattle.world_base.specs.LossyReading.EndsSilent.{none_silent, ends_one}
 use Rattle.world_base.specs.LossyReading.LosesFailed.{none_failed, tells_one}
 use Rattle.world_base.specs.LossyReading.ReadsNext.{waits, first, later, refuses as refuses_it, ends}
 use Rattle.world_base.specs.Reading.{changes, open_at, refused}
-use Rattle.world_base.specs.Turns.{quiet}
+use Rattle.world_base.specs.Turns.{without_messages}
 use Rattle.node_moves.specs.LossyMoves.{LossyMoves, with_loss, halting, turn_of}
 use Rattle.node_moves.specs.LossyParts.{came_on, hears_in, inputs_in, is_handing}
 use Rattle.node_moves.specs.LossyRuns.{AllFreeze, CutsNothing, Freezes, HandsNothing, HearsAtFirst, HearsNothing, LossyRuns, all_inputs, bytes_on, cuts_in, exactly_cuts}
@@ -71,7 +71,7 @@ calm_move {core = core} {t = t} m still =
 abbrev pub Still : CoreState → Account → Type 0
 Still core did = Calm core (turn_of did)
 
-by_account : (core new : CoreState) (did : Account) → did ≡ quietly new → Calm core (quiet new) → Still core did
+by_account : (core new : CoreState) (did : Account) → did ≡ quietly new → Calm core (without_messages new) → Still core did
 by_account core new did is calm = subst (λ (d : Account). Calm core (turn_of d)) (sym is) calm
 
 by_none : (core : CoreState) (did : Account) → did ≡ quietly core → Still core did
@@ -88,7 +88,7 @@ still_repeated zero Next on core did none = by_none core did none
 still_repeated (suc n) Next on core did done = still_then Next (Repeated n Next) on (still_repeated n Next on) core did done
 
 -- after a change in which the replica gives nothing
-still_after : (core between : CoreState) (did : Account) → Calm core (quiet between) → Still between did → Still core did
+still_after : (core between : CoreState) (did : Account) → Calm core (without_messages between) → Still between did → Still core did
 still_after core between did change more = calm_join change more
 
 -- ---- commands
@@ -106,7 +106,7 @@ pub still_expelled : (client : List ℕ) (core : CoreState) (did : Account) → 
 still_expelled client core did (inl taken) = calm_move (expels_losing client did taken) (refl, refl, refl, λ x. refl)
 still_expelled client core did (inr declines) = still_declines core did declines
 
-closing : (port : Port) (core : CoreState) → Calm core (quiet (changes port closed core))
+closing : (port : Port) (core : CoreState) → Calm core (without_messages (changes port closed core))
 closing port core = calm_move (exactly (closes port)) (refl, refl, refl, λ x. refl)
 
 -- ---- ends
@@ -159,7 +159,7 @@ halts_before port f core = refl
 
 -- the command is not taken, and then the connection is closed so: as if it had been closed before
 declined : (port : Port) (f : Connection → Connection) (core between : CoreState) (did : Account) → changes port f between ≡ changes port f core
-    → Calm core (quiet (changes port f core)) → Then Declines (λ k d. d ≡ quietly (changes port f k)) between did → Still core did
+    → Calm core (without_messages (changes port f core)) → Then Declines (λ k d. d ≡ quietly (changes port f k)) between did → Still core did
 declined port f core between did same change t =
     subst (λ (d : Account). Still core d) (sym (t.is ∙ ap (λ (d : Account). let a : Account = record { core = d.core; given = t.one.given ++ d.given; messages = t.one.messages ++ d.messages } in a) t.next))
     (by t.one t.first)
@@ -194,9 +194,9 @@ still_begins : (now : ℕ) (port : Port) (c : Connection) (core : CoreState) (pa
 still_begins now port c core (packets.Connect connect) rest did at awaits is runs = still_connects now port c core connect rest did at awaits is runs
 still_begins now port c core _ rest did at awaits is runs =
     by_account core (changes port closed (changes port (left_with now rest) core)) did runs
-    (subst (λ (k : CoreState). Calm core (quiet k)) (sym (closed_left now port rest core)) (closing port core))
+    (subst (λ (k : CoreState). Calm core (without_messages k)) (sym (closed_left now port rest core)) (closing port core))
 
-failing_at : (port : Port) (core : CoreState) → Calm core (quiet (changes port failing core))
+failing_at : (port : Port) (core : CoreState) → Calm core (without_messages (changes port failing core))
 failing_at port core = calm_move (fails port) (refl, refl, refl, λ x. refl)
 
 still_says : (now : ℕ) (port : Port) (c : Connection) (core : CoreState) (packet : Packet) (rest : List ℕ) (did : Account) → open_at port core ≡ Some c → is_first c.stage ≡ false

@@ -20,7 +20,7 @@ use Rattle.world_base.specs.Failing.{closes_failed}
 use Rattle.world_base.specs.Handing.{hands_over, left_by}
 use Rattle.world_base.specs.Reading.{changes}
 use Rattle.world_base.specs.Step.{next_name, opens, settled}
-use Rattle.world_base.specs.Turns.{changes_named, moved, proposes, quiet, handled}
+use Rattle.world_base.specs.Turns.{changes_named, moved, proposes, without_messages, handled}
 use Rattle.node_moves.specs.Keeping.{moves_replica}
 use Rattle.node_moves.specs.Moves.{Moves}
 use Rattle.node_moves.specs.Moves.Moves.{hears, opens_one, holds, reads_first, reads_later, closes, refuses, loses_one, loses_next, expels_one, cuts_log, crashes, settles, hands}
@@ -58,7 +58,7 @@ proposes_same : (command : Command) (core : CoreState) → Same core.replica.sta
 unfolding proposes
 proposes_same command core = by (serves core)
   where
-    by : (b : Bool) → Same core.replica.state (let t : Turn = if b then moved (proposed rules core.replica.state command) core else quiet core in t).core.replica.state
+    by : (b : Bool) → Same core.replica.state (let t : Turn = if b then moved (proposed rules core.replica.state command) core else without_messages core in t).core.replica.state
     by true =
         subst (λ (r : ReplicaState State Command). Same core.replica.state r) (sym (moved_replica (proposed rules core.replica.state command) core))
         (proposed_same rules core.replica.state command)

@@ -25,7 +25,7 @@ use Rattle.world_base.specs.Connections.{noted_proposed, holding, left_with, is_
 use Rattle.world_base.specs.Core.{CoreState, Turn, rules, serves}
 use Rattle.world_base.specs.Failing.{closes_failed}
 use Rattle.world_base.specs.Reading.{changes, refused}
-use Rattle.world_base.specs.Turns.{quiet, moved, handled, proposes, changes_named, drives, heard, has_room}
+use Rattle.world_base.specs.Turns.{without_messages, moved, handled, proposes, changes_named, drives, heard, has_room}
 use Rattle.node_moves.specs.Ends.{AtMostOne, IsOrderly, open_named}
 use Rattle.node_moves.specs.Moves.{Moves}
 use Rattle.node_moves.specs.Moves.Moves.{hears, opens_one, holds, reads_first, reads_later, closes, refuses, loses_one, loses_next, expels_one, cuts_log, crashes, settles, hands}
@@ -208,7 +208,7 @@ unfolding proposes
 proposed_puts x command core o = by (serves core)
   where
     by : (b : Bool) → Puts (bytes_for x (given_by command b core.replica.state)) (open_named x core)
-        (open_named x (let t : Turn = if b then moved (proposed rules core.replica.state command) core else quiet core in t).core)
+        (open_named x (let t : Turn = if b then moved (proposed rules core.replica.state command) core else without_messages core in t).core)
     by true = moved_puts x (proposed rules core.replica.state command) core (up_proposed rules core.replica.state command) o
     by false = puts_none (open_named x core)
 

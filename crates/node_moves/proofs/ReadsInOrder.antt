@@ -19,7 +19,7 @@ use Rattle.world_base.specs.Core.{CoreState, Turn}
 use Rattle.world_base.specs.Reading.{changes, open_at, refused}
 use Rattle.world_base.specs.Failing.{closes_failed}
 use Rattle.world_base.specs.Step.{opens}
-use Rattle.world_base.specs.Turns.{quiet, proposes, has_room}
+use Rattle.world_base.specs.Turns.{without_messages, proposes, has_room}
 use Rattle.node_moves.specs.Moves.{Moves}
 use Rattle.node_moves.specs.Moves.Moves.{hears, opens_one, holds, reads_first, reads_later, closes, refuses, loses_one, loses_next, expels_one, cuts_log, crashes, settles, hands}
 use Rattle.node_moves.specs.Ends.{Precedes, IsGiven, IsOrderly, IsEnd, ReadsOn, NodesReadInOrder, open_named, proposal_of, came_on, piece_on, stream_of, is_nothing, commands_of}
@@ -313,7 +313,7 @@ held_end x core port piece written read later o (Some c) at end = by (named x c)
         (was_open x core port c written read (piece ++ later) o at e (with_test true e))
     by false e = change_other x core (changes port (holding piece) core) port c (holding piece) written read later h e (with_test false e)
 
-abbrev hold_move : (core : CoreState) (port : Port) (piece : List ℕ) → Moves core (quiet (changes port (holding piece) core))
+abbrev hold_move : (core : CoreState) (port : Port) (piece : List ℕ) → Moves core (without_messages (changes port (holding piece) core))
 hold_move core port piece = holds port piece
 
 hold_reads : (core : CoreState) (port : Port) (piece : List ℕ) → IsOrderly core → ReadsAll (hold_move core port piece)
@@ -326,7 +326,7 @@ hold_reads core port piece o = (
 
 -- ---- each move
 
-abbrev open_move : (core : CoreState) (port : Port) → Moves core (quiet (opens port core))
+abbrev open_move : (core : CoreState) (port : Port) → Moves core (without_messages (opens port core))
 open_move core port = opens_one port
 
 open_reads : (core : CoreState) (port : Port) → IsOrderly core → ReadsAll (open_move core port)

@@ -13,7 +13,7 @@ use Rattle.world_base.specs.Core.{CoreState, Turn}
 use Rattle.world_base.specs.KeepAlive.{lower, lower_silent, lowest_silent, ends_if, ends_silent}
 use Rattle.world_base.specs.Reading.{changes, ends, loses, loses_open, open_at}
 use Rattle.world_base.specs.Step.{acts_on, does_item}
-use Rattle.world_base.specs.Turns.{quiet, drives, proposes}
+use Rattle.world_base.specs.Turns.{without_messages, drives, proposes}
 use Rattle.node_moves.specs.Settled.{NoneIsSilent}
 use Rattle.node_moves.proofs.EachKept.{IsKept, each_repeated, each_settled}
 use Rattle.node_moves.proofs.Kept.{live, left_true, failing_over}
@@ -60,7 +60,7 @@ loses_lowers : (port : Port) (c : Connection) (core : CoreState) → open_at por
     → total open_weight (loses port c core).core.connections < total open_weight core.connections
 loses_lowers port c core at = by (is_proposed c.stage)
   where
-    by : (b : Bool) → total open_weight (let t : Turn = if b then proposes (commands.Lost c.name) (changes port closed core) else quiet (changes port closed core) in t).core.connections
+    by : (b : Bool) → total open_weight (let t : Turn = if b then proposes (commands.Lost c.name) (changes port closed core) else without_messages (changes port closed core) in t).core.connections
         < total open_weight core.connections
     by true =
         let less = closes_lowers port c core at in
@@ -136,7 +136,7 @@ lowest_none now low (c ∷ cs) e = let rest = lowest_none now (lower_silent now 
 abbrev NoneSilent : ℕ → CoreState → Type 0
 NoneSilent now core = Each (λ (c : Connection). is_silent now c ≡ false) core.connections
 
-silent_step : (now : ℕ) (core : CoreState) → (NoneSilent now core × (ends_silent now core ≡ quiet core))
+silent_step : (now : ℕ) (core : CoreState) → (NoneSilent now core × (ends_silent now core ≡ without_messages core))
     ⊎ (total open_weight (ends_silent now core).core.connections < total open_weight core.connections)
 unfolding ends_silent
 silent_step now core = by (lowest_silent now core.connections) refl
@@ -145,7 +145,7 @@ silent_step now core = by (lowest_silent now core.connections) refl
     there port (inl e) = absurd cc
     there port (inr has) = has
 
-    by : (o : Option Port) → lowest_silent now core.connections ≡ o → (NoneSilent now core × (ends_if o core ≡ quiet core))
+    by : (o : Option Port) → lowest_silent now core.connections ≡ o → (NoneSilent now core × (ends_if o core ≡ without_messages core))
         ⊎ (total open_weight (ends_if o core).core.connections < total open_weight core.connections)
     by None e = inl ((lowest_none now None core.connections e).1, refl)
     by (Some port) e = inr (ends_lowers port core (there port (lowest_there now port None core.connections e)))

@@ -25,7 +25,7 @@ use Rattle.world_base.specs.ballot.Cutting.{can_cut}
 use Rattle.world_base.specs.Step.{node_step, acts_on, cuts, settled, does_item, with_cut}
 use Rattle.world_base.specs.Failing.{loses_failed, loses_if}
 use Rattle.world_base.specs.KeepAlive.{ends_if, ends_silent, lowest_silent}
-use Rattle.world_base.specs.Turns.{quiet, proposes, drives, has_room, repeated}
+use Rattle.world_base.specs.Turns.{without_messages, proposes, drives, has_room, repeated}
 use Rattle.node_moves.specs.Hearing.{NodeCallsHearAtFirst}
 use Rattle.node_moves.specs.Moves.{Moves, Runs, NodeCall, and_then, done, NodeCallsAreMoves}
 use Rattle.node_moves.specs.Moves.NodeCall.{takes, gives}
@@ -123,7 +123,7 @@ room_kept port change core = refl
 -- ---- a connection is lost
 
 lost_by : (port : Port) (c : Connection) (core : CoreState) → open_at port core ≡ Some c → (b : Bool) → is_proposed c.stage ≡ b
-    → Calm core (if b then proposes (commands.Lost c.name) (changes port closed core) else quiet (changes port closed core))
+    → Calm core (if b then proposes (commands.Lost c.name) (changes port closed core) else without_messages (changes port closed core))
 lost_by port c core at true e = calm_move (loses_one port c at e) (refl, refl)
 lost_by port c core at false e = calm_move (closes port) (refl, refl)
 
@@ -140,8 +140,8 @@ ends_run port core = ended_runs port core (open_at port core) refl
 
 -- ---- a packet is read
 
-closes_with : (port : Port) (core later : CoreState) → later ≡ changes port closed core → Calm core (quiet later)
-closes_with port core later same = subst (λ (z : CoreState). Calm core (quiet z)) (sym same) (calm_move (closes port) (refl, refl))
+closes_with : (port : Port) (core later : CoreState) → later ≡ changes port closed core → Calm core (without_messages later)
+closes_with port core later same = subst (λ (z : CoreState). Calm core (without_messages z)) (sym same) (calm_move (closes port) (refl, refl))
 
 first_runs : (now : ℕ) (port : Port) (c : Connection) (core : CoreState) (connect : Connect) (rest : List ℕ) → open_at port core ≡ Some c → is_first c.stage ≡ true
     → verdict c.unread ≡ Ok (packets.Connect connect, rest)
@@ -181,7 +181,7 @@ refused_runs : (now : ℕ) (port : Port) (c : Connection) (core : CoreState) (co
     → verdict c.unread ≡ Err (stops.Refused code) → Calm core (reads now port c core (Err (stops.Refused code)))
 refused_runs now port c core code at is = by (is_first c.stage) refl
   where
-    by : (b : Bool) → is_first c.stage ≡ b → Calm core (if b then quiet (changes port (refused code) core) else loses port c core)
+    by : (b : Bool) → is_first c.stage ≡ b → Calm core (if b then without_messages (changes port (refused code) core) else loses port c core)
     by true first = calm_move (refuses port c code at first is) (refl, refl)
     by false later = lost_runs port c core at
 
@@ -234,11 +234,11 @@ expel_runs client core = calm_move (expels_one client) (refl, refl)
 
 -- ---- a cut
 
-cut_run : (core : CoreState) → First (part_of (takes Cut) core) core (quiet (cuts core))
+cut_run : (core : CoreState) → First (part_of (takes Cut) core) core (without_messages (cuts core))
 unfolding cuts
 cut_run core = by (can_cut core.replica.state) refl
   where
-    by : (b : Bool) → can_cut core.replica.state ≡ b → First (if b then Part.cut else Part.nothing) core (quiet (if b then with_cut core else core))
+    by : (b : Bool) → can_cut core.replica.state ≡ b → First (if b then Part.cut else Part.nothing) core (without_messages (if b then with_cut core else core))
     by true can = first_move (cuts_log can)
     by false cannot = calm_first rests tt
 

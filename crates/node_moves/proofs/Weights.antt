@@ -14,7 +14,7 @@ use Rattle.exactly_once.specs.broker_spec.Connection.{ConnectionName}
 use Rattle.world_base.specs.declared.Connection.{Connection}
 use Rattle.world_base.specs.Connections.{is_open_named, max_pending, closed, failing, putting, put_out, changed}
 use Rattle.world_base.specs.Core.{CoreState, Turn, rules, serves}
-use Rattle.world_base.specs.Turns.{quiet, repeated, handled, moved, proposes, changes_named}
+use Rattle.world_base.specs.Turns.{without_messages, repeated, handled, moved, proposes, changes_named}
 use Rattle.node_moves.proofs.NamesInOrder.{same_le}
 use Rattle.node_moves.proofs.Views.{same_some}
 
@@ -91,7 +91,7 @@ pub total_proposed : (w : Connection → ℕ) → IsLight w → (command : Comma
 unfolding proposes
 total_proposed w light command core = by (serves core)
   where
-    by : (b : Bool) → total w (let t : Turn = if b then moved (proposed rules core.replica.state command) core else quiet core in t).core.connections
+    by : (b : Bool) → total w (let t : Turn = if b then moved (proposed rules core.replica.state command) core else without_messages core in t).core.connections
         ≤ total w core.connections
     by true = total_moved w light (proposed rules core.replica.state command) core
     by false = same_le (total w core.connections)
@@ -99,7 +99,7 @@ total_proposed w light command core = by (serves core)
 -- ---- this many times
 
 module _ (next : CoreState → Turn) (Done : CoreState → Type 0) where
-  stays_done : (n : ℕ) (core : CoreState) → Done core → next core ≡ quiet core → Done (repeated n next core).core
+  stays_done : (n : ℕ) (core : CoreState) → Done core → next core ≡ without_messages core → Done (repeated n next core).core
   unfolding repeated
   stays_done zero core done idle = done
   stays_done (suc n) core done idle =
@@ -107,17 +107,17 @@ module _ (next : CoreState → Turn) (Done : CoreState → Type 0) where
 
   -- it does nothing if it is done, and lowers the total elsewhere
   pub comes_to_end : (w : Connection → ℕ)
-      → ((core : CoreState) → (Done core × (next core ≡ quiet core)) ⊎ (total w (next core).core.connections < total w core.connections))
+      → ((core : CoreState) → (Done core × (next core ≡ without_messages core)) ⊎ (total w (next core).core.connections < total w core.connections))
       → (n : ℕ) (core : CoreState) → total w core.connections ≤ n → Done (repeated n next core).core
   unfolding repeated
   comes_to_end w each zero core few = by (each core)
     where
-      by : (Done core × (next core ≡ quiet core)) ⊎ (total w (next core).core.connections < total w core.connections) → Done (repeated 0 next core).core
+      by : (Done core × (next core ≡ without_messages core)) ⊎ (total w (next core).core.connections < total w core.connections) → Done (repeated 0 next core).core
       by (inl done) = done.0
       by (inr less) = absurd (omega (arith, few, less))
   comes_to_end w each (suc n) core few = by (each core) (λ lower. comes_to_end w each n (next core).core lower)
     where
-      by : (Done core × (next core ≡ quiet core)) ⊎ (total w (next core).core.connections < total w core.connections)
+      by : (Done core × (next core ≡ without_messages core)) ⊎ (total w (next core).core.connections < total w core.connections)
           → (total w (next core).core.connections ≤ n → Done (repeated n next (next core).core).core) → Done (repeated (suc n) next core).core
       by (inl done) rest = stays_done (suc n) core done.0 done.1
       by (inr less) rest = rest (omega (arith, few, less))

@@ -17,7 +17,7 @@ use Rattle.world_base.specs.Core.{CoreState, Turn, rules}
 use Rattle.world_base.specs.Failing.{closes_failed}
 use Rattle.world_base.specs.Lossy.{Account, Drives, Takes}
 use Rattle.world_base.specs.Reading.{changes, open_at}
-use Rattle.world_base.specs.Turns.{quiet}
+use Rattle.world_base.specs.Turns.{without_messages}
 use Rattle.node_moves.specs.Moves.{Moves, is_proposal}
 
 -- ---- one move
@@ -70,12 +70,13 @@ pub data LossyMoves (core : CoreState) : Turn → Type 0 where
   expels_losing : (client : List ℕ) (did : Account) → Takes (commands.Expel client) core did →
       LossyMoves core (turn_of did)
   -- the replica does not take what it receives, and counts that
-  forgets : LossyMoves core (quiet (with_loss core))
+  forgets : LossyMoves core (without_messages (with_loss core))
   -- the replica stops, and counts that
-  halts : LossyMoves core (quiet (halting core))
+  halts : LossyMoves core (without_messages (halting core))
   -- a connection is closed as lost, and the loss is still to be reported to the broker
-  fails : (port : Port) → LossyMoves core (quiet (changes port failing core))
+  fails : (port : Port) → LossyMoves core (without_messages (changes port failing core))
   -- a connection that was closed as lost is closed for good, and its loss is not reported
-  unheard : LossyMoves core (quiet (closes_failed core))
+  unheard : LossyMoves core (without_messages (closes_failed core))
   -- bytes come in on an open connection that is closed, since there is no memory for them
-  drops : (port : Port) (piece : List ℕ) → LossyMoves core (quiet (changes port closed core))
+  drops : (port : Port) (piece : List ℕ) →
+      LossyMoves core (without_messages (changes port closed core))

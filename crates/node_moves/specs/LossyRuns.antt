@@ -11,7 +11,7 @@ use Rattle.world_base.specs.declared.item.Item.TheVariants.{Peer, Tick, Bytes, C
 use Rattle.world_base.specs.Core.{CoreState, Turn, rules}
 use Rattle.world_base.specs.LossyStep.{RunsOn}
 use Rattle.world_base.specs.Reading.{open_at}
-use Rattle.world_base.specs.Turns.{quiet}
+use Rattle.world_base.specs.Turns.{without_messages}
 use Rattle.node_moves.specs.Ends.{piece_on}
 use Rattle.node_moves.specs.LossyMoves.{LossyMoves}
 use Rattle.node_moves.specs.LossyParts.{came_on, hears_in, inputs_in, is_handing, proposal_of}
@@ -21,7 +21,7 @@ use Rattle.node_moves.specs.Moves.Moves.{cuts_log}
 
 -- moves one after another
 pub data LossyRuns : CoreState → Turn → Type 0 where
-  rests : {core : CoreState} → LossyRuns core (quiet core)  -- no move
+  rests : {core : CoreState} → LossyRuns core (without_messages core)  -- no move
   -- one move, and others after it
   goes_on : {core : CoreState} {first next : Turn} → LossyMoves core first →
       LossyRuns first.core next → LossyRuns core (and_then first next)

@@ -21,7 +21,7 @@ use Rattle.world_base.specs.Failing.{closes_failed}
 use Rattle.world_base.specs.Handing.{hands_over}
 use Rattle.world_base.specs.Reading.{changes, open_at, refused}
 use Rattle.world_base.specs.Step.{node_step, opens, settled, crashed, with_cut}
-use Rattle.world_base.specs.Turns.{quiet, proposes, drives, has_room}
+use Rattle.world_base.specs.Turns.{without_messages, proposes, drives, has_room}
 
 -- whether an input of a replica is a proposal
 abbrev pub is_proposal : Input Command → Bool
@@ -34,9 +34,10 @@ pub data Moves (core : CoreState) : Turn → Type 0 where
   -- the replica receives a message or a tick, and its effects are done
   hears : (input : Input Command) → is_proposal input ≡ false → Moves core (drives input core)
   -- a connection is opened
-  opens_one : (port : Port) → Moves core (quiet (opens port core))
+  opens_one : (port : Port) → Moves core (without_messages (opens port core))
   -- bytes come in on an open connection
-  holds : (port : Port) (piece : List ℕ) → Moves core (quiet (changes port (holding piece) core))
+  holds : (port : Port) (piece : List ℕ) →
+      Moves core (without_messages (changes port (holding piece) core))
   -- the first packet of an open connection, a CONNECT, is read and proposed, whole at this time;
   -- the log has room for it
   reads_first : (now : ℕ) (port : Port) (c : Connection) (connect : Connect) (rest : List ℕ) →
@@ -50,12 +51,12 @@ pub data Moves (core : CoreState) : Turn → Type 0 where
       verdict c.unread ≡ Ok (packet, rest) → has_room core ≡ true →
       Moves core (proposes (commands.Packet c.name packet) (changes port (left_with now rest) core))
   -- a connection is closed, and nothing more is read from it
-  closes : (port : Port) → Moves core (quiet (changes port closed core))
+  closes : (port : Port) → Moves core (without_messages (changes port closed core))
   -- a connection is closed with an answer: its first packet is a CONNECT that is refused
   refuses : (port : Port) (c : Connection) (code : RefusalCode) → open_at port core ≡ Some c →
       is_first c.stage ≡ true →
       verdict c.unread ≡ Err (stops.Refused code) →
-      Moves core (quiet (changes port (refused code) core))
+      Moves core (without_messages (changes port (refused code) core))
   -- a connection is closed, and its loss is proposed, since its Connect was
   loses_one : (port : Port) (c : Connection) → open_at port core ≡ Some c →
       is_proposed c.stage ≡ true →
@@ -66,14 +67,14 @@ pub data Moves (core : CoreState) : Turn → Type 0 where
   -- an Expel of a client is proposed
   expels_one : (client : List ℕ) → Moves core (proposes (commands.Expel client) core)
   -- the replica cuts its log
-  cuts_log : can_cut core.replica.state ≡ true → Moves core (quiet (with_cut core))
+  cuts_log : can_cut core.replica.state ≡ true → Moves core (without_messages (with_cut core))
   -- the node crashes
-  crashes : Moves core (quiet (crashed core))
+  crashes : Moves core (without_messages (crashed core))
   -- if it no longer serves clients all connections are closed; closed ones with nothing to hand
   -- over are removed
-  settles : Moves core (quiet (settled core))
+  settles : Moves core (without_messages (settled core))
   -- what was queued for a port is handed over
-  hands : (port : Port) → Moves core (quiet (hands_over port core))
+  hands : (port : Port) → Moves core (without_messages (hands_over port core))
 
 -- a turn, and another after it
 abbrev pub and_then : Turn → Turn → Turn
@@ -82,7 +83,7 @@ and_then first next = record { core = next.core; messages = first.messages ++ ne
 -- moves one after another
 pub data Runs : CoreState → Turn → Type 0 where
   -- no move
-  rests : {core : CoreState} → Runs core (quiet core)
+  rests : {core : CoreState} → Runs core (without_messages core)
   -- one move, and others after it
   goes_on : {core : CoreState} {first next : Turn} → Moves core first → Runs first.core next →
       Runs core (and_then first next)
@@ -95,11 +96,11 @@ pub data NodeCall : Type 0 where
 -- what a call of a node does: it takes an item, or hands over bytes
 abbrev pub done : NodeCall → CoreState → Turn
 done (takes item) core = node_step item core
-done (gives port) core = quiet (hands_over port core)
+done (gives port) core = without_messages (hands_over port core)
 
 -- one call after another
 abbrev pub all_done : List NodeCall → CoreState → Turn
-all_done [] core = quiet core
+all_done [] core = without_messages core
 all_done (node_call ∷ node_calls) core =
     and_then (done node_call core) (all_done node_calls (done node_call core).core)
 

@@ -18,9 +18,9 @@ use Rattle.world_base.specs.Handing.{bytes_of, hands_over, left_by, listed_at}
 use Rattle.world_base.specs.Losses.{IsHeardQuietly, IsIgnored, ReadsNone, TakesNoMemory, WaitsNothing, was_proposed}
 use Rattle.world_base.specs.Reading.{changes, ends, loses_open, open_at}
 use Rattle.world_base.specs.Step.{acts_on, crashed, node_step, settled, does_item}
-use Rattle.world_base.specs.Turns.{handled_all, drives, heard, quiet, then_also}
+use Rattle.world_base.specs.Turns.{handled_all, drives, heard, without_messages, then_also}
 use Rattle.world_base.proofs.Failures.{failed_next}
-use Rattle.world_base.proofs.Idle.{closing_fails_none, quiet_repeated, takes_nothing}
+use Rattle.world_base.proofs.Idle.{closing_fails_none, repeated_without_messages, takes_nothing}
 
 -- ---- what waits to be handed over
 
@@ -87,11 +87,11 @@ hands_over_waits port core each = by (listed_at port core)
 -- what it does to a node, quietly
 record GoesCalmly (item : Item) (core : CoreState) : Type 0 where
   next : CoreState
-  is : does_item item core ≡ quiet next
+  is : does_item item core ≡ without_messages next
   fails_none : find has_failed core.connections ≡ None → find has_failed next.connections ≡ None
   waits : WaitsNothing core → WaitsNothing next
 
-nothing_goes : (item : Item) (core : CoreState) → does_item item core ≡ quiet core → GoesCalmly item core
+nothing_goes : (item : Item) (core : CoreState) → does_item item core ≡ without_messages core → GoesCalmly item core
 nothing_goes item core is = record { next = core; is = is; fails_none = λ none. none; waits = λ each. each }
 
 ends_calmly : (port : Port) (core : CoreState) → was_proposed (open_at port core) ≡ false → GoesCalmly (Ended port) core
@@ -139,11 +139,11 @@ goes_calmly Crash core takes = record { next = crashed core; is = refl; fails_no
 
 -- ---- the step
 
-acts_calmly : (item : Item) (core : CoreState) (g : GoesCalmly item core) → find has_failed core.connections ≡ None → acts_on item core ≡ quiet g.next
+acts_calmly : (item : Item) (core : CoreState) (g : GoesCalmly item core) → find has_failed core.connections ≡ None → acts_on item core ≡ without_messages g.next
 acts_calmly item core g none =
     ap (λ (t : Turn). then_also t loses_all_failed) g.is
-    ∙ ap (λ (t : Turn). then_also (quiet g.next) (λ _. t))
-    (quiet_repeated loses_failed (length g.next.connections) g.next (failed_next g.next (g.fails_none none)))
+    ∙ ap (λ (t : Turn). then_also (without_messages g.next) (λ _. t))
+    (repeated_without_messages loses_failed (length g.next.connections) g.next (failed_next g.next (g.fails_none none)))
 
 pub says_nothing : (item : Item) (core : CoreState) → TakesNoMemory item core → find has_failed core.connections ≡ None → (node_step item core).messages ≡ []
 says_nothing item core takes none = ap (λ (t : Turn). t.messages) (acts_calmly item core (goes_calmly item core takes) none)

@@ -14,9 +14,9 @@ use Rattle.node_connections.specs.Connections.{closed, is_proposed}
 use Rattle.world_base.specs.Core.{CoreState, Turn, rules, serves}
 use Rattle.world_base.specs.Inside.{Running, Does, DoesTurn}
 use Rattle.world_base.specs.Reading.{changes, ends, open_at}
-use Rattle.world_base.specs.Turns.{quiet, then_also, proposes, has_room}
+use Rattle.world_base.specs.Turns.{without_messages, then_also, proposes, has_room}
 use Rattle.world_base.proofs.Asked.{left_true}
-use Rattle.world_base.proofs.TurnsJoin.{turns_idle, turns_join, turns_as, turns_after, turns_quiet}
+use Rattle.world_base.proofs.TurnsJoin.{turns_idle, turns_join, turns_as, turns_after, turns_without_messages}
 
 -- if no connection of the port is open nothing is done
 pub ends_none : (port : Port) (r : Running) (out : List (Effect Command Output)) → open_at port r.core ≡ None →
@@ -40,7 +40,7 @@ pub ends_other : (port : Port) (c : Connection) (a b : Running) (x : List (Effec
 unfolding ends
 ends_other port c a b x found silent shut =
     subst (λ (t : Turn). DoesTurn a b x x t) (rw (found, silent) refl)
-    (turns_quiet a b x (changes port closed a.core) (λ _. shut))
+    (turns_without_messages a b x (changes port closed a.core) (λ _. shut))
 
 -- without room nothing is proposed
 room_false : (a b : Bool) → (a && b) ≡ false → (a ≡ false) ⊎ ((a ≡ true) × (b ≡ false))
@@ -56,14 +56,14 @@ full_of core full = by_order (cases_lt (places core.replica.state.log) max_place
     by_order (inl room) = let e = lt-ltb (places core.replica.state.log) max_places room in absurd cc
     by_order (inr over) = over
 
-pub proposes_nothing : (command : Command) (core : CoreState) → has_room core ≡ false → proposes command core ≡ quiet core
+pub proposes_nothing : (command : Command) (core : CoreState) → has_room core ≡ false → proposes command core ≡ without_messages core
 unfolding proposes
 proposes_nothing command core e =
     by_parts (room_false (serves core) (nat_lt (places core.replica.state.log) max_places) e)
   where
     by_parts : (serves core ≡ false)
         ⊎ ((serves core ≡ true) × (nat_lt (places core.replica.state.log) max_places ≡ false)) →
-        proposes command core ≡ quiet core
+        proposes command core ≡ without_messages core
     by_parts (inl idle) = rw idle refl
     by_parts (inr full) =
         let nothing = proposed-full rules core.replica.state command (left_true _ _ full.0) (full_of core full.1) in
@@ -73,15 +73,15 @@ proposes_nothing command core e =
 pub closes_refused : (port : Port) (command : Command) (a b c : Running)
     (x y : List (Effect Command Output)) → (c.out_of_memory ≡ false → false ≡ has_room a.core) →
     DoesTurn a b x y (proposes command a.core) → Does b c (changes port closed b.core) →
-    DoesTurn a c x y (if has_room a.core then proposes command a.core else quiet (changes port closed a.core))
+    DoesTurn a c x y (if has_room a.core then proposes command a.core else without_messages (changes port closed a.core))
 closes_refused port command a b c x y full turns shut =
     turns_as a c x y _ _ same
     (turns_join a b c x y y (proposes command a.core)
-    (λ core. quiet (changes port closed core)) turns (turns_quiet b c y (changes port closed b.core) shut))
+    (λ core. without_messages (changes port closed core)) turns (turns_without_messages b c y (changes port closed b.core) shut))
   where
     same : c.out_of_memory ≡ false →
-        then_also (proposes command a.core) (λ core. quiet (changes port closed core))
-        ≡ (if has_room a.core then proposes command a.core else quiet (changes port closed a.core))
+        then_also (proposes command a.core) (λ core. without_messages (changes port closed core))
+        ≡ (if has_room a.core then proposes command a.core else without_messages (changes port closed a.core))
     same whole =
         let none = sym (full whole) in
         let nothing = proposes_nothing command a.core none in

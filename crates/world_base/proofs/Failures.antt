@@ -10,11 +10,11 @@ use Rattle.node_connections.specs.Connections.{has_failed}
 use Rattle.world_base.specs.Core.{CoreState, Turn}
 use Rattle.world_base.specs.Failing.{closes_failed, loses_failed}
 use Rattle.world_base.specs.Inside.{Running, DoesTurn}
-use Rattle.world_base.specs.Turns.{quiet, proposes}
+use Rattle.world_base.specs.Turns.{without_messages, proposes}
 use Rattle.world_base.proofs.TurnsJoin.{turns_idle, turns_after}
 
 -- none failed
-pub failed_next : (core : CoreState) → find has_failed core.connections ≡ None → loses_failed core ≡ quiet core
+pub failed_next : (core : CoreState) → find has_failed core.connections ≡ None → loses_failed core ≡ without_messages core
 unfolding loses_failed
 failed_next core none = rw none refl
 

@@ -25,8 +25,8 @@ use Rattle.node_connections.specs.Fronts.{IsFault}
 use Rattle.node_connections.specs.Inside.{TakesFront}
 use Rattle.world_base.specs.Inside.{Running, DoesTurn}
 use Rattle.world_base.specs.Reading.{takes_first_packet, changes, loses, open_at, reads, reads_next, refused, proposes_packet}
-use Rattle.world_base.specs.Turns.{proposes, quiet}
-use Rattle.world_base.proofs.TurnsJoin.{turns_idle, turns_quiet, turns_after}
+use Rattle.world_base.specs.Turns.{proposes, without_messages}
+use Rattle.world_base.proofs.TurnsJoin.{turns_idle, turns_without_messages, turns_after}
 
 -- ---- changes of the connection that is found
 
@@ -79,7 +79,7 @@ pub nothing_open : (now : ℕ) (port : Port) (r : Running) (out : List (Effect C
 unfolding reads_next
 nothing_open now port r out none = subst (λ (t : Turn). DoesTurn r r out out t) (rw none refl) (turns_idle r out)
 
-pub nothing_next : (now : ℕ) (port : Port) (core : CoreState) → open_at port core ≡ None → reads_next now port core ≡ quiet core
+pub nothing_next : (now : ℕ) (port : Port) (core : CoreState) → open_at port core ≡ None → reads_next now port core ≡ without_messages core
 unfolding reads_next
 nothing_next now port core none = rw none refl
 
@@ -96,9 +96,9 @@ same_after now port c new a b found did is =
 
 pub more_next : (now : ℕ) (port : Port) (c new : Connection) (a b : Running) → open_at port a.core ≡ Some c →
     TakesFront now c fronts.More new → b ≡ record a { core = changes port (λ _. new) a.core } →
-    reads_next now port b.core ≡ quiet b.core
+    reads_next now port b.core ≡ without_messages b.core
 more_next now port c new a b found did is =
-    subst (λ (r : Running). reads_next now port r.core ≡ quiet r.core) (sym (same_after now port c new a b found did is))
+    subst (λ (r : Running). reads_next now port r.core ≡ without_messages r.core) (sym (same_after now port c new a b found did is))
     (sym (reads_by now port a.core c (Err stops.More) found did.0))
 
 pub more_there : (now : ℕ) (port : Port) (c new : Connection) (a b : Running) (out : List (Effect Command Output)) →
@@ -106,8 +106,8 @@ pub more_there : (now : ℕ) (port : Port) (c new : Connection) (a b : Running) 
     b ≡ record a { core = changes port (λ _. new) a.core } → DoesTurn a b out out (reads_next now port a.core)
 more_there now port c new a b out found did is =
     subst (λ (t : Turn). DoesTurn a b out out t)
-    (ap quiet (becomes_itself port a.core c new found did.1) ∙ reads_by now port a.core c (Err stops.More) found did.0)
-    (turns_quiet a b out (changes port (λ _. new) a.core) (λ _. is))
+    (ap without_messages (becomes_itself port a.core c new found did.1) ∙ reads_by now port a.core c (Err stops.More) found did.0)
+    (turns_without_messages a b out (changes port (λ _. new) a.core) (λ _. is))
 
 -- a packet
 pub packet_there : (now : ℕ) (port : Port) (c new : Connection) (packet : Packet) (a b r : Running) (x y : List (Effect Command Output)) →
@@ -127,7 +127,7 @@ other_turns : (port : Port) (name : ConnectionName) (packet : Packet) (a b : Run
     ((connect : Connect) → packet ≡ packets.Connect connect → ⊥) → b ≡ record a { core = changes port closed a.core } →
     DoesTurn a b x x (takes_first_packet port name packet a.core)
 other_turns port name (packets.Connect connect) a b x other shut = absurd (other connect refl)
-other_turns port name _ a b x other shut = turns_quiet a b x (changes port closed a.core) (λ _. shut)
+other_turns port name _ a b x other shut = turns_without_messages a b x (changes port closed a.core) (λ _. shut)
 
 pub turns_other : (awaits : Bool) (port : Port) (name : ConnectionName) (packet : Packet) (a b : Running) (x : List (Effect Command Output)) →
     awaits ≡ true → ((connect : Connect) → packet ≡ packets.Connect connect → ⊥) → b ≡ record a { core = changes port closed a.core } →
@@ -139,7 +139,7 @@ turns_other awaits port name packet a b x is other shut =
 -- a connection that is closed after a change, and its loss is reported to the broker if its CONNECT
 -- was proposed
 abbrev pub Told : Connection → CoreState → Turn
-Told c core = if is_proposed c.stage then proposes (commands.Lost c.name) core else quiet core
+Told c core = if is_proposed c.stage then proposes (commands.Lost c.name) core else without_messages core
 
 lost_there : (port : Port) (c : Connection) (core : CoreState) → Told c (changes port closed core) ≡ loses port c core
 lost_there port c core = refl
@@ -174,7 +174,7 @@ refused_there now port c new code a b r x y found did is turns =
         (is ∙ ap (λ (k : CoreState). record a { core = k }) (becomes_same port a.core c new change found e)) turns
 
     by : (stage : ConnectionStage) → c.stage ≡ stage → new ≡ (if is_first c.stage then refused code c else closed c) →
-        DoesTurn a r x y (if is_first c.stage then quiet (changes port (refused code) a.core) else loses port c a.core)
+        DoesTurn a r x y (if is_first c.stage then without_messages (changes port (refused code) a.core) else loses port c a.core)
     by Awaits e is_new =
         rw (e) (rw (e) at (after (refused code) (rw (e) at is_new)))
     by Proposed e is_new = rw (e) (rw (e) at (after closed (rw (e) at is_new)))

@@ -31,7 +31,7 @@ use Rattle.world_base.specs.LossyReading.Ends.{none_open}
 use Rattle.world_base.specs.LossyReading.EndsSilent.{none_silent}
 use Rattle.world_base.specs.Reading.{changes, ends, open_at, reads_all, reads_next, unread_of}
 use Rattle.world_base.specs.Step.{accepts, acts_on, cuts, opens, does_item}
-use Rattle.world_base.specs.Turns.{drives, moved, quiet, repeated, then_also}
+use Rattle.world_base.specs.Turns.{drives, moved, without_messages, repeated, then_also}
 use Rattle.world_base.proofs.Accounts.{ran_quietly, ran_then}
 use Rattle.world_base.proofs.Closes.{proposes_nothing}
 use Rattle.world_base.proofs.Indices.{none_found, none_indexed}
@@ -39,10 +39,10 @@ use Rattle.world_base.proofs.Silences.{silent_none}
 
 -- ---- nothing, several times
 
-pub quiet_repeated : (next : CoreState → Turn) (n : ℕ) (core : CoreState) → next core ≡ quiet core → repeated n next core ≡ quiet core
+pub repeated_without_messages : (next : CoreState → Turn) (n : ℕ) (core : CoreState) → next core ≡ without_messages core → repeated n next core ≡ without_messages core
 unfolding repeated
-quiet_repeated next zero core e = refl
-quiet_repeated next (suc n) core e = ap (λ (t : Turn). then_also t (repeated n next)) e ∙ quiet_repeated next n core e
+repeated_without_messages next zero core e = refl
+repeated_without_messages next (suc n) core e = ap (λ (t : Turn). then_also t (repeated n next)) e ∙ repeated_without_messages next n core e
 
 idle_repeated : (Next : CoreState → Account → Type 0) (n : ℕ) (core : CoreState) → Next core (quietly core) →
     Repeated n Next core (quietly core)
@@ -52,7 +52,7 @@ idle_repeated Next (suc n) core idle =
 
 -- ---- the replica
 
-drives_nothing : (input : Input Command) (core : CoreState) → IsIgnored input core → drives input core ≡ quiet core
+drives_nothing : (input : Input Command) (core : CoreState) → IsIgnored input core → drives input core ≡ without_messages core
 unfolding drives
 drives_nothing input core ignored = ap (λ (o : Outcome State Command Output). moved o core) ignored
 
@@ -93,7 +93,7 @@ closes_nothing port r none = ap (λ (k : CoreState). let r2 : Running = record r
 pub proposed_then : {X : Type 0} (o : Option Connection) (c : Connection) → o ≡ Some c → is_proposed c.stage ≡ true → was_proposed o ≡ false → X
 proposed_then o c is proposed unproposed = (let e : was_proposed o ≡ true = rw is proposed in absurd cc)
 
-nothing_is_read : (now : ℕ) (port : Port) (core : CoreState) → open_at port core ≡ None → reads_all now port core ≡ quiet core
+nothing_is_read : (now : ℕ) (port : Port) (core : CoreState) → open_at port core ≡ None → reads_all now port core ≡ without_messages core
 unfolding repeated
 nothing_is_read now port core none =
     ap (λ (o : Option Connection). repeated (unread_of o) (reads_next now port) core) none
@@ -102,7 +102,7 @@ reads_nothing : (now : ℕ) (port : Port) (core : CoreState) → open_at port co
 reads_nothing now port core none =
     subst (λ (o : Option Connection). Repeated (unread_of o) (ReadsNext now port) core (quietly core)) (sym none) refl
 
-ends_nothing : (port : Port) (core : CoreState) → open_at port core ≡ None → ends port core ≡ quiet core
+ends_nothing : (port : Port) (core : CoreState) → open_at port core ≡ None → ends port core ≡ without_messages core
 unfolding ends
 ends_nothing port core none = rw none refl
 
@@ -116,18 +116,18 @@ cuts_nothing core none = rw none refl
 
 -- ---- an item
 
-pub takes_nothing : (item : Item) (core : CoreState) → DoesNothing item core → does_item item core ≡ quiet core
+pub takes_nothing : (item : Item) (core : CoreState) → DoesNothing item core → does_item item core ≡ without_messages core
 takes_nothing (Peer message) core ignored = drives_nothing (Receives message) core ignored.0
 takes_nothing (Tick now) core ignored =
     ap (λ (t : Turn). then_also t (ends_all_silent now)) (drives_nothing Ticks core ignored.0)
-    ∙ quiet_repeated (ends_silent now) _ core (silent_none now core ignored.1)
-takes_nothing (Opened port now) core none = ap quiet (opens_nothing port core none)
+    ∙ repeated_without_messages (ends_silent now) _ core (silent_none now core ignored.1)
+takes_nothing (Opened port now) core none = ap without_messages (opens_nothing port core none)
 takes_nothing (Bytes port piece now) core none =
-    ap (λ (k : CoreState). then_also (quiet k) (reads_all now port)) (nothing_changes port (holding piece) core none)
+    ap (λ (k : CoreState). then_also (without_messages k) (reads_all now port)) (nothing_changes port (holding piece) core none)
     ∙ nothing_is_read now port core none
 takes_nothing (Ended port) core none = ends_nothing port core none
 takes_nothing (Expel client) core none = proposes_nothing (commands.Expel client) core none
-takes_nothing Cut core none = ap quiet (cuts_nothing core none)
+takes_nothing Cut core none = ap without_messages (cuts_nothing core none)
 takes_nothing Crash core none = elim none [ ]
 
 takes_idle : (item : Item) (core : CoreState) → DoesNothing item core → DoesItem item core (quietly core)

@@ -6,7 +6,7 @@ use Rattle.node_connections.specs.broker_spec.declared.command.Output.{Output}
 use Rattle.ballot.specs.Effect.{Effect}
 use Rattle.world_base.specs.Core.{CoreState, Turn}
 use Rattle.world_base.specs.Inside.{Running, DoesTurn}
-use Rattle.world_base.specs.Turns.{quiet, repeated, then_also}
+use Rattle.world_base.specs.Turns.{without_messages, repeated, then_also}
 use Rattle.world_base.proofs.TurnsJoin.{turns_as, turns_idle, turns_join}
 
 -- a turn with these messages
@@ -14,8 +14,8 @@ abbrev given_by : CoreState → List (Effect Command Output) → Turn
 given_by core messages = record { core = core; messages = messages }
 
 -- nothing more after it
-ends_quiet : (t : Turn) → then_also t quiet ≡ t
-ends_quiet t = ap (given_by t.core) (append-nil t.messages)
+ends_without_messages : (t : Turn) → then_also t without_messages ≡ t
+ends_without_messages t = ap (given_by t.core) (append-nil t.messages)
 
 joins : (t : Turn) (f g : CoreState → Turn) → then_also t (λ core. then_also (f core) g) ≡ then_also (then_also t f) g
 joins t f g = ap (given_by (g (f t.core).core).core) (sym (append_assoc t.messages (f t.core).messages (g (f t.core).core).messages))
@@ -24,18 +24,18 @@ module _ (next : CoreState → Turn) where
   -- the last one is done after the others
   one_more : (n : ℕ) (core : CoreState) → repeated (suc n) next core ≡ then_also (repeated n next core) next
   unfolding repeated
-  one_more zero core = ends_quiet (next core)
+  one_more zero core = ends_without_messages (next core)
   one_more (suc n) core =
       let first : Turn = next core in
       ap (λ (t : Turn). given_by t.core (first.messages ++ t.messages)) (one_more n first.core)
       ∙ joins first (repeated n next) next
 
-  none_of_them : (core : CoreState) → repeated 0 next core ≡ quiet core
+  none_of_them : (core : CoreState) → repeated 0 next core ≡ without_messages core
   unfolding repeated
   none_of_them core = refl
 
   -- once the next one does nothing, no more are done
-  no_more : (n m : ℕ) (core : CoreState) → next (repeated n next core).core ≡ quiet (repeated n next core).core →
+  no_more : (n m : ℕ) (core : CoreState) → next (repeated n next core).core ≡ without_messages (repeated n next core).core →
       repeated (m + n) next core ≡ repeated n next core
   no_more n zero core last = let same : 0 + n ≡ n = omega arith in ap (λ (k : ℕ). repeated k next core) same
   no_more n (suc m) core last =
@@ -44,7 +44,7 @@ module _ (next : CoreState → Turn) where
       ∙ one_more (m + n) core
       ∙ ap (λ (t : Turn). then_also t next) (no_more n m core last)
       ∙ ap (λ (t : Turn). given_by t.core ((repeated n next core).messages ++ t.messages)) last
-      ∙ ends_quiet (repeated n next core)
+      ∙ ends_without_messages (repeated n next core)
 
   -- ---- what the code did
 
@@ -59,7 +59,7 @@ module _ (next : CoreState → Turn) where
 
   -- the last one says that the next would do nothing
   pub repeats_enough : (n all : ℕ) (a b : Running) (x y : List (Effect Command Output)) → n ≤ all →
-      DoesTurn a b x y (repeated n next a.core) → (b.out_of_memory ≡ false → next b.core ≡ quiet b.core) →
+      DoesTurn a b x y (repeated n next a.core) → (b.out_of_memory ≡ false → next b.core ≡ without_messages b.core) →
       DoesTurn a b x y (repeated all next a.core)
   repeats_enough n all a b x y few done last =
       turns_as a b x y (repeated n next a.core) (repeated all next a.core) same done
@@ -67,7 +67,7 @@ module _ (next : CoreState → Turn) where
       same : b.out_of_memory ≡ false → repeated n next a.core ≡ repeated all next a.core
       same whole =
           let core : b.core ≡ (repeated n next a.core).core = ap (λ (r : Running). r.core) (done.exact whole).0 in
-          let quiet_there = subst (λ (k : CoreState). next k ≡ quiet k) core (last whole) in
+          let without_messages_there = subst (λ (k : CoreState). next k ≡ without_messages k) core (last whole) in
           let rest : ℕ = all - n in
           let is : rest + n ≡ all = omega (arith, few) in
-          sym (no_more n rest a.core quiet_there) ∙ ap (λ (k : ℕ). repeated k next a.core) is
+          sym (no_more n rest a.core without_messages_there) ∙ ap (λ (k : ℕ). repeated k next a.core) is

@@ -9,7 +9,7 @@ use Rattle.world_base.specs.Core.{CoreState, Turn}
 use Rattle.world_base.specs.Inside.{Running, DoesTurn}
 use Rattle.world_base.specs.KeepAlive.{ends_silent, lowest_silent}
 use Rattle.world_base.specs.Reading.{ends}
-use Rattle.world_base.specs.Turns.{quiet}
+use Rattle.world_base.specs.Turns.{without_messages}
 
 -- more time went by than is allowed
 pub gone_by : (now last allowed : ℕ) → nat_lt allowed (now - last) ≡ nat_lt (last + allowed) now
@@ -20,7 +20,7 @@ gone_by now last allowed = by_order (cases_lt (last + allowed) now)
     by_order (inr within) = le-ltb allowed (now - last) (omega (arith, within)) ∙ sym (le-ltb (last + allowed) now within)
 
 -- none is silent
-pub silent_none : (now : ℕ) (core : CoreState) → lowest_silent now core.connections ≡ None → ends_silent now core ≡ quiet core
+pub silent_none : (now : ℕ) (core : CoreState) → lowest_silent now core.connections ≡ None → ends_silent now core ≡ without_messages core
 unfolding ends_silent
 silent_none now core none = rw none refl
 

@@ -9,16 +9,16 @@ use Rattle.node_connections.specs.broker_spec.declared.command.Output.{Output}
 use Rattle.ballot.specs.Effect.{Effect}
 use Rattle.world_base.specs.Core.{CoreState, Turn}
 use Rattle.world_base.specs.Inside.{Running, Does, DoesTurn}
-use Rattle.world_base.specs.Turns.{quiet, then_also, handled_all, handled, is_message}
+use Rattle.world_base.specs.Turns.{without_messages, then_also, handled_all, handled, is_message}
 
 -- nothing was done
-pub turns_idle : (r : Running) (out : List (Effect Command Output)) → DoesTurn r r out out (quiet r.core)
+pub turns_idle : (r : Running) (out : List (Effect Command Output)) → DoesTurn r r out out (without_messages r.core)
 turns_idle r out = record { given = []; appended = sym (append-nil out); exact = λ _. (refl, refl) }
 
 -- something without messages
-pub turns_quiet : (old new : Running) (out : List (Effect Command Output)) (core : CoreState) →
-    Does old new core → DoesTurn old new out out (quiet core)
-turns_quiet old new out core does =
+pub turns_without_messages : (old new : Running) (out : List (Effect Command Output)) (core : CoreState) →
+    Does old new core → DoesTurn old new out out (without_messages core)
+turns_without_messages old new out core does =
     record { given = []; appended = sym (append-nil out); exact = λ whole. (does whole, refl) }
 
 -- the parts of a step that was done

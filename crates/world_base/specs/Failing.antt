@@ -6,7 +6,7 @@ use Rattle.node_connections.specs.broker_spec.declared.command.Command.TheVarian
 use Rattle.node_connections.specs.declared.connection.Connection.{Connection}
 use Rattle.node_connections.specs.Connections.{has_failed, closed, changed}
 use Rattle.world_base.specs.Core.{CoreState, Turn}
-use Rattle.world_base.specs.Turns.{quiet, proposes, repeated}
+use Rattle.world_base.specs.Turns.{without_messages, proposes, repeated}
 
 -- the first failed connection is closed for good
 abbrev pub closes_failed : CoreState → CoreState
@@ -14,7 +14,7 @@ closes_failed core = record core { connections = changed has_failed closed core.
 
 -- a failed connection, if there is one, is closed for good, and its loss is proposed
 abbrev pub loses_if : Option Connection → CoreState → Turn
-loses_if None core = quiet core
+loses_if None core = without_messages core
 loses_if (Some c) core = proposes (commands.Lost c.name) (closes_failed core)
 
 -- the loss of the first failed connection is reported to the broker

@@ -13,7 +13,7 @@ use Rattle.node_connections.specs.declared.port.Port.{Port}
 use Rattle.node_connections.specs.declared.connection.Connection.{Connection}
 use Rattle.node_connections.specs.Connections.{is_open_at, is_first, is_proposed, noted_proposed, left_with, closed, changed}
 use Rattle.world_base.specs.Core.{CoreState, Turn}
-use Rattle.world_base.specs.Turns.{quiet, repeated, proposes, has_room}
+use Rattle.world_base.specs.Turns.{without_messages, repeated, proposes, has_room}
 pub use Rattle.node_connections.specs.Refusing.{refused}
 
 -- the open connection of a port, if there is one
@@ -30,11 +30,11 @@ abbrev pub loses : Port → Connection → CoreState → Turn
 loses port c core =
     if is_proposed c.stage
     then proposes (commands.Lost c.name) (changes port closed core)
-    else quiet (changes port closed core)
+    else without_messages (changes port closed core)
 
 -- a connection, if there is one, is closed as lost; nothing happens otherwise
 abbrev pub loses_open : Port → CoreState → Option Connection → Turn
-loses_open port core None = quiet core
+loses_open port core None = without_messages core
 loses_open port core (Some c) = loses port c core
 
 -- the open connection of a port is closed as lost, if there is one
@@ -46,28 +46,29 @@ abbrev pub connects : Port → ConnectionName → Connect → CoreState → Turn
 connects port name connect core =
     if has_room core
     then proposes (commands.Connect name connect.client connect.clean) core
-    else quiet (changes port closed core)
+    else without_messages (changes port closed core)
 
 -- a later packet, a CONNECT too, is proposed; a refused proposal closes the connection
 abbrev pub proposes_packet : Port → ConnectionName → Packet → CoreState → Turn
 proposes_packet port name packet core =
     if has_room core
     then proposes (commands.Packet name packet) core
-    else quiet (changes port closed core)
+    else without_messages (changes port closed core)
 
 -- the first packet of a connection must be a CONNECT (MQTT-3.1.0-1)
 abbrev pub takes_first_packet : Port → ConnectionName → Packet → CoreState → Turn
 takes_first_packet port name (packets.Connect connect) core =
     connects port name connect (changes port (noted_proposed connect.keep_alive) core)
-takes_first_packet port name _ core = quiet (changes port closed core)
+takes_first_packet port name _ core = without_messages (changes port closed core)
 
 -- what the front of a connection's bytes does to the node at this time: a later CONNECT that is
 -- refused with a code is a malformed packet
 abbrev pub reads : ℕ → Port → Connection → CoreState → Result (Packet × List ℕ) Stop → Turn
-reads now port c core (Err stops.More) = quiet core
+reads now port c core (Err stops.More) = without_messages core
 reads now port c core (Err (stops.Malformed kind)) = loses port c core
 reads now port c core (Err (stops.Refused code)) =
-    if is_first c.stage then quiet (changes port (refused code) core) else loses port c core
+    if is_first c.stage then without_messages (changes port (refused code) core)
+    else loses port c core
 reads now port c core (Ok (packet, rest)) =
     if is_first c.stage
     then takes_first_packet port c.name packet (changes port (left_with now rest) core)
@@ -75,7 +76,7 @@ reads now port c core (Ok (packet, rest)) =
 
 -- the packet at the front of its bytes is read, if there is a connection
 abbrev pub reads_of : ℕ → Port → CoreState → Option Connection → Turn
-reads_of now port core None = quiet core
+reads_of now port core None = without_messages core
 reads_of now port core (Some c) = reads now port c core (verdict c.unread)
 
 -- the next packet of a port

@@ -14,7 +14,7 @@ use Rattle.world_base.specs.Core.{CoreState, Turn, rules, serves}
 use Rattle.world_base.specs.Failing.{loses_all_failed}
 use Rattle.world_base.specs.KeepAlive.{ends_all_silent}
 use Rattle.world_base.specs.Reading.{changes, ends, reads_all}
-use Rattle.world_base.specs.Turns.{quiet, then_also, drives, proposes}
+use Rattle.world_base.specs.Turns.{without_messages, then_also, drives, proposes}
 
 -- how many connections it accepted in the ballot that it joined
 abbrev pub accepted : CoreState → ℕ
@@ -69,13 +69,13 @@ crashed core =
 abbrev pub does_item : Item → CoreState → Turn
 does_item (Peer message) core = drives (Receives message) core
 does_item (Tick now) core = then_also (drives Ticks core) (ends_all_silent now)
-does_item (Opened port now) core = quiet (opens port core)
+does_item (Opened port now) core = without_messages (opens port core)
 does_item (Bytes port piece now) core =
-    then_also (quiet (changes port (holding piece) core)) (reads_all now port)
+    then_also (without_messages (changes port (holding piece) core)) (reads_all now port)
 does_item (Ended port) core = ends port core
 does_item (Expel client) core = proposes (commands.Expel client) core
-does_item Cut core = quiet (cuts core)
-does_item Crash core = quiet (crashed core)
+does_item Cut core = without_messages (cuts core)
+does_item Crash core = without_messages (crashed core)
 
 -- what an item asks for, and then the reports of connections that failed in the step
 abbrev pub acts_on : Item → CoreState → Turn

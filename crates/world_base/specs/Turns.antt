@@ -19,8 +19,8 @@ use Rattle.world_base.specs.Core.{CoreState, Turn, rules, serves}
 use Rattle.node_connections.specs.packet.Spelling.{spelling}
 
 -- the node as it is, and no message is sent
-abbrev pub quiet : CoreState → Turn
-quiet core = record { core = core; messages = [] }
+abbrev pub without_messages : CoreState → Turn
+without_messages core = record { core = core; messages = [] }
 
 -- one thing, and then another
 abbrev pub then_also : Turn → (CoreState → Turn) → Turn
@@ -32,7 +32,7 @@ then_also first next =
 
 -- one thing this many times, each after the one before
 unfoldable pub repeated : ℕ → (CoreState → Turn) → CoreState → Turn
-repeated zero next core = quiet core
+repeated zero next core = without_messages core
 repeated (suc more) next core = then_also (next core) (repeated more next)
 
 -- ---- outputs
@@ -75,7 +75,8 @@ moved outcome core =
 -- a command of a client is proposed to it while the node serves clients
 unfoldable pub proposes : Command → CoreState → Turn
 proposes command core =
-    if serves core then moved (proposed rules core.replica.state command) core else quiet core
+    if serves core then moved (proposed rules core.replica.state command) core
+    else without_messages core
 
 -- a message of another node or a tick; a replica that has stopped does nothing
 abbrev pub heard : Input Command → ReplicaState State Command → Outcome State Command Output

@@ -16,7 +16,7 @@ ghost use Rattle.world_base.specs.Failing.{loses_all_failed, loses_failed};
 ghost use Rattle.world_base.specs.KeepAlive.{ends_all_silent};
 ghost use Rattle.world_base.specs.Reading.{connects, takes_first_packet, changes, ends, open_at, reads_all, reads_next, proposes_packet};
 ghost use Rattle.world_base.specs.Step.{acts_on, does_item};
-ghost use Rattle.world_base.specs.Turns.{proposes, quiet};
+ghost use Rattle.world_base.specs.Turns.{proposes, without_messages};
 
 use crate::item::Item;
 use crate::stepping_node::SteppingNode;
@@ -120,7 +120,7 @@ impl SteppingNode {
     // Holds bytes that arrived on a port. A connection without memory for them is lost.
     fn hold(&mut self, port: Port, piece: Piece, effects: &mut Vec<Effect<Command, Output>>)
         ensures exact { DoesTurn self.old self.new effects.old.items effects.new.items
-            (quiet (changes port (holding piece) self.old.core)) }
+            (without_messages (changes port (holding piece) self.old.core)) }
         ensures lossy { Ran
             (Holds port piece) self.old.core self.new.core effects.old.items effects.new.items }
     {
@@ -156,7 +156,7 @@ impl SteppingNode {
         ensures lossy { Ran
             (ReadsNext now port) self.old.core self.new.core effects.old.items effects.new.items }
         ensures done { result ≡ false → self.new.out_of_memory ≡ false →
-            reads_next now port self.new.core ≡ quiet self.new.core }
+            reads_next now port self.new.core ≡ without_messages self.new.core }
         ensures idle { result ≡ false → ReadsNext now port self.new.core (quietly self.new.core) }
     {
         let Some(index) = self.index_at(port) else {
@@ -257,7 +257,7 @@ impl SteppingNode {
         ensures exact { DoesTurn self.old self.new effects.old.items effects.new.items
             (if is_proposed stage
             then proposes (commands.Lost name) self.old.core
-            else quiet self.old.core) }
+            else without_messages self.old.core) }
         ensures lossy { Ran (ReportsLost (is_proposed stage) name) self.old.core self.new.core
             effects.old.items effects.new.items }
     {
@@ -310,7 +310,8 @@ impl SteppingNode {
         ensures lossy { Ran LosesFailed
             self.old.core self.new.core effects.old.items effects.new.items }
         ensures none { find has_failed self.old.core.connections ≡ None → self.new ≡ self.old }
-        ensures done { result ≡ false → loses_failed self.new.core ≡ quiet self.new.core }
+        ensures done { result ≡ false →
+            loses_failed self.new.core ≡ without_messages self.new.core }
         ensures idle { result ≡ false → LosesFailed self.new.core (quietly self.new.core) }
     {
         let Some(index) = self.index_failed() else {
