@@ -22,7 +22,7 @@ use Rattle.node_group.specs.world_base.declared.Port.{Port}
 use Rattle.node_group.specs.world_base.Connections.{noted_proposed, closed, failing, has_failed, holding, is_at, left_with, put_out}
 use Rattle.node_group.specs.world_base.Core.{CoreState}
 use Rattle.node_group.specs.world_base.Failing.{closes_failed}
-use Rattle.node_group.specs.world_base.Lossy.{Account, HandlesAll, Drives, Repeated, Performs, Takes, Then, quietly}
+use Rattle.node_group.specs.world_base.Lossy.{Account, HandlesAll, Drives, Repeated, Performs, Takes, Then, without_effects}
 use Rattle.node_group.specs.world_base.LossyProposals.{Declines, Proposes}
 use Rattle.node_group.specs.world_base.LossyProposals.Declines.{no_room, forgets, stops}
 use Rattle.node_group.specs.world_base.Lossy.HandlesAll.{nothing, does, sends, loses}
@@ -52,7 +52,7 @@ module _ (P : Connection → Type 0) (follows : IsFollowed P) where
   abbrev Keeps : (CoreState → Account → Type 0) → Type 0
   Keeps Does = (core : CoreState) (did : Account) → Does core did → All core → All did.core
 
-  becomes : (new : CoreState) (did : Account) → did ≡ quietly new → All new → All did.core
+  becomes : (new : CoreState) (did : Account) → did ≡ without_effects new → All new → All did.core
   becomes new did is all = subst (λ (d : Account). All d.core) (sym is) all
 
   then_kept : (F N : CoreState → Account → Type 0) → Keeps F → Keeps N → Keeps (Then F N)

@@ -31,7 +31,7 @@ use Rattle.node_group.specs.Group.{Group, after_turn, moment_of, replica_of, wit
 use Rattle.node_group.specs.Steps.{InputWasSent, keeping}
 use Rattle.node_group.specs.Losing.{WereSent, put_in_move, recorded_by}
 use Rattle.node_group.proofs.LosingNone.{sent_by}
-use Rattle.node_group.proofs.MovesHappen.{Once, changed_state, heard_as_running, heard_as_stopped, may_take, moves_happen, no_step, none_put, one_step, one_stop, quietly, room_is, state_of}
+use Rattle.node_group.proofs.MovesHappen.{Once, changed_state, heard_as_running, heard_as_stopped, may_take, moves_happen, no_step, none_put, one_step, one_stop, happens_without_messages, room_is, state_of}
 use Rattle.node_group.proofs.Packets.{AreTaken, none_taken, proposal_taken}
 use Rattle.node_group.proofs.Replicas.{changes_keep, room_serves, serving_runs}
 use Rattle.node_group.proofs.Thinning.{Given, KeptOf, kept_of_told, loses_more, nothing_kept, steps_lose, thinned_more}
@@ -144,9 +144,9 @@ losses_happen g n core turn (later_losing now port c packet rest did is_at later
     takes_happen g n core (changes port (left_with now rest) core) _ did kept at (changes_keep port (left_with now rest) core) taken t
 losses_happen g n core turn (tells_losing name did taken) kept at sent frozen t = takes_happen g n core core (commands.Lost name) did kept at refl taken t
 losses_happen g n core turn (expels_losing client did taken) kept at sent frozen t = takes_happen g n core core (commands.Expel client) did kept at refl taken t
-losses_happen g n core turn forgets kept at sent frozen t = quietly g n core turn.core kept at refl t
+losses_happen g n core turn forgets kept at sent frozen t = happens_without_messages g n core turn.core kept at refl t
 losses_happen g n core turn halts kept at sent frozen t =
     λ config earlier came. one_stop g n core (keeping kept turn) [] config earlier came at refl (ap messages (nothing_kept kept t)) refl
-losses_happen g n core turn (fails port) kept at sent frozen t = quietly g n core turn.core kept at (changed_state port failing core) t
-losses_happen g n core turn unheard kept at sent frozen t = quietly g n core turn.core kept at refl t
-losses_happen g n core turn (drops port piece) kept at sent frozen t = quietly g n core turn.core kept at (changed_state port closed core) t
+losses_happen g n core turn (fails port) kept at sent frozen t = happens_without_messages g n core turn.core kept at (changed_state port failing core) t
+losses_happen g n core turn unheard kept at sent frozen t = happens_without_messages g n core turn.core kept at refl t
+losses_happen g n core turn (drops port piece) kept at sent frozen t = happens_without_messages g n core turn.core kept at (changed_state port closed core) t

@@ -252,10 +252,10 @@ abbrev Happens : Group → ℕ → (core : CoreState) (turn : Turn) → Moves co
 Happens g n core turn m kept = (config : Config) (earlier : List (Moment State Command Output)) (came : Moments rules config (moment_of g ∷ earlier))
     → Once came (moment_of (after_turn (with_record g (recorded_by g.archive m)) n (keeping kept turn) (given_in m))) (put_in_move m) n (outputs (given_in m))
 
-pub quietly : (g : Group) (n : ℕ) (core later : CoreState) (kept : Given) → slice_get g.nodes n ≡ Some core → replica_of later ≡ replica_of core → Thinned kept []
+pub happens_without_messages : (g : Group) (n : ℕ) (core later : CoreState) (kept : Given) → slice_get g.nodes n ≡ Some core → replica_of later ≡ replica_of core → Thinned kept []
     → (config : Config) (earlier : List (Moment State Command Output)) (came : Moments rules config (moment_of g ∷ earlier))
     → Once came (moment_of (after_turn g n (keeping kept (without_messages later)) [])) [] n []
-quietly g n core later kept at same t config earlier came =
+happens_without_messages g n core later kept at same t config earlier came =
     no_step g n core (keeping kept (without_messages later)) [] config earlier came at same (ap messages (nothing_kept kept t)) refl
 
 pub state_of : (a b : CoreState) → a.replica ≡ b.replica → replica_of a ≡ replica_of b
@@ -369,7 +369,7 @@ lost_unheard g n core between command kept at same none_served t config earlier 
     by : (b : Bool) → b ≡ false → Thinned kept (let u : Turn = if b then moved (proposed rules (replica_of between) command) between else without_messages between in u).messages
         → Once came (moment_of (after_turn g n (keeping kept (let u : Turn = if b then moved (proposed rules (replica_of between) command) between else without_messages between in u)) [])) [] n []
     by true e f = absurd cc
-    by false e f = quietly g n core between kept at (state_of between core same) f config earlier came
+    by false e f = happens_without_messages g n core between kept at (state_of between core same) f config earlier came
 
 -- if it serves, that is reported to the broker
 lost_happens : (g : Group) (n : ℕ) (core between : CoreState) (command : Command) (kept : Given) → slice_get g.nodes n ≡ Some core → between.replica ≡ core.replica
@@ -406,8 +406,8 @@ cut_happens g n core kept at can reads t config earlier came =
 pub moves_happen : (g : Group) (n : ℕ) (core : CoreState) (turn : Turn) (m : Moves core turn) (kept : Given) → slice_get g.nodes n ≡ Some core → WasSent g n m
     → Thinned kept turn.messages → Happens g n core turn m kept
 moves_happen g n core turn (hears input other) kept at sent t = heard_happens g n core input kept at other sent t
-moves_happen g n core turn (opens_one port) kept at sent t = quietly g n core _ kept at (state_of (opens port core) core (opens_keeps port core)) t
-moves_happen g n core turn (holds port piece) kept at sent t = quietly g n core _ kept at (changed_state port (holding piece) core) t
+moves_happen g n core turn (opens_one port) kept at sent t = happens_without_messages g n core _ kept at (state_of (opens port core) core (opens_keeps port core)) t
+moves_happen g n core turn (holds port piece) kept at sent t = happens_without_messages g n core _ kept at (changed_state port (holding piece) core) t
 moves_happen g n core turn (reads_first now port c connect rest is_at first is room) kept at sent t =
     put_happens g n core (changes port (noted_proposed connect.keep_alive) (changes port (left_with now rest) core)) _ kept at
     (changes_keep port (noted_proposed connect.keep_alive) (changes port (left_with now rest) core) ∙ changes_keep port (left_with now rest) core)
@@ -415,8 +415,8 @@ moves_happen g n core turn (reads_first now port c connect rest is_at first is r
 moves_happen g n core turn (reads_later now port c packet rest is_at later is room) kept at sent t =
     put_happens g n core (changes port (left_with now rest) core) _ kept at (changes_keep port (left_with now rest) core)
     (room_serves core (nat_lt (places (replica_of core).log) max_places) room) (λ x is_one. room_is core room) t
-moves_happen g n core turn (closes port) kept at sent t = quietly g n core _ kept at (changed_state port closed core) t
-moves_happen g n core turn (refuses port c code is_at first is) kept at sent t = quietly g n core _ kept at (changed_state port (refused code) core) t
+moves_happen g n core turn (closes port) kept at sent t = happens_without_messages g n core _ kept at (changed_state port closed core) t
+moves_happen g n core turn (refuses port c code is_at first is) kept at sent t = happens_without_messages g n core _ kept at (changed_state port (refused code) core) t
 moves_happen g n core turn (loses_one port c is_at was_asked) kept at sent t =
     lost_happens g n core (changes port closed core) (commands.Lost c.name) kept at (changes_keep port closed core) (lost_is_none core c.name) (serves core) refl t
 moves_happen g n core turn (loses_next c is_at) kept at sent t =
@@ -426,5 +426,5 @@ moves_happen g n core turn (expels_one client) kept at sent t =
 moves_happen g n core turn (cuts_log can) kept at sent t = cut_happens g n core kept at can sent t
 moves_happen g n core turn crashes kept at sent t =
     λ config earlier came. one_stop g n core (keeping kept turn) [] config earlier came at refl (ap messages (nothing_kept kept t)) refl
-moves_happen g n core turn settles kept at sent t = quietly g n core _ kept at (state_of (settled core) core (settles_keeps core)) t
-moves_happen g n core turn (hands port) kept at sent t = quietly g n core _ kept at (state_of (hands_over port core) core (hands_keeps port core)) t
+moves_happen g n core turn settles kept at sent t = happens_without_messages g n core _ kept at (state_of (settled core) core (settles_keeps core)) t
+moves_happen g n core turn (hands port) kept at sent t = happens_without_messages g n core _ kept at (state_of (hands_over port core) core (hands_keeps port core)) t

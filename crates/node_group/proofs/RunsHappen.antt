@@ -21,7 +21,7 @@ use Rattle.node_group.specs.Group.{Group, after_turn, moment_of, with_record}
 use Rattle.node_group.specs.Steps.{InputWasSent, keeping}
 use Rattle.node_group.specs.Losing.{WereSent, all_given, put_in_move, put_in_run, recorded_by, recorded_in}
 use Rattle.node_group.proofs.LossesHappen.{losses_happen}
-use Rattle.node_group.proofs.MovesHappen.{Further, quietly}
+use Rattle.node_group.proofs.MovesHappen.{Further, happens_without_messages}
 use Rattle.node_group.proofs.Thinning.{Given, KeptOfBoth, kept_of_both}
 use Rattle.node_group.specs.Pasts.{packets_in}
 use Rattle.node_group.proofs.Packets.{packets_join}
@@ -90,7 +90,7 @@ kept_turns g n first next given more kept k =
 pub runs_happen : (g : Group) (n : ℕ) (core : CoreState) (turn : Turn) (run : LossyRuns core turn) (kept : Given) → slice_get g.nodes n ≡ Some core → WereSent g n (all_inputs run)
     → AllFreeze run → Thinned kept turn.messages → (config : Config) (earlier : List (Moment State Command Output)) (came : Moments rules config (moment_of g ∷ earlier))
     → Further came (moment_of (after_turn (with_record g (recorded_in g.archive run)) n (keeping kept turn) (all_given run))) (put_in_run run)
-runs_happen g n core turn rests kept at sent frozen t config earlier came = (quietly g n core core kept at refl t config earlier came).further
+runs_happen g n core turn rests kept at sent frozen t config earlier came = (happens_without_messages g n core core kept at refl t config earlier came).further
 runs_happen g n core turn (goes_on {first = first} {next = next} m run) kept at sent frozen t config earlier came =
     let k = kept_of_both first.messages next.messages kept t in
     let s = were_both g n (inputs_in m) (all_inputs run) sent in

@@ -10,7 +10,7 @@ use Rattle.world_base.specs.declared.item.Item.{Item}
 use Rattle.world_base.specs.declared.item.Item.TheVariants.{Peer, Tick, Opened, Bytes, Ended, Expel, Cut, Crash}
 use Rattle.world_base.specs.Connections.{closed, holding}
 use Rattle.world_base.specs.Core.{CoreState, Turn}
-use Rattle.world_base.specs.Lossy.{Account, joined, quietly}
+use Rattle.world_base.specs.Lossy.{Account, joined, without_effects}
 use Rattle.world_base.specs.LossyStep.{Cuts, Holds, LosesAllFailed, Opens, DoesItem}
 use Rattle.world_base.specs.LossyReading.{EndsSilent, ReadsNext}
 use Rattle.world_base.specs.LossyStep.Cuts.{nothing_to_cut, cuts_log as cuts_log_at, forgets_cut}
@@ -47,12 +47,12 @@ before_calm core did may_cut bytes none still next tail = first_calm may_cut byt
 held : (port : Port) (piece : List ℕ) (now : ℕ) (core : CoreState) (did : Account) → Holds port piece core did
     → Before core did [] false (λ x. came_with x (Bytes port piece now) core)
 held port piece now core did (inl is) =
-    before_is core (quietly (changes port (holding piece) core)) did [] false _ is
+    before_is core (without_effects (changes port (holding piece) core)) did [] false _ is
     (λ next tail. first_move (exactly (holds port piece)) false (λ x. came_with x (Bytes port piece now) core) refl (λ x. refl) (λ e. refl) tt tail)
 held port piece now core did (inr (none_open none is)) =
-    before_is core (quietly core) did [] false _ is (λ next tail. first_calm false (λ x. came_with x (Bytes port piece now) core) (λ x. ap (piece_on x piece) none) tail)
+    before_is core (without_effects core) did [] false _ is (λ next tail. first_calm false (λ x. came_with x (Bytes port piece now) core) (λ x. ap (piece_on x piece) none) tail)
 held port piece now core did (inr (unproposed c found other is)) =
-    before_is core (quietly (changes port closed core)) did [] false _ is
+    before_is core (without_effects (changes port closed core)) did [] false _ is
     (λ next tail. first_move (drops port piece) false (λ x. came_with x (Bytes port piece now) core) refl (λ x. refl) (λ e. refl) tt tail)
 held port piece now core did (inr (proposed c found heard proposes)) =
     λ next tail. first_move (drops port piece) false (λ x. came_with x (Bytes port piece now) core) refl (λ x. refl) (λ e. refl) tt
@@ -60,17 +60,17 @@ held port piece now core did (inr (proposed c found heard proposes)) =
 
 opened : (port : Port) (now : ℕ) (core : CoreState) (did : Account) → Opens port core did → Before core did [] false (λ x. came_with x (Opened port now) core)
 opened port now core did (inl is) =
-    before_is core (quietly (opens port core)) did [] false _ is
-    (before_calm core (quietly (opens port core)) false (λ x. []) (λ x. refl) (calm_move (exactly (opens_one port)) (refl, refl, refl, λ x. refl)))
-opened port now core did (inr is) = before_is core (quietly core) did [] false _ is (λ next tail. first_calm false (λ x. []) (λ x. refl) tail)
+    before_is core (without_effects (opens port core)) did [] false _ is
+    (before_calm core (without_effects (opens port core)) false (λ x. []) (λ x. refl) (calm_move (exactly (opens_one port)) (refl, refl, refl, λ x. refl)))
+opened port now core did (inr is) = before_is core (without_effects core) did [] false _ is (λ next tail. first_calm false (λ x. []) (λ x. refl) tail)
 
 cut : (core : CoreState) (did : Account) → Cuts core did → Before core did [] true (λ x. came_with x Cut core)
-cut core did (nothing_to_cut none is) = before_is core (quietly core) did [] true _ is (λ next tail. first_calm true (λ x. []) (λ x. refl) tail)
+cut core did (nothing_to_cut none is) = before_is core (without_effects core) did [] true _ is (λ next tail. first_calm true (λ x. []) (λ x. refl) tail)
 cut core did (cuts_log_at can reads is) =
-    before_is core (quietly (with_cut core)) did [] true _ is (λ next tail. first_move (exactly (cuts_log can)) true (λ x. []) refl (λ x. refl) (λ e. absurd cc) reads tail)
+    before_is core (without_effects (with_cut core)) did [] true _ is (λ next tail. first_move (exactly (cuts_log can)) true (λ x. []) refl (λ x. refl) (λ e. absurd cc) reads tail)
 cut core did (forgets_cut can is) =
-    before_is core (quietly (with_loss core)) did [] true _ is
-    (before_calm core (quietly (with_loss core)) true (λ x. []) (λ x. refl) (calm_move forgets (refl, refl, refl, λ x. refl)))
+    before_is core (without_effects (with_loss core)) did [] true _ is
+    (before_calm core (without_effects (with_loss core)) true (λ x. []) (λ x. refl) (calm_move forgets (refl, refl, refl, λ x. refl)))
 
 taken_in : (item : Item) (core : CoreState) (did : Account) → DoesItem item core did → Before core did (heard_with item) (is_cut item) (λ x. came_with x item core)
 taken_in (Peer message) core did drives = λ next tail. first_move (hears_losing (Receives message) did refl drives) false (λ x. []) refl (λ x. refl) (λ e. refl) tt tail
@@ -87,7 +87,7 @@ taken_in (Ended port) core did runs = before_calm core did false (λ x. []) (λ 
 taken_in (Expel client) core did runs = before_calm core did false (λ x. []) (λ x. refl) (still_expelled client core did runs)
 taken_in Cut core did c = cut core did c
 taken_in Crash core did is =
-    before_is core (quietly (crashed core)) did [] false _ is (λ next tail. first_move (exactly crashes) false (λ x. []) refl (λ x. refl) (λ e. refl) tt tail)
+    before_is core (without_effects (crashed core)) did [] false _ is (λ next tail. first_move (exactly crashes) false (λ x. []) refl (λ x. refl) (λ e. refl) tt tail)
 
 -- ---- a step
 

@@ -16,7 +16,7 @@ use Rattle.world_base.specs.declared.Connection.{Connection}
 use Rattle.world_base.specs.Connections.{noted_proposed, closed, failing, is_at, is_first, is_open_at, is_over, left_with}
 use Rattle.world_base.specs.Core.{CoreState, Turn}
 use Rattle.world_base.specs.Failing.{closes_failed}
-use Rattle.world_base.specs.Lossy.{Account, Repeated, Then, quietly}
+use Rattle.world_base.specs.Lossy.{Account, Repeated, Then, without_effects}
 use Rattle.world_base.specs.LossyProposals.{Declines, Proposes}
 use Rattle.world_base.specs.LossyProposals.Declines.{no_room, forgets as forgets_it, stops}
 use Rattle.world_base.specs.LossyStep.{LosesAllFailed}
@@ -71,10 +71,10 @@ calm_move {core = core} {t = t} m still =
 abbrev pub Still : CoreState → Account → Type 0
 Still core did = Calm core (turn_of did)
 
-by_account : (core new : CoreState) (did : Account) → did ≡ quietly new → Calm core (without_messages new) → Still core did
+by_account : (core new : CoreState) (did : Account) → did ≡ without_effects new → Calm core (without_messages new) → Still core did
 by_account core new did is calm = subst (λ (d : Account). Calm core (turn_of d)) (sym is) calm
 
-by_none : (core : CoreState) (did : Account) → did ≡ quietly core → Still core did
+by_none : (core : CoreState) (did : Account) → did ≡ without_effects core → Still core did
 by_none core did is = by_account core core did is (rests, tt)
 
 still_then : (P Q : CoreState → Account → Type 0) → ((k : CoreState) (d : Account) → P k d → Still k d) →
@@ -159,7 +159,7 @@ halts_before port f core = refl
 
 -- the command is not taken, and then the connection is closed so: as if it had been closed before
 declined : (port : Port) (f : Connection → Connection) (core between : CoreState) (did : Account) → changes port f between ≡ changes port f core
-    → Calm core (without_messages (changes port f core)) → Then Declines (λ k d. d ≡ quietly (changes port f k)) between did → Still core did
+    → Calm core (without_messages (changes port f core)) → Then Declines (λ k d. d ≡ without_effects (changes port f k)) between did → Still core did
 declined port f core between did same change t =
     subst (λ (d : Account). Still core d) (sym (t.is ∙ ap (λ (d : Account). let a : Account = record { core = d.core; given = t.one.given ++ d.given; messages = t.one.messages ++ d.messages } in a) t.next))
     (by t.one t.first)

@@ -24,7 +24,7 @@ use Rattle.world_base.specs.Connections.{noted_proposed, closed, failing, fresh,
 use Rattle.world_base.specs.Core.{CoreState, rules, serves}
 use Rattle.world_base.specs.Failing.{closes_failed}
 use Rattle.world_base.specs.Handing.{hands_over}
-use Rattle.world_base.specs.Lossy.{Account, HandlesAll, Drives, ReplicaSteps, Repeated, Performs, Takes, Then, quietly}
+use Rattle.world_base.specs.Lossy.{Account, HandlesAll, Drives, ReplicaSteps, Repeated, Performs, Takes, Then, without_effects}
 use Rattle.world_base.specs.LossyProposals.{Declines, Proposes}
 use Rattle.world_base.specs.LossyProposals.Declines.{no_room, forgets, stops}
 use Rattle.world_base.specs.Lossy.HandlesAll.{nothing, does, sends, loses}
@@ -171,7 +171,7 @@ keep_taken command core did t =
 
 -- ---- what was done, one thing after the other
 
-by_account : (core new : CoreState) (did : Account) → did ≡ quietly new → Keep core new → Keep core did.core
+by_account : (core new : CoreState) (did : Account) → did ≡ without_effects new → Keep core new → Keep core did.core
 by_account core new did is keep = subst (λ (d : Account). Keep core d.core) (sym is) keep
 
 keep_declined : (core : CoreState) (did : Account) → Declines core did → Keep core did.core

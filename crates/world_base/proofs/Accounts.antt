@@ -6,11 +6,11 @@ use Rattle.node_connections.specs.broker_spec.declared.command.Output.{Output}
 use Rattle.ballot.specs.Effect.{Effect}
 use Rattle.world_base.specs.Core.{CoreState}
 use Rattle.world_base.specs.Inside.{Ran}
-use Rattle.world_base.specs.Lossy.{Account, Repeated, Then, joined, quietly}
+use Rattle.world_base.specs.Lossy.{Account, Repeated, Then, joined, without_effects}
 
 -- ---- accounts
 
-joined_nothing : (did : Account) → joined did (quietly did.core) ≡ did
+joined_nothing : (did : Account) → joined did (without_effects did.core) ≡ did
 joined_nothing did =
     ap (λ (l : List (Effect Command Output)). let a : Account = record { core = did.core; given = l; messages = did.messages ++ [] } in a)
     (append-nil did.given)
@@ -33,10 +33,10 @@ joined_again a b c =
 -- ---- what the code did
 
 -- nothing was given
-pub ran_quietly : (Did : CoreState → Account → Type 0) (old new : CoreState) (x : List (Effect Command Output)) →
-    Did old (quietly new) → Ran Did old new x x
-ran_quietly Did old new x runs =
-    record { did = quietly new; runs = runs; core = refl; appended = sym (append-nil x) }
+pub ran_without_effects : (Did : CoreState → Account → Type 0) (old new : CoreState) (x : List (Effect Command Output)) →
+    Did old (without_effects new) → Ran Did old new x x
+ran_without_effects Did old new x runs =
+    record { did = without_effects new; runs = runs; core = refl; appended = sym (append-nil x) }
 
 -- another word for what was done
 pub ran_as : (P Q : CoreState → Account → Type 0) (a b c : CoreState) (x y : List (Effect Command Output)) →
@@ -69,7 +69,7 @@ module _ (Next : CoreState → Account → Type 0) where
   one_more zero core one two none next =
       record {
         one = two;
-        two = quietly two.core;
+        two = without_effects two.core;
         first = subst (λ (d : Account). Next d.core two) none next;
         next = refl;
         is = ap (λ (d : Account). joined d two) none ∙ sym (joined_nothing two);
@@ -84,7 +84,7 @@ module _ (Next : CoreState → Account → Type 0) where
       }
 
   -- the rest does nothing
-  no_more : (n m : ℕ) (core : CoreState) (did : Account) → Repeated n Next core did → Next did.core (quietly did.core) →
+  no_more : (n m : ℕ) (core : CoreState) (did : Account) → Repeated n Next core did → Next did.core (without_effects did.core) →
       Repeated (m + n) Next core did
   no_more n zero core did done idle =
       let same : n ≡ 0 + n = omega arith in subst (λ (k : ℕ). Repeated k Next core did) same done
@@ -92,10 +92,10 @@ module _ (Next : CoreState → Account → Type 0) where
       let same : suc (m + n) ≡ suc m + n = omega arith in
       subst (λ (k : ℕ). Repeated k Next core did) same
       (subst (λ (d : Account). Repeated (suc (m + n)) Next core d) (joined_nothing did)
-      (one_more (m + n) core did (quietly did.core) (no_more n m core did done idle) idle))
+      (one_more (m + n) core did (without_effects did.core) (no_more n m core did done idle) idle))
 
   pub ran_none : (core : CoreState) (x : List (Effect Command Output)) → Ran (Repeated 0 Next) core core x x
-  ran_none core x = ran_quietly (Repeated 0 Next) core core x refl
+  ran_none core x = ran_without_effects (Repeated 0 Next) core core x refl
 
   pub ran_more : (n : ℕ) (a b c : CoreState) (x y z : List (Effect Command Output)) →
       Ran (Repeated n Next) a b x y → Ran Next b c y z → Ran (Repeated (suc n) Next) a c x z
@@ -110,14 +110,14 @@ module _ (Next : CoreState → Account → Type 0) where
 
   -- the next would do nothing
   pub ran_enough : (n all : ℕ) (a b : CoreState) (x y : List (Effect Command Output)) → n ≤ all →
-      Ran (Repeated n Next) a b x y → Next b (quietly b) → Ran (Repeated all Next) a b x y
+      Ran (Repeated n Next) a b x y → Next b (without_effects b) → Ran (Repeated all Next) a b x y
   ran_enough n all a b x y few one idle =
       let rest : ℕ = all - n in
       let is : rest + n ≡ all = omega (arith, few) in
       record {
         did = one.did;
         runs = subst (λ (k : ℕ). Repeated k Next a one.did) is
-            (no_more n rest a one.did one.runs (subst (λ (k : CoreState). Next k (quietly k)) one.core idle));
+            (no_more n rest a one.did one.runs (subst (λ (k : CoreState). Next k (without_effects k)) one.core idle));
         core = one.core;
         appended = one.appended;
       }

@@ -17,12 +17,12 @@ use Rattle.ballot.specs.Sending.{Outcome, nothing_done}
 use Rattle.ballot.specs.Serving.{added, max_places, proposed}
 use Rattle.world_base.specs.Core.{CoreState, rules, serves}
 use Rattle.world_base.specs.Inside.{Acts, Answered, HandledAll, ProposedBy, Ran}
-use Rattle.world_base.specs.Lossy.{Account, HandlesAll, Drives, quietly}
+use Rattle.world_base.specs.Lossy.{Account, HandlesAll, Drives, without_effects}
 use Rattle.world_base.specs.LossyProposals.{Proposes}
 use Rattle.world_base.specs.LossyProposals.Declines.{no_room, forgets, stops}
 use Rattle.world_base.specs.Turns.{has_room, heard}
 use Rattle.world_base.proofs.Asked.{left_true, right_false, has_room_by, proposed-stopped}
-use Rattle.world_base.proofs.Accounts.{ran_quietly}
+use Rattle.world_base.proofs.Accounts.{ran_without_effects}
 use Rattle.world_base.proofs.Delivering.{delivers_nothing}
 
 -- ---- a message or a tick
@@ -150,19 +150,19 @@ answered (Err NotActive) old new command before later none serving step done hal
     let e = (inactive refl).1 in
     absurd cc
 answered (Err LogFull) old new command before later none serving step done halts inactive full is_full memory same err = (
-  no_room (full_in old serving (full refl)) (ap (λ (r : CountedReplica State Command). quietly (record old { replica = r })) (same refl)),
+  no_room (full_in old serving (full refl)) (ap (λ (r : CountedReplica State Command). without_effects (record old { replica = r })) (same refl)),
   err ∙ none,
 )
 answered (Err Memory) old new command before later none serving step done halts inactive full is_full memory same err = (
   forgets (room_in old serving (λ over. (let e = is_full over in absurd cc)))
-      (ap (λ (r : CountedReplica State Command). quietly (record old { replica = r })) (memory refl)),
+      (ap (λ (r : CountedReplica State Command). without_effects (record old { replica = r })) (memory refl)),
   err ∙ none,
 )
 answered (Err Halted) old new command before later none serving step done halts inactive full is_full memory same err =
     let did = stopped_by old.replica command new step.given (active_in old serving) (running_in old serving) (halts refl) step.steps in (
       stops (room_in old serving (λ over. (let e = is_full over in absurd cc)))
-          (ap (λ (s : ReplicaState State Command). quietly (record old { replica = record { state = s; losses = new.losses } })) did.0
-          ∙ ap (λ (n : ℕ). quietly (record old { replica = record { state = halted rules old.replica.state; losses = n } })) did.1),
+          (ap (λ (s : ReplicaState State Command). without_effects (record old { replica = record { state = s; losses = new.losses } })) did.0
+          ∙ ap (λ (n : ℕ). without_effects (record old { replica = record { state = halted rules old.replica.state; losses = n } })) did.1),
       err ∙ none,
     )
 
@@ -200,7 +200,7 @@ proposed_all true command a b c given x y took delivered =
 proposed_all false command a b c given x y declined delivered =
     let same = delivers_nothing given b c delivered.messages delivered.handles declined.1 in
     record {
-      did = quietly b;
+      did = without_effects b;
       runs = declined.0;
       core = same.0;
       appended = delivered.appended ∙ ap (λ (l : List (Effect Command Output)). x ++ l) same.1;
@@ -210,7 +210,7 @@ proposed_all false command a b c given x y declined delivered =
 pub proposed_not : (command : Command) (core : CoreState) (x : List (Effect Command Output)) → serves core ≡ false →
     Ran (ProposedBy false command) core core x x
 proposed_not command core x idle =
-    ran_quietly (ProposedBy false command) core core x (no_room (rw idle refl) refl)
+    ran_without_effects (ProposedBy false command) core core x (no_room (rw idle refl) refl)
 
 pub as_proposes : (taken : Bool) (command : Command) (core : CoreState) (did : Account) → ProposedBy taken command core did →
     Proposes command core did

@@ -84,7 +84,7 @@ hands_over_waits port core each = by (listed_at port core)
 
 -- ---- an item
 
--- what it does to a node, quietly
+-- what it does to a node, without messages
 record GoesCalmly (item : Item) (core : CoreState) : Type 0 where
   next : CoreState
   is : does_item item core ≡ without_messages next

@@ -8,7 +8,7 @@ use Rattle.ballot.specs.Losses.{one_more}
 use Rattle.ballot.specs.Replica.{CountedReplica, ReplicaState}
 use Rattle.world_base.specs.Core.{CoreState, rules}
 use Rattle.world_base.specs.Inside.{Does, Running}
-use Rattle.world_base.specs.Lossy.{quietly}
+use Rattle.world_base.specs.Lossy.{without_effects}
 use Rattle.world_base.specs.LossyStep.{Cuts}
 use Rattle.world_base.specs.LossyStep.Cuts.{nothing_to_cut, cuts_log, forgets_cut}
 use Rattle.world_base.specs.Step.{cuts}
@@ -22,8 +22,8 @@ pub record ReplicaCut (core : CoreState) (new : CountedReplica State Command) (r
   pub idle : can_cut core.replica.state ≡ false → (result ≡ false) × (new ≡ core.replica)
 
 pub cut_runs : (core : CoreState) (new : CountedReplica State Command) (result : Bool) → ReplicaCut core new result →
-    Cuts core (quietly (record core { replica = new }))
-cut_runs core new true r = cuts_log (r.done refl).0 (r.thaws refl) (ap (λ (x : CountedReplica State Command). quietly (record core { replica = x })) (r.done refl).1)
+    Cuts core (without_effects (record core { replica = new }))
+cut_runs core new true r = cuts_log (r.done refl).0 (r.thaws refl) (ap (λ (x : CountedReplica State Command). without_effects (record core { replica = x })) (r.done refl).1)
 cut_runs core new false r = by_need (cases_Bool (can_cut core.replica.state))
   where
     lost : can_cut core.replica.state ≡ true → new ≡ record core.replica { losses = one_more core.replica.losses }
@@ -31,9 +31,9 @@ cut_runs core new false r = by_need (cases_Bool (can_cut core.replica.state))
         ap (λ (s : ReplicaState State Command). let z : CountedReplica State Command = record { state = s; losses = new.losses } in z) (r.same refl)
         ∙ ap (λ k. let z : CountedReplica State Command = record { state = core.replica.state; losses = k } in z) (r.counts refl can)
 
-    by_need : (can_cut core.replica.state ≡ true) ⊎ (can_cut core.replica.state ≡ false) → Cuts core (quietly (record core { replica = new }))
-    by_need (inl can) = forgets_cut can (ap (λ (x : CountedReplica State Command). quietly (record core { replica = x })) (lost can))
-    by_need (inr cannot) = nothing_to_cut cannot (ap (λ (x : CountedReplica State Command). quietly (record core { replica = x })) (r.idle cannot).1)
+    by_need : (can_cut core.replica.state ≡ true) ⊎ (can_cut core.replica.state ≡ false) → Cuts core (without_effects (record core { replica = new }))
+    by_need (inl can) = forgets_cut can (ap (λ (x : CountedReplica State Command). without_effects (record core { replica = x })) (lost can))
+    by_need (inr cannot) = nothing_to_cut cannot (ap (λ (x : CountedReplica State Command). without_effects (record core { replica = x })) (r.idle cannot).1)
 
 -- below the greatest count, one that was not counted is the definition's
 pub cut_exactly : (core : CoreState) (new : CountedReplica State Command) (result : Bool) → ReplicaCut core new result →

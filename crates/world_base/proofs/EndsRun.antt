@@ -13,7 +13,7 @@ use Rattle.world_base.specs.Core.{CoreState}
 use Rattle.world_base.specs.Failing.{closes_failed}
 use Rattle.world_base.specs.Inside.{ProposedBy, Ran, ReportsLost, Running}
 use Rattle.world_base.specs.KeepAlive.{lowest_silent}
-use Rattle.world_base.specs.Lossy.{Account, Then, quietly}
+use Rattle.world_base.specs.Lossy.{Account, Then, without_effects}
 use Rattle.world_base.specs.LossyProposals.{Declines, Proposes}
 use Rattle.world_base.specs.LossyStep.{Holds}
 use Rattle.world_base.specs.LossyReading.{TakesOr, Ends, EndsSilent, LosesFailed, Shuts}
@@ -21,7 +21,7 @@ use Rattle.world_base.specs.LossyReading.Ends.{none_open, unproposed, proposed}
 use Rattle.world_base.specs.LossyReading.EndsSilent.{none_silent, ends_one}
 use Rattle.world_base.specs.LossyReading.LosesFailed.{none_failed, tells_one}
 use Rattle.world_base.specs.Reading.{changes, open_at}
-use Rattle.world_base.proofs.Accounts.{ran_as, ran_quietly, ran_then}
+use Rattle.world_base.proofs.Accounts.{ran_as, ran_without_effects, ran_then}
 use Rattle.world_base.proofs.Answering.{as_proposes}
 
 -- the core of a node that became another
@@ -31,11 +31,11 @@ core_of a b e = ap (λ (r : Running). r.core) e
 -- ---- a connection of a port ends
 
 pub ran_none_open : (port : Port) (core : CoreState) (x : List (Effect Command Output)) → open_at port core ≡ None → Ran (Ends port) core core x x
-ran_none_open port core x e = ran_quietly (Ends port) core core x (none_open e refl)
+ran_none_open port core x e = ran_without_effects (Ends port) core core x (none_open e refl)
 
 pub ran_unproposed : (port : Port) (c : Connection) (a b : CoreState) (x : List (Effect Command Output)) → open_at port a ≡ Some c →
     is_proposed c.stage ≡ false → b ≡ changes port closed a → Ran (Ends port) a b x x
-ran_unproposed port c a b x found other shut = ran_quietly (Ends port) a b x (unproposed c found other (ap quietly shut))
+ran_unproposed port c a b x found other shut = ran_without_effects (Ends port) a b x (unproposed c found other (ap without_effects shut))
 
 pub ran_proposed : (port : Port) (c : Connection) (a b r : CoreState) (taken : Bool) (x y : List (Effect Command Output)) →
     open_at port a ≡ Some c → is_proposed c.stage ≡ true → b ≡ changes port closed a →
@@ -60,7 +60,7 @@ ran_proposes command taken a b x y ran = ran_as (ProposedBy taken command) (Prop
 pub ran_tells_not : (heard : Bool) (name : ConnectionName) (a : CoreState) (x : List (Effect Command Output)) → heard ≡ false →
     Ran (ReportsLost heard name) a a x x
 ran_tells_not heard name a x is =
-    subst (λ (t : Bool). Ran (ReportsLost t name) a a x x) (sym is) (ran_quietly (ReportsLost false name) a a x refl)
+    subst (λ (t : Bool). Ran (ReportsLost t name) a a x x) (sym is) (ran_without_effects (ReportsLost false name) a a x refl)
 
 pub ran_lost : (port : Port) (c : Connection) (a b r : CoreState) (x y : List (Effect Command Output)) → open_at port a ≡ Some c →
     b ≡ changes port closed a → Ran (ReportsLost (is_proposed c.stage) c.name) b r x y → Ran (Ends port) a r x y
@@ -71,7 +71,7 @@ ran_lost port c a b r x y found shut ran = by (is_proposed c.stage) refl ran
         ran_as (ReportsLost true c.name) (Ends port) a b r x y
         (λ did runs. proposed c found e (subst (λ (k : CoreState). ReportsLost true c.name k did) shut runs)) tells
     by false e tells =
-        ran_as (ReportsLost false c.name) (Ends port) a b r x y (λ did runs. unproposed c found e (runs ∙ ap quietly shut)) tells
+        ran_as (ReportsLost false c.name) (Ends port) a b r x y (λ did runs. unproposed c found e (runs ∙ ap without_effects shut)) tells
 
 -- ---- silent and failed ones
 
@@ -81,12 +81,12 @@ ran_silent now port a b x y found ran = ran_as (Ends port) (EndsSilent now) a a 
 
 pub ran_none_failed : (core : CoreState) (x : List (Effect Command Output)) → find has_failed core.connections ≡ None →
     Ran LosesFailed core core x x
-ran_none_failed core x e = ran_quietly LosesFailed core core x (none_failed e refl)
+ran_none_failed core x e = ran_without_effects LosesFailed core core x (none_failed e refl)
 
-pub idle_failed : (core : CoreState) → find has_failed core.connections ≡ None → LosesFailed core (quietly core)
+pub idle_failed : (core : CoreState) → find has_failed core.connections ≡ None → LosesFailed core (without_effects core)
 idle_failed core e = none_failed e refl
 
-pub idle_silent : (now : ℕ) (core : CoreState) → lowest_silent now core.connections ≡ None → EndsSilent now core (quietly core)
+pub idle_silent : (now : ℕ) (core : CoreState) → lowest_silent now core.connections ≡ None → EndsSilent now core (without_effects core)
 idle_silent now core e = none_silent e refl
 
 pub ran_failed : (c : Connection) (a b r : CoreState) (taken : Bool) (x y : List (Effect Command Output)) →
@@ -106,23 +106,23 @@ ran_asked taken command Otherwise a b x y is ran =
     (subst (λ (t : Bool). Ran (ProposedBy t command) a b x y) is ran)
 
 pub ran_otherwise : (taken : Bool) (command : Command) (Otherwise : CoreState → Account → Type 0) (a b c : CoreState)
-    (x y : List (Effect Command Output)) → taken ≡ false → Ran (ProposedBy taken command) a b x y → Otherwise b (quietly c) →
+    (x y : List (Effect Command Output)) → taken ≡ false → Ran (ProposedBy taken command) a b x y → Otherwise b (without_effects c) →
     Ran (TakesOr command Otherwise) a c x y
 ran_otherwise taken command Otherwise a b c x y is ran other =
     ran_as (Then Declines Otherwise) (TakesOr command Otherwise) a a c x y (λ did runs. inr runs)
     (ran_then Declines Otherwise a b c x y y (subst (λ (t : Bool). Ran (ProposedBy t command) a b x y) is ran)
-    (ran_quietly Otherwise b c y other))
+    (ran_without_effects Otherwise b c y other))
 
 -- a connection was closed, or closed as lost
-pub shuts_by : (port : Port) (a b : CoreState) → (b ≡ changes port closed a) ⊎ (b ≡ changes port failing a) → Shuts port a (quietly b)
-shuts_by port a b (inl e) = inl (ap quietly e)
-shuts_by port a b (inr e) = inr (ap quietly e)
+pub shuts_by : (port : Port) (a b : CoreState) → (b ≡ changes port closed a) ⊎ (b ≡ changes port failing a) → Shuts port a (without_effects b)
+shuts_by port a b (inl e) = inl (ap without_effects e)
+shuts_by port a b (inr e) = inr (ap without_effects e)
 
 -- ---- bytes that came
 
 pub ran_held : (port : Port) (piece : List ℕ) (a b : CoreState) (x : List (Effect Command Output)) → b ≡ changes port (holding piece) a →
     Ran (Holds port piece) a b x x
-ran_held port piece a b x e = ran_quietly (Holds port piece) a b x (inl (ap quietly e))
+ran_held port piece a b x e = ran_without_effects (Holds port piece) a b x (inl (ap without_effects e))
 
 pub ran_not_held : (port : Port) (piece : List ℕ) (a b r : CoreState) (x y : List (Effect Command Output)) → b ≡ a →
     Ran (Ends port) b r x y → Ran (Holds port piece) a r x y

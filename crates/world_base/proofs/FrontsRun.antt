@@ -20,12 +20,12 @@ use Rattle.world_base.specs.Core.{CoreState}
 use Rattle.node_connections.specs.Fronts.{FrontNeedsMemory, HasNoPacket}
 use Rattle.node_connections.specs.Inside.{TakesFront}
 use Rattle.world_base.specs.Inside.{TakesPacket, Ran, ReportsLost}
-use Rattle.world_base.specs.Lossy.{quietly}
+use Rattle.world_base.specs.Lossy.{without_effects}
 use Rattle.world_base.specs.LossyReading.{TakesFirstPacket, Connects, Ends, MayEnd, ReadsNext, ProposesPacket}
 use Rattle.world_base.specs.LossyReading.Ends.{none_open}
 use Rattle.world_base.specs.LossyReading.ReadsNext.{waits, first, later, refuses, ends}
 use Rattle.world_base.specs.Reading.{changes, open_at, refused}
-use Rattle.world_base.proofs.Accounts.{ran_as, ran_quietly}
+use Rattle.world_base.proofs.Accounts.{ran_as, ran_without_effects}
 use Rattle.world_base.proofs.EndsRun.{ran_lost, ran_none_open}
 use Rattle.world_base.proofs.Fronts.{becomes_itself, becomes_same}
 
@@ -45,7 +45,7 @@ ran_nothing_open now port core x e = ends_there now port core core x x (none_end
 pub ran_waits : (now : ℕ) (port : Port) (c new : Connection) (a b : CoreState) (x : List (Effect Command Output)) →
     open_at port a ≡ Some c → TakesFront now c fronts.More new → b ≡ changes port (λ _. new) a → Ran (ReadsNext now port) a b x x
 ran_waits now port c new a b x found did is =
-    ran_quietly (ReadsNext now port) a b x (waits c found did.0 (ap quietly (is ∙ becomes_itself port a c new found did.1)))
+    ran_without_effects (ReadsNext now port) a b x (waits c found did.0 (ap without_effects (is ∙ becomes_itself port a c new found did.1)))
 
 -- a packet
 pub ran_packet : (now : ℕ) (port : Port) (c new : Connection) (packet : Packet) (a b r : CoreState) (x y : List (Effect Command Output)) →
@@ -83,16 +83,16 @@ ran_connects awaits port name connect packet a b r x y is connects left ran =
     (λ did runs. subst (λ (k : CoreState). Connects port name connect k did) left runs) ran))
 
 other_begins : (port : Port) (name : ConnectionName) (packet : Packet) (a b : CoreState) →
-    ((connect : Connect) → packet ≡ packets.Connect connect → ⊥) → b ≡ changes port closed a → TakesFirstPacket port name packet a (quietly b)
+    ((connect : Connect) → packet ≡ packets.Connect connect → ⊥) → b ≡ changes port closed a → TakesFirstPacket port name packet a (without_effects b)
 other_begins port name (packets.Connect connect) a b other shut = absurd (other connect refl)
-other_begins port name _ a b other shut = ap quietly shut
+other_begins port name _ a b other shut = ap without_effects shut
 
 pub ran_other : (awaits : Bool) (port : Port) (name : ConnectionName) (packet : Packet) (a b : CoreState)
     (x : List (Effect Command Output)) → awaits ≡ true → ((connect : Connect) → packet ≡ packets.Connect connect → ⊥) →
     b ≡ changes port closed a → Ran (TakesPacket awaits port name packet) a b x x
 ran_other awaits port name packet a b x is other shut =
     subst (λ (f : Bool). Ran (TakesPacket f port name packet) a b x x) (sym is)
-    (ran_quietly (TakesPacket true port name packet) a b x (other_begins port name packet a b other shut))
+    (ran_without_effects (TakesPacket true port name packet) a b x (other_begins port name packet a b other shut))
 
 -- ---- no packet, or no memory
 
@@ -116,7 +116,7 @@ refused_there now port c new code a b r x y found did is ran = by (is_first c.st
     by : (f : Bool) → is_first c.stage ≡ f → new ≡ (if f then refused code c else closed c) → Ran (ReadsNext now port) a r x y
     by true e answered =
         ran_as (ReportsLost false c.name) (ReadsNext now port) a b r x y
-        (λ done runs. refuses c code found e did.0 (runs ∙ ap quietly (is ∙ becomes_same port a c new (refused code) found answered)))
+        (λ done runs. refuses c code found e did.0 (runs ∙ ap without_effects (is ∙ becomes_same port a c new (refused code) found answered)))
         (subst (λ (p : Bool). Ran (ReportsLost p c.name) b r x y) (first_not_proposed c.stage e) ran)
     by false e shut = closed_there now port c new a b r x y found (inl (inr (e, (code, did.0)))) shut is ran
 
@@ -137,14 +137,14 @@ ran_out_of_memory now port c new a b r x y found did is ran =
     closed_there now port c new a b r x y found (inr did.0) did.1 is ran
 
 -- if no whole packet is at the front, the next time nothing is done either
-pub idle_open : (now : ℕ) (port : Port) (core : CoreState) → open_at port core ≡ None → ReadsNext now port core (quietly core)
+pub idle_open : (now : ℕ) (port : Port) (core : CoreState) → open_at port core ≡ None → ReadsNext now port core (without_effects core)
 idle_open now port core e = ends (none_ends port core e) (ends_none e)
   where
-    ends_none : open_at port core ≡ None → Ends port core (quietly core)
+    ends_none : open_at port core ≡ None → Ends port core (without_effects core)
     ends_none none = none_open none refl
 
 pub idle_waits : (now : ℕ) (port : Port) (c new : Connection) (a b : CoreState) → open_at port a ≡ Some c →
-    TakesFront now c fronts.More new → b ≡ changes port (λ _. new) a → ReadsNext now port b (quietly b)
+    TakesFront now c fronts.More new → b ≡ changes port (λ _. new) a → ReadsNext now port b (without_effects b)
 idle_waits now port c new a b found did is =
-    subst (λ (k : CoreState). ReadsNext now port k (quietly k)) (sym (is ∙ becomes_itself port a c new found did.1))
+    subst (λ (k : CoreState). ReadsNext now port k (without_effects k)) (sym (is ∙ becomes_itself port a c new found did.1))
     (waits c found did.0 refl)

@@ -21,7 +21,7 @@ use Rattle.node_connections.specs.Connections.{noted_proposed, closed, failing, 
 use Rattle.world_base.specs.Core.{CoreState, serves}
 use Rattle.world_base.specs.Failing.{closes_failed}
 use Rattle.world_base.specs.Going.{AGapIsClosed, AreNamedApart, EachGoesOn, GoOn, GoesOn, IsNew}
-use Rattle.world_base.specs.Lossy.{Account, Drives, ReplicaSteps, Repeated, Takes, Then, quietly}
+use Rattle.world_base.specs.Lossy.{Account, Drives, ReplicaSteps, Repeated, Takes, Then, without_effects}
 use Rattle.world_base.specs.LossyProposals.{Declines, Proposes}
 use Rattle.world_base.specs.LossyProposals.Declines.{no_room, forgets, stops}
 use Rattle.world_base.specs.LossyStep.{ActsOn, Cuts, Holds, Opens, DoesItem}
@@ -39,8 +39,8 @@ use Rattle.world_base.proofs.ConnectionsGoOn.{apart_on, changed_on, delivers_on,
 abbrev Goes : CoreState → Account → Type 0
 Goes core did = AreNamedApart core.connections → EachGoesOn did.given core.connections did.core.connections
 
-quietly_on : (core new : CoreState) (did : Account) → did ≡ quietly new → EachGoesOn [] core.connections new.connections → Goes core did
-quietly_on core new did is on apart =
+without_effects_on : (core new : CoreState) (did : Account) → did ≡ without_effects new → EachGoesOn [] core.connections new.connections → Goes core did
+without_effects_on core new did is on apart =
     subst (λ (d : Account). EachGoesOn d.given core.connections d.core.connections) (sym is) on
 
 -- after a change in which the replica gave nothing
@@ -59,7 +59,7 @@ then_on P Q p q core did t apart =
 
 repeated_on : (n : ℕ) (Next : CoreState → Account → Type 0) → ((k : CoreState) (d : Account) → Next k d → Goes k d) →
     (core : CoreState) (did : Account) → Repeated n Next core did → Goes core did
-repeated_on zero Next on core did none = quietly_on core core did none (each_itself core.connections)
+repeated_on zero Next on core did none = without_effects_on core core did none (each_itself core.connections)
 repeated_on (suc n) Next on core did done = then_on Next (Repeated n Next) on (repeated_on n Next on) core did done
 
 -- ---- changes of the open connection of a port
@@ -92,9 +92,9 @@ takes_on : (command : Command) (core : CoreState) (did : Account) → Takes comm
 takes_on command core did t apart = delivers_on did.given (record core { replica = t.replica }) did.core did.messages t.handles apart
 
 declines_on : (core : CoreState) (did : Account) → Declines core did → Goes core did
-declines_on core did (no_room full is) = quietly_on core _ did is (each_itself core.connections)
-declines_on core did (forgets room is) = quietly_on core _ did is (each_itself core.connections)
-declines_on core did (stops room is) = quietly_on core _ did is (each_itself core.connections)
+declines_on core did (no_room full is) = without_effects_on core _ did is (each_itself core.connections)
+declines_on core did (forgets room is) = without_effects_on core _ did is (each_itself core.connections)
+declines_on core did (stops room is) = without_effects_on core _ did is (each_itself core.connections)
 
 proposes_on : (command : Command) (core : CoreState) (did : Account) → Proposes command core did → Goes core did
 proposes_on command core did (inl takes) = takes_on command core did takes
@@ -108,18 +108,18 @@ asks_on command Otherwise on core did (inr other) = then_on Declines Otherwise d
 -- ---- ends
 
 ends_on : (port : Port) (core : CoreState) (did : Account) → Ends port core did → Goes core did
-ends_on port core did (none_open none is) = quietly_on core core did is (each_itself core.connections)
-ends_on port core did (unproposed c found other is) = quietly_on core (changes port closed core) did is (closes_on port core)
+ends_on port core did (none_open none is) = without_effects_on core core did is (each_itself core.connections)
+ends_on port core did (unproposed c found other is) = without_effects_on core (changes port closed core) did is (closes_on port core)
 ends_on port core did (proposed c found heard proposes) =
     after_on core (changes port closed core) did (closes_on port core)
     (proposes_on (commands.Lost c.name) (changes port closed core) did proposes)
 
 silent_on : (now : ℕ) (core : CoreState) (did : Account) → EndsSilent now core did → Goes core did
-silent_on now core did (none_silent none is) = quietly_on core core did is (each_itself core.connections)
+silent_on now core did (none_silent none is) = without_effects_on core core did is (each_itself core.connections)
 silent_on now core did (ends_one port found runs) = ends_on port core did runs
 
 failed_on : (core : CoreState) (did : Account) → LosesFailed core did → Goes core did
-failed_on core did (none_failed none is) = quietly_on core core did is (each_itself core.connections)
+failed_on core did (none_failed none is) = without_effects_on core core did is (each_itself core.connections)
 failed_on core did (tells_one c found proposes) =
     after_on core (closes_failed core) did (changed_on has_failed closed (λ d fails. goes_closed [] d) core.connections)
     (proposes_on (commands.Lost c.name) (closes_failed core) did proposes)
@@ -127,12 +127,12 @@ failed_on core did (tells_one c found proposes) =
 -- ---- reads
 
 shut_on : (port : Port) (core : CoreState) (did : Account) → Closes port core did → Goes core did
-shut_on port core did is = quietly_on core (changes port closed core) did is (closes_on port core)
+shut_on port core did is = without_effects_on core (changes port closed core) did is (closes_on port core)
 
 shuts_on : (port : Port) (core : CoreState) (did : Account) → Shuts port core did → Goes core did
 shuts_on port core did (inl is) = shut_on port core did is
 shuts_on port core did (inr is) =
-    quietly_on core (changes port failing core) did is (changes_on port failing core (λ c stays. goes_failing [] c))
+    without_effects_on core (changes port failing core) did is (changes_on port failing core (λ c stays. goes_failing [] c))
 
 begins_on : (port : Port) (name : ConnectionName) (packet : Packet) (core : CoreState) (did : Account) →
     TakesFirstPacket port name packet core did → Goes core did
@@ -149,7 +149,7 @@ left_on port now rest core =
     changes_on port (left_with now rest) core (λ c stays. goes_still c (left_with now rest c) refl refl refl (λ e. e))
 
 reads_on : (now : ℕ) (port : Port) (core : CoreState) (did : Account) → ReadsNext now port core did → Goes core did
-reads_on now port core did (waits c found more is) = quietly_on core core did is (each_itself core.connections)
+reads_on now port core did (waits c found more is) = without_effects_on core core did is (each_itself core.connections)
 reads_on now port core did (first c packet rest found awaits is runs) =
     after_on core (changes port (left_with now rest) core) did (left_on port now rest core)
     (begins_on port c.name packet (changes port (left_with now rest) core) did runs)
@@ -157,14 +157,14 @@ reads_on now port core did (later c packet rest found after_first is runs) =
     after_on core (changes port (left_with now rest) core) did (left_on port now rest core)
     (asks_on (commands.Packet c.name packet) (Shuts port) (shuts_on port) (changes port (left_with now rest) core) did runs)
 reads_on now port core did (refuses c code found awaits is runs) =
-    quietly_on core (changes port (refused code) core) did runs (changes_on port (refused code) core (goes_refused code))
+    without_effects_on core (changes port (refused code) core) did runs (changes_on port (refused code) core (goes_refused code))
 reads_on now port core did (ends may runs) = ends_on port core did runs
 
 -- ---- an item
 
 holds_on : (port : Port) (piece : List ℕ) (core : CoreState) (did : Account) → Holds port piece core did → Goes core did
 holds_on port piece core did (inl is) =
-    quietly_on core (changes port (holding piece) core) did is
+    without_effects_on core (changes port (holding piece) core) did is
     (changes_on port (holding piece) core (λ c stays. goes_still c (holding piece c) refl refl refl (λ e. e)))
 holds_on port piece core did (inr runs) = ends_on port core did runs
 
@@ -182,9 +182,9 @@ drives_on : (input : Input Command) (core : CoreState) (did : Account) → Drive
 drives_on input core did runs = moves_on _ core did runs
 
 cut_on : (core : CoreState) (did : Account) → Cuts core did → Goes core did
-cut_on core did (nothing_to_cut none is) = quietly_on core _ did is (each_itself core.connections)
-cut_on core did (cuts_log can reads is) = quietly_on core _ did is (each_itself core.connections)
-cut_on core did (forgets_cut can is) = quietly_on core _ did is (each_itself core.connections)
+cut_on core did (nothing_to_cut none is) = without_effects_on core _ did is (each_itself core.connections)
+cut_on core did (cuts_log can reads is) = without_effects_on core _ did is (each_itself core.connections)
+cut_on core did (forgets_cut can is) = without_effects_on core _ did is (each_itself core.connections)
 
 -- if no connection is opened
 with_none_new : (item : Item) (core : CoreState) (did : Account) → IsNew item core [] → Goes core did → GoOn item core did
@@ -217,29 +217,29 @@ opens_one port core =
 opened_on : (port : Port) (now : ℕ) (core : CoreState) (did : Account) → ActsOn (Opened port now) core did → GoOn (Opened port now) core did
 opened_on port now core did acts = by acts.first (opens_one port core)
   where
-    none : acts.one ≡ quietly core → GoOn (Opened port now) core did
+    none : acts.one ≡ without_effects core → GoOn (Opened port now) core did
     none is =
         with_none_new (Opened port now) core did (inl refl)
-        (then_on (λ k d. d ≡ quietly k) (λ k d. Repeated (length k.connections) LosesFailed k d)
-        (λ k d same. quietly_on k k d same (each_itself k.connections)) all_failed_on core did
+        (then_on (λ k d. d ≡ without_effects k) (λ k d. Repeated (length k.connections) LosesFailed k d)
+        (λ k d same. without_effects_on k k d same (each_itself k.connections)) all_failed_on core did
         (record { one = acts.one; two = acts.two; first = is; next = acts.next; is = acts.is }))
 
-    one : acts.one ≡ quietly (opens port core) → (opens port core).connections ≡ core.connections ++ fresh port (next_name core) ∷ [] →
+    one : acts.one ≡ without_effects (opens port core) → (opens port core).connections ≡ core.connections ++ fresh port (next_name core) ∷ [] →
         GoOn (Opened port now) core did
     one is more =
         record {
           new = fresh port (next_name core) ∷ [];
           is_new = inr refl;
           each = λ apart. subst (λ (l : List Connection). EachGoesOn did.given l did.core.connections) more
-              (then_on (λ k d. d ≡ quietly k) (λ k d. Repeated (length k.connections) LosesFailed k d)
-              (λ k d same. quietly_on k k d same (each_itself k.connections)) all_failed_on (opens port core) did
+              (then_on (λ k d. d ≡ without_effects k) (λ k d. Repeated (length k.connections) LosesFailed k d)
+              (λ k d same. without_effects_on k k d same (each_itself k.connections)) all_failed_on (opens port core) did
               (record { one = acts.one; two = acts.two; first = is; next = acts.next; is = acts.is })
               (subst (λ (l : List Connection). AreNamedApart l) (sym more) apart));
         }
 
     by : Opens port core acts.one → (opens port core ≡ core)
         ⊎ ((opens port core).connections ≡ core.connections ++ fresh port (next_name core) ∷ []) → GoOn (Opened port now) core did
-    by (inl is) (inl same) = none (is ∙ ap quietly same)
+    by (inl is) (inl same) = none (is ∙ ap without_effects same)
     by (inl is) (inr more) = one is more
     by (inr is) any = none is
 
@@ -267,4 +267,4 @@ a_gap_is_closed (Ended port) core did acts = acts_by (Ended port) core did refl 
 a_gap_is_closed (Expel client) core did acts = acts_by (Expel client) core did refl (proposes_on (commands.Expel client)) acts
 a_gap_is_closed Cut core did acts = acts_by Cut core did refl (λ k d c. cut_on k d c) acts
 a_gap_is_closed Crash core did acts =
-    acts_by Crash core did refl (λ k d is. quietly_on k _ d is (each_itself k.connections)) acts
+    acts_by Crash core did refl (λ k d is. without_effects_on k _ d is (each_itself k.connections)) acts

@@ -20,7 +20,7 @@ use Rattle.world_base.specs.Failing.{loses_all_failed}
 use Rattle.world_base.specs.Inside.{Ran, Running, DoesTurn, WithoutFailure}
 use Rattle.world_base.specs.KeepAlive.{ends_all_silent, ends_silent}
 use Rattle.world_base.specs.Losses.{DoesNothing, IsHeardQuietly, IsIgnored, ReadsNone, TakesNoMemory, was_proposed}
-use Rattle.world_base.specs.Lossy.{Account, Drives, Repeated, quietly}
+use Rattle.world_base.specs.Lossy.{Account, Drives, Repeated, without_effects}
 use Rattle.world_base.specs.Lossy.HandlesAll.{nothing}
 use Rattle.world_base.specs.LossyStep.{ActsOn, LosesAllFailed, ReadsAll, DoesItem}
 use Rattle.world_base.specs.LossyReading.{EndsSilent, ReadsNext}
@@ -32,7 +32,7 @@ use Rattle.world_base.specs.LossyReading.EndsSilent.{none_silent}
 use Rattle.world_base.specs.Reading.{changes, ends, open_at, reads_all, reads_next, unread_of}
 use Rattle.world_base.specs.Step.{accepts, acts_on, cuts, opens, does_item}
 use Rattle.world_base.specs.Turns.{drives, moved, without_messages, repeated, then_also}
-use Rattle.world_base.proofs.Accounts.{ran_quietly, ran_then}
+use Rattle.world_base.proofs.Accounts.{ran_without_effects, ran_then}
 use Rattle.world_base.proofs.Closes.{proposes_nothing}
 use Rattle.world_base.proofs.Indices.{none_found, none_indexed}
 use Rattle.world_base.proofs.Silences.{silent_none}
@@ -44,11 +44,11 @@ unfolding repeated
 repeated_without_messages next zero core e = refl
 repeated_without_messages next (suc n) core e = ap (λ (t : Turn). then_also t (repeated n next)) e ∙ repeated_without_messages next n core e
 
-idle_repeated : (Next : CoreState → Account → Type 0) (n : ℕ) (core : CoreState) → Next core (quietly core) →
-    Repeated n Next core (quietly core)
+idle_repeated : (Next : CoreState → Account → Type 0) (n : ℕ) (core : CoreState) → Next core (without_effects core) →
+    Repeated n Next core (without_effects core)
 idle_repeated Next zero core idle = refl
 idle_repeated Next (suc n) core idle =
-    record { one = quietly core; two = quietly core; first = idle; next = idle_repeated Next n core idle; is = refl }
+    record { one = without_effects core; two = without_effects core; first = idle; next = idle_repeated Next n core idle; is = refl }
 
 -- ---- the replica
 
@@ -56,7 +56,7 @@ drives_nothing : (input : Input Command) (core : CoreState) → IsIgnored input 
 unfolding drives
 drives_nothing input core ignored = ap (λ (o : Outcome State Command Output). moved o core) ignored
 
-drives_idle : (input : Input Command) (core : CoreState) → IsIgnored input core → Drives input core (quietly core)
+drives_idle : (input : Input Command) (core : CoreState) → IsIgnored input core → Drives input core (without_effects core)
 drives_idle input core ignored =
     record {
       replica = core.replica;
@@ -98,9 +98,9 @@ unfolding repeated
 nothing_is_read now port core none =
     ap (λ (o : Option Connection). repeated (unread_of o) (reads_next now port) core) none
 
-reads_nothing : (now : ℕ) (port : Port) (core : CoreState) → open_at port core ≡ None → ReadsAll now port core (quietly core)
+reads_nothing : (now : ℕ) (port : Port) (core : CoreState) → open_at port core ≡ None → ReadsAll now port core (without_effects core)
 reads_nothing now port core none =
-    subst (λ (o : Option Connection). Repeated (unread_of o) (ReadsNext now port) core (quietly core)) (sym none) refl
+    subst (λ (o : Option Connection). Repeated (unread_of o) (ReadsNext now port) core (without_effects core)) (sym none) refl
 
 ends_nothing : (port : Port) (core : CoreState) → open_at port core ≡ None → ends port core ≡ without_messages core
 unfolding ends
@@ -130,12 +130,12 @@ takes_nothing (Expel client) core none = proposes_nothing (commands.Expel client
 takes_nothing Cut core none = ap without_messages (cuts_nothing core none)
 takes_nothing Crash core none = elim none [ ]
 
-takes_idle : (item : Item) (core : CoreState) → DoesNothing item core → DoesItem item core (quietly core)
+takes_idle : (item : Item) (core : CoreState) → DoesNothing item core → DoesItem item core (without_effects core)
 takes_idle (Peer message) core ignored = drives_idle (Receives message) core ignored.0
 takes_idle (Tick now) core ignored =
     record {
-      one = quietly core;
-      two = quietly core;
+      one = without_effects core;
+      two = without_effects core;
       first = drives_idle Ticks core ignored.0;
       next = idle_repeated (EndsSilent now) _ core (none_silent ignored.1 refl);
       is = refl;
@@ -143,8 +143,8 @@ takes_idle (Tick now) core ignored =
 takes_idle (Opened port now) core none = inr refl
 takes_idle (Bytes port piece now) core none =
     record {
-      one = quietly core;
-      two = quietly core;
+      one = without_effects core;
+      two = without_effects core;
       first = inr (none_open none refl);
       next = reads_nothing now port core none;
       is = refl;
@@ -172,7 +172,7 @@ turns_ignored item a b x y idle turns =
 pub ran_ignored : (item : Item) (a b : CoreState) (x y : List (Effect Command Output)) → DoesNothing item a →
     Ran LosesAllFailed a b x y → Ran (ActsOn item) a b x y
 ran_ignored item a b x y idle ran =
-    ran_then (DoesItem item) LosesAllFailed a a b x x y (ran_quietly (DoesItem item) a a x (takes_idle item a idle)) ran
+    ran_then (DoesItem item) LosesAllFailed a a b x x y (ran_without_effects (DoesItem item) a a x (takes_idle item a idle)) ran
 
 -- if nothing failed there are none
 pub quiet_ignored : (a b : Running) → (find has_failed a.core.connections ≡ None → b ≡ a) → find has_failed a.core.connections ≡ None →

@@ -15,31 +15,31 @@ use Rattle.node_connections.specs.Connections.{has_failed}
 use Rattle.world_base.specs.Core.{CoreState, CountedCore, Turn, rules}
 use Rattle.world_base.specs.Inside.{Ran, Running, DoesTurn}
 use Rattle.world_base.specs.Losses.{IsExactly, Stepped, Steps, TakesNoMemory}
-use Rattle.world_base.specs.Lossy.{quietly}
+use Rattle.world_base.specs.Lossy.{without_effects}
 use Rattle.world_base.specs.LossyStep.{ActsOn, Cuts, Opens, RunsOn, DoesItem}
 use Rattle.world_base.specs.Step.{acts_on, node_step, opens, settled}
-use Rattle.world_base.proofs.Accounts.{ran_quietly}
+use Rattle.world_base.proofs.Accounts.{ran_without_effects}
 
 pub ran_item : (item same : Item) (a b : CoreState) (x y : List (Effect Command Output)) → item ≡ same → Ran (DoesItem same) a b x y →
     Ran (DoesItem item) a b x y
 ran_item item same a b x y is ran = subst (λ (i : Item). Ran (DoesItem i) a b x y) (sym is) ran
 
-opens_by : (port : Port) (a b : CoreState) → (b ≡ opens port a) ⊎ (b ≡ a) → Opens port a (quietly b)
-opens_by port a b (inl e) = inl (ap quietly e)
-opens_by port a b (inr e) = inr (ap quietly e)
+opens_by : (port : Port) (a b : CoreState) → (b ≡ opens port a) ⊎ (b ≡ a) → Opens port a (without_effects b)
+opens_by port a b (inl e) = inl (ap without_effects e)
+opens_by port a b (inr e) = inr (ap without_effects e)
 
 pub ran_opened : (port : Port) (now : ℕ) (a b : CoreState) (x : List (Effect Command Output)) → (b ≡ opens port a) ⊎ (b ≡ a) →
     Ran (DoesItem (Opened port now)) a b x x
-ran_opened port now a b x did = ran_quietly (DoesItem (Opened port now)) a b x (opens_by port a b did)
+ran_opened port now a b x did = ran_without_effects (DoesItem (Opened port now)) a b x (opens_by port a b did)
 
-pub ran_cut : (a b : CoreState) (x : List (Effect Command Output)) → Cuts a (quietly b) → Ran (DoesItem Cut) a b x x
-ran_cut a b x did = ran_quietly (DoesItem Cut) a b x did
+pub ran_cut : (a b : CoreState) (x : List (Effect Command Output)) → Cuts a (without_effects b) → Ran (DoesItem Cut) a b x x
+ran_cut a b x did = ran_without_effects (DoesItem Cut) a b x did
 
 pub ran_crashed : (a : CoreState) (replica : CountedReplica State Command) (x : List (Effect Command Output)) →
     replica ≡ record a.replica { state = halted rules a.replica.state } → Ran (DoesItem Crash) a (record a { replica = replica }) x x
 ran_crashed a replica x is =
-    ran_quietly (DoesItem Crash) a (record a { replica = replica }) x
-    (ap (λ (r : CountedReplica State Command). quietly (record a { replica = r })) is)
+    ran_without_effects (DoesItem Crash) a (record a { replica = replica }) x
+    (ap (λ (r : CountedReplica State Command). without_effects (record a { replica = r })) is)
 
 -- ---- the step
 

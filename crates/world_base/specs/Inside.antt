@@ -16,7 +16,7 @@ use Rattle.world_base.specs.Core.{CoreState, Turn, rules}
 use Rattle.node_connections.specs.declared.port.Port.{Port}
 use Rattle.node_connections.specs.Connections.{has_failed}
 use Rattle.world_base.specs.LossyReading.{TakesFirstPacket, ProposesPacket}
-use Rattle.world_base.specs.Lossy.{Account, HandlesAll, Takes, quietly}
+use Rattle.world_base.specs.Lossy.{Account, HandlesAll, Takes, without_effects}
 use Rattle.world_base.specs.LossyProposals.{Declines, Proposes}
 use Rattle.world_base.specs.Turns.{has_room}
 
@@ -88,7 +88,7 @@ pub record Took (command : Command) (old new : CoreState)
 -- the replica took the command, or declined it and gave nothing
 abbrev pub Answered : Bool → Command → CoreState → CoreState → List (Effect Command Output) → Type 0
 Answered true command old new given = Took command old new given
-Answered false command old new given = Declines old (quietly new) × (given ≡ [])
+Answered false command old new given = Declines old (without_effects new) × (given ≡ [])
 
 -- a command was taken with its effects, or declined
 abbrev pub ProposedBy : Bool → Command → CoreState → Account → Type 0
@@ -103,4 +103,4 @@ TakesPacket false port name packet core did = ProposesPacket port name packet co
 -- a connection that was closed; it is reported to the broker if its CONNECT was proposed
 abbrev pub ReportsLost : Bool → ConnectionName → CoreState → Account → Type 0
 ReportsLost true name core did = Proposes (commands.Lost name) core did
-ReportsLost false name core did = did ≡ quietly core
+ReportsLost false name core did = did ≡ without_effects core

@@ -26,8 +26,8 @@ pub record Account : Type 0 where
   pub messages : List (Effect Command Output)
 
 -- the replica had no effects
-abbrev pub quietly : CoreState → Account
-quietly core = record { core = core; given = []; messages = [] }
+abbrev pub without_effects : CoreState → Account
+without_effects core = record { core = core; given = []; messages = [] }
 
 -- one account, followed by another
 abbrev pub joined : Account → Account → Account
@@ -49,7 +49,7 @@ pub record Then (First Next : CoreState → Account → Type 0) (core : CoreStat
 
 -- one thing was done this many times, each after the one before
 abbrev pub Repeated : ℕ → (CoreState → Account → Type 0) → CoreState → Account → Type 0
-Repeated zero Next core did = did ≡ quietly core
+Repeated zero Next core did = did ≡ without_effects core
 Repeated (suc more) Next core did = Then Next (Repeated more Next) core did
 
 -- ---- outputs

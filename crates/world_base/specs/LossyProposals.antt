@@ -5,21 +5,21 @@ use Rattle.ballot.specs.Losses.{halted, one_more}
 use Rattle.ballot.specs.Serving.{proposed}
 use Rattle.world_base.specs.Core.{CoreState, rules, serves}
 use Rattle.world_base.specs.Turns.{has_room}
-use Rattle.world_base.specs.Lossy.{Account, quietly, ReplicaSteps, Takes}
+use Rattle.world_base.specs.Lossy.{Account, without_effects, ReplicaSteps, Takes}
 
 -- a command that it does not take, because it does not serve clients or its log is full, or because
 -- memory ran out: then it counts a loss, and may stop
 pub data Declines (core : CoreState) (did : Account) : Type 0 where
   -- it serves no clients, or its log is full: nothing changes
-  no_room : has_room core ≡ false → did ≡ quietly core → Declines core did
+  no_room : has_room core ≡ false → did ≡ without_effects core → Declines core did
   -- memory ran out: it counts a loss
   forgets : has_room core ≡ true →
-      did ≡ quietly
+      did ≡ without_effects
       (record core { replica = record core.replica { losses = one_more core.replica.losses } }) →
       Declines core did
   -- memory ran out: it counts a loss, and it stops
   stops : has_room core ≡ true →
-      did ≡ quietly (record core {
+      did ≡ without_effects (record core {
         replica = record {
           state = halted rules core.replica.state;
           losses = one_more core.replica.losses;
@@ -37,4 +37,4 @@ abbrev pub ProposalsAreSteps : Type 0
 ProposalsAreSteps =
     (command : Command) (core : CoreState) (did : Account) → Proposes command core did →
     (serves core ≡ true → ReplicaSteps (proposed rules core.replica.state command) core did)
-    × (serves core ≡ false → did ≡ quietly core)
+    × (serves core ≡ false → did ≡ without_effects core)

@@ -17,7 +17,7 @@ use Rattle.node_connections.specs.Fronts.{FrontNeedsMemory, HasNoPacket}
 use Rattle.world_base.specs.Core.{CoreState}
 use Rattle.world_base.specs.Failing.{closes_failed}
 use Rattle.world_base.specs.KeepAlive.{lowest_silent}
-use Rattle.world_base.specs.Lossy.{Account, Takes, Then, quietly}
+use Rattle.world_base.specs.Lossy.{Account, Takes, Then, without_effects}
 use Rattle.world_base.specs.LossyProposals.{Declines, Proposes}
 use Rattle.world_base.specs.Reading.{changes, open_at, refused}
 
@@ -25,10 +25,10 @@ use Rattle.world_base.specs.Reading.{changes, open_at, refused}
 -- proposed
 pub data Ends (port : Port) (core : CoreState) (did : Account) : Type 0 where
   -- no connection is open at the port
-  none_open : open_at port core ≡ None → did ≡ quietly core → Ends port core did
+  none_open : open_at port core ≡ None → did ≡ without_effects core → Ends port core did
   -- its Connect was not proposed
   unproposed : (c : Connection) → open_at port core ≡ Some c → is_proposed c.stage ≡ false →
-      did ≡ quietly (changes port closed core) → Ends port core did
+      did ≡ without_effects (changes port closed core) → Ends port core did
   -- its Connect was proposed, so its loss is proposed too
   proposed : (c : Connection) → open_at port core ≡ Some c → is_proposed c.stage ≡ true →
       Proposes (commands.Lost c.name) (changes port closed core) did → Ends port core did
@@ -36,7 +36,7 @@ pub data Ends (port : Port) (core : CoreState) (did : Account) : Type 0 where
 -- the silent connection with the lowest port ends
 pub data EndsSilent (now : ℕ) (core : CoreState) (did : Account) : Type 0 where
   -- no connection is silent
-  none_silent : lowest_silent now core.connections ≡ None → did ≡ quietly core →
+  none_silent : lowest_silent now core.connections ≡ None → did ≡ without_effects core →
       EndsSilent now core did
   -- the one at this port ends
   ends_one : (port : Port) → lowest_silent now core.connections ≡ Some port →
@@ -45,7 +45,8 @@ pub data EndsSilent (now : ℕ) (core : CoreState) (did : Account) : Type 0 wher
 -- the first connection that failed is reported to the broker
 pub data LosesFailed (core : CoreState) (did : Account) : Type 0 where
   -- no connection failed
-  none_failed : find has_failed core.connections ≡ None → did ≡ quietly core → LosesFailed core did
+  none_failed : find has_failed core.connections ≡ None → did ≡ without_effects core →
+      LosesFailed core did
   -- the loss of this one is proposed
   tells_one : (c : Connection) → find has_failed core.connections ≡ Some c →
       Proposes (commands.Lost c.name) (closes_failed core) did → LosesFailed core did
@@ -56,11 +57,11 @@ TakesOr command Otherwise core did = Takes command core did ⊎ Then Declines Ot
 
 -- a connection is closed
 abbrev pub Closes : Port → CoreState → Account → Type 0
-Closes port core did = did ≡ quietly (changes port closed core)
+Closes port core did = did ≡ without_effects (changes port closed core)
 
 -- a connection is closed, or closed as lost, and the loss is still to be reported to the broker
 abbrev pub Shuts : Port → CoreState → Account → Type 0
-Shuts port core did = Closes port core did ⊎ (did ≡ quietly (changes port failing core))
+Shuts port core did = Closes port core did ⊎ (did ≡ without_effects (changes port failing core))
 
 -- a CONNECT is proposed; if it is not taken, the connection is closed
 abbrev pub Connects : Port → ConnectionName → Connect → CoreState → Account → Type 0
@@ -89,7 +90,7 @@ MayEnd (Some c) = HasNoPacket c ⊎ FrontNeedsMemory c
 pub data ReadsNext (now : ℕ) (port : Port) (core : CoreState) (did : Account) : Type 0 where
   -- less than a packet is there
   waits : (c : Connection) → open_at port core ≡ Some c →
-      verdict c.unread ≡ Err stops.More → did ≡ quietly core → ReadsNext now port core did
+      verdict c.unread ≡ Err stops.More → did ≡ without_effects core → ReadsNext now port core did
   -- the first packet of the connection is there
   first : (c : Connection) (packet : Packet) (rest : List ℕ) → open_at port core ≡ Some c →
       is_first c.stage ≡ true → verdict c.unread ≡ Ok (packet, rest) →
@@ -103,6 +104,6 @@ pub data ReadsNext (now : ℕ) (port : Port) (core : CoreState) (did : Account) 
   -- its CONNECT is refused with a code
   refuses : (c : Connection) (code : RefusalCode) → open_at port core ≡ Some c →
       is_first c.stage ≡ true → verdict c.unread ≡ Err (stops.Refused code) →
-      did ≡ quietly (changes port (refused code) core) → ReadsNext now port core did
+      did ≡ without_effects (changes port (refused code) core) → ReadsNext now port core did
   -- the connection ends, if one is open
   ends : MayEnd (open_at port core) → Ends port core did → ReadsNext now port core did

@@ -13,7 +13,7 @@ use Rattle.node_connections.specs.Connections.{holding}
 use Rattle.ballot.specs.Cutting.{can_cut}
 use Rattle.ballot.specs.Losses.{one_more}
 use Rattle.world_base.specs.Core.{CoreState, rules}
-use Rattle.world_base.specs.Lossy.{Account, Drives, Repeated, Then, quietly}
+use Rattle.world_base.specs.Lossy.{Account, Drives, Repeated, Then, without_effects}
 use Rattle.world_base.specs.LossyProposals.{Proposes}
 use Rattle.world_base.specs.Reading.{changes, open_at, unread_of}
 use Rattle.world_base.specs.Step.{crashed, opens, settled, with_cut}
@@ -23,24 +23,25 @@ use Rattle.world_base.specs.LossyReading.{Ends, EndsSilent, LosesFailed, ReadsNe
 
 -- received bytes are held, or the connection ends, because there is no memory for them
 abbrev pub Holds : Port → List ℕ → CoreState → Account → Type 0
-Holds port piece core did = (did ≡ quietly (changes port (holding piece) core)) ⊎ Ends port core did
+Holds port piece core did =
+    (did ≡ without_effects (changes port (holding piece) core)) ⊎ Ends port core did
 
 -- a connection is accepted, or, if there is no memory for it, not
 abbrev pub Opens : Port → CoreState → Account → Type 0
-Opens port core did = (did ≡ quietly (opens port core)) ⊎ (did ≡ quietly core)
+Opens port core did = (did ≡ without_effects (opens port core)) ⊎ (did ≡ without_effects core)
 
 -- the replica cuts its log, and its frozen bytes thaw to its machine; or, if there is no memory for
 -- that, it counts a loss
 pub data Cuts (core : CoreState) (did : Account) : Type 0 where
   -- nothing is to be cut
-  nothing_to_cut : can_cut core.replica.state ≡ false → did ≡ quietly core → Cuts core did
+  nothing_to_cut : can_cut core.replica.state ≡ false → did ≡ without_effects core → Cuts core did
   -- the log is cut
   cuts_log : can_cut core.replica.state ≡ true →
       rules.thawed (rules.frozen core.replica.state.machine) ≡ Some core.replica.state.machine →
-      did ≡ quietly (with_cut core) → Cuts core did
+      did ≡ without_effects (with_cut core) → Cuts core did
   -- memory ran out: a loss is counted
   forgets_cut : can_cut core.replica.state ≡ true →
-      did ≡ quietly
+      did ≡ without_effects
       (record core { replica = record core.replica { losses = one_more core.replica.losses } }) →
       Cuts core did
 
@@ -65,7 +66,7 @@ DoesItem (Bytes port piece now) core did = Then (Holds port piece) (ReadsAll now
 DoesItem (Ended port) core did = Ends port core did
 DoesItem (Expel client) core did = Proposes (commands.Expel client) core did
 DoesItem Cut core did = Cuts core did
-DoesItem Crash core did = did ≡ quietly (crashed core)
+DoesItem Crash core did = did ≡ without_effects (crashed core)
 
 -- what an item asks for, and then the reports of connections that failed in the step
 abbrev pub ActsOn : Item → CoreState → Account → Type 0

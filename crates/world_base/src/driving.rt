@@ -7,7 +7,7 @@ ghost use Rattle.ballot.specs.Serving.{proposed};
 ghost use Rattle.world_base.specs.Core.{rules, serves};
 ghost use Rattle.world_base.specs.Inside.{Acts, Answered, HandledAll, Does, DoesTurn, Hears, ProposedBy, Ran, WithoutFailure};
 ghost use Rattle.world_base.specs.Losses.{IsHeardQuietly, ReadsNone};
-ghost use Rattle.world_base.specs.Lossy.{Drives, Performs, quietly};
+ghost use Rattle.world_base.specs.Lossy.{Drives, Performs, without_effects};
 ghost use Rattle.world_base.specs.LossyStep.{Cuts};
 ghost use Rattle.world_base.specs.Step.{cuts};
 ghost use Rattle.world_base.specs.Turns.{handled_all, drives, has_room, heard, proposes, performed_by};
@@ -111,7 +111,7 @@ impl SteppingNode {
     /// Cuts the replica's log if there is something to cut.
     pub fn cut_log(&mut self)
         ensures exact { Does self.old self.new (cuts self.old.core) }
-        ensures lossy { Cuts self.old.core (quietly self.new.core) }
+        ensures lossy { Cuts self.old.core (without_effects self.new.core) }
     {
         let before = self.replica.losses();
         self.replica.cut();

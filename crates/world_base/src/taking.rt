@@ -8,7 +8,7 @@ ghost use Rattle.node_connections.specs.Connections.{closed, has_failed, holding
 ghost use Rattle.world_base.specs.Inside.{TakesPacket, DoesTurn, Ran, ReportsLost, WithoutFailure};
 ghost use Rattle.world_base.specs.declared.item.Item.TheVariants as items;
 ghost use Rattle.world_base.specs.Losses.{DoesNothing, IsHeardQuietly, ReadsNone, TakesNoMemory, was_proposed};
-ghost use Rattle.world_base.specs.Lossy.{quietly};
+ghost use Rattle.world_base.specs.Lossy.{without_effects};
 ghost use Rattle.world_base.specs.LossyProposals.{Proposes};
 ghost use Rattle.world_base.specs.LossyStep.{ActsOn, EndsAllSilent, Holds, LosesAllFailed, ReadsAll, DoesItem};
 ghost use Rattle.world_base.specs.LossyReading.{Connects, Ends, LosesFailed, ReadsNext, ProposesPacket};
@@ -157,7 +157,8 @@ impl SteppingNode {
             (ReadsNext now port) self.old.core self.new.core effects.old.items effects.new.items }
         ensures done { result ≡ false → self.new.out_of_memory ≡ false →
             reads_next now port self.new.core ≡ without_messages self.new.core }
-        ensures idle { result ≡ false → ReadsNext now port self.new.core (quietly self.new.core) }
+        ensures idle { result ≡ false →
+            ReadsNext now port self.new.core (without_effects self.new.core) }
     {
         let Some(index) = self.index_at(port) else {
             return false;
@@ -312,7 +313,7 @@ impl SteppingNode {
         ensures none { find has_failed self.old.core.connections ≡ None → self.new ≡ self.old }
         ensures done { result ≡ false →
             loses_failed self.new.core ≡ without_messages self.new.core }
-        ensures idle { result ≡ false → LosesFailed self.new.core (quietly self.new.core) }
+        ensures idle { result ≡ false → LosesFailed self.new.core (without_effects self.new.core) }
     {
         let Some(index) = self.index_failed() else {
             return false;

@@ -2,7 +2,7 @@ use Rattle.std.proofs.Common.{sym, ap, ◌∙◌}
 use Rattle.node_connections.specs.broker_spec.declared.command.Command.TheVariants as commands
 use Rattle.world_base.specs.Inside.{Running}
 use Rattle.world_base.proofs.Closes.{closes_refused}
-use Rattle.world_base.specs.Lossy.{quietly}
+use Rattle.world_base.specs.Lossy.{without_effects}
 use Rattle.world_base.specs.LossyReading.{Closes}
 use Rattle.world_base.proofs.EndsRun.{core_of, ran_asked, ran_otherwise}
 use Rattle.world_base.proofs.stepping_node.SteppingNode.connect.Goals as goal
@@ -18,7 +18,7 @@ pub returns-then-not-propose-clause-lossy : goal.returns-then-not-propose-clause
 returns-then-not-propose-clause-lossy c =
     ran_otherwise c.propose.result (commands.Connect c.args.name c.args.connect.client c.args.connect.clean) (Closes c.args.port)
     _ c.propose.new.self.core c.close.new.self.core _ _ c.if-not-propose.true c.propose.ensures.lossy
-    (ap quietly (core_of _ _ c.close.ensures))
+    (ap without_effects (core_of _ _ c.close.ensures))
 
 pub returns-else-not-propose-clause-lossy : goal.returns-else-not-propose-clause-lossy
 returns-else-not-propose-clause-lossy c =
