@@ -13,7 +13,7 @@ use Rattle.ballot_base.specs.declared.status.Role.TheVariants.{Backup, Fetching,
 use Rattle.ballot_base.specs.Replica.{ReplicaState, CountedReplica, is_installing, others, progress_at}
 use Rattle.ballot_base.specs.Logs.{Log, places, popped, pushed}
 use Rattle.ballot_base.proofs.LongerLogs.{last_pushed, part_pushed, places_pushed, popped_pushed}
-use Rattle.ballot_base.specs.Losses.{IsQuiet, halted, one_more}
+use Rattle.ballot_base.specs.Losses.{SendsAndAddsNothing, halted, one_more}
 use Rattle.ballot_base.specs.Sending.{Outcome, message_to_followed}
 use Rattle.ballot_base.specs.Applying.{applied_to}
 use Rattle.ballot_base.specs.Serving.{commit, commit_at, least, max_places, added}
@@ -37,7 +37,7 @@ abbrev pub begun_of : {S C O : Type 0} → Rules S C O → CountedReplica S C �
 begun_of rules old b = record old { state = record (active_of rules old.state) { log = pushed old.state.log (rules.start_of b) } }
 
 -- the row is not quiet
-activated_loud : {S C O : Type 0} (rules : Rules S C O) (r : ReplicaState S C) (b : ℕ) → IsQuiet r (added rules (active_of rules r) (rules.start_of b)) → ⊥
+activated_loud : {S C O : Type 0} (rules : Rules S C O) (r : ReplicaState S C) (b : ℕ) → SendsAndAddsNothing r (added rules (active_of rules r) (rules.start_of b)) → ⊥
 activated_loud rules r b quiet =
     let e : pushed r.log (rules.start_of b) ≡ r.log = sym (added-log rules (active_of rules r) (rules.start_of b)) ∙ quiet.same_log in
     let n : places (pushed r.log (rules.start_of b)) ≡ places r.log = ap places e in

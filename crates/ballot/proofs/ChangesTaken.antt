@@ -11,7 +11,7 @@ use Rattle.ballot_base.specs.declared.status.Progress.{Progress}
 use Rattle.ballot_base.specs.declared.status.Role.TheVariants.{Backup, Fetching, Installing}
 use Rattle.ballot_base.specs.Replica.{ReplicaState, CountedReplica, is_installing, others}
 use Rattle.ballot_base.specs.Logs.{Log, places}
-use Rattle.ballot_base.specs.Losses.{IsQuiet, one_more}
+use Rattle.ballot_base.specs.Losses.{SendsAndAddsNothing, one_more}
 use Rattle.ballot_base.specs.Taking.{taken}
 use Rattle.ballot_base.specs.Unread.{reads_none}
 use Rattle.ballot.proofs.Heeding.{read_or_none}
@@ -119,7 +119,7 @@ pub state_lost : {S C O : Type 0} {rules : Rules S C O} (old new : CountedReplic
 state_lost {S = S} {C = C} {O = O} {rules = rules} old new ballot log before waits state losses =
     went_lost old (on_state rules old.state ballot log) new before before state losses refl (λ quiet. by_log quiet (read_or_none rules old.state log))
   where
-    by_log : IsQuiet old.state (on_state rules old.state ballot log) →
+    by_log : SendsAndAddsNothing old.state (on_state rules old.state ballot log) →
         ((took : ReplicaState S C) × (taken rules old.state log ≡ Some took) × (reads_none rules old.state log ≡ false))
         ⊎ ((taken rules old.state log ≡ None) × (reads_none rules old.state log ≡ true)) →
         (waits_for old.state ballot (places log) && reads_none rules old.state log) ≡ true
@@ -179,7 +179,7 @@ install_lost {S = S} {C = C} {O = O} {rules = rules} old new from ballot held lo
     may' : lacks old.state ballot (places log) ≡ true
     may' = subst (λ k. lacks old.state ballot k ≡ true) h may
 
-    by_log : IsQuiet old.state (on_install rules old.state from ballot log) →
+    by_log : SendsAndAddsNothing old.state (on_install rules old.state from ballot log) →
         ((took : ReplicaState S C) × (taken rules old.state log ≡ Some took) × (reads_none rules old.state log ≡ false))
         ⊎ ((taken rules old.state log ≡ None) × (reads_none rules old.state log ≡ true)) →
         (lacks old.state ballot (places log) && reads_none rules old.state log) ≡ true

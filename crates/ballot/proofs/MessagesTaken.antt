@@ -9,7 +9,7 @@ use Rattle.ballot_base.specs.declared.status.Progress.{Progress}
 use Rattle.ballot_base.specs.Replica.{ReplicaState, CountedReplica}
 use Rattle.ballot_base.specs.Logs.{Log, part, places, pushed}
 use Rattle.ballot_base.proofs.LongerLogs.{places_pushed}
-use Rattle.ballot_base.specs.Losses.{Stepped, Steps, Loses, IsQuiet, halted, one_more}
+use Rattle.ballot_base.specs.Losses.{Stepped, Steps, Loses, SendsAndAddsNothing, halted, one_more}
 use Rattle.ballot_base.specs.Sending.{Outcome, nothing_done, message_to}
 use Rattle.ballot_base.specs.Applying.{applied_to}
 use Rattle.ballot_base.specs.Serving.{least, raised, follows, leads, extended, commit_at, on_append, on_held, on_commit}
@@ -27,18 +27,18 @@ went_stepped {rules = rules} {old = old} {o = o} {unread = unread} {new = new} w
     record { given = w.given; appended = w.appended; steps = by_way w.way }
   where
     by_way : ((new.state ≡ o.state) × (w.given ≡ o.effects) × (new.losses ≡ old.losses))
-        ⊎ (Loses rules old.state o new.state w.given × (new.losses ≡ one_more old.losses) × (IsQuiet old.state o → unread ≡ true)) →
+        ⊎ (Loses rules old.state o new.state w.given × (new.losses ≡ one_more old.losses) × (SendsAndAddsNothing old.state o → unread ≡ true)) →
         Steps rules old o new w.given
     by_way (inl e) = inl e
     by_way (inr e) = inr (e.0, e.1)
 
 -- a quiet step is done exactly, if no snapshot has to be read
 pub went_quiet : {S C O : Type 0} {rules : Rules S C O} {old : CountedReplica S C} {o : Outcome S C O} {unread : Bool} {new : CountedReplica S C} {before later : List (Effect C O)} →
-    Heard rules old o unread new before later → IsQuiet old.state o → unread ≡ false → new ≡ record { state = o.state; losses = old.losses }
+    Heard rules old o unread new before later → SendsAndAddsNothing old.state o → unread ≡ false → new ≡ record { state = o.state; losses = old.losses }
 went_quiet {S = S} {C = C} {rules = rules} {old = old} {o = o} {unread = unread} {new = new} w quiet read = by_way w.way
   where
     by_way : ((new.state ≡ o.state) × (w.given ≡ o.effects) × (new.losses ≡ old.losses))
-        ⊎ (Loses rules old.state o new.state w.given × (new.losses ≡ one_more old.losses) × (IsQuiet old.state o → unread ≡ true)) →
+        ⊎ (Loses rules old.state o new.state w.given × (new.losses ≡ one_more old.losses) × (SendsAndAddsNothing old.state o → unread ≡ true)) →
         new ≡ record { state = o.state; losses = old.losses }
     by_way (inl e) =
         ap (λ s. let z : CountedReplica S C = record { state = s; losses = new.losses } in z) e.0
@@ -69,13 +69,13 @@ went_sent {S = S} {C = C} {O = O} {rules = rules} {unread = unread} old o new be
     by_whole : (whole : Bool) → (whole ≡ true → sent.given ≡ o.effects) → (o.effects ≡ [] → whole ≡ true) →
         new.losses ≡ cond whole old.losses (one_more old.losses) →
         ((new.state ≡ o.state) × (sent.given ≡ o.effects) × (new.losses ≡ old.losses))
-        ⊎ (Loses rules old.state o new.state sent.given × (new.losses ≡ one_more old.losses) × (IsQuiet old.state o → unread ≡ true))
+        ⊎ (Loses rules old.state o new.state sent.given × (new.losses ≡ one_more old.losses) × (SendsAndAddsNothing old.state o → unread ≡ true))
     by_whole true exact idle e = inl (state, exact refl, e)
     by_whole false exact idle e = inr (inl (state, sent.thinned), e, λ quiet. let h = idle quiet.nothing_sent in cc)
 
 -- nothing was done: there was no memory, or a snapshot does not thaw
 pub went_lost : {S C O : Type 0} {rules : Rules S C O} {unread : Bool} (old : CountedReplica S C) (o : Outcome S C O) (new : CountedReplica S C) (before later : List (Effect C O)) →
-    new.state ≡ old.state → new.losses ≡ one_more old.losses → later ≡ before → (IsQuiet old.state o → unread ≡ true) →
+    new.state ≡ old.state → new.losses ≡ one_more old.losses → later ≡ before → (SendsAndAddsNothing old.state o → unread ≡ true) →
     Heard rules old o unread new before later
 went_lost old o new before later state losses same busy =
     record {
@@ -85,13 +85,13 @@ went_lost old o new before later state losses same busy =
     }
 
 pub went_ignored : {S C O : Type 0} {rules : Rules S C O} {unread : Bool} (old : CountedReplica S C) (o : Outcome S C O) (new : CountedReplica S C) (before later : List (Effect C O)) →
-    new.state ≡ old.state → new.losses ≡ one_more old.losses → later ≡ before → (IsQuiet old.state o → ⊥) →
+    new.state ≡ old.state → new.losses ≡ one_more old.losses → later ≡ before → (SendsAndAddsNothing old.state o → ⊥) →
     Heard rules old o unread new before later
 went_ignored old o new before later state losses same busy = went_lost old o new before later state losses same (λ quiet. absurd (busy quiet))
 
 -- the replica stopped, because memory ran out
 pub went_halted : {S C O : Type 0} {rules : Rules S C O} {unread : Bool} (old : CountedReplica S C) (o : Outcome S C O) (new : CountedReplica S C) (before later : List (Effect C O)) →
-    new.state ≡ halted rules old.state → new.losses ≡ one_more old.losses → later ≡ before → (IsQuiet old.state o → ⊥) →
+    new.state ≡ halted rules old.state → new.losses ≡ one_more old.losses → later ≡ before → (SendsAndAddsNothing old.state o → ⊥) →
     Heard rules old o unread new before later
 went_halted old o new before later state losses same busy =
     record {

@@ -8,7 +8,7 @@ use Rattle.ballot_base.specs.declared.status.Role.{Role}
 use Rattle.ballot_base.specs.declared.status.Role.TheVariants.{Backup, Fetching, Installing, Active}
 use Rattle.ballot_base.specs.Replica.{ReplicaState, CountedReplica}
 use Rattle.ballot_base.specs.Logs.{Log}
-use Rattle.ballot_base.specs.Losses.{IsQuiet, one_more}
+use Rattle.ballot_base.specs.Losses.{SendsAndAddsNothing, one_more}
 use Rattle.ballot_base.specs.Sending.{Outcome, message_to_followed}
 use Rattle.ballot_base.specs.Serving.{appends_after}
 use Rattle.ballot_base.specs.Protocol.{replica_step, ticked}
@@ -37,7 +37,7 @@ tick_taken {O = O} rules old new before after whole sends state losses =
 -- a tick that sends nothing leaves the replica whole
 pub tick_quiet : {S C O : Type 0} (rules : Rules S C O) (old new : CountedReplica S C) (before after : List (Effect C O)) →
     Went rules old (replica_step rules old.state Ticks) new before after →
-    IsQuiet old.state (replica_step rules old.state Ticks) → new ≡ old
+    SendsAndAddsNothing old.state (replica_step rules old.state Ticks) → new ≡ old
 tick_quiet {S = S} {C = C} {O = O} rules old new before after went quiet =
     went_quiet went quiet refl
     ∙ ap (λ s. let z : CountedReplica S C = record { state = s; losses = old.losses } in z) (ticked-state O old.state old.state.role)

@@ -3,7 +3,7 @@ use Rattle.std.specs.Prelude.{◌≡◌, ◌⊎◌, Bool, true, false, List, ◌
 use Rattle.ballot_base.specs.machine.Machine.{Rules}
 use Rattle.ballot_base.specs.declared.message.Effect.{Effect}
 use Rattle.ballot_base.specs.Logs.{Log, places, pushed}
-use Rattle.ballot_base.specs.Losses.{Loses, IsQuiet, halted, one_more}
+use Rattle.ballot_base.specs.Losses.{Loses, SendsAndAddsNothing, halted, one_more}
 use Rattle.ballot_base.specs.Replica.{CountedReplica}
 use Rattle.ballot_base.specs.Sending.{Outcome, message_to_followed}
 use Rattle.ballot_base.specs.Sends.{Sends}
@@ -30,7 +30,7 @@ pub record Heard {S C O : Type 0} (rules : Rules S C O) (old : CountedReplica S 
   pub way : ((new.state ≡ outcome.state) × (given ≡ outcome.effects) × (new.losses ≡ old.losses))
       ⊎ (Loses rules old.state outcome new.state given
       × (new.losses ≡ one_more old.losses)
-      × (IsQuiet old.state outcome → unread ≡ true))
+      × (SendsAndAddsNothing old.state outcome → unread ≡ true))
 
 -- the step was done, or one with losses that were counted, when no snapshot has to be read
 abbrev pub Went : {S C O : Type 0} → Rules S C O → CountedReplica S C → Outcome S C O →

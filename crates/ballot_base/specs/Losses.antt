@@ -56,7 +56,7 @@ pub record Done {S C O : Type 0} (old : CountedReplica S C) (outcome : Outcome S
       ⊎ (new.losses ≡ one_more old.losses)
 
 -- a step that sends nothing, adds nothing to the log and applies nothing
-pub record IsQuiet {S C O : Type 0} (old : ReplicaState S C) (outcome : Outcome S C O) :
+pub record SendsAndAddsNothing {S C O : Type 0} (old : ReplicaState S C) (outcome : Outcome S C O) :
     Type 0 where
   pub nothing_sent : outcome.effects ≡ []
   pub same_log : outcome.state.log ≡ old.log

@@ -5,7 +5,7 @@ use Rattle.std.proofs.lemmas.List.{length-append}
 use Rattle.ballot.specs.machine.Machine.{Rules}
 use Rattle.ballot.specs.Effect.{Effect}
 use Rattle.ballot.specs.Logs.{places}
-use Rattle.ballot.specs.Losses.{IsQuiet, Loses, Stepped, Steps, Thinned, one_more}
+use Rattle.ballot.specs.Losses.{SendsAndAddsNothing, Loses, Stepped, Steps, Thinned, one_more}
 use Rattle.ballot.specs.Losses.Thinned.{none, keeps, loses}
 use Rattle.ballot.specs.Protocol.{Input, replica_step}
 use Rattle.ballot.specs.Protocol.Input.{Proposes, Ticks}
@@ -55,12 +55,12 @@ given_nothing rules empty (inr (inr (inr (a, t)), c)) = t ∙ sym empty
 pub record Called {S C O : Type 0} (rules : Rules S C O) (old : CountedReplica S C) (input : Input C) (new : CountedReplica S C)
     (before after : List (Effect C O)) : Type 0 where
   pub stepped : Stepped rules old (replica_step rules old.state input) new before after
-  pub quiet : IsQuiet old.state (replica_step rules old.state input) → IsRead rules old.state input →
+  pub quiet : SendsAndAddsNothing old.state (replica_step rules old.state input) → IsRead rules old.state input →
       new ≡ record old { state = (replica_step rules old.state input).state }
 
 -- a tick changes no replica
 pub ticks_called : {S C O : Type 0} (rules : Rules S C O) (old new : CountedReplica S C) (before after : List (Effect C O)) →
-    Stepped rules old (replica_step rules old.state Ticks) new before after → (IsQuiet old.state (replica_step rules old.state Ticks) → new ≡ old) →
+    Stepped rules old (replica_step rules old.state Ticks) new before after → (SendsAndAddsNothing old.state (replica_step rules old.state Ticks) → new ≡ old) →
     Called rules old Ticks new before after
 ticks_called {S = S} {C = C} {O = O} rules old new before after s still =
     record {
@@ -71,7 +71,7 @@ ticks_called {S = S} {C = C} {O = O} rules old new before after s still =
 
 -- a proposal that is taken makes the log longer
 pub proposal_busy : {S C O : Type 0} {P : Type 0} (rules : Rules S C O) (r : ReplicaState S C) (command : C) → is_active r.role ≡ true →
-    places r.log < max_places → IsQuiet r (proposed rules r command) → P
+    places r.log < max_places → SendsAndAddsNothing r (proposed rules r command) → P
 proposal_busy {S = S} {C = C} {O = O} rules r command active room quiet =
     let e = ap (λ (o : Outcome S C O). places o.state.log) (sym (proposed-adds rules r command active room)) in
     let same = ap places quiet.same_log in
@@ -89,7 +89,7 @@ proposes_called {S = S} {C = C} {O = O} rules old new command before after s idl
     with_outcome o = record { state = o.state; losses = old.losses }
 
     by_role : (is_active old.state.role ≡ true) ⊎ (is_active old.state.role ≡ false) →
-        (places old.state.log < max_places) ⊎ (max_places ≤ places old.state.log) → IsQuiet old.state (proposed rules old.state command) →
+        (places old.state.log < max_places) ⊎ (max_places ≤ places old.state.log) → SendsAndAddsNothing old.state (proposed rules old.state command) →
         new ≡ record old { state = (proposed rules old.state command).state }
     by_role (inl on) (inl room) q = proposal_busy rules old.state command on room q
     by_role (inl on) (inr past) q = full on past ∙ ap with_outcome (sym (proposed-full rules old.state command on past))

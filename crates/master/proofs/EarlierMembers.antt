@@ -12,7 +12,7 @@ use Rattle.ballot.specs.Changing.{installs, lacks, on_install, on_new_ballot, on
 use Rattle.ballot.specs.Config.{Config}
 use Rattle.ballot.specs.Effect.{Effect}
 use Rattle.ballot.specs.Logs.{Log, places}
-use Rattle.ballot.specs.Losses.{IsQuiet}
+use Rattle.ballot.specs.Losses.{SendsAndAddsNothing}
 use Rattle.ballot.specs.Message.{Message}
 use Rattle.ballot.specs.Protocol.{received}
 use Rattle.ballot.specs.Replica.{ReplicaState, others}
@@ -154,7 +154,7 @@ quiet_append O r from b place command none = by_place (cases_Bool (follows r b))
 
 -- one that has more than numbers and sends nothing does nothing
 pub quiet_does_nothing : {S C O : Type 0} (rules : Rules S C O) (r : ReplicaState S C) (from : ℕ) (body : Body C) → has_numbers_alone body ≡ false →
-    NamesSome body → IsQuiet r (received rules r from body) → received rules r from body ≡ nothing_done O r
+    NamesSome body → SendsAndAddsNothing r (received rules r from body) → received rules r from body ≡ nothing_done O r
 quiet_does_nothing {O = O} rules r from (NewBallot b members p old) more some q = quiet_new_ballot O r b p members old some q.nothing_sent
 quiet_does_nothing rules r from (State b log) more some q = quiet_state rules r b log q.nothing_sent
 quiet_does_nothing rules r from (Install b log) more some q = quiet_install rules r from b log q.nothing_sent

@@ -8,7 +8,7 @@ use Rattle.ballot.specs.Config.{Config}
 use Rattle.ballot.specs.Logs.{places}
 use Rattle.ballot.specs.Effect.{Effect}
 use Rattle.ballot.specs.Message.{Message}
-use Rattle.ballot.specs.Losses.{IsQuiet, halted}
+use Rattle.ballot.specs.Losses.{SendsAndAddsNothing, halted}
 use Rattle.ballot.specs.Protocol.{Input, replica_step}
 use Rattle.ballot.specs.Protocol.Input.{Receives, Proposes, Ticks}
 use Rattle.ballot.specs.Replica.{ReplicaState, is_active}
@@ -29,7 +29,7 @@ use Rattle.master.specs.Copying.{has_numbers_alone}
 use Rattle.master.specs.Inside.{RunsAt}
 use Rattle.master.specs.Inside.Losing.{TookStep}
 use Rattle.master.specs.Steps.{StepsBy, TakesNoMemory, done_exactly}
-use Rattle.master.specs.Steps.TakesNoMemory.{comes_to_nobody, goes_unheeded, is_quiet, stops_a_node}
+use Rattle.master.specs.Steps.TakesNoMemory.{comes_to_nobody, goes_unheeded, sends_and_adds_nothing, stops_a_node}
 use Rattle.master.proofs.Calling.{proposal_busy}
 use Rattle.master.proofs.Counting.{delivers_turn, some_idle, stops_turn, takes_turn}
 
@@ -76,18 +76,18 @@ steps_exactly_done {S = S} {C = C} {O = O} rules old event e =
 
 -- a node's step needs no memory if it is quiet, or if the node stops
 pub node_needs : {S C O : Type 0} {P : Type 0} (rules : Rules S C O) (a : Moment S C O) (event : Event C) (t : NodeOutcome S C O) →
-    outcome_of rules a event ≡ Some (by_node t) → ((node : ℕ) → event ≡ Crash node → P) → (IsQuiet t.before t.outcome → P) →
+    outcome_of rules a event ≡ Some (by_node t) → ((node : ℕ) → event ≡ Crash node → P) → (SendsAndAddsNothing t.before t.outcome → P) →
     TakesNoMemory rules a event → P
 node_needs rules a event t e stops quiet (comes_to_nobody f) = some_idle e f
 node_needs rules a event t e stops quiet (goes_unheeded f) = let g = sym e ∙ f in cc
 node_needs rules a event t e stops quiet (stops_a_node node f) = stops node f
-node_needs {S = S} {C = C} {O = O} rules a event t e stops quiet (is_quiet s f still) =
+node_needs {S = S} {C = C} {O = O} rules a event t e stops quiet (sends_and_adds_nothing s f still) =
     let g = sym e ∙ f in let same : t ≡ s = cc in
-    quiet (subst (λ (z : NodeOutcome S C O). IsQuiet z.before z.outcome) (sym same) still)
+    quiet (subst (λ (z : NodeOutcome S C O). SendsAndAddsNothing z.before z.outcome) (sym same) still)
 
 -- a step that is quiet was done exactly
 pub turn_quiet : {S C O : Type 0} (rules : Rules S C O) (old new : GroupState S C O) (event : Event C) (t : NodeOutcome S C O) →
-    outcome_of rules old.moment event ≡ Some (by_node t) → TookStep rules old t new → IsQuiet t.before t.outcome → new ≡ done_exactly rules old event
+    outcome_of rules old.moment event ≡ Some (by_node t) → TookStep rules old t new → SendsAndAddsNothing t.before t.outcome → new ≡ done_exactly rules old event
 turn_quiet {S = S} {C = C} {O = O} rules old new event t e took quiet =
     let z = took.quiet quiet in
     ap (λ (a : Moment S C O). let g : GroupState S C O = record { moment = a; losses = new.losses } in g)
@@ -103,7 +103,7 @@ pub cut_needs : {S C O : Type 0} {P : Type 0} (rules : Rules S C O) (a : Moment 
 cut_needs rules a node t e (comes_to_nobody f) = some_idle e f
 cut_needs rules a node t e (goes_unheeded f) = let g = sym e ∙ f in cc
 cut_needs rules a node t e (stops_a_node other f) = cc
-cut_needs rules a node t e (is_quiet s f still) = let g = sym e ∙ f in cc
+cut_needs rules a node t e (sends_and_adds_nothing s f still) = let g = sym e ∙ f in cc
 
 -- and one of the master needs some
 pub master_needs : {S C O : Type 0} {P : Type 0} (rules : Rules S C O) (a : Moment S C O) (event : Event C) (o : MasterOutcome C) →
@@ -111,17 +111,17 @@ pub master_needs : {S C O : Type 0} {P : Type 0} (rules : Rules S C O) (a : Mome
 master_needs rules a event o e stops (comes_to_nobody f) = some_idle e f
 master_needs rules a event o e stops (goes_unheeded f) = let g = sym e ∙ f in cc
 master_needs rules a event o e stops (stops_a_node node f) = stops node f
-master_needs rules a event o e stops (is_quiet s f still) = let g = sym e ∙ f in cc
+master_needs rules a event o e stops (sends_and_adds_nothing s f still) = let g = sym e ∙ f in cc
 
 -- a proposal that is taken is not quiet
 pub proposal_does : {S C O : Type 0} {P : Type 0} (rules : Rules S C O) (r : ReplicaState S C) (command : C) → can_take r (Proposes command) ≡ true →
-    IsQuiet r (replica_step rules r (Proposes command)) → P
+    SendsAndAddsNothing r (replica_step rules r (Proposes command)) → P
 proposal_does {S = S} {C = C} {O = O} rules r command can quiet =
     let p = and_parts (is_active r.role) (nat_lt (places r.log) max_places) can in
     proposal_busy rules r command p.0 (ltb-true (places r.log) max_places p.1) quiet
 
 -- a tick that is quiet does nothing
-tick_nothing : {S C O : Type 0} (rules : Rules S C O) (r : ReplicaState S C) → IsQuiet r (replica_step rules r Ticks) → replica_step rules r Ticks ≡ nothing_done O r
+tick_nothing : {S C O : Type 0} (rules : Rules S C O) (r : ReplicaState S C) → SendsAndAddsNothing r (replica_step rules r Ticks) → replica_step rules r Ticks ≡ nothing_done O r
 tick_nothing {S = S} {C = C} {O = O} rules r quiet =
     ap (λ (s : ReplicaState S C). let o : Outcome S C O = record { state = s; effects = (replica_step rules r Ticks).effects } in o) (ticked-state O r r.role)
     ∙ ap (λ (us : List (Effect C O)). let o : Outcome S C O = record { state = r; effects = us } in o) quiet.nothing_sent
@@ -174,12 +174,12 @@ not_copied (Err e) error is ok = cc
 -- and one for whose copy there is no memory
 pub message_lost : {S C O : Type 0} {P : Type 0} (rules : Rules S C O) (old : GroupState S C O) (k at : ℕ) (x : ℕ × Message C) →
     slice_get old.moment.world.sent k ≡ Some x → (y : RunsAt old.moment.world.nodes x.0 at) → (has_numbers_alone x.1.body ≡ true → ⊥) →
-    (has_numbers_alone x.1.body ≡ false → IsQuiet y.replica (replica_step rules y.replica (Receives x.1)) → ⊥) → TakesNoMemory rules old.moment (Deliver k) → P
+    (has_numbers_alone x.1.body ≡ false → SendsAndAddsNothing y.replica (replica_step rules y.replica (Receives x.1)) → ⊥) → TakesNoMemory rules old.moment (Deliver k) → P
 message_lost rules old k at x found y numbers more =
     node_needs rules old.moment (Deliver k) _ (delivers_turn rules old.moment k at x x.1 found refl y) (λ n f. cc)
     (λ quiet. absurd (by_kind quiet (cases_Bool (has_numbers_alone x.1.body))))
   where
-    by_kind : IsQuiet y.replica (replica_step rules y.replica (Receives x.1)) →
+    by_kind : SendsAndAddsNothing y.replica (replica_step rules y.replica (Receives x.1)) →
         (has_numbers_alone x.1.body ≡ true) ⊎ (has_numbers_alone x.1.body ≡ false) → ⊥
     by_kind quiet (inl e) = numbers e
     by_kind quiet (inr e) = more e quiet

@@ -7,7 +7,7 @@ use Rattle.ballot.specs.machine.Machine.{Rules}
 use Rattle.ballot.specs.Message.{Message}
 use Rattle.ballot.specs.Effect.{Effect}
 use Rattle.ballot.specs.Replica.{ReplicaState, CountedReplica, opening, status_of}
-use Rattle.ballot.specs.Losses.{IsQuiet, Loses, Thinned, halted, one_more}
+use Rattle.ballot.specs.Losses.{SendsAndAddsNothing, Loses, Thinned, halted, one_more}
 use Rattle.ballot.specs.Losses.Thinned.{none, keeps, loses}
 use Rattle.ballot.specs.Sending.{Outcome}
 use Rattle.ballot.specs.Protocol.{Input, replica_step}
@@ -107,9 +107,9 @@ took_turn {S = S} {C = C} {O = O} {rules = rules} archive m nodes sent more left
     by_way (inl (a, b, c)) = inl ((t.exact a).0 ∙ ap (λ (s : ReplicaState S C). (o s).state) same, p.exact b ∙ rest ∙ (t.exact a).1 ∙ ap (λ (s : ReplicaState S C). (o s).effects) same, c)
     by_way (inr c) = inr (lossy, c)
 
-    quietly : IsQuiet r (o r) → (new.state ≡ (o r).state) × (p.kept ≡ (o r).effects) × (counted ≡ losses)
+    quietly : SendsAndAddsNothing r (o r) → (new.state ≡ (o r).state) × (p.kept ≡ (o r).effects) × (counted ≡ losses)
     quietly q =
-        let z = t.quiet (subst (λ (s : ReplicaState S C). IsQuiet s (o s)) (sym same) q) (subst (λ (s : ReplicaState S C). IsRead rules s input) (sym same) reads) in
+        let z = t.quiet (subst (λ (s : ReplicaState S C). SendsAndAddsNothing s (o s)) (sym same) q) (subst (λ (s : ReplicaState S C). IsRead rules s input) (sym same) reads) in
         let nothing : drop from after ≡ [] = rest ∙ z.1 ∙ ap (λ (s : ReplicaState S C). (o s).effects) same ∙ q.nothing_sent in (
           z.0 ∙ ap (λ (s : ReplicaState S C). (o s).state) same,
           thinned_nothing nothing p.thinned ∙ sym q.nothing_sent,

@@ -2,7 +2,7 @@
 use Rattle.std.specs.Prelude.{◌<◌, ◌≡◌, ◌⊎◌, ℕ, List, [], ◌∷◌, Option, Some, None}
 use Rattle.ballot.specs.machine.Machine.{Rules}
 use Rattle.ballot.specs.Effect.{Effect}
-use Rattle.ballot.specs.Losses.{IsQuiet, Loses, greatest_count, one_more}
+use Rattle.ballot.specs.Losses.{SendsAndAddsNothing, Loses, greatest_count, one_more}
 use Rattle.ballot.specs.Replica.{ReplicaState}
 use Rattle.snapshots.specs.Masters.{MasterOutcome}
 use Rattle.snapshots.specs.Moments.{Moment}
@@ -40,8 +40,8 @@ pub data TakesNoMemory {S C O : Type 0} (rules : Rules S C O) (a : Moment S C O)
   -- the master ignores it
   goes_unheeded : outcome_of rules a e ≡ Some unheeded → TakesNoMemory rules a e
   -- its node sends nothing, keeps its log and applies nothing
-  is_quiet : (t : NodeOutcome S C O) → outcome_of rules a e ≡ Some (by_node t) →
-      IsQuiet t.before t.outcome → TakesNoMemory rules a e
+  sends_and_adds_nothing : (t : NodeOutcome S C O) → outcome_of rules a e ≡ Some (by_node t) →
+      SendsAndAddsNothing t.before t.outcome → TakesNoMemory rules a e
   -- a node crashes
   stops_a_node : (node : ℕ) → e ≡ Crash node → TakesNoMemory rules a e
 

@@ -6,7 +6,7 @@ ghost use Rattle.std.specs.Prelude.{IsErr, IsErrOf};
 ghost use Rattle.ballot.specs.Protocol.{replica_step};
 ghost use Rattle.ballot.specs.Protocol.Input.{Receives};
 ghost use Rattle.ballot.specs.Sending.{nothing_done};
-ghost use Rattle.ballot.specs.Losses.{IsQuiet, one_more};
+ghost use Rattle.ballot.specs.Losses.{SendsAndAddsNothing, one_more};
 ghost use Rattle.ballot.specs.Replica.{ReplicaState};
 ghost use Rattle.ballot.specs.lists.Lists.{In};
 ghost use Rattle.snapshots.specs.Moments.{IsAgreed, Moment, Moments, opening_moment};
@@ -261,7 +261,7 @@ impl<M: Machine> Group<M> {
         ensures more { (r : ReplicaState M M.Command) →
             slice_get self.now.moment.world.nodes at ≡ Some r → result ≡ true →
             has_numbers_alone message.now.body ≡ false →
-            IsQuiet r (replica_step M.rules r (Receives message.now)) → ⊥ }
+            SendsAndAddsNothing r (replica_step M.rules r (Receives message.now)) → ⊥ }
     {
         self.nodes[at].heeds(message)
     }

@@ -5,7 +5,7 @@ use Rattle.broker.specs.broker_base.State.{State}
 use Rattle.node_connections.specs.broker_spec.declared.command.Command.{Command}
 use Rattle.node_connections.specs.broker_spec.declared.command.Output.{Output}
 use Rattle.ballot.specs.Effect.{Effect}
-use Rattle.ballot.specs.Losses.{IsQuiet, Stepped, Steps, Thinned}
+use Rattle.ballot.specs.Losses.{SendsAndAddsNothing, Stepped, Steps, Thinned}
 use Rattle.ballot.specs.Losses.Thinned.{keeps, loses}
 use Rattle.ballot.specs.Losses.Thinned.{none as none_missing}
 use Rattle.ballot.specs.Message.{Message}
@@ -44,7 +44,7 @@ pub heard_quietly : (message : Message Command) (old mid new : Running) (replica
     before ≡ [] →
     (old.core.replica.state.stopped ≡ false →
     Stepped rules old.core.replica (replica_step rules old.core.replica.state (Receives message)) replica before after) →
-    (old.core.replica.state.stopped ≡ false → IsQuiet old.core.replica.state (replica_step rules old.core.replica.state (Receives message)) →
+    (old.core.replica.state.stopped ≡ false → SendsAndAddsNothing old.core.replica.state (replica_step rules old.core.replica.state (Receives message)) →
     is_unread rules old.core.replica.state message.body ≡ false →
     replica ≡ record old.core.replica { state = (replica_step rules old.core.replica.state (Receives message)).state }) →
     (old.core.replica.state.stopped ≡ true → (replica ≡ old.core.replica) × (after ≡ before)) →
@@ -66,8 +66,8 @@ heard_quietly message old mid new replica before after losses empty step still s
     by true e =
         let same = stays e in (ap (λ (c : CountedReplica State Command). c.losses) same.0, same.1 ∙ empty)
     by false e =
-        let goes : IsQuiet old.core.replica.state (replica_step rules old.core.replica.state (Receives message)) =
-        subst (λ (b : Bool). IsQuiet r (if b then nothing_done Output r else replica_step rules r (Receives message))) e quiet.0 in
+        let goes : SendsAndAddsNothing old.core.replica.state (replica_step rules old.core.replica.state (Receives message)) =
+        subst (λ (b : Bool). SendsAndAddsNothing r (if b then nothing_done Output r else replica_step rules r (Receives message))) e quiet.0 in
         let did = step e in
         let nothing = given_nothing old.core.replica _ replica did.given goes.nothing_sent did.steps in (
           ap (λ (c : CountedReplica State Command). c.losses) (still e goes (reads e)),

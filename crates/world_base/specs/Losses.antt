@@ -6,7 +6,7 @@ use Rattle.node_connections.specs.broker_spec.declared.command.Command.{Command}
 use Rattle.node_connections.specs.broker_spec.declared.command.Output.{Output}
 use Rattle.ballot.specs.Effect.{Effect}
 use Rattle.ballot.specs.Cutting.{can_cut}
-use Rattle.ballot.specs.Losses.{IsQuiet, greatest_count, one_more}
+use Rattle.ballot.specs.Losses.{SendsAndAddsNothing, greatest_count, one_more}
 use Rattle.ballot.specs.Protocol.{Input}
 use Rattle.ballot.specs.Protocol.Input.{Receives, Ticks}
 use Rattle.ballot.specs.Sending.{nothing_done}
@@ -57,7 +57,7 @@ was_proposed (Some c) = is_proposed c.stage
 -- shows whether a call lost something.
 abbrev pub IsHeardQuietly : Message Command → CoreState → Type 0
 IsHeardQuietly message core =
-    IsQuiet core.replica.state (heard (Receives message) core.replica.state)
+    SendsAndAddsNothing core.replica.state (heard (Receives message) core.replica.state)
     × (core.replica.losses < greatest_count)
 
 -- An item takes no memory if it does nothing. The same holds for a message that is heard quietly

@@ -9,7 +9,7 @@ use Rattle.master.specs.ballot.Effect.{Effect}
 use Rattle.master.specs.Copying.{has_numbers_alone}
 use Rattle.master.specs.Inside.{ToldIn, asks_for}
 use Rattle.master.proofs.EarlierMembers.{NamesSome, names_some, quiet_does_nothing}
-use Rattle.master.specs.ballot.Losses.{IsQuiet, one_more}
+use Rattle.master.specs.ballot.Losses.{SendsAndAddsNothing, one_more}
 use Rattle.master.specs.ballot.Message.{Message}
 use Rattle.master.specs.ballot.Protocol.{replica_step}
 use Rattle.master.specs.ballot.Protocol.Input.{Receives}
@@ -161,7 +161,7 @@ more_ignored message core more names quiet = by core.replica.state.stopped quiet
     r : ReplicaState BrokerState Command
     r = core.replica.state
 
-    by : (b : Bool) → IsQuiet r (if b then nothing_done Output r else replica_step rules r (Receives message)) →
+    by : (b : Bool) → SendsAndAddsNothing r (if b then nothing_done Output r else replica_step rules r (Receives message)) →
         (if b then nothing_done Output r else replica_step rules r (Receives message)) ≡ nothing_done Output r
     by true q = refl
     by false q = quiet_does_nothing rules r message.from message.body more names q

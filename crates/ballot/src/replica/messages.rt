@@ -2,7 +2,7 @@
 
 ghost use Rattle.std.specs.Prelude.{◌≡◌, ◌<◌, ◌↔◌, true, false, [], ◌∷◌, OnOk, OnErr, IsErr};
 ghost use Rattle.ballot.specs.Inside.{Heard, SendsCounted, Went};
-ghost use Rattle.ballot_base.specs.Losses.{Stepped, IsQuiet, one_more};
+ghost use Rattle.ballot_base.specs.Losses.{Stepped, SendsAndAddsNothing, one_more};
 ghost use Rattle.ballot_base.specs.Sending.{message_to};
 ghost use Rattle.ballot_base.specs.Unread.{is_unread};
 ghost use Rattle.ballot_base.specs.Protocol.{received, replica_step};
@@ -30,7 +30,7 @@ impl<M: Machine> Replica<M> {
         // A message that sends, adds and applies nothing never runs out of memory, unless a
         // snapshot has to be read.
         ensures quiet { self.old.state.stopped ≡ false →
-            IsQuiet self.old.state
+            SendsAndAddsNothing self.old.state
             (replica_step M.rules self.old.state (Receives message)) →
             is_unread M.rules self.old.state message.body ≡ false →
             self.new ≡ record self.old {

@@ -2,7 +2,7 @@
 
 ghost use Rattle.std.specs.Prelude.{◌≡◌, ◌++◌, true, false};
 ghost use Rattle.ballot_base.specs.Sends.{Sends};
-ghost use Rattle.ballot_base.specs.Losses.{Stepped, IsQuiet};
+ghost use Rattle.ballot_base.specs.Losses.{Stepped, SendsAndAddsNothing};
 ghost use Rattle.ballot_base.specs.Protocol.{replica_step, ticked};
 ghost use Rattle.ballot_base.specs.Protocol.Input.{Ticks};
 ghost use Rattle.ballot_base.specs.Serving.{appends_after};
@@ -24,7 +24,7 @@ impl<M: Machine> Replica<M> {
             Stepped M.rules self.old (replica_step M.rules self.old.state Ticks)
             self.new out.old.items out.new.items }
         ensures quiet { self.old.state.stopped ≡ false →
-            IsQuiet self.old.state
+            SendsAndAddsNothing self.old.state
             (replica_step M.rules self.old.state Ticks) →
             self.new ≡ self.old }
         ensures state { self.new.state ≡ self.old.state }

@@ -4,7 +4,7 @@ use Rattle.ballot.specs.machine.Machine.{Rules}
 use Rattle.ballot.specs.Message.{Message}
 use Rattle.ballot.specs.Effect.{Effect}
 use Rattle.ballot.specs.Effect.TheVariants.{To, Out}
-use Rattle.ballot.specs.Losses.{IsQuiet, Loses, Thinned, greatest_count, one_more}
+use Rattle.ballot.specs.Losses.{SendsAndAddsNothing, Loses, Thinned, greatest_count, one_more}
 use Rattle.ballot.specs.Protocol.{Input, replica_step}
 use Rattle.ballot.specs.Protocol.Input.{Receives, Proposes, Ticks}
 use Rattle.ballot.specs.Replica.{ReplicaState, CountedReplica}
@@ -51,7 +51,7 @@ pub record TookIn {S C O : Type 0} (rules : Rules S C O) (old : CountedReplica S
   pub loses : Loses rules old.state (replica_step rules old.state input) new.state given
   pub exact : whole ≡ true → TookExactly rules old input new given
   pub counted : (new.losses ≡ old.losses) ⊎ (new.losses ≡ one_more old.losses)
-  pub quiet : IsQuiet old.state (replica_step rules old.state input) →
+  pub quiet : SendsAndAddsNothing old.state (replica_step rules old.state input) →
       IsRead rules old.state input →
       TookExactly rules old input new given
   pub told : new.losses ≡ old.losses → old.losses < greatest_count → whole ≡ true
@@ -83,7 +83,7 @@ pub record TookStep {S C O : Type 0} (rules : Rules S C O) (old : GroupState S C
       ≡ record old.moment { world = moved old.moment.world t.index state given }
   pub way : ((state ≡ t.outcome.state) × (given ≡ t.outcome.effects) × (new.losses ≡ old.losses))
       ⊎ (Loses rules t.before t.outcome state given × (new.losses ≡ one_more old.losses))
-  pub quiet : IsQuiet t.before t.outcome →
+  pub quiet : SendsAndAddsNothing t.before t.outcome →
       (state ≡ t.outcome.state) × (given ≡ t.outcome.effects) × (new.losses ≡ old.losses)
 
 -- a group after a cut of one node's log, or one for which memory ran out, which was counted
