@@ -241,7 +241,7 @@ module _ (config : Config) (a : Moment State Command Output) (past : List (Momen
     stepped : turn ≡ record { core = with_asked now port connect c core; messages = (proposal_at core c).effects }
     stepped =
         connect_is_proposed core port now piece connection connect room calm can.awaits.opened can.awaits.first can.awaits.unread can.is_connect
-        (ap (λ (d : Command). outputs (proposal_at core d).effects) proposes_c ∙ h.quiet)
+        (ap (λ (d : Command). outputs (proposal_at core d).effects) proposes_c ∙ h.no_outputs)
         ∙ ap (λ (d : Command). let t : Turn = record { core = with_asked now port connect d core; messages = (proposal_at core d).effects } in t) proposes_c
 
     seen_first : IsSeen (after_outcome index o a) first

@@ -190,7 +190,7 @@ module _ {S C O : Type 0} (rules : Rules S C O) (b index : ℕ) (r : ReplicaStat
     pub held_by_all : IsHeldByAll rules a index b r log c front last
     held_by_all =
         record {
-          quiet = ap (λ (o : Outcome S C O). outputs o.effects) row
+          no_outputs = ap (λ (o : Outcome S C O). outputs o.effects) row
               ∙ outputs_of_messages {C = C} {O = O} (index + 1) (Append b (length log) c) (progress_at (length log) os);
           before = most.after;
           delivered = subst (λ n. Delivered rules b next (numbers_from (length a.world.sent) n ++ numbers_from (length a.world.sent + n) (length front)) most.after) count

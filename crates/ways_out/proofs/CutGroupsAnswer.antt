@@ -258,7 +258,7 @@ module _ {S C O : Type 0} (rules : Rules S C O) (config : Config) (a : Moment S 
       pub held_by_all : IsHeldByAll rules a index ballot r log c front last
       held_by_all =
           record {
-            quiet = outputs_whole a.world.archive o.effects ∙ ap whole_outputs same.effects ∙ h.quiet;
+            no_outputs = outputs_whole a.world.archive o.effects ∙ ap whole_outputs same.effects ∙ h.no_outputs;
             before = w.end;
             delivered = w.delivered;
             archive = w.archive;

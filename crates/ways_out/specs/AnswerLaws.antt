@@ -47,7 +47,7 @@ pub record AnswersCommand {S C O : Type 0} (rules : Rules S C O) (ballot : ℕ) 
 -- last, and when that one comes, it answers the command.
 pub record IsHeldByAll {S C O : Type 0} (rules : Rules S C O) (a : Moment S C O) (index ballot : ℕ)
     (r : ReplicaState S C) (log : List C) (c : C) (front : List ℕ) (last : ℕ) : Type 0 where
-  pub quiet : outputs (replica_step rules r (Proposes c)).effects ≡ []
+  pub no_outputs : outputs (replica_step rules r (Proposes c)).effects ≡ []
   pub before : Moment S C O
   pub delivered : Delivered rules ballot
       (after_outcome index (replica_step rules r (Proposes c)) a)
