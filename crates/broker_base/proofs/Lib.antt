@@ -12,7 +12,7 @@ pub mod OthersStay
 pub mod PacketAnswersStand
 pub mod PastsAtRest
 pub mod QueueAfter
-pub mod QueuesStayQuiet
+pub mod QueuesStayFilled
 pub mod QuietPasts
 pub mod RoomStands
 pub mod RowsKeep

@@ -1,9 +1,9 @@
 -- After one more command what is kept of a client's session is the step of what was kept before: in every past a
--- connected client's queue is quiet, and its identifiers are distinct.
+-- connected client's queue is filled, and its identifiers are distinct.
 use Rattle.std.proofs.Common.{◌≡◌, ℕ, ◌≤◌, Bool, true, false, not, ◌==◌, Option, Some, None, List, ◌∷◌, length, refl, ap, ◌∙◌, sym, subst}
 use Rattle.std.proofs.lemmas.Bool.{or_parts}
 use Rattle.session_base.specs.lists.Lists.{IsDistinct}
-use Rattle.session_base.specs.Laws.{IsQuietQueue}
+use Rattle.session_base.specs.Laws.{IsFilledQueue}
 use Rattle.session_base.specs.Queue.{ids_of}
 use Rattle.session_base.proofs.IdentifiersStayApart.{distinct, pubrec_length}
 use Rattle.broker_spec.specs.Connection.{ConnectionName}
@@ -44,7 +44,7 @@ at_rest limits later follows place past c = by (session_of past c)
     by None = tt
     by (Some clean) = λ x e.
         let h = was_there x (ends_any place c (current_connection past c)) (current_connection past c) e in (
-          subst (λ (w : ℕ). IsQuietQueue w (flights_below (length past) (entries_of limits past c)) (waiting_of (entries_of limits past c)))
+          subst (λ (w : ℕ). IsFilledQueue w (flights_below (length past) (entries_of limits past c)) (waiting_of (entries_of limits past c)))
               (sym (same_window limits later follows place past (no_start place.command place.mark x ((or_parts (expels place.command c) (ends place.command place.mark x) (ap (ends_any place c) (sym h.1) ∙ h.0)).1))))
               (quiet_queue limits past c x h.1),
           λ id. pubrec_length id (flights_below (length past) (entries_of limits past c)) (apart (length past) (entries_of limits past c) (sound_entries limits past c)),

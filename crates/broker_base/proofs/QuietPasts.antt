@@ -1,4 +1,4 @@
--- In every past a connected client's queue is quiet: nothing waits, or the window is full. A client
+-- In every past a connected client's queue is filled: nothing waits, or the window is full. A client
 -- with a connection has a session. What a place does to the entries of a session that continues.
 use Rattle.std.proofs.Common.{◌≡◌, ℕ, ◌+◌, ◌≤◌, suc, Bool, true, false, not, ◌&&◌, ◌||◌, ◌⊎◌, inl, inr, nat_lt, if◌then◌else◌, Option, Some, None, List, [], ◌∷◌, ◌++◌, length, map, refl, ap, ◌∙◌, sym, arith}
 use Rattle.std.proofs.lemmas.List.{length-map}
@@ -19,7 +19,7 @@ use Rattle.broker_base.proofs.flights.IdentifiersInFlight.{same_ids}
 use Rattle.broker_base.proofs.flights.SendsOfCopies.{Quiet, fill_full}
 use Rattle.broker_base.proofs.QueueAfter.{sound_entries, sound_answered}
 
--- ---- quiet
+-- ---- filled
 
 abbrev pub QuietEntries : ℕ → List Entry → Type 0
 QuietEntries w es = (waiting_of es ≡ []) ⊎ (w ≤ length (busy_ids es))
@@ -71,7 +71,7 @@ quiet_queue limits past c x e =
     ∙ same_length (ids_of (flights_below (length past) (entries_of limits past c))) (busy_ids (entries_of limits past c)) (same_ids (length past) (entries_of limits past c) s.below) in
     elim (quiet_entries limits past c x e) [ inl k ↦ inl k | inr k ↦ inr (omega (arith, k, size)) ]
 
--- a quiet queue is filled
+-- a fill changes no filled queue
 pub quiet_filled : (w : ℕ) (fs : List Flight) (ms : List Publication) → Quiet w fs ms → fill w fs ms ≡ record { in_flight = fs; waiting = ms }
 quiet_filled w fs ms (inl e) = ap (λ ps. fill w fs ps) e ∙ ap (λ ps. record { in_flight = fs; waiting = ps }) (sym e)
 quiet_filled w fs ms (inr h) = fill_full w fs ms h

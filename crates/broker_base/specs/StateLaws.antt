@@ -8,7 +8,7 @@ use Rattle.std.specs.Map.{keys_of}
 use Rattle.std.specs.Ordering.{nat_cmp}
 use Rattle.session_base.specs.Queue.{ids_of}
 use Rattle.session_base.specs.lists.Lists.{IsDistinct}
-use Rattle.session_base.specs.Laws.{IsQuietQueue}
+use Rattle.session_base.specs.Laws.{IsFilledQueue}
 use Rattle.session_base.specs.OrderLaws.{IsReleasedFirst}
 use Rattle.session_base.specs.KeepingLaws.{AreFiltersApart}
 use Rattle.broker_spec.specs.Connection.{ConnectionName, same_connection}
@@ -31,10 +31,10 @@ pub record IsSoundSession (kept : ClientSession) : Type 0 where
   pub served : kept.clean ≡ true → is_some kept.connection ≡ true
 
 -- if a client is connected, nothing waits in its queue or its window is full
-abbrev pub HasQuietQueue : ℕ → ClientSession → Type 0
-HasQuietQueue window kept =
+abbrev pub HasFilledQueue : ℕ → ClientSession → Type 0
+HasFilledQueue window kept =
     (kept.connection ≡ None)
-    ⊎ IsQuietQueue window kept.state.queue.in_flight kept.state.queue.waiting
+    ⊎ IsFilledQueue window kept.state.queue.in_flight kept.state.queue.waiting
 
 -- no more entries of a session are in flight than the window allows
 abbrev pub FitsWindow : ℕ → ClientSession → Type 0
@@ -46,9 +46,9 @@ FitsWindow window kept = length kept.state.queue.in_flight ≤ window
 abbrev pub AllSound : Sessions → Type 0
 AllSound rows = AllByRecursion (λ row. IsSoundSession row.1) rows
 
--- each connected client's queue is quiet
-abbrev pub AllQuiet : ℕ → Sessions → Type 0
-AllQuiet window rows = AllByRecursion (λ row. HasQuietQueue window row.1) rows
+-- each connected client's queue is filled
+abbrev pub AllFilled : ℕ → Sessions → Type 0
+AllFilled window rows = AllByRecursion (λ row. HasFilledQueue window row.1) rows
 
 -- no more of a session is in flight than the window allows
 abbrev pub AllInWindow : ℕ → Sessions → Type 0
@@ -84,12 +84,13 @@ StaysSound =
     (limits : Limits) → (later : ℕ) → (state : State) → (command : Command) → IsSound state →
     IsSound (step limits later state command).0
 
--- a step keeps the queues quiet if they were
-abbrev pub StaysQuiet : Type 0
-StaysQuiet =
+-- a step keeps the queues filled if they were
+abbrev pub StaysFilled : Type 0
+StaysFilled =
     (limits : Limits) → (later : ℕ) → (state : State) → (command : Command) → IsSound state →
-    AllQuiet state.window state.sessions →
-    AllQuiet (step limits later state command).0.window (step limits later state command).0.sessions
+    AllFilled state.window state.sessions →
+    AllFilled (step limits later state command).0.window
+    (step limits later state command).0.sessions
 
 -- a step leaves no more in flight than the window allows, if the window does not shrink
 abbrev pub StaysInWindow : Type 0
@@ -100,10 +101,10 @@ StaysInWindow =
     AllInWindow (step limits later state command).0.window
     (step limits later state command).0.sessions
 
--- the state of every list of commands is sound, and its queues are quiet
+-- the state of every list of commands is sound, and its queues are filled
 abbrev pub ListsAreSound : Type 0
 ListsAreSound =
     (limits : Limits) → (later : ℕ) → (window : ℕ) → (commands : List Command) →
     IsSound (state_from limits later (empty_state window) commands)
-    × AllQuiet (state_from limits later (empty_state window) commands).window
+    × AllFilled (state_from limits later (empty_state window) commands).window
     (state_from limits later (empty_state window) commands).sessions

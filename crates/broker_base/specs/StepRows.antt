@@ -52,8 +52,8 @@ StepsWidenTheWindow =
     ∷ (sends 4 (connack true) ∷ delivered 4 true (numbers 16 1)
     ++ delivered 4 false (numbers 48 17)) ∷ [])
 
--- ---- a state in which a connected client's queue is not quiet: one publication waits, and nothing
--- is in flight
+-- ---- a state in which a connected client's queue is not filled: one publication waits, and
+-- nothing is in flight
 
 -- the publication o at QoS 1, which waits in these rows
 abbrev pub waits_o : Publication

@@ -11,7 +11,7 @@ ghost use Rattle.broker_base.specs.StepLaws.{
   UsualListStandsFor,
   GrowingListStandsFor,
 };
-ghost use Rattle.broker_base.specs.StateLaws.{StaysSound, StaysQuiet, StaysInWindow, ListsAreSound};
+ghost use Rattle.broker_base.specs.StateLaws.{StaysSound, StaysFilled, StaysInWindow, ListsAreSound};
 ghost use Rattle.broker_base.specs.StepRows.{StepsRefuseAndGoOn, StepsKeepTheOrder};
 ghost use Rattle.broker_base.specs.StepRows.{StepsWidenTheWindow, OthersStartNothing};
 ghost use Rattle.broker_base.specs.StepRows.{AnswersStartWhatWaits};
@@ -56,7 +56,7 @@ pub fn list_stands_for()
 /// the window is full. No more is in flight than the window allows, if that does not shrink.
 pub fn states_stay_sound()
     ensures step { StaysSound }
-    ensures quiet { StaysQuiet }
+    ensures filled { StaysFilled }
     ensures in_window { StaysInWindow }
     ensures lists { ListsAreSound }
 {}

@@ -5,14 +5,14 @@ use Rattle.session_base.specs.declared.publication.Publication.{Publication}
 use Rattle.session_base.specs.Publication.{is_answered}
 use Rattle.session_base.specs.Queue.{Flight, started_flight, fill}
 use Rattle.session_base.specs.Copies.{copies_left}
-use Rattle.session_base.specs.Laws.{IsQuietQueue, CopiesAreOneFill}
+use Rattle.session_base.specs.Laws.{IsFilledQueue, CopiesAreOneFill}
 use Rattle.session_base.proofs.FillsOfQueues as fills
 
 shut : (k w : ℕ) → w ≤ k → nat_lt k w ≡ false
 shut k w h = grind arith
 
--- a quiet queue stays in a fill
-pub fill_quiet : (w : ℕ) (fs : List Flight) (ps : List Publication) → IsQuietQueue w fs ps → fill w fs ps ≡ record { in_flight = fs; waiting = ps }
+-- a filled queue stays in a fill
+pub fill_quiet : (w : ℕ) (fs : List Flight) (ps : List Publication) → IsFilledQueue w fs ps → fill w fs ps ≡ record { in_flight = fs; waiting = ps }
 fill_quiet w fs [] h = refl
 fill_quiet w fs (p ∷ ps) (inl e) = absurd (cc)
 fill_quiet w fs (p ∷ ps) (inr h) =

@@ -85,14 +85,14 @@ FillsJoin =
     ++ fill_sends window first.in_flight (first.waiting ++ more)
     ≡ fill_sends window flights (waiting ++ more))
 
--- a queue in which nothing waits, or whose window is full
-abbrev pub IsQuietQueue : ℕ → List Flight → List Publication → Type 0
-IsQuietQueue window flights waiting = (waiting ≡ []) ⊎ (window ≤ length flights)
+-- a filled queue: nothing waits in it, or its window is full
+abbrev pub IsFilledQueue : ℕ → List Flight → List Publication → Type 0
+IsFilledQueue window flights waiting = (waiting ≡ []) ⊎ (window ≤ length flights)
 
--- copies that come one by one leave of a quiet queue what one fill after all of them leaves
+-- copies that come one by one leave of a filled queue what one fill after all of them leaves
 abbrev pub CopiesAreOneFill : Type 0
 CopiesAreOneFill =
     (window : ℕ) → (flights : List Flight) → (waiting copies : List Publication) →
-    IsQuietQueue window flights waiting →
+    IsFilledQueue window flights waiting →
     copies_left window copies (record { in_flight = flights; waiting = waiting })
     ≡ fill window flights (waiting ++ filter (λ p. is_answered p.qos) copies)

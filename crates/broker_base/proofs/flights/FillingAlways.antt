@@ -1,5 +1,5 @@
 -- Another form of the step of one session: its queue is filled after every command. On the states
--- of pasts it is the same, since there a connected client's queue is quiet.
+-- of pasts it is the same, since there a connected client's queue is filled.
 use Rattle.std.proofs.Common.{ℕ, Bool, not, ◌&&◌, ◌||◌, if◌then◌else◌, List, ◌++◌, Option, Some, None}
 use Rattle.session_base.specs.packet.declared.packet.Packet.TheVariants as packets
 use Rattle.broker_spec.specs.retained.Retained.{RetainedTopics}

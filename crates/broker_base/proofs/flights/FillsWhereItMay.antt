@@ -1,10 +1,10 @@
--- If a connected client's queue is quiet, a fill after every command is a fill where entries may
+-- If a connected client's queue is filled, a fill after every command is a fill where entries may
 -- start: at a Connect, after PUBACK and PUBCOMP, and after each copy that is enqueued.
 use Rattle.std.proofs.Common.{◌≡◌, ℕ, ◌≤◌, Bool, true, false, not, ◌&&◌, ◌||◌, inl, inr, if◌then◌else◌, Option, Some, None, List, [], ◌++◌, length, refl, ap, ◌∙◌, sym, subst}
 use Rattle.session_base.specs.packet.declared.packet.Packet.TheVariants as packets
 use Rattle.broker_spec.specs.retained.Retained.{RetainedTopics}
 use Rattle.session_base.specs.declared.publication.Publication.{Publication}
-use Rattle.session_base.specs.Laws.{IsQuietQueue}
+use Rattle.session_base.specs.Laws.{IsFilledQueue}
 use Rattle.session_base.specs.Subscriptions.{GrantedFilter}
 use Rattle.session_base.specs.Queue.{Flight, on_puback, on_pubrec, on_pubcomp, fill}
 use Rattle.session_base.proofs.CopiesOneByOne.{fill_quiet, copies_are_one_fill}
@@ -23,9 +23,9 @@ use Rattle.broker_base.proofs.flights.FillingAlways.{answered_flights, filled_ke
 
 -- a queue that a fill does not change, and does not change after a PUBREC
 abbrev pub IsAtRest : ℕ → List Flight → List Publication → Type 0
-IsAtRest w fs ms = IsQuietQueue w fs ms × ((id : ℕ) → length (on_pubrec id fs) ≡ length fs)
+IsAtRest w fs ms = IsFilledQueue w fs ms × ((id : ℕ) → length (on_pubrec id fs) ≡ length fs)
 
-pub still_quiet : (w : ℕ) (fs gs : List Flight) (ms : List Publication) → length gs ≡ length fs → IsQuietQueue w fs ms → IsQuietQueue w gs ms
+pub still_quiet : (w : ℕ) (fs gs : List Flight) (ms : List Publication) → length gs ≡ length fs → IsFilledQueue w fs ms → IsFilledQueue w gs ms
 still_quiet w fs gs ms e (inl none) = inl none
 still_quiet w fs gs ms e (inr full) = inr (subst (λ (n : ℕ). w ≤ n) (sym e) full)
 
