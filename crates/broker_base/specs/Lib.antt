@@ -26,7 +26,7 @@ pub use Rattle.broker_spec.specs.Owner
 pub use Rattle.broker_spec.specs.Past
 pub use Rattle.broker_spec.specs.Place
 pub use Rattle.broker_spec.specs.QosRows
-pub use Rattle.broker_spec.specs.QuietLaws
+pub use Rattle.broker_spec.specs.NobodyLaws
 pub use Rattle.broker_spec.specs.Readings
 pub use Rattle.broker_spec.specs.Received
 pub use Rattle.broker_spec.specs.Retained

@@ -15,7 +15,7 @@ use Rattle.broker_spec.specs.Entries.{Entry, copies_by}
 use Rattle.session_base.specs.Identifiers.{least_free}
 use Rattle.broker_spec.specs.Times.{entries_of, window_at, start_all, started, answered_by}
 use Rattle.broker_spec.specs.Answers.{packet_answers}
-use Rattle.broker_spec.specs.QuietLaws.{IsSteady, PacketOfNobodyIsNothing, WindowIsSteady}
+use Rattle.broker_spec.specs.NobodyLaws.{IsSteady, PacketOfNobodyIsNothing, WindowIsSteady}
 use Rattle.broker_spec.specs.declared.command.Command.TheVariants as commands
 use Rattle.broker_spec.proofs.NothingWaits.{IsFull, full-at}
 

@@ -16,7 +16,7 @@ pub mod Owner
 pub mod Past
 pub mod Place
 pub mod QosRows
-pub mod QuietLaws
+pub mod NobodyLaws
 pub mod Readings
 pub mod Received
 pub mod Retained

@@ -8,7 +8,7 @@ ghost use Rattle.broker_spec.specs.IdentifierLaws.{IdentifiersAreDistinct};
 ghost use Rattle.broker_spec.specs.IdentifierLaws.{IdentifiersAreInTheWindow, IdentifiersAreTo64};
 ghost use Rattle.broker_spec.specs.IdentifierLaws.{StartedComeFirst};
 ghost use Rattle.broker_spec.specs.OriginLaws.{EntersOnce};
-ghost use Rattle.broker_spec.specs.QuietLaws.{PacketOfNobodyIsNothing, WindowIsSteady};
+ghost use Rattle.broker_spec.specs.NobodyLaws.{PacketOfNobodyIsNothing, WindowIsSteady};
 ghost use Rattle.broker_spec.specs.AnswerLaws.{AnswersAreAddressed};
 ghost use Rattle.broker_spec.specs.StartLaws.{StartsWhereItMay};
 

@@ -2,7 +2,7 @@
 use Rattle.std.proofs.Common.{[], inl, refl}
 use Rattle.broker_base.specs.broker_spec.Place.{Client, Limits}
 use Rattle.broker_base.specs.broker_spec.Past.{current_connection, session_of}
-use Rattle.broker_base.specs.broker_spec.QuietLaws.{IsSteady}
+use Rattle.broker_base.specs.broker_spec.NobodyLaws.{IsSteady}
 use Rattle.broker_base.specs.broker_spec.Received.{received_of}
 use Rattle.broker_base.specs.broker_spec.Times.{entries_of}
 use Rattle.exactly_once.specs.HandshakeInvariant.{IsGood}

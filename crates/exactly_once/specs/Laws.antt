@@ -13,7 +13,7 @@ use Rattle.broker_base.specs.broker_spec.EndingLaws.{StandsAt}
 use Rattle.broker_base.specs.broker_spec.Place.{Client, Limits, Mark, Past, Place}
 use Rattle.broker_base.specs.broker_spec.Subscriptions.{effective_qos}
 use Rattle.broker_base.specs.broker_spec.Times.{entries_of}
-use Rattle.broker_base.specs.broker_spec.QuietLaws.{IsSteady}
+use Rattle.broker_base.specs.broker_spec.NobodyLaws.{IsSteady}
 use Rattle.exactly_once.specs.Headline.{PublishedOnce, StoriesAreExact}
 use Rattle.exactly_once.specs.Acceptance.{AcceptedInOrder}
 use Rattle.exactly_once.specs.Lives.{AcceptsInEachSession, LivesAreExact}

@@ -3,7 +3,7 @@
 use Rattle.std.proofs.Common.{ℕ, [], ◌∷◌, length, refl, ◌∙◌, ap, subst, inl, inr, ◌⊎◌}
 use Rattle.broker_base.specs.broker_spec.Place.{Client, Limits}
 use Rattle.broker_base.specs.broker_spec.Past.{current_connection, session_of, session_start}
-use Rattle.broker_base.specs.broker_spec.QuietLaws.{IsSteady}
+use Rattle.broker_base.specs.broker_spec.NobodyLaws.{IsSteady}
 use Rattle.broker_base.specs.broker_spec.Commands.{place_of, past_from}
 use Rattle.broker_base.specs.broker_spec.declared.command.Command.TheVariants as commands
 use Rattle.exactly_once.specs.Story.{Story, StoryStep, no_story}

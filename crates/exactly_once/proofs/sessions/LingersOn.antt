@@ -5,7 +5,7 @@ use Rattle.std.specs.Prelude.{slice_get}
 use Rattle.client_base.specs.packet.declared.packet.Packet.{Packet}
 use Rattle.client_base.specs.packet.declared.packet.Packet.TheVariants as packets
 use Rattle.broker_base.specs.broker_spec.Place.{Client, Limits}
-use Rattle.broker_base.specs.broker_spec.QuietLaws.{IsSteady}
+use Rattle.broker_base.specs.broker_spec.NobodyLaws.{IsSteady}
 use Rattle.broker_base.specs.broker_spec.Marks.{mark_of}
 use Rattle.broker_base.specs.broker_spec.Commands.{place_of}
 use Rattle.client_base.specs.Keeper.{Written, Keeper}

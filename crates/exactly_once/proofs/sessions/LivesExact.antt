@@ -3,7 +3,7 @@ use Rattle.std.proofs.Common.{◌≡◌, ◌≤◌, ℕ, true, List, [], ◌∷�
 use Rattle.client_base.specs.lists.Lists.{Each}
 use Rattle.broker_base.specs.broker_spec.Place.{Client, Past, Limits}
 use Rattle.broker_base.specs.broker_spec.Past.{session_of, session_start}
-use Rattle.broker_base.specs.broker_spec.QuietLaws.{IsSteady}
+use Rattle.broker_base.specs.broker_spec.NobodyLaws.{IsSteady}
 use Rattle.broker_base.specs.broker_spec.Commands.{place_of}
 use Rattle.broker_base.specs.broker_spec.declared.command.Command.TheVariants as commands
 use Rattle.client_base.specs.Keeper.{all_own}

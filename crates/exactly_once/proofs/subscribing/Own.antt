@@ -14,7 +14,7 @@ use Rattle.broker_base.specs.broker_spec.Entries.{copies_at}
 use Rattle.broker_base.specs.broker_spec.Times.{answered_by, entries_of}
 use Rattle.broker_base.specs.broker_spec.Sends.{deliveries_to}
 use Rattle.broker_base.specs.broker_spec.Answers.{answers_at}
-use Rattle.broker_base.specs.broker_spec.QuietLaws.{IsSteady}
+use Rattle.broker_base.specs.broker_spec.NobodyLaws.{IsSteady}
 use Rattle.broker_base.specs.broker_spec.declared.command.Command.TheVariants as commands
 use Rattle.exactly_once.specs.Handshake.{Backward}
 use Rattle.exactly_once.specs.Sends.{sends_to}

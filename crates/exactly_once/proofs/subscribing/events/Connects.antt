@@ -9,7 +9,7 @@ use Rattle.broker_base.specs.broker_spec.Past.{current_connection}
 use Rattle.broker_base.specs.broker_spec.Entries.{Entry}
 use Rattle.broker_base.specs.broker_spec.Readings.{released_below}
 use Rattle.broker_base.specs.broker_spec.Times.{started, window_at, entries_of}
-use Rattle.broker_base.specs.broker_spec.QuietLaws.{IsSteady}
+use Rattle.broker_base.specs.broker_spec.NobodyLaws.{IsSteady}
 use Rattle.broker_base.proofs.AnswersStaySound.{sound_more}
 use Rattle.broker_base.proofs.QueueAfter.{sound_entries}
 use Rattle.exactly_once.specs.Handshake.{Backward, Link, Handshake, Run, publishing, resend, with_items}

@@ -12,7 +12,7 @@ use Rattle.broker_base.specs.broker_spec.Readings.{released_below}
 use Rattle.broker_base.specs.broker_spec.Times.{entries_of}
 use Rattle.broker_base.specs.broker_spec.Sends.{publish, sent_again, all_started, resent}
 use Rattle.broker_base.specs.broker_spec.Answers.{closed, welcome, answers_at}
-use Rattle.broker_base.specs.broker_spec.QuietLaws.{IsSteady}
+use Rattle.broker_base.specs.broker_spec.NobodyLaws.{IsSteady}
 use Rattle.broker_base.specs.broker_spec.declared.command.Command.TheVariants as commands
 use Rattle.broker_base.specs.broker_spec.declared.command.Output.{Output}
 use Rattle.broker_base.specs.broker_spec.declared.command.Output.TheVariants.{Send}

@@ -3,7 +3,7 @@ use Rattle.std.proofs.Common.{◌≡◌, ℕ, zero, suc, Some, refl, sym, subst}
 use Rattle.std.specs.Prelude.{slice_get}
 use Rattle.broker_base.specs.broker_spec.Place.{Limits}
 use Rattle.broker_base.specs.broker_spec.Commands.{place_of}
-use Rattle.broker_base.specs.broker_spec.QuietLaws.{IsSteady}
+use Rattle.broker_base.specs.broker_spec.NobodyLaws.{IsSteady}
 use Rattle.broker_base.specs.broker_spec.declared.command.Command.{Command}
 use Rattle.exactly_once.specs.HandshakeInvariant.{IsGood}
 use Rattle.client_base.specs.Keeper.{Written}
