@@ -21,7 +21,7 @@ use Rattle.broker_base.specs.Marks.{grants}
 use Rattle.broker_base.specs.Answers.{acknowledged, codes_of}
 use Rattle.broker_base.specs.ClientSession.{ClientSession}
 use Rattle.broker_base.specs.State.{State, owner_in}
-use Rattle.broker_base.specs.Decisions.{is_again, owned_mark}
+use Rattle.broker_base.specs.Decisions.{repeats, owned_mark}
 use Rattle.broker_base.specs.StepAnswers.{handled_in}
 use Rattle.broker_base.specs.Step.{step}
 use Rattle.broker_base.specs.Command.TheVariants as commands
@@ -108,7 +108,7 @@ abbrev pub RepeatStep : Type 0
 RepeatStep =
     (limits : Limits) → (later : ℕ) → (state : State) → (x : ConnectionName) → (c : Client) →
     (kept : ClientSession) → IsServed state x c kept → (p : Publish) →
-    is_again kept p.delivery ≡ true →
+    repeats kept p.delivery ≡ true →
     step limits later state (commands.Packet x (packets.Publish p))
     ≡ (state, acknowledged x p.delivery)
 

@@ -17,23 +17,23 @@ use Rattle.broker_tables.proofs.tables.Tables.publish.Goals as goal
 pub index-requires : goal.index-requires
 index-requires c = has_session c.args.self.now c.args.connection c.args.client.now c.requires.consistent c.requires.served
 
-pub returns-then-is_again-clause-state : goal.returns-then-is_again-clause-state
-returns-then-is_again-clause-state c =
+pub returns-then-repeats-clause-state : goal.returns-then-repeats-clause-state
+returns-then-repeats-clause-state c =
     let t = c.args.self.now in
     let kept = c.index.result.now in
     let served = is_served t c.args.connection c.args.client.now kept c.requires.consistent c.requires.served c.index.ensures in
     sym (ap (λ p. p.0)
-    (repeat_of t c.args.connection c.args.client.now kept served c.args.publish.now (sym c.is_again.ensures ∙ c.if-is_again.true)))
+    (repeat_of t c.args.connection c.args.client.now kept served c.args.publish.now (sym c.repeats.ensures ∙ c.if-repeats.true)))
 
-pub returns-then-is_again-clause-outputs : goal.returns-then-is_again-clause-outputs
-returns-then-is_again-clause-outputs c =
+pub returns-then-repeats-clause-outputs : goal.returns-then-repeats-clause-outputs
+returns-then-repeats-clause-outputs c =
     let t = c.args.self.now in
     let kept = c.index.result.now in
     let served = is_served t c.args.connection c.args.client.now kept c.requires.consistent c.requires.served c.index.ensures in
     c.in_ok-acknowledge.ensures
     ∙ ap (λ given. c.args.out.now.items ++ given)
     (sym (ap (λ p. p.1)
-    (repeat_of t c.args.connection c.args.client.now kept served c.args.publish.now (sym c.is_again.ensures ∙ c.if-is_again.true))))
+    (repeat_of t c.args.connection c.args.client.now kept served c.args.publish.now (sym c.repeats.ensures ∙ c.if-repeats.true))))
 
 pub returns-then-refuses-clause-state : goal.returns-then-refuses-clause-state
 returns-then-refuses-clause-state c =
@@ -44,7 +44,7 @@ returns-then-refuses-clause-state c =
     = ap (is_refused_in usual_limits (state_in t)) (sym c.in_ok-publication.ensures) ∙ sym c.refuses.ensures ∙ c.if-refuses.true in
     c.in_ok-close.ensures.state
     ∙ sym (ap (λ p. p.0)
-    (refused_of t c.args.connection c.args.client.now kept served c.args.publish.now (sym c.is_again.ensures ∙ c.if-is_again.false) refused))
+    (refused_of t c.args.connection c.args.client.now kept served c.args.publish.now (sym c.repeats.ensures ∙ c.if-repeats.false) refused))
 
 pub returns-then-refuses-clause-outputs : goal.returns-then-refuses-clause-outputs
 returns-then-refuses-clause-outputs c =
@@ -56,7 +56,7 @@ returns-then-refuses-clause-outputs c =
     c.in_ok-close.ensures.outputs
     ∙ ap (λ given. c.args.out.now.items ++ given)
     (sym (ap (λ p. p.1)
-    (refused_of t c.args.connection c.args.client.now kept served c.args.publish.now (sym c.is_again.ensures ∙ c.if-is_again.false) refused)))
+    (refused_of t c.args.connection c.args.client.now kept served c.args.publish.now (sym c.repeats.ensures ∙ c.if-repeats.false) refused)))
 
 pub returns-clause-state : goal.returns-clause-state
 returns-clause-state c =
@@ -72,7 +72,7 @@ returns-clause-state c =
       retained = (c.in_ok-retain.ensures ∙ (λ j. retains (c.in_ok-publication.ensures j) (c.in_ok-note_received.ensures.others.retained j))) i;
     })
     ∙ sym (ap (λ p. p.0)
-    (taken_of t c.args.connection c.args.client.now kept served c.args.publish.now (sym c.is_again.ensures ∙ c.if-is_again.false) taken
+    (taken_of t c.args.connection c.args.client.now kept served c.args.publish.now (sym c.repeats.ensures ∙ c.if-repeats.false) taken
     c.in_ok-granted.granted.items c.in_ok-granted.ensures))
 
 pub returns-clause-outputs : goal.returns-clause-outputs
@@ -90,7 +90,7 @@ returns-clause-outputs c =
     (changed c.args.client.now (received_on c.args.publish.now.delivery) t.sessions.entries))
     ∙ ap (λ given. c.args.out.now.items ++ given)
     (sym (ap (λ p. p.1)
-    (taken_of t c.args.connection c.args.client.now kept served c.args.publish.now (sym c.is_again.ensures ∙ c.if-is_again.false) taken
+    (taken_of t c.args.connection c.args.client.now kept served c.args.publish.now (sym c.repeats.ensures ∙ c.if-repeats.false) taken
     c.in_ok-granted.granted.items c.in_ok-granted.ensures)))
 
 pub returns-clause-tied : goal.returns-clause-tied
