@@ -11,7 +11,7 @@ use machine::{Halted, Machine};
 use std::alloc::Global;
 
 // Appends the outputs of one place. On an error some of them may have been appended to `out`.
-fn put_out<C: Drop, O: Drop>(
+fn append_outputs<C: Drop, O: Drop>(
     place: u64,
     given: Vec<O>,
     out: &mut Vec<Effect<C, O>>,
@@ -74,7 +74,7 @@ pub fn apply_places<M: Machine>(
     for place in from..to {
         let mut given = Vec::new(alloc);
         machine.apply(&rest[(place - base) as usize], &mut given)?;
-        put_out(place, given, out)?;
+        append_outputs(place, given, out)?;
     }
     Ok(())
 }
