@@ -5,7 +5,7 @@ use Rattle.std.specs.Prelude.{nat_lt}
 use Rattle.std.specs.List.{find, fold}
 use Rattle.std.proofs.lemmas.Bool.{and_parts}
 use Rattle.packet_world.specs.lists.Lists.{IsPrefixOf}
-use Rattle.packet_world.proofs.of_lists.Beginnings.{prefix_then}
+use Rattle.packet_world.proofs.of_lists.Prefixes.{prefix_then}
 use Rattle.packet_world.specs.packet.RefusalCode.{RefusalCode}
 use Rattle.packet_world.specs.packet.Spelling.{spelling}
 use Rattle.packet_world.specs.packet.Stop.{Stop}

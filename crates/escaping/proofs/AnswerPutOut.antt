@@ -4,7 +4,7 @@ use Rattle.std.specs.Prelude.{◌==◌, nat_le}
 use Rattle.std.specs.List.{find, fold}
 use Rattle.std.proofs.lemmas.Bool.{both_ways, le-leb, ne_eqb}
 use Rattle.packet_world.specs.lists.Lists.{IsPrefixOf}
-use Rattle.packet_world.proofs.of_lists.Beginnings.{prefix_length, prefix_same, prefix_then}
+use Rattle.packet_world.proofs.of_lists.Prefixes.{prefix_length, prefix_same, prefix_then}
 use Rattle.packet_world.specs.packet.declared.packet.Packet.{Packet}
 use Rattle.packet_world.specs.packet.Spelling.{spelling}
 use Rattle.node_moves.specs.ballot.Effect.{Effect}

@@ -6,7 +6,7 @@ use Rattle.byte_world.specs.broker_spec.declared.command.Command.{Command}
 use Rattle.byte_world.specs.broker_spec.Place.{Client}
 use Rattle.byte_world.specs.client_base.Keeper.{Keeper, Written}
 use Rattle.byte_world.specs.lists.Lists.{Each, In, IsPrefixOf}
-use Rattle.byte_world.proofs.of_lists.Beginnings.{prefix_length}
+use Rattle.byte_world.proofs.of_lists.Prefixes.{prefix_length}
 use Rattle.byte_world.specs.exactly_once.Sides.{Connection}
 use Rattle.byte_world.specs.exactly_once.StoryCommands.{is_packet_of}
 use Rattle.byte_world.specs.packet_world.World.{AreApart, ClientEnds, End, World}

@@ -1,4 +1,4 @@
-pub mod Beginnings
+pub mod Prefixes
 pub mod Places
 pub mod Members
 pub mod Tests

@@ -4,4 +4,4 @@
 
 mod laws;
 
-pub use laws::{beginnings_join, beginnings_meet, identifiers_stay_apart};
+pub use laws::{identifiers_stay_apart, prefixes_join, prefixes_meet};

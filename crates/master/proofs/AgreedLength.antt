@@ -6,7 +6,7 @@ use Rattle.std.proofs.lemmas.List.{length-take-le}
 use Rattle.ballot.specs.machine.Machine.{Rules}
 use Rattle.ballot.specs.lists.Lists.{In, IsPrefixOf}
 use Rattle.ballot.specs.lists.Lists.In.{here, there}
-use Rattle.ballot.proofs.of_lists.Beginnings.{prefix_length, prefix_then, take_prefix}
+use Rattle.ballot.proofs.of_lists.Prefixes.{prefix_length, prefix_then, take_prefix}
 use Rattle.ballot.specs.Config.{Config}
 use Rattle.ballot.specs.LawfulConfig.{are_rising}
 use Rattle.snapshots.specs.whole.Messages.{Message}

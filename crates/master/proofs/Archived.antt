@@ -2,7 +2,7 @@
 use Rattle.std.proofs.Common.{◌≡◌, ℕ, zero, suc, ◌+◌, ◌-◌, ◌<◌, ◌≤◌, Bool, true, false, List, [], ◌∷◌, ◌++◌, length, take, drop, Result, OnOk, refl, ap, ap₂, sym, ◌∙◌, subst, arith}
 use Rattle.std.proofs.lemmas.List.{append-nil, drop-take}
 use Rattle.ballot.specs.lists.Lists.{IsPrefixOf}
-use Rattle.ballot.proofs.of_lists.Beginnings.{take_prefix}
+use Rattle.ballot.proofs.of_lists.Prefixes.{take_prefix}
 use Rattle.ballot.specs.Logs.{Log, part, places}
 use Rattle.ballot.specs.Replica.{ReplicaState}
 use Rattle.snapshots.specs.Whole.{whole_log}

@@ -5,7 +5,7 @@ use Rattle.ballot.specs.machine.Machine.{Rules}
 use Rattle.ballot.specs.Config.{Config}
 use Rattle.ballot.specs.Losses.{one_more}
 use Rattle.ballot.specs.lists.Lists.{IsPrefixOf}
-use Rattle.ballot.proofs.of_lists.Beginnings.{prefix_then}
+use Rattle.ballot.proofs.of_lists.Prefixes.{prefix_then}
 use Rattle.snapshots.specs.Moments.{Moment, Moments, whole_moment}
 use Rattle.snapshots.specs.agreement.Moments.{IsAgreed, IsChosen, WasActive}
 use Rattle.snapshots.specs.agreement.Moments.{Moment as WholeMoment}

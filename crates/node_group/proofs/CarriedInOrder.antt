@@ -11,7 +11,7 @@ use Rattle.packet_world.specs.broker_spec.declared.command.Output.{Output}
 use Rattle.packet_world.specs.broker_base.State.{State}
 use Rattle.packet_world.specs.lists.Lists.{Each, In, IsPrefixOf}
 use Rattle.packet_world.specs.lists.Lists.In.{here}
-use Rattle.packet_world.proofs.of_lists.Beginnings.{prefix_then}
+use Rattle.packet_world.proofs.of_lists.Prefixes.{prefix_then}
 use Rattle.packet_world.proofs.of_lists.OfEach.{each_append}
 use Rattle.node_moves.specs.cutter.Pipe.{Joins}
 use Rattle.packet_world.specs.agreement.MasterState.{AssignRefusal, master_after, refusal}

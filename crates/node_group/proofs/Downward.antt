@@ -7,7 +7,7 @@ use Rattle.packet_world.specs.broker_spec.declared.command.Command.{Command}
 use Rattle.packet_world.specs.broker_spec.Connection.{ConnectionName}
 use Rattle.packet_world.specs.broker_base.State.{State}
 use Rattle.packet_world.specs.lists.Lists.{IsPrefixOf}
-use Rattle.packet_world.proofs.of_lists.Beginnings.{prefix_length, prefix_take, prefix_then, take_prefix}
+use Rattle.packet_world.proofs.of_lists.Prefixes.{prefix_length, prefix_take, prefix_then, take_prefix}
 use Rattle.node_moves.specs.world_base.declared.Connection.{Connection}
 use Rattle.node_moves.specs.world_base.Handing.{bytes_of}
 use Rattle.node_moves.proofs.Kept.{live}

@@ -5,7 +5,7 @@ use Rattle.std.proofs.lemmas.Bool.{both_ways}
 use Rattle.std.proofs.lemmas.List.{append-nil}
 use Rattle.packet_world.specs.broker_spec.Connection.{ConnectionName, is_connection_name}
 use Rattle.packet_world.specs.lists.Lists.{IsPrefixOf}
-use Rattle.packet_world.proofs.of_lists.Beginnings.{prefix_same}
+use Rattle.packet_world.proofs.of_lists.Prefixes.{prefix_same}
 use Rattle.node_moves.specs.world_base.declared.Port.{Port}
 use Rattle.node_moves.specs.world_base.declared.Connection.{Connection}
 use Rattle.node_moves.specs.world_base.Connections.{changed, closed, fresh, handed, is_at, is_listed}

@@ -2,7 +2,7 @@
 use Rattle.std.proofs.Common.{inl, inr, ◌⊎◌, ◌≡◌, ℕ, Bool, true, false, ◌&&◌, if◌then◌else◌, nat_lt, List, [], ◌∷◌, ◌++◌, Option, Some, slice_get, slice_set, map, refl, sym, ap, ◌∙◌, subst, arith}
 use Rattle.std.proofs.lemmas.List.{append-nil, length-take-le}
 use Rattle.packet_world.specs.lists.Lists.{In, IsPrefixOf}
-use Rattle.packet_world.proofs.of_lists.Beginnings.{prefix_length}
+use Rattle.packet_world.proofs.of_lists.Prefixes.{prefix_length}
 use Rattle.packet_world.proofs.of_lists.Tests.{eq_same}
 use Rattle.packet_world.specs.whole.Applying.{outputs_between}
 use Rattle.packet_world.specs.lists.Lists.In.{there}

@@ -11,7 +11,7 @@ use Rattle.packet_world.specs.broker_spec.Connection.{ConnectionName}
 use Rattle.packet_world.specs.broker_spec.declared.command.Output.{Output}
 use Rattle.packet_world.specs.broker_base.State.{State}
 use Rattle.packet_world.specs.lists.Lists.{IsPrefixOf}
-use Rattle.packet_world.proofs.of_lists.Beginnings.{prefix_take}
+use Rattle.packet_world.proofs.of_lists.Prefixes.{prefix_take}
 use Rattle.packet_world.specs.snapshots.Moments.{Moment, Moments, IsAgreed}
 use Rattle.packet_world.specs.agreement.Proposals.{commands_of as commands_in}
 use Rattle.packet_world.specs.snapshots.World.{outputs}

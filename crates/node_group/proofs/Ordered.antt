@@ -3,7 +3,7 @@
 use Rattle.std.proofs.Common.{◌≡◌, ℕ, Bool, true, false, if◌then◌else◌, List, [], ◌∷◌, Some, slice_get, refl, sym, ap, ◌∙◌, subst}
 use Rattle.packet_world.specs.lists.Lists.{Each, In, IsPrefixOf}
 use Rattle.packet_world.specs.lists.Lists.In.{here, there}
-use Rattle.packet_world.proofs.of_lists.Beginnings.{prefix_then}
+use Rattle.packet_world.proofs.of_lists.Prefixes.{prefix_then}
 use Rattle.node_moves.specs.ballot.Config.{Config}
 use Rattle.node_moves.specs.ballot.Replica.{ReplicaState}
 use Rattle.packet_world.specs.broker_base.State.{State}

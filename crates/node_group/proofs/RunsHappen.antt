@@ -26,7 +26,7 @@ use Rattle.node_group.proofs.Thinning.{Given, KeptOfBoth, kept_of_both}
 use Rattle.node_group.specs.Pasts.{packets_in}
 use Rattle.node_group.proofs.Packets.{packets_join}
 use Rattle.node_group.proofs.Placed.{get_of_set, set_twice}
-use Rattle.packet_world.proofs.of_lists.Beginnings.{prefix_then}
+use Rattle.packet_world.proofs.of_lists.Prefixes.{prefix_then}
 use Rattle.packet_world.proofs.of_lists.Members.{in_left}
 use Rattle.packet_world.proofs.of_snapshots.PastsAgree.{has_agreed}
 use Rattle.packet_world.proofs.of_snapshots.Effects.{messages-append, outputs-append}

@@ -6,7 +6,7 @@ use Rattle.std.proofs.lemmas.List.{append-nil}
 use Rattle.std.proofs.lemmas.Bool.{both_ways}
 use Rattle.exactly_once.specs.broker_spec.Connection.{ConnectionName}
 use Rattle.exactly_once.specs.lists.Lists.{IsPrefixOf}
-use Rattle.exactly_once.proofs.of_lists.Beginnings.{prefix_then}
+use Rattle.exactly_once.proofs.of_lists.Prefixes.{prefix_then}
 use Rattle.world_base.specs.declared.Connection.{Connection}
 use Rattle.world_base.specs.Connections.{closed, changed, failing, max_pending, put_out, putting}
 use Rattle.node_moves.specs.Ends.{AtMostOne}

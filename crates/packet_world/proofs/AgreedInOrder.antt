@@ -2,7 +2,7 @@
 use Rattle.std.proofs.Common.{Bool, List, filter, ap, ◌∙◌, subst}
 use Rattle.snapshots.specs.machine.Machine.{Rules}
 use Rattle.snapshots.specs.lists.Lists.{IsPrefixOf}
-use Rattle.snapshots.proofs.of_lists.Beginnings.{prefix_then}
+use Rattle.snapshots.proofs.of_lists.Prefixes.{prefix_then}
 use Rattle.snapshots.specs.Orders.{KeepsTheOrder}
 use Rattle.snapshots.specs.Laws.{NodesAgree}
 use Rattle.snapshots.specs.Proposals.{taken_of}

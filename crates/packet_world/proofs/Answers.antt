@@ -13,7 +13,7 @@ use Rattle.exactly_once.proofs.of_broker_base.ConnectionNames.{same_name, same_i
 use Rattle.exactly_once.proofs.of_broker_base.SentToLive.{SentAt, sent_at}
 use Rattle.snapshots.specs.lists.Lists.{In, IsPrefixOf}
 use Rattle.snapshots.specs.lists.Lists.In.{here, there}
-use Rattle.snapshots.proofs.of_lists.Beginnings.{prefix_same, prefix_then}
+use Rattle.snapshots.proofs.of_lists.Prefixes.{prefix_same, prefix_then}
 use Rattle.exactly_once.specs.Sends.{sends_to, put_to}
 use Rattle.exactly_once.specs.StoryCommands.{count_of, is_packet_of}
 use Rattle.exactly_once.proofs.places.Counts.{counted_here, current_counted}

@@ -9,7 +9,7 @@ use Rattle.exactly_once.specs.broker_spec.Commands.{past_of, usual_limits}
 use Rattle.exactly_once.specs.broker_spec.Answers.{answers_of}
 use Rattle.exactly_once.specs.broker_spec.declared.command.Command.{Command}
 use Rattle.snapshots.specs.lists.Lists.{IsPrefixOf}
-use Rattle.snapshots.proofs.of_lists.Beginnings.{prefix_take}
+use Rattle.snapshots.proofs.of_lists.Prefixes.{prefix_take}
 use Rattle.exactly_once.specs.client_base.Keeper.{Written}
 use Rattle.exactly_once.specs.client_base.Written.{writes_first}
 use Rattle.exactly_once.specs.Sends.{sends_to, put_to}

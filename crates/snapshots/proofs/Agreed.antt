@@ -7,7 +7,7 @@ use Rattle.std.proofs.lemmas.List.{append-nil, length-take-le, set-set, take-tak
 use Rattle.agreement.specs.machine.Machine.{Rules}
 use Rattle.agreement.specs.lists.Lists.{In, IsPrefixOf}
 use Rattle.agreement.specs.lists.Lists.In.{there}
-use Rattle.agreement.proofs.of_lists.Beginnings.{prefix_then, take_prefix}
+use Rattle.agreement.proofs.of_lists.Prefixes.{prefix_then, take_prefix}
 use Rattle.agreement.proofs.of_lists.Places.{get_set}
 use Rattle.agreement.specs.whole.Applying.{applied_to as whole_applied_to}
 use Rattle.agreement.specs.ballot_base.declared.config.Config.{Config}

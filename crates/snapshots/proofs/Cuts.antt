@@ -6,7 +6,7 @@ use Rattle.std.proofs.lemmas.Bool.{cases_lt}
 use Rattle.std.proofs.lemmas.List.{append-nil, length-take-le, take-append-drop}
 use Rattle.agreement.specs.lists.Lists.{In, IsPrefixOf}
 use Rattle.agreement.specs.lists.Lists.In.{here, there}
-use Rattle.agreement.proofs.of_lists.Beginnings.{prefix_take, take_prefix}
+use Rattle.agreement.proofs.of_lists.Prefixes.{prefix_take, take_prefix}
 use Rattle.snapshots.specs.Whole.{whole_log, whole_body}
 use Rattle.agreement.specs.ballot_base.declared.message.Body.{Body}
 use Rattle.agreement.specs.ballot_base.declared.message.Body.TheVariants.{NewBallot, Join, State, Install, Installed, Activate, Activated, Superseded, Append, Held, Commit}

@@ -5,7 +5,7 @@ use Rattle.std.proofs.lemmas.Bool.{cases_eq}
 use Rattle.std.proofs.lemmas.List.{append-nil}
 use Rattle.agreement.specs.machine.Machine.{Rules, replay}
 use Rattle.agreement.specs.lists.Lists.{In, IsPrefixOf}
-use Rattle.agreement.proofs.of_lists.Beginnings.{prefix_length, take_prefix}
+use Rattle.agreement.proofs.of_lists.Prefixes.{prefix_length, take_prefix}
 use Rattle.agreement.proofs.of_lists.Places.{get_set, get_set_other}
 use Rattle.agreement.specs.ballot_base.declared.config.Config.{Config}
 use Rattle.agreement.specs.whole.Messages.{Message as WholeMessage}

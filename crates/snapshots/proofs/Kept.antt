@@ -6,7 +6,7 @@ use Rattle.std.proofs.lemmas.Bool.{cases_eq, cases_lt, lt-ltb, le-ltb}
 use Rattle.agreement.specs.machine.Machine.{Rules, replay}
 use Rattle.agreement.specs.lists.Lists.{In, IsPrefixOf}
 use Rattle.agreement.specs.lists.Lists.In.{here, there}
-use Rattle.agreement.proofs.of_lists.Beginnings.{prefix_then}
+use Rattle.agreement.proofs.of_lists.Prefixes.{prefix_then}
 use Rattle.agreement.proofs.of_lists.Members.{in_append}
 use Rattle.agreement.proofs.of_lists.Places.{get_set, get_set_other}
 use Rattle.agreement.specs.ballot_base.declared.config.Config.{Config}

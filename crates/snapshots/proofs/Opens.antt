@@ -5,7 +5,7 @@ use Rattle.std.proofs.lemmas.List.{map-append}
 use Rattle.agreement.specs.machine.Machine.{Rules}
 use Rattle.agreement.specs.lists.Lists.{In}
 use Rattle.agreement.specs.lists.Lists.In.{here, there}
-use Rattle.agreement.proofs.of_lists.Beginnings.{prefix_then}
+use Rattle.agreement.proofs.of_lists.Prefixes.{prefix_then}
 use Rattle.agreement.proofs.of_lists.Members.{in_append, in_at}
 use Rattle.agreement.specs.ballot_base.declared.config.Config.{Config}
 use Rattle.agreement.specs.whole.Replica.{ReplicaState as WholeState, opening as whole_opening, opening_member as whole_member}

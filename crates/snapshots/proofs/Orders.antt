@@ -4,7 +4,7 @@ use Rattle.std.specs.Prelude.{filter, slice_get, nat_lt, ◌==◌}
 use Rattle.std.proofs.lemmas.List.{append-nil, length-take-le}
 use Rattle.agreement.specs.machine.Machine.{Rules}
 use Rattle.agreement.specs.lists.Lists.{In, IsPrefixOf}
-use Rattle.agreement.proofs.of_lists.Beginnings.{prefix_length, take_prefix}
+use Rattle.agreement.proofs.of_lists.Prefixes.{prefix_length, take_prefix}
 use Rattle.agreement.specs.ballot_base.declared.config.Config.{Config}
 use Rattle.agreement.specs.ballot_base.declared.message.Effect.{Effect}
 use Rattle.agreement.specs.ballot_base.Losses.{Loses}

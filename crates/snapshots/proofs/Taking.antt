@@ -6,7 +6,7 @@ use Rattle.agreement.specs.whole.Applying.{applied_to as whole_applied_to}
 use Rattle.agreement.specs.whole.Replica.{ReplicaState as WholeState}
 use Rattle.agreement.proofs.of_whole.AppliesInOrder.{replay_goes_on}
 use Rattle.agreement.specs.lists.Lists.{IsPrefixOf}
-use Rattle.agreement.proofs.of_lists.Beginnings.{take_prefix}
+use Rattle.agreement.proofs.of_lists.Prefixes.{take_prefix}
 use Rattle.agreement.specs.ballot_base.Logs.{Log, places}
 use Rattle.snapshots.specs.Whole.{whole_log, whole}
 use Rattle.snapshots.specs.Matches.{IsBased}

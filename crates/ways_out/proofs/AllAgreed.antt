@@ -6,7 +6,7 @@ use Rattle.std.proofs.lemmas.Bool.{cases_eq}
 use Rattle.std.proofs.lemmas.List.{append-nil, length-append, take_all}
 use Rattle.snapshots.specs.machine.Machine.{Rules}
 use Rattle.snapshots.specs.lists.Lists.{In, IsPrefixOf}
-use Rattle.snapshots.proofs.of_lists.Beginnings.{prefix_length}
+use Rattle.snapshots.proofs.of_lists.Prefixes.{prefix_length}
 use Rattle.snapshots.specs.whole.Config.{Config}
 use Rattle.snapshots.specs.whole.Replica.{ReplicaState}
 use Rattle.snapshots.specs.agreement.Moments.{Moment, Moments, IsAgreed}

@@ -5,7 +5,7 @@ use Rattle.std.specs.Prelude.{slice_get}
 use Rattle.std.proofs.lemmas.Bool.{cases_eq}
 use Rattle.std.proofs.lemmas.List.{map-append}
 use Rattle.snapshots.specs.lists.Lists.{In, IsPrefixOf}
-use Rattle.snapshots.proofs.of_lists.Beginnings.{prefix_then}
+use Rattle.snapshots.proofs.of_lists.Prefixes.{prefix_then}
 use Rattle.snapshots.proofs.of_lists.Members.{in_at}
 use Rattle.snapshots.proofs.of_lists.Places.{get_set, get_set_other}
 use Rattle.snapshots.specs.machine.Machine.{Rules}

@@ -3,7 +3,7 @@
 use Rattle.std.proofs.Common.{◌≡◌, ℕ, ◌+◌, inl, List, [], ◌∷◌, ◌++◌, None, Option, refl, subst}
 use Rattle.snapshots.specs.machine.Machine.{Rules}
 use Rattle.snapshots.specs.lists.Lists.{IsPrefixOf}
-use Rattle.snapshots.proofs.of_lists.Beginnings.{prefix_then}
+use Rattle.snapshots.proofs.of_lists.Prefixes.{prefix_then}
 use Rattle.snapshots.proofs.of_lists.Members.{in_at}
 use Rattle.snapshots.specs.whole.Config.{Config}
 use Rattle.snapshots.specs.whole.Protocol.Input.{Receives}

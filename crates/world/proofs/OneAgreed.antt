@@ -2,7 +2,7 @@
 use Rattle.std.proofs.Common.{◌≡◌, ◌⊎◌, inl, inr, ℕ, List, [], ◌∷◌, ◌++◌, length, map, refl, sym, ap, ◌∙◌, subst, arith}
 use Rattle.std.proofs.lemmas.List.{append-nil, length-append}
 use Rattle.escaping_client.specs.lists.Lists.{IsPrefixOf}
-use Rattle.escaping_client.proofs.of_lists.Beginnings.{prefix_length}
+use Rattle.escaping_client.proofs.of_lists.Prefixes.{prefix_length}
 use Rattle.headline.specs.ballot.Config.{Config}
 use Rattle.headline.specs.node_group.Group.{moment_of}
 use Rattle.headline.specs.snapshots.Moments.{IsAgreed, Moment, whole_moment}

@@ -13,7 +13,7 @@ use Rattle.agreement.specs.MasterState.{MasterState}
 use Rattle.agreement.specs.Inside.Masters.{IsMaster}
 use Rattle.agreement.specs.Inside.Sound.{IsSound}
 use Rattle.agreement.specs.Inside.ToldLengths.{told_length, least_of, chosen_length}
-use Rattle.whole.proofs.of_lists.Beginnings.{prefix_then, prefix_take, take_prefix}
+use Rattle.whole.proofs.of_lists.Prefixes.{prefix_then, prefix_take, take_prefix}
 use Rattle.agreement.proofs.Frame.Apart.{chosen_within}
 use Rattle.agreement.proofs.Masters.Assigned.{at_most_newest}
 use Rattle.agreement.proofs.Frame.Framing.{within_of}

@@ -16,7 +16,7 @@ use Rattle.agreement.specs.Inside.Keeps.{GoesOn}
 use Rattle.agreement.specs.MasterState.{MasterState}
 use Rattle.agreement.specs.Inside.Masters.{IsMaster}
 use Rattle.agreement.specs.Inside.Sound.{IsSound}
-use Rattle.whole.proofs.of_lists.Beginnings.{prefix_then, prefix_either, prefix_length}
+use Rattle.whole.proofs.of_lists.Prefixes.{prefix_then, prefix_either, prefix_length}
 use Rattle.agreement.proofs.Frame.Apart.{chosen_within}
 use Rattle.agreement.proofs.Frame.Framing.{within_of}
 use Rattle.agreement.proofs.Frame.Later.{chosen_kept, takes}

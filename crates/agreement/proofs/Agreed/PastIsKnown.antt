@@ -5,7 +5,7 @@ use Rattle.std.proofs.lemmas.List.{length-take-le}
 use Rattle.whole.specs.machine.Machine.{Rules}
 use Rattle.whole.specs.lists.Lists.{In}
 use Rattle.whole.specs.lists.Lists.In.{here}
-use Rattle.whole.proofs.of_lists.Beginnings.{prefix_take}
+use Rattle.whole.proofs.of_lists.Prefixes.{prefix_take}
 use Rattle.whole.specs.Config.{Config}
 use Rattle.whole.specs.Replica.{ReplicaState}
 use Rattle.agreement.specs.Inside.Ballots.{Given, History, Told, TellsHere}

@@ -4,7 +4,7 @@ use Rattle.std.specs.Prelude.{slice_get}
 use Rattle.whole.specs.machine.Machine.{Rules}
 use Rattle.whole.specs.lists.Lists.{In, IsPrefixOf}
 use Rattle.whole.specs.lists.Lists.In.{here}
-use Rattle.whole.proofs.of_lists.Beginnings.{prefix_then, prefix_length}
+use Rattle.whole.proofs.of_lists.Prefixes.{prefix_then, prefix_length}
 use Rattle.whole.specs.Messages.Body.{Held, Installed}
 use Rattle.whole.specs.Config.{Config}
 use Rattle.whole.specs.Replica.{ReplicaState}

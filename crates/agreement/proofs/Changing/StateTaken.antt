@@ -16,7 +16,7 @@ use Rattle.agreement.specs.Inside.Keeps.LineAdds.{as_it_was, begins_after}
 use Rattle.agreement.specs.Inside.MovesAt.{MovesAt, with_lines, lined_at}
 use Rattle.agreement.specs.Inside.MovesAt.LineGoesOn.{begins}
 use Rattle.agreement.specs.Inside.Sound.{IsInstalling, IsSoundNode, IsSound}
-use Rattle.whole.proofs.of_lists.Beginnings.{prefix_same}
+use Rattle.whole.proofs.of_lists.Prefixes.{prefix_same}
 use Rattle.agreement.proofs.Effects.{thinned_messages, thinned_outputs}
 use Rattle.agreement.proofs.Frame.MoveLines.{tells_here}
 use Rattle.agreement.proofs.Frame.Framing.{within_of, move_extends}

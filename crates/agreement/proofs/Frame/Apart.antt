@@ -8,7 +8,7 @@ use Rattle.whole.specs.lists.Lists.{In}
 use Rattle.agreement.specs.Inside.Ballots.{Line, History, IsChosenIn, AreBallots, AreLines}
 use Rattle.agreement.specs.Inside.Extending.{IsWithin}
 use Rattle.agreement.specs.Leaving.{Segment}
-use Rattle.whole.proofs.of_lists.Beginnings.{prefix_length}
+use Rattle.whole.proofs.of_lists.Prefixes.{prefix_length}
 use Rattle.agreement.proofs.Frame.Bases.{chosen_told}
 use Rattle.agreement.proofs.Frame.Taking.{activated_base}
 

@@ -4,7 +4,7 @@ use Rattle.agreement.specs.World.{World}
 use Rattle.whole.specs.lists.Lists.{In, IsPrefixOf}
 use Rattle.whole.specs.lists.Lists.In.{here, there}
 use Rattle.agreement.specs.Inside.Ballots.{Given, Line, History, Told, IsChosenIn, Sealed, IsChain, AreLines}
-use Rattle.whole.proofs.of_lists.Beginnings.{prefix_then, take_prefix}
+use Rattle.whole.proofs.of_lists.Prefixes.{prefix_then, take_prefix}
 
 -- there is one list of a ballot
 pub one_line : {C : Type 0} (o : Option (Line C)) (l m : Line C) → o ≡ Some l → o ≡ Some m → l ≡ m

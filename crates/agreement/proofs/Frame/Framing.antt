@@ -10,7 +10,7 @@ use Rattle.agreement.specs.Inside.Ballots.{Line, History, Told}
 use Rattle.agreement.specs.Inside.Extending.{Extends, IsWithin}
 use Rattle.agreement.specs.Inside.MovesAt.{MovesAt, with_lines, TellsNow}
 use Rattle.agreement.specs.Inside.Sound.{IsSound}
-use Rattle.whole.proofs.of_lists.Beginnings.{prefix_length}
+use Rattle.whole.proofs.of_lists.Prefixes.{prefix_length}
 use Rattle.whole.proofs.of_lists.Places.{get_set, get_set_other}
 use Rattle.whole.proofs.of_lists.Members.{in_left}
 

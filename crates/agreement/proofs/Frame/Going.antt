@@ -8,7 +8,7 @@ use Rattle.agreement.specs.Inside.Ballots.{History, Told}
 use Rattle.agreement.specs.Inside.Extending.{Extends}
 use Rattle.agreement.specs.Inside.Keeps.{GoesOn}
 use Rattle.agreement.specs.Inside.Sound.{IsSound}
-use Rattle.whole.proofs.of_lists.Beginnings.{prefix_same, prefix_then}
+use Rattle.whole.proofs.of_lists.Prefixes.{prefix_same, prefix_then}
 
 -- nothing happened
 abbrev pub goes_same : {S C O : Type 0} (rules : Rules S C O) (w : World S C O) (h : History C) → IsSound rules w h → GoesOn rules w h w

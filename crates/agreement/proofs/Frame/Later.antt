@@ -7,7 +7,7 @@ use Rattle.agreement.specs.Inside.Ballots.{Line, History, Told, IsChosenIn, Seal
 use Rattle.agreement.specs.Inside.Extending.{Extends, IsWithin}
 use Rattle.agreement.specs.Inside.Ballots.Applied.{nothing, in_ballot}
 use Rattle.agreement.specs.Inside.Ballots.Told.{told_at_opening, told_by_held, told_by_installed, told_as_primary}
-use Rattle.whole.proofs.of_lists.Beginnings.{prefix_then, prefix_length, take_prefix}
+use Rattle.whole.proofs.of_lists.Prefixes.{prefix_then, prefix_length, take_prefix}
 
 -- prefixes of a list and of one that it begins
 pub takes : {X : Type 0} (k : ℕ) {xs ys : List X} → IsPrefixOf xs ys → IsPrefixOf (take k xs) (take k ys)

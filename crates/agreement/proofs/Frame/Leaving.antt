@@ -13,7 +13,7 @@ use Rattle.agreement.specs.Inside.Extending.{Extends}
 use Rattle.agreement.specs.Inside.MovesAt.{MovesAt, with_lines}
 use Rattle.agreement.specs.Inside.Sound.{LeftIs}
 use Rattle.agreement.specs.Leaving.{Segment}
-use Rattle.whole.proofs.of_lists.Beginnings.{prefix_then}
+use Rattle.whole.proofs.of_lists.Prefixes.{prefix_then}
 use Rattle.whole.proofs.of_lists.Places.{get_set, get_set_other}
 use Rattle.agreement.proofs.Frame.Later.{chosen_kept, takes}
 use Rattle.agreement.proofs.Frame.Framing.{move_extends}

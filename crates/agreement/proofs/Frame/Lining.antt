@@ -10,7 +10,7 @@ use Rattle.whole.specs.lists.Lists.{In, IsPrefixOf}
 use Rattle.agreement.specs.Inside.Ballots.{Given, Line, History}
 use Rattle.agreement.specs.Inside.MovesAt.{MovesAt, LineGoesOn, TellsNow, lined_at}
 use Rattle.agreement.specs.Inside.MovesAt.LineGoesOn.{stays}
-use Rattle.whole.proofs.of_lists.Beginnings.{prefix_same}
+use Rattle.whole.proofs.of_lists.Prefixes.{prefix_same}
 use Rattle.agreement.proofs.Frame.Joining.{IsSilent}
 use Rattle.agreement.proofs.Frame.Telling.{TellsWithin, tells_of}
 

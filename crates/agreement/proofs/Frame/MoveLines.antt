@@ -9,7 +9,7 @@ use Rattle.agreement.specs.Inside.Ballots.{TellsHere, Given, Line, History, Told
 use Rattle.agreement.specs.Inside.Extending.{IsWithin}
 use Rattle.agreement.specs.Inside.MovesAt.{MovesAt, with_lines, LineGoesOn, TellsNow}
 use Rattle.agreement.specs.Inside.MovesAt.LineGoesOn.{stays, grows, begins}
-use Rattle.whole.proofs.of_lists.Beginnings.{prefix_same, prefix_then}
+use Rattle.whole.proofs.of_lists.Prefixes.{prefix_same, prefix_then}
 use Rattle.whole.proofs.of_lists.Places.{get_set}
 use Rattle.agreement.proofs.Frame.Later.{sealed_kept, chosen_kept}
 use Rattle.agreement.proofs.Frame.Framing.{move_extends}

@@ -8,7 +8,7 @@ use Rattle.agreement.specs.Inside.Ballots.{Given, Line, History, Told}
 use Rattle.agreement.specs.Inside.Extending.{Extends, IsWithin}
 use Rattle.agreement.specs.Inside.MovesAt.{MovesAt, with_lines, TellsNow}
 use Rattle.agreement.specs.Inside.Sound.{IsSoundNode}
-use Rattle.whole.proofs.of_lists.Beginnings.{prefix_then}
+use Rattle.whole.proofs.of_lists.Prefixes.{prefix_then}
 use Rattle.agreement.proofs.Frame.Later.{told_kept, applied_kept}
 use Rattle.agreement.proofs.Frame.SaysLater.{of_kept}
 use Rattle.agreement.proofs.Frame.Framing.{move_extends}

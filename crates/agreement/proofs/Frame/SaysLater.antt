@@ -8,7 +8,7 @@ use Rattle.agreement.specs.Inside.Ballots.{Given, History, Told, IsChosenIn}
 use Rattle.agreement.specs.Inside.Extending.{Extends, IsWithin}
 use Rattle.agreement.specs.Inside.Saying.{HasJoined, IsOf, IsOffered, Says}
 use Rattle.agreement.specs.Inside.Ballots.Told.{told_at_opening, told_by_held, told_by_installed, told_as_primary}
-use Rattle.whole.proofs.of_lists.Beginnings.{prefix_then, prefix_length, prefix_get}
+use Rattle.whole.proofs.of_lists.Prefixes.{prefix_then, prefix_length, prefix_get}
 use Rattle.agreement.proofs.Frame.Later.{sealed_kept, chosen_kept}
 
 pub joined_kept : {S C O : Type 0} (w v : World S C O) (h i : History C) (m b : ℕ) → Extends w h v i → HasJoined w m b → HasJoined v m b

@@ -7,7 +7,7 @@ use Rattle.agreement.specs.World.{World}
 use Rattle.whole.specs.lists.Lists.{In, IsPrefixOf}
 use Rattle.agreement.specs.Inside.Saying.{IsOffered}
 use Rattle.agreement.specs.Inside.Ballots.{Given, Line, History, Told, IsChosenIn, Sealed, AreBallots, AreLines, IsPlaced}
-use Rattle.whole.proofs.of_lists.Beginnings.{prefix_then, prefix_take, take_prefix}
+use Rattle.whole.proofs.of_lists.Prefixes.{prefix_then, prefix_take, take_prefix}
 use Rattle.agreement.proofs.Frame.Bases.{chosen_told, sealed_wider}
 
 -- whoever joined a ballot as a member of the earlier one has a log that seals the earlier one

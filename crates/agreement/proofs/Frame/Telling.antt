@@ -13,7 +13,7 @@ use Rattle.agreement.specs.Inside.Ballots.Told.{told_at_opening, told_by_held, t
 use Rattle.agreement.specs.Inside.MovesAt.{MovesAt, with_lines, TellsNow}
 use Rattle.agreement.specs.Inside.MovesAt.LineGoesOn.{stays}
 use Rattle.whole.proofs.of_lists.Members.{in_append}
-use Rattle.whole.proofs.of_lists.Beginnings.{prefix_same}
+use Rattle.whole.proofs.of_lists.Prefixes.{prefix_same}
 
 -- a body says what the node may tell now
 abbrev pub TellsWithin : {S C : Type 0} → (ℕ → Option (Line C)) → ReplicaState S C → ReplicaState S C → Body C → Type 0

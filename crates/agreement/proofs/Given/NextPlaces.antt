@@ -4,7 +4,7 @@ use Rattle.std.specs.Prelude.{◌==◌, Option, None, slice_get}
 use Rattle.std.proofs.lemmas.Bool.{cases_eq, eq-eqb, ne_eqb}
 use Rattle.std.proofs.lemmas.List.{length-take-le}
 use Rattle.whole.specs.machine.Machine.{Rules, replay}
-use Rattle.whole.proofs.of_lists.Beginnings.{prefix_length}
+use Rattle.whole.proofs.of_lists.Prefixes.{prefix_length}
 use Rattle.whole.proofs.of_lists.Places.{get_set, get_set_other}
 use Rattle.whole.specs.Applying.{outputs_between}
 use Rattle.whole.specs.Messages.{Effect}

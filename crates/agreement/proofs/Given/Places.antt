@@ -3,7 +3,7 @@ use Rattle.std.proofs.Common.{◌≡◌, ℕ, ◌+◌, ◌≤◌, List, [], ◌+
 use Rattle.std.proofs.lemmas.List.{length-drop, length-take-le, take-take}
 use Rattle.whole.specs.machine.Machine.{Rules, replay, replay_from}
 use Rattle.whole.specs.lists.Lists.{IsPrefixOf}
-use Rattle.whole.proofs.of_lists.Beginnings.{take_prefix}
+use Rattle.whole.proofs.of_lists.Prefixes.{take_prefix}
 use Rattle.whole.specs.Applying.{outputs_from, outputs_between}
 use Rattle.whole.proofs.AppliesInOrder.{outputs_from-append, part_none, replay_goes_on}
 use Rattle.agreement.specs.World.{outputs}

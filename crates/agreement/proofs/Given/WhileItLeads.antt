@@ -4,7 +4,7 @@ use Rattle.std.specs.Prelude.{Option, slice_get}
 use Rattle.std.proofs.lemmas.Bool.{cases_eq}
 use Rattle.std.proofs.lemmas.List.{append-nil, length-take-le}
 use Rattle.whole.specs.machine.Machine.{Rules}
-use Rattle.whole.proofs.of_lists.Beginnings.{prefix_length, take_prefix}
+use Rattle.whole.proofs.of_lists.Prefixes.{prefix_length, take_prefix}
 use Rattle.whole.proofs.of_lists.Places.{get_set_other}
 use Rattle.whole.specs.Applying.{applied_to, outputs_between}
 use Rattle.whole.specs.Config.{Config}

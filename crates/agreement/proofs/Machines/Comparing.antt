@@ -11,7 +11,7 @@ use Rattle.agreement.specs.Inside.Ballots.{Line, History, IsChosenIn, Applied}
 use Rattle.agreement.specs.Inside.Ballots.Applied.{nothing, in_ballot}
 use Rattle.agreement.specs.Inside.Keeps.{NodeGoesOn}
 use Rattle.agreement.specs.Inside.Sound.{IsSound}
-use Rattle.whole.proofs.of_lists.Beginnings.{prefix_then, prefix_either, prefix_take, take_prefix}
+use Rattle.whole.proofs.of_lists.Prefixes.{prefix_then, prefix_either, prefix_take, take_prefix}
 use Rattle.agreement.proofs.Frame.Framing.{within_of}
 use Rattle.agreement.proofs.Changing.InstallHeard.{same_front}
 use Rattle.agreement.proofs.Frame.Later.{applied_kept}

@@ -11,7 +11,7 @@ use Rattle.agreement.specs.Inside.Extending.{Extends, IsWithin}
 use Rattle.agreement.specs.Inside.Ballots.Told.{told_at_opening, told_by_held, told_by_installed, told_as_primary}
 use Rattle.agreement.specs.Inside.Sound.{IsSound}
 use Rattle.agreement.specs.Inside.Saying.{Says}
-use Rattle.whole.proofs.of_lists.Beginnings.{prefix_same}
+use Rattle.whole.proofs.of_lists.Prefixes.{prefix_same}
 use Rattle.whole.proofs.of_lists.Members.{in_left, in_append}
 use Rattle.agreement.proofs.Frame.Framing.{within_of}
 use Rattle.agreement.proofs.Frame.Joining.{IsSilent, AreSilent}

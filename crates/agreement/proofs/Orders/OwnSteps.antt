@@ -18,7 +18,7 @@ use Rattle.agreement.specs.Inside.Keeps.LineAdds.{as_it_was, begins_after, adds_
 use Rattle.agreement.specs.Proposals.{commands_of, IsOfBallot}
 use Rattle.agreement.specs.Inside.Own.{OwnLines}
 use Rattle.agreement.specs.Inside.Sound.{IsSound}
-use Rattle.whole.proofs.of_lists.Beginnings.{prefix_then}
+use Rattle.whole.proofs.of_lists.Prefixes.{prefix_then}
 use Rattle.agreement.proofs.Orders.Owning.{own_starts, own_proposed}
 use Rattle.agreement.proofs.Frame.Bases.{one_line}
 

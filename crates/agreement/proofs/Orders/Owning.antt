@@ -10,7 +10,7 @@ use Rattle.agreement.specs.Inside.Keeps.{LineAdds}
 use Rattle.agreement.specs.Inside.Keeps.LineAdds.{as_it_was, begins_after, adds_one}
 use Rattle.agreement.specs.Proposals.{commands_of, IsOfBallot}
 use Rattle.agreement.specs.Inside.Own.{OwnLines}
-use Rattle.whole.proofs.of_lists.Beginnings.{prefix_then}
+use Rattle.whole.proofs.of_lists.Prefixes.{prefix_then}
 use Rattle.whole.proofs.of_lists.Members.{in_left, in_right, in_append}
 use Rattle.agreement.proofs.Frame.EqualLists.{prefix_of_same}
 use Rattle.agreement.proofs.Frame.Bases.{one_line}

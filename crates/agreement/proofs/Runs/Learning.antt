@@ -12,7 +12,7 @@ use Rattle.whole.specs.Replica.{ReplicaState, is_active}
 use Rattle.whole.specs.Role.TheVariants.{Active}
 use Rattle.whole.proofs.AppliesInOrder.{replay_goes_on}
 use Rattle.whole.specs.lists.Lists.{In, IsPrefixOf}
-use Rattle.whole.proofs.of_lists.Beginnings.{prefix_take, prefix_then}
+use Rattle.whole.proofs.of_lists.Prefixes.{prefix_take, prefix_then}
 use Rattle.agreement.specs.Inside.Ballots.{History, Applied}
 use Rattle.agreement.specs.Inside.Ballots.Applied.{nothing, in_ballot}
 use Rattle.agreement.specs.Inside.Keeps.{Keeps}

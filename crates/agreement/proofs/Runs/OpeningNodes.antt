@@ -17,7 +17,7 @@ use Rattle.agreement.specs.Inside.Ballots.Told.{told_at_opening}
 use Rattle.agreement.specs.Inside.Ballots.Applied.{nothing}
 use Rattle.agreement.specs.Inside.OpeningHistory.{first_ballot, first_line, opening_history}
 use Rattle.agreement.specs.Inside.Sound.{IsSoundNode}
-use Rattle.whole.proofs.of_lists.Beginnings.{prefix_same}
+use Rattle.whole.proofs.of_lists.Prefixes.{prefix_same}
 use Rattle.agreement.proofs.Changing.Activating.{reached_of, followed_in}
 use Rattle.agreement.proofs.Changing.OtherMembers.{in_others, others_in, not_others}
 use Rattle.agreement.proofs.Runs.OpeningTold.{in_any, first_given, first_lined, told_opens}

@@ -18,7 +18,7 @@ use Rattle.agreement.specs.Inside.Keeps.{Keeps}
 use Rattle.agreement.specs.Inside.MovesAt.{MovesAt, with_lines}
 use Rattle.agreement.specs.Inside.Sound.{IsSoundNode, IsSound}
 use Rattle.agreement.specs.Inside.Saying.{Says}
-use Rattle.whole.proofs.of_lists.Beginnings.{prefix_then, prefix_length, take_prefix}
+use Rattle.whole.proofs.of_lists.Prefixes.{prefix_then, prefix_length, take_prefix}
 use Rattle.agreement.proofs.Effects.{thinned_messages, thinned_outputs}
 use Rattle.agreement.proofs.Serving.Committing.{Follows}
 use Rattle.agreement.proofs.Frame.MoveLines.{tells_here}

@@ -14,7 +14,7 @@ use Rattle.agreement.specs.Inside.Keeps.{KeepsAdding}
 use Rattle.agreement.specs.Inside.MovesAt.{with_lines, lined_at}
 use Rattle.agreement.specs.Inside.Sound.{IsSound}
 use Rattle.agreement.specs.Inside.Saying.{Says}
-use Rattle.whole.proofs.of_lists.Beginnings.{prefix_push, take_prefix}
+use Rattle.whole.proofs.of_lists.Prefixes.{prefix_push, take_prefix}
 use Rattle.whole.proofs.of_lists.Places.{get_pushed}
 use Rattle.agreement.proofs.Effects.{outputs_of_messages}
 use Rattle.agreement.proofs.Serving.ActiveTicks.{said_to_progress}

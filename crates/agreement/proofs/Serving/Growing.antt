@@ -14,7 +14,7 @@ use Rattle.agreement.specs.Inside.Keeps.LineAdds.{as_it_was, adds_one}
 use Rattle.agreement.specs.Inside.MovesAt.{MovesAt, with_lines, lined_at}
 use Rattle.agreement.specs.Inside.MovesAt.LineGoesOn.{grows}
 use Rattle.agreement.specs.Inside.Sound.{IsSoundNode, IsSound}
-use Rattle.whole.proofs.of_lists.Beginnings.{prefix_then, prefix_push, prefix_length, take_prefix}
+use Rattle.whole.proofs.of_lists.Prefixes.{prefix_then, prefix_push, prefix_length, take_prefix}
 use Rattle.agreement.proofs.Frame.EqualLists.{prefix_of_same}
 use Rattle.agreement.proofs.Frame.Framing.{within_of, move_extends}
 use Rattle.agreement.proofs.Frame.Later.{told_kept, applied_kept}

@@ -17,7 +17,7 @@ use Rattle.agreement.specs.Inside.Keeps.{NodeGoesOn, KeepsAdding, LineAdds}
 use Rattle.agreement.specs.Inside.Keeps.LineAdds.{as_it_was, begins_after, adds_one}
 use Rattle.agreement.specs.Replays.{IsReplay}
 use Rattle.agreement.specs.Inside.Sound.{IsSound}
-use Rattle.whole.proofs.of_lists.Beginnings.{prefix_get}
+use Rattle.whole.proofs.of_lists.Prefixes.{prefix_get}
 use Rattle.whole.proofs.of_lists.Places.{get_pushed}
 use Rattle.agreement.proofs.Frame.Adding.{adds_less}
 use Rattle.agreement.proofs.Frame.Quiet.{keeps_nothing}

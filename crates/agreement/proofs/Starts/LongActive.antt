@@ -14,7 +14,7 @@ use Rattle.agreement.specs.Inside.Begun.{AreLong}
 use Rattle.agreement.specs.Inside.Keeps.{NodeGoesOn}
 use Rattle.agreement.specs.Inside.Sound.{IsSound}
 use Rattle.whole.proofs.of_lists.Places.{get_set, get_set_other}
-use Rattle.whole.proofs.of_lists.Beginnings.{prefix_length}
+use Rattle.whole.proofs.of_lists.Prefixes.{prefix_length}
 use Rattle.agreement.proofs.Frame.Bases.{one_line}
 use Rattle.agreement.proofs.Starts.StaysActive.{StaysActive}
 use Rattle.agreement.proofs.Starts.StepActive.{Begins, step_begins}

@@ -8,7 +8,7 @@ use Rattle.client_base.specs.session_base.Publication.{is_answered, publication_
 use Rattle.client_base.specs.session_base.Identifiers.{least_free}
 use Rattle.broker_base.specs.broker_spec.Place.{Limits}
 use Rattle.client_base.specs.lists.Lists.{Each, IsPrefixOf}
-use Rattle.client_base.proofs.of_lists.Beginnings.{prefix_same}
+use Rattle.client_base.proofs.of_lists.Prefixes.{prefix_same}
 use Rattle.client_base.proofs.of_lists.OfEach.{each_append, each_then}
 use Rattle.client_base.proofs.of_lists.Places.{get_pushed}
 use Rattle.client_base.specs.Keeper.{Own, Written, Keeper, ids_in_use, all_own, next_number}

@@ -9,7 +9,7 @@ use Rattle.broker_base.specs.broker_spec.Connection.{ConnectionName}
 use Rattle.broker_base.specs.broker_spec.Place.{Client, Mark, Place, Past}
 use Rattle.broker_base.specs.broker_spec.declared.command.Command.TheVariants as commands
 use Rattle.client_base.specs.lists.Lists.{In, IsPrefixOf}
-use Rattle.client_base.proofs.of_lists.Beginnings.{prefix_get}
+use Rattle.client_base.proofs.of_lists.Prefixes.{prefix_get}
 use Rattle.exactly_once.specs.Sides.{Connection}
 use Rattle.exactly_once.specs.Carried.{carries, new_numbers}
 use Rattle.exactly_once.proofs.places.Counts.{counted_still}

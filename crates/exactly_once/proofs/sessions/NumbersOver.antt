@@ -4,7 +4,7 @@ use Rattle.std.proofs.Common.{◌≡◌, ◌<◌, ℕ, List, [], ◌∷◌, ◌+
 use Rattle.std.specs.Prelude.{slice_get}
 use Rattle.std.proofs.lemmas.List.{append-nil}
 use Rattle.client_base.specs.lists.Lists.{Each, IsPrefixOf}
-use Rattle.client_base.proofs.of_lists.Beginnings.{prefix_then}
+use Rattle.client_base.proofs.of_lists.Prefixes.{prefix_then}
 use Rattle.client_base.proofs.of_lists.OfEach.{each_then}
 use Rattle.broker_base.specs.broker_spec.Connection.{ConnectionName}
 use Rattle.broker_base.specs.broker_spec.Place.{Client, Past, Limits}

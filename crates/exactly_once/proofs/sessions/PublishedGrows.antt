@@ -9,7 +9,7 @@ use Rattle.client_base.specs.packet.declared.packet.Packet.TheVariants as packet
 use Rattle.client_base.specs.session_base.declared.publication.Publication.{Publication}
 use Rattle.client_base.specs.session_base.Publication.{publication_of}
 use Rattle.client_base.specs.lists.Lists.{IsPrefixOf, has_id}
-use Rattle.client_base.proofs.of_lists.Beginnings.{prefix_length}
+use Rattle.client_base.proofs.of_lists.Prefixes.{prefix_length}
 use Rattle.broker_base.specs.broker_spec.Place.{Limits}
 use Rattle.client_base.specs.Keeper.{Own, Keeper, all_own, next_number}
 use Rattle.client_base.specs.OrderLaws.{AreNumbered}

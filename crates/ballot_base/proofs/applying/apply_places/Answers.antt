@@ -1,6 +1,6 @@
 use Rattle.std.proofs.Common.{arith}
 use Rattle.ballot_base.proofs.PlacesApplied.{on_err_any, place_applied, place_given}
-use Rattle.lists.proofs.Beginnings.{prefix_then}
+use Rattle.lists.proofs.Prefixes.{prefix_then}
 use Rattle.ballot_base.proofs.applying.apply_places.Goals as goal
 
 pub returns-in_err-append_outputs-clause-err : goal.returns-in_err-append_outputs-clause-err

@@ -1,4 +1,4 @@
--- Beginnings of lists: of what a list begins with, and two prefixes of one list.
+-- Prefixes of lists: of what a list begins with, and two prefixes of one list.
 use Rattle.std.proofs.Common.{◌≡◌, ℕ, zero, suc, ◌≤◌, ◌⊎◌, inl, inr, List, [], ◌∷◌, ◌++◌, length, take, Some, refl, ap, sym, ◌∙◌, subst, append_assoc, arith}
 use Rattle.std.specs.Prelude.{slice_get}
 use Rattle.std.proofs.lemmas.List.{append-nil, take-append-le, length-append}
@@ -22,7 +22,7 @@ prefix_push xs x = record { rest = x ∷ []; is = refl }
 pub prefix_length : {X : Type 0} {xs ys : List X} → IsPrefixOf xs ys → length xs ≤ length ys
 prefix_length {xs = xs} p = let e = ap length p.is in omega (arith, e, length-append xs p.rest)
 
--- what is in a beginning is in the whole
+-- what is in a prefix is in the whole
 slice_get-append : {X : Type 0} (xs ys : List X) (i : ℕ) (x : X) → slice_get xs i ≡ Some x → slice_get (xs ++ ys) i ≡ Some x
 slice_get-append [] ys i x e = cc
 slice_get-append (z ∷ xs) ys zero x e = e
@@ -31,7 +31,7 @@ slice_get-append (z ∷ xs) ys (suc i) x e = slice_get-append xs ys i x e
 pub prefix_get : {X : Type 0} {xs ys : List X} (i : ℕ) (x : X) → IsPrefixOf xs ys → slice_get xs i ≡ Some x → slice_get ys i ≡ Some x
 prefix_get {X = X} {xs = xs} i x p e = subst (λ (us : List X). slice_get us i ≡ Some x) (sym p.is) (slice_get-append xs p.rest i x e)
 
--- a beginning and the next place are a beginning
+-- a prefix and the next place are a prefix
 pub prefix_next : {X : Type 0} (xs ys : List X) (x : X) → IsPrefixOf xs ys → slice_get ys (length xs) ≡ Some x → IsPrefixOf (xs ++ x ∷ []) ys
 prefix_next {X = X} xs ys x p e = by_rest p.rest p.is
   where
@@ -58,7 +58,7 @@ prefix_either {X = X} (x ∷ xs) (y ∷ ys) (z ∷ zs) p q =
     both h (inl r) = let e = r.is in inl (record { rest = r.rest; is = cc })
     both h (inr r) = let e = r.is in inr (record { rest = r.rest; is = cc })
 
--- a beginning is the front of its length
+-- taking within the length of a prefix takes from the prefix
 pub take_prefix : {X : Type 0} (k : ℕ) {xs ys : List X} → IsPrefixOf xs ys → k ≤ length xs → take k ys ≡ take k xs
 take_prefix k {xs = xs} p within = ap (take k) p.is ∙ take-append-le k xs p.rest within
 
