@@ -93,9 +93,9 @@ pub accepted_in_order : (limits : Limits) (s : Story) → IsGood (as_subscriber 
 accepted_in_order limits s g =
     let x = good_exact (as_subscriber limits s) g in
     let es = entries_of limits s.past s.keeper.client in
-    let cut = split_map item_of (two_entries es) x.front x.others (items_are es ∙ x.is) in
+    let cut = split_map item_of (two_entries es) x.prefix x.others (items_are es ∙ x.is) in
     record {
-      front = cut.front;
+      prefix = cut.front;
       others = cut.behind;
       is = cut.is;
       accepted = x.accepted ∙ ap (map value_of) (sym cut.front_is) ∙ values_are cut.front;
@@ -121,5 +121,5 @@ numbers_in_order limits s g =
     let x = good_exact (as_publisher limits s) g in
     record {
       rest = map value_of x.others;
-      is = sym (numbers_are s.keeper.own) ∙ ap (map value_of) x.is ∙ map-append value_of x.front x.others ∙ ap (λ l. l ++ map value_of x.others) (sym x.accepted);
+      is = sym (numbers_are s.keeper.own) ∙ ap (map value_of) x.is ∙ map-append value_of x.prefix x.others ∙ ap (λ l. l ++ map value_of x.others) (sym x.accepted);
     }

@@ -152,7 +152,7 @@ none_over received (Item.Finished v ∷ items) h = elim h.0 [ ]
 
 pub good_exact : {V : Type 0} (h : Handshake V) → IsGood h → IsExact h
 good_exact h g =
-    record { front = g.old; others = g.new; is = g.sides.is; accepted = g.sides.accepted_is; rest = none_over h.received g.new g.sides.news }
+    record { prefix = g.old; others = g.new; is = g.sides.is; accepted = g.sides.accepted_is; rest = none_over h.received g.new g.sides.news }
 
 -- after every run from the opening
 pub runs_are_exact : (V : Type 0) (h : Handshake V) → Run (opening V) h → IsExact h

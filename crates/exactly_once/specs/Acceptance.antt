@@ -34,8 +34,8 @@ is_released entry = is_there (release_place entry)
 -- the client accepted a prefix of the QoS 2 entries of its session, and each that is released is
 -- among them
 pub record AcceptedInOrder (limits : Limits) (s : Story) : Type 0 where
-  pub front : List Entry
+  pub prefix : List Entry
   pub others : List Entry
-  pub is : two_entries (entries_of limits s.past s.keeper.client) ≡ front ++ others
-  pub accepted : accepted_on s.connections ≡ map publication_in front
+  pub is : two_entries (entries_of limits s.past s.keeper.client) ≡ prefix ++ others
+  pub accepted : accepted_on s.connections ≡ map publication_in prefix
   pub rest : Each (λ entry. is_released entry ≡ false) others

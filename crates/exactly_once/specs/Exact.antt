@@ -14,10 +14,10 @@ is_over _ = false
 
 -- What is accepted is a prefix of the items, in order, and each that is released is among them.
 pub record IsExact {V : Type 0} (h : Handshake V) : Type 0 where
-  pub front : List (Item V)
+  pub prefix : List (Item V)
   pub others : List (Item V)
-  pub is : h.items ≡ front ++ others
-  pub accepted : h.accepted ≡ map value_of front
+  pub is : h.items ≡ prefix ++ others
+  pub accepted : h.accepted ≡ map value_of prefix
   pub rest : Each (λ item. is_over item ≡ false) others
 
 -- each run from the opening leads to an exact handshake

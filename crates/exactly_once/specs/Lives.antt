@@ -36,10 +36,10 @@ pub data Lived (limits : Limits) (c : Client) : Story → Type 0 where
 -- of each of its sessions, by the place at which it began, the client accepted a prefix of the QoS
 -- 2 entries, and each that is released is among them
 pub record AcceptedInSession (limits : Limits) (s : Story) (start : ℕ) : Type 0 where
-  pub front : List Entry
+  pub prefix : List Entry
   pub others : List Entry
-  pub is : two_entries (entries_in limits s.past s.keeper.client start) ≡ front ++ others
-  pub accepted : accepted_in s.past s.keeper.client start s.connections ≡ map publication_in front
+  pub is : two_entries (entries_in limits s.past s.keeper.client start) ≡ prefix ++ others
+  pub accepted : accepted_in s.past s.keeper.client start s.connections ≡ map publication_in prefix
   pub rest : Each (λ entry. is_released entry ≡ false) others
 
 -- numbers that rise strictly

@@ -135,7 +135,7 @@ module _ (limits : Limits) (past : Past) (keeper : Keeper) (connections others :
 
   subscribers : (start : ℕ) → AcceptedInSession limits before start → AcceptedInSession limits after start
   subscribers start ordered =
-      record { front = ordered.front; others = ordered.others; is = ordered.is; accepted = sym (same_accepted start) ∙ ordered.accepted; rest = ordered.rest }
+      record { prefix = ordered.prefix; others = ordered.others; is = ordered.is; accepted = sym (same_accepted start) ∙ ordered.accepted; rest = ordered.rest }
 
   exact : ExactlyOnceOverSessions limits before → ExactlyOnceOverSessions limits after
   exact once =

@@ -39,7 +39,7 @@ none_there past c none = by (session_of past c) refl
 
 module _ (c : Client) (published : List Publication) (past : Past) (state : ClientState) (p : PromiseInStep c published past state) where
   abbrev turn : ℕ → List Publication
-  turn start = map publication_in (p.accepts.session start).front
+  turn start = map publication_in (p.accepts.session start).prefix
 
   by_first : (first : IsFirstSession past c) → IsFirstSession past c → PromiseOfOne c published past state
   by_first first (inl none) =
@@ -49,7 +49,7 @@ module _ (c : Client) (published : List Publication) (past : Past) (state : Clie
         in_order = kept.published_are;
         again = kept.again;
         kept = kept.kept_are;
-        front = [];
+        prefix = [];
         others = [];
         entries = ap two_entries (no_entries usual_limits past c (none_there past c none));
         accepted = p.accepts.accepted ∙ ap (flat_map turn) none;
@@ -63,7 +63,7 @@ module _ (c : Client) (published : List Publication) (past : Past) (state : Clie
         in_order = kept.published_are;
         again = kept.again;
         kept = kept.kept_are;
-        front = session.front;
+        prefix = session.prefix;
         others = session.others;
         entries = sym (ap two_entries (entries_now usual_limits past c start e)) ∙ session.entries;
         accepted = p.accepts.accepted ∙ ap (flat_map turn) are ∙ append-nil (turn start);

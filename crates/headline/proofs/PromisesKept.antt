@@ -153,9 +153,9 @@ module _ (s : Story) (lived : Lived usual_limits s.keeper.client s) (step : IsIn
   accepted : (state : ClientState) → accepted_once state.accepted ≡ accepted_on s.connections → ExactlyOnceOverSessions usual_limits s → AcceptsInOrder c s.past state
   accepted state shown exact =
       record {
-        session = λ start. let a = exact.subscribers start in record { front = a.front; others = a.others; entries = a.is; rest = a.rest };
+        session = λ start. let a = exact.subscribers start in record { prefix = a.prefix; others = a.others; entries = a.is; rest = a.rest };
         accepted = shown ∙ exact.in_turn
-            ∙ flat_map_same (λ start. accepted_in s.past c start s.connections) (λ start. map publication_in (exact.subscribers start).front) (λ start. (exact.subscribers start).accepted) (starts_of s.past c);
+            ∙ flat_map_same (λ start. accepted_in s.past c start s.connections) (λ start. map publication_in (exact.subscribers start).prefix) (λ start. (exact.subscribers start).accepted) (starts_of s.past c);
       }
 
   pub kept_in_step : (published : List Publication) (state : ClientState) → ps ≡ published → history.StandsFor s.keeper state

@@ -25,10 +25,10 @@ pub record PromiseOfOne (c : Client) (published : List Publication) (past : Past
   pub kept : at_two (kept_of state) ≡ again ++ waiting
   -- what it accepted at QoS 2 is a prefix of the QoS 2 entries of its session, each once, with
   -- every one that is released
-  pub front : List Entry
+  pub prefix : List Entry
   pub others : List Entry
-  pub entries : two_entries (entries_of usual_limits past c) ≡ front ++ others
-  pub accepted : accepted_once state.accepted ≡ map publication_in front
+  pub entries : two_entries (entries_of usual_limits past c) ≡ prefix ++ others
+  pub accepted : accepted_once state.accepted ≡ map publication_in prefix
   pub rest : Each (λ (entry : Entry). is_released entry ≡ false) others
 
 -- while a client's first session lasts, its promise over sessions says all of the promise for one

@@ -78,17 +78,17 @@ pub record AreStillKept (published new kept : List Publication) : Type 0 where
 
 -- ---- of what it accepted
 
--- At QoS 2 a prefix of a session's QoS 2 entries: `front`, in order, each once. No entry after it
--- is released.
-pub record HasBeginning (c : Client) (past : Past) (start : ℕ) : Type 0 where
-  pub front : List Entry
+-- A prefix of a session's QoS 2 entries, in order, each once, and the others. None of the others is
+-- released.
+pub record HasPrefix (c : Client) (past : Past) (start : ℕ) : Type 0 where
+  pub prefix : List Entry
   pub others : List Entry
-  pub entries : two_entries (entries_in usual_limits past c start) ≡ front ++ others
+  pub entries : two_entries (entries_in usual_limits past c start) ≡ prefix ++ others
   pub rest : Each (λ (entry : Entry). is_released entry ≡ false) others
 
 -- What the client accepted at QoS 2 is, session after session, a prefix of the QoS 2 entries of
 -- each, by the place at which it began.
 pub record AcceptsInOrder (c : Client) (past : Past) (state : ClientState) : Type 0 where
-  pub session : (start : ℕ) → HasBeginning c past start
+  pub session : (start : ℕ) → HasPrefix c past start
   pub accepted : accepted_once state.accepted
-      ≡ flat_map (λ start. map publication_in (session start).front) (starts_of past c)
+      ≡ flat_map (λ start. map publication_in (session start).prefix) (starts_of past c)

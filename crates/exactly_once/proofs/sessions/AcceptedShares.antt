@@ -27,7 +27,7 @@ Accepts limits c past connections start = AcceptedInSession limits (with_connect
 pub accepts_same : (limits : Limits) (c : Client) (past later : Past) (connections after : List Connection) (start : ℕ) → entries_in limits later c start ≡ entries_in limits past c start
     → accepted_in later c start after ≡ accepted_in past c start connections → Accepts limits c past connections start → Accepts limits c later after start
 accepts_same limits c past later connections after start entries accepted a =
-    record { front = a.front; others = a.others; is = ap two_entries entries ∙ a.is; accepted = accepted ∙ a.accepted; rest = a.rest }
+    record { prefix = a.prefix; others = a.others; is = ap two_entries entries ∙ a.is; accepted = accepted ∙ a.accepted; rest = a.rest }
 
 -- ---- nothing
 

@@ -66,7 +66,7 @@ lasts_opens limits c =
         head = tt;
         tail = λ start e. tt;
         unbegun = λ e. refl;
-        elsewhere = λ start e. record { front = []; others = []; is = refl; accepted = refl; rest = tt };
+        elsewhere = λ start e. record { prefix = []; others = []; is = refl; accepted = refl; rest = tt };
       };
     }
 
@@ -131,7 +131,7 @@ lives_accept limits steady c s lived step start =
     let w = all_well limits steady c s lived step in
     let a = accepts_at limits steady c s w.life w.at start in
     record {
-      front = a.front;
+      prefix = a.prefix;
       others = a.others;
       is = ap (λ d. two_entries (entries_in limits s.past d start)) w.life.keeper.client ∙ a.is;
       accepted = ap (λ d. accepted_in s.past d start s.connections) w.life.keeper.client ∙ a.accepted;

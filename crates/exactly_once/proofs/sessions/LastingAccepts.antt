@@ -33,7 +33,7 @@ accepts_now : (limits : Limits) → IsSteady limits → (c : Client) (flags : Li
 accepts_now limits steady c flags past keeper connections start client head shut h told e =
     let a = told_stories_accept limits steady c (with_connections past keeper (kept_of flags connections)) told in
     record {
-      front = a.front;
+      prefix = a.prefix;
       others = a.others;
       is = ap two_entries (entries_now limits past c start e) ∙ ap (λ d. two_entries (entries_of limits past d)) (sym client) ∙ a.is;
       accepted = all_kept limits c flags past connections start head shut h e ∙ a.accepted;

@@ -166,7 +166,7 @@ well_opens limits c =
             head = tt;
             tail = λ start e. tt;
             unbegun = λ e. refl;
-            elsewhere = λ start e. record { front = []; others = []; is = refl; accepted = refl; rest = tt };
+            elsewhere = λ start e. record { prefix = []; others = []; is = refl; accepted = refl; rest = tt };
           });
       carried = record { written = tt; places = tt; marked = tt; numbers = (tt, tt) };
       turn = tt;
