@@ -63,7 +63,7 @@ pub losses_propose_in_order : LossesProposeInOrder
 losses_propose_in_order id config turn run x written later some joined =
     let z = runs_read x run written [] (bytes_on x run ++ later) later (opening_orderly id config)
     (not_yet (still_to_come x some) refl (record { rest = written; is = refl; joined = joined; sound = refl })) refl in
-    record { read = z.more; end = z.end; front = front_of x turn.core written z.more later z.end; proposed = z.proposed }
+    record { read = z.more; end = z.end; prefix = front_of x turn.core written z.more later z.end; proposed = z.proposed }
 
 -- ---- what is read is taken
 

@@ -31,7 +31,7 @@ pub record Proposes (x : ConnectionName) (core : CoreState) (proposals : List Co
     (written : List Packet) (later : List ℕ) : Type 0 where
   pub read : List Packet
   pub end : IsEnd x core written read later
-  pub front : IsPrefixOf read written
+  pub prefix : IsPrefixOf read written
   pub proposed : filter (λ command. is_packet_of command x) proposals ≡ commands_of x 0 read
 
 -- a node proposes in order in each run from its opening on, under each name that a connection can

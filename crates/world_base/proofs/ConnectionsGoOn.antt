@@ -36,7 +36,7 @@ goes_still c d port name same shut =
       name = name;
       closed = λ over. (shut over, same);
       whole = λ _. same ∙ sym (append-nil c.pending);
-      front = [];
+      prefix = [];
       answer = [];
       begins = record { rest = []; is = refl };
       refusal = inl refl;
@@ -58,7 +58,7 @@ goes_over bytes c d port name over same =
       name = name;
       closed = λ _. (over, same);
       whole = λ stays. absurd (not_both (is_over d.stage) over stays);
-      front = [];
+      prefix = [];
       answer = [];
       begins = record { rest = bytes; is = refl };
       refusal = inl refl;
@@ -83,7 +83,7 @@ goes_refused code c stays =
       name = refl;
       closed = λ over. absurd (not_both (is_over c.stage) over stays);
       whole = λ again. absurd (not_both true refl again);
-      front = [];
+      prefix = [];
       answer = spelling (packets.Connack (connacks.Refused code));
       begins = record { rest = []; is = refl };
       refusal = inr (code, refl);
@@ -101,7 +101,7 @@ goes_put bytes c stays = by (nat_le (length c.pending + length bytes) max_pendin
           name = refl;
           closed = λ over. absurd (not_both (is_over c.stage) over stays);
           whole = λ _. refl;
-          front = bytes;
+          prefix = bytes;
           answer = [];
           begins = record { rest = []; is = sym (append-nil bytes) };
           refusal = inl refl;
@@ -117,11 +117,11 @@ closed_between xs ys c d e over one two =
       name = two.name ∙ one.name;
       closed = λ was. ((two.closed over).0, (two.closed over).1 ∙ (one.closed was).1);
       whole = λ stays. absurd (not_both (is_over e.stage) (two.closed over).0 stays);
-      front = one.front;
+      prefix = one.prefix;
       answer = one.answer;
       begins = record {
         rest = one.begins.rest ++ ys;
-        is = ap (λ (l : List ℕ). l ++ ys) one.begins.is ∙ append_assoc one.front one.begins.rest ys;
+        is = ap (λ (l : List ℕ). l ++ ys) one.begins.is ∙ append_assoc one.prefix one.begins.rest ys;
       };
       refusal = one.refusal;
       put = (two.closed over).1 ∙ one.put;
@@ -134,16 +134,16 @@ open_between xs ys c d e stays one two =
       name = two.name ∙ one.name;
       closed = λ was. absurd (not_both (is_over d.stage) (one.closed was).0 stays);
       whole = λ again. two.whole again ∙ ap (λ (l : List ℕ). l ++ ys) (one.whole stays) ∙ append_assoc c.pending xs ys;
-      front = xs ++ two.front;
+      prefix = xs ++ two.prefix;
       answer = two.answer;
       begins = record {
         rest = two.begins.rest;
-        is = ap (λ (l : List ℕ). xs ++ l) two.begins.is ∙ sym (append_assoc xs two.front two.begins.rest);
+        is = ap (λ (l : List ℕ). xs ++ l) two.begins.is ∙ sym (append_assoc xs two.prefix two.begins.rest);
       };
       refusal = two.refusal;
-      put = two.put ∙ ap (λ (l : List ℕ). l ++ (two.front ++ two.answer)) (one.whole stays)
-          ∙ append_assoc c.pending xs (two.front ++ two.answer)
-          ∙ ap (λ (l : List ℕ). c.pending ++ l) (sym (append_assoc xs two.front two.answer));
+      put = two.put ∙ ap (λ (l : List ℕ). l ++ (two.prefix ++ two.answer)) (one.whole stays)
+          ∙ append_assoc c.pending xs (two.prefix ++ two.answer)
+          ∙ ap (λ (l : List ℕ). c.pending ++ l) (sym (append_assoc xs two.prefix two.answer));
     }
 
 goes_both : (xs ys : List ℕ) (c d e : Connection) → GoesOn xs c d → GoesOn ys d e → GoesOn (xs ++ ys) c e

@@ -46,11 +46,11 @@ pub record GoesOn (bytes : List ℕ) (c d : Connection) : Type 0 where
   pub name : d.name ≡ c.name
   pub closed : is_over c.stage ≡ true → (is_over d.stage ≡ true) × (d.pending ≡ c.pending)
   pub whole : is_over d.stage ≡ false → d.pending ≡ c.pending ++ bytes
-  pub front : List ℕ
+  pub prefix : List ℕ
   pub answer : List ℕ
-  pub begins : IsPrefixOf front bytes
+  pub begins : IsPrefixOf prefix bytes
   pub refusal : (answer ≡ []) ⊎ IsRefusal answer
-  pub put : d.pending ≡ c.pending ++ (front ++ answer)
+  pub put : d.pending ≡ c.pending ++ (prefix ++ answer)
 
 -- each connection of a list goes on (`GoesOn`), in order, and none is added or removed
 abbrev pub EachGoesOn : List (Effect Command Output) → List Connection → List Connection → Type 0

@@ -101,7 +101,7 @@ newest_agreed {S = S} {C = C} rules w h b older g l s newest given lined =
         let one : t.0 ≡ l = one_line (h.line b) t.0 l t.1 lined in
         let base : IsChosenIn w h b (length l.base) = subst (λ (x : Line C). IsChosenIn w h b (length x.base)) one t.2 in
         prefix_then (activated_base w h s.ballots s.lines c b j i active less chosen y l e lined)
-        (subst (λ (us : List C). IsPrefixOf us (take (chosen_length w.sent b g l) l.list)) (base_is l (s.lines.front b l lined))
+        (subst (λ (us : List C). IsPrefixOf us (take (chosen_length w.sent b g l) l.list)) (base_is l (s.lines.prefix b l lined))
         (front_of (length l.base) (chosen_length w.sent b g l) l.list (chosen_at_most rules w h b (length l.base) g l s given lined base) top))
     by_order c j y i e chosen (inr high) =
         let low = at_most_newest h b older (subst (λ bs. IsChain h bs) newest s.ballots.chain) c (subst (λ bs. In c bs) newest i) in

@@ -87,7 +87,7 @@ agreed_held {S = S} {C = C} {O = O} rules w h xs b older g n r s (inr c) newest 
         let t = s.lines.told b active in
         prefix_then
         (activated_base w h s.ballots s.lines c.ballot b c.places c.activated active less c.chosen c.line t.0 c.lined t.1)
-        (subst (λ (us : List C). IsPrefixOf us r.log) (base_is t.0 (s.lines.front b t.0 t.1))
+        (subst (λ (us : List C). IsPrefixOf us r.log) (base_is t.0 (s.lines.prefix b t.0 t.1))
         (newest_held rules w h b (length t.0.base) older g t.0 n r s newest given member t.1 t.2 stands))
     by_order (inr high) =
         let low = at_most_newest h b older (subst (λ bs. IsChain h bs) newest s.ballots.chain) c.ballot

@@ -67,7 +67,7 @@ installed_sends {S = S} {C = C} {O = O} rules w h n from b log r new given s sta
         (m.from ≡ n + 1) × TellsWithin h.line r new m.body
     now to m (there i) = elim i [ ]
     now to m here =
-        let e = ap length q.base in let f = prefix_length (s.lines.front b q.line q.lined) in (
+        let e = ap length q.base in let f = prefix_length (s.lines.prefix b q.line q.lined) in (
           (s.nodes n r stands).id,
           record {
             low = low;

@@ -78,7 +78,7 @@ install_taken {S = S} {C = C} {O = O} rules w h n r from b log s stands q low be
                 q.line,
                 q.lined,
                 subst (λ (us : List C). IsPrefixOf q.line.base us) q.base (prefix_same q.line.base),
-                subst (λ (us : List C). IsPrefixOf us q.line.list) q.base (s.lines.front b q.line q.lined),
+                subst (λ (us : List C). IsPrefixOf us q.line.list) q.base (s.lines.prefix b q.line q.lined),
               ),
             );
             told = told_placed w h h.line n r new given moves t.placed (omega (arith, below));

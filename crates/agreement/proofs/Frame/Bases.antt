@@ -74,5 +74,5 @@ before_base {S = S} {C = C} {O = O} w h lines b (p ∷ older) chain active c k (
     let lp = told.0 in
     prefix_then
     (before_base w h lines p older chain.1 (λ x j. active x (there j)) c k i chosen lc lp e told.1)
-    (subst (λ (us : List C). IsPrefixOf us lb.base) (base_is lp (lines.front p lp told.1))
+    (subst (λ (us : List C). IsPrefixOf us lb.base) (base_is lp (lines.prefix p lp told.1))
     (next_base w h lines b p older chain (length lp.base) told.2 lp lb told.1 f))

@@ -21,7 +21,7 @@ pub move_lines : {S C O : Type 0} (w : World S C O) (h : History C) (line : ℕ 
 move_lines {S = S} {C = C} {O = O} w h line n old new given q within s =
     record {
       lined = λ b k e. lined b k (q.goes_on b k e);
-      front = λ b k e. front b k (q.goes_on b k e);
+      prefix = λ b k e. prefix b k (q.goes_on b k e);
       sealed = λ b g k e later f. sealed b g k e later (q.goes_on b k f);
       base_in = λ b g k e later f. base_in b g k e later (q.goes_on b k f);
       still = λ b k e. still b k (q.goes_on b k e);
@@ -41,11 +41,11 @@ move_lines {S = S} {C = C} {O = O} w h line n old new given q within s =
     lined b k (grows l e same more active) = s.lined b l e
     lined b k (begins g none same given t p) = (g, given)
 
-    front : (b : ℕ) (k : Line C) → LineGoesOn w h b k → IsPrefixOf k.base k.list
-    front b k (stays e) = s.front b k e
-    front b k (grows l e same more active) =
-        subst (λ (us : List C). IsPrefixOf us k.list) (sym same) (prefix_then (s.front b l e) more)
-    front b k (begins g none same given t p) = subst (λ (us : List C). IsPrefixOf k.base us) (sym same) (prefix_same k.base)
+    prefix : (b : ℕ) (k : Line C) → LineGoesOn w h b k → IsPrefixOf k.base k.list
+    prefix b k (stays e) = s.prefix b k e
+    prefix b k (grows l e same more active) =
+        subst (λ (us : List C). IsPrefixOf us k.list) (sym same) (prefix_then (s.prefix b l e) more)
+    prefix b k (begins g none same given t p) = subst (λ (us : List C). IsPrefixOf k.base us) (sym same) (prefix_same k.base)
 
     sealed : (b : ℕ) (g : Given) (k : Line C) → h.given b ≡ Some g → 0 < g.previous → LineGoesOn w h b k →
         Sealed (moved w n new given) (with_lines h line) g.previous k.base

@@ -26,7 +26,7 @@ quiet_lines w h n old new given q within s =
     let x = quiet_extends w h n old new given q in
     record {
       lined = s.lined;
-      front = s.front;
+      prefix = s.prefix;
       sealed = λ b g l e later f. sealed_kept w (moved w n new given) h h g.previous l.base x within (s.sealed b g l e later f);
       base_in = s.base_in;
       still = s.still;
@@ -46,7 +46,7 @@ quiet_sound {S = S} {C = C} {O = O} rules w h n old new given s within q node sa
       ballots = s.ballots;
       lines = record {
         lined = s.lines.lined;
-        front = s.lines.front;
+        prefix = s.lines.prefix;
         sealed = λ b g l e later f. sealed_kept w (moved w n new given) h h g.previous l.base x within (s.lines.sealed b g l e later f);
         base_in = s.lines.base_in;
         still = s.lines.still;

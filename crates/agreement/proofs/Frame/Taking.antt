@@ -62,7 +62,7 @@ may_take {S = S} {C = C} {O = O} w h ballots lines n r placed (in_ballot c k l a
         prefix_then front
         (prefix_then
         (activated_base w h ballots lines c g.previous k active (ballots.previous b g given later).0 older chosen l t.0 lined t.1)
-        (subst (λ (us : List C). IsPrefixOf us xs) (base_is t.0 (lines.front g.previous t.0 t.1))
+        (subst (λ (us : List C). IsPrefixOf us xs) (base_is t.0 (lines.prefix g.previous t.0 t.1))
         (sealed_bounds w h g.previous (length t.0.base) xs t.0 t.1 s t.2)))
     by_age (inr no_older) at_most =
         let same : g.previous ≡ c = omega (arith, no_older, at_most) in

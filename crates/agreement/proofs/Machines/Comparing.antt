@@ -27,10 +27,10 @@ chosen_either {S = S} {C = C} rules w h b d k j l m s x y e f c g = by_order (ca
     by_order : (b < d) ⊎ (d ≤ b) → (d < b) ⊎ (b ≤ d) → IsPrefixOf (take k l.list) (take j m.list) ⊎ IsPrefixOf (take j m.list) (take k l.list)
     by_order (inl less) other =
         prefix_either (take k l.list) (take j m.list) m.list
-        (prefix_then (activated_base w h s.ballots s.lines b d k x y less c l m e f) (s.lines.front d m f)) (prefix_take j m.list)
+        (prefix_then (activated_base w h s.ballots s.lines b d k x y less c l m e f) (s.lines.prefix d m f)) (prefix_take j m.list)
     by_order (inr high) (inl more) =
         prefix_either (take k l.list) (take j m.list) l.list (prefix_take k l.list)
-        (prefix_then (activated_base w h s.ballots s.lines d b j y x more g m l f e) (s.lines.front b l e))
+        (prefix_then (activated_base w h s.ballots s.lines d b j y x more g m l f e) (s.lines.prefix b l e))
     by_order (inr high) (inr low) =
         let same : b ≡ d = omega (arith, high, low) in
         let one : l ≡ m = one_line (h.line d) l m (ap h.line (sym same) ∙ e) f in

@@ -59,7 +59,7 @@ master_sends {S = S} {C = C} {O = O} rules w h extra given activated s silent mo
     ballots = ballots;
     lines = record {
       lined = λ c l e. let z = s.lines.lined c l e in (z.0, more c z.0 z.1);
-      front = s.lines.front;
+      prefix = s.lines.prefix;
       sealed = λ c g l e later f. sealed_kept w v h i g.previous l.base extends within
           (s.lines.sealed c g l (back c g e (s.lines.lined c l f)) later f);
       base_in = λ c g l e later f. s.lines.base_in c g l (back c g e (s.lines.lined c l f)) later f;

@@ -57,7 +57,7 @@ opening_sound {S = S} {C = C} {O = O} rules nodes config led =
       };
       lines = record {
         lined = λ b l e. (first_ballot config, ap (opening_history C config).given (first_lined C config b l e).0);
-        front = λ b l e. subst (λ (x : Line C). IsPrefixOf x.base x.list) (first_lined C config b l e).1 (prefix_same []);
+        prefix = λ b l e. subst (λ (x : Line C). IsPrefixOf x.base x.list) (first_lined C config b l e).1 (prefix_same []);
         sealed = λ b g l e later f. absurd (none_later C config b g e later);
         base_in = λ b g l e later f. absurd (none_later C config b g e later);
         still = λ b l e. inr (let z = (first_lined C config b l e).1 in

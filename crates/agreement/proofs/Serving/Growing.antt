@@ -60,7 +60,7 @@ grown_ready {S = S} {C = C} {O = O} rules w h n old r c s stands q same_id same_
     lined = lined_here r.joined (longer q.line c) h.line
 
     base : IsPrefixOf q.line.base r.log
-    base = subst (λ (us : List C). IsPrefixOf q.line.base us) (sym q.log) (s.lines.front r.joined q.line q.lined)
+    base = subst (λ (us : List C). IsPrefixOf q.line.base us) (sym q.log) (s.lines.prefix r.joined q.line q.lined)
 
     room : length (r.log ++ c ∷ []) ≡ length r.log + 1
     room = length-append r.log (c ∷ [])

@@ -20,7 +20,7 @@ pub record GoesOn {S C O : Type 0} (rules : Rules S C O) (w : World S C O) (h : 
   pub active : (b : ℕ) → In b h.activated → In b history.activated
   pub sound : IsSound rules v history
 
--- how the list of a ballot changes at most: it begins as a front of the earlier ballot's, or takes
+-- how the list of a ballot changes at most: it begins as a prefix of the earlier ballot's, or takes
 -- one command
 pub data LineAdds {C : Type 0} (adds : ℕ → C →
     Type 0) (h : History C) (b : ℕ) (k : Line C) : Type 0 where
