@@ -1,4 +1,4 @@
--- What the nodes of a world agree on is of what its clients wrote: of each connection a beginning, in order, and of no other.
+-- What the nodes of a world agree on is of what its clients wrote: of each connection a prefix, in order, and of no other.
 use Rattle.std.proofs.Common.{◌≡◌, ◌≤◌, ◌⊎◌, inl, inr, ℕ, suc, Bool, true, false, if◌then◌else◌, List, [], ◌∷◌, ◌++◌, filter, length, map, Some, refl, sym, ap, ◌∙◌, subst}
 use Rattle.std.specs.Prelude.{slice_get}
 use Rattle.std.proofs.lemmas.Bool.{both_ways}

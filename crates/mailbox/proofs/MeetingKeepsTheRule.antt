@@ -117,7 +117,7 @@ module _ {T : Type 0} where
       let size = ap length same in
       record {
         rest = items_of v.lane items;
-        beginning =
+        prefix =
             lane.1
             ∙ sym (h.whole v.lane)
             ∙ items_of-append v.lane h.taken items

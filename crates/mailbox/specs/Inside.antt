@@ -76,7 +76,7 @@ module _ {T : Type 0} where
   -- what was taken of the lane is a prefix of what it sent, and no less than it knew
   pub record Learned (v : View T) : Type 0 where
     pub rest : List T
-    pub beginning : v.sent ≡ items_of v.lane v.taken ++ rest
+    pub prefix : v.sent ≡ items_of v.lane v.taken ++ rest
     pub more : v.met ≤ length (items_of v.lane v.taken)
     pub made : v.lane < v.lanes
 

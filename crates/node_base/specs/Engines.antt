@@ -9,8 +9,8 @@ use Rattle.node_base.specs.declared.one_write.OneWrite.{OneWrite}
 use Rattle.node_base.specs.declared.one_write.OneWrite.TheVariants as writes
 
 -- what was added to the device's bytes is a prefix of these bytes, or all of them
-abbrev pub WritesBeginning : Option (List ℕ) → Option (List ℕ) → List ℕ → Type 0
-WritesBeginning old new bytes =
+abbrev pub WritesPrefix : Option (List ℕ) → Option (List ℕ) → List ℕ → Type 0
+WritesPrefix old new bytes =
     (count : ℕ) × (count ≤ length bytes) × Appends old new (take count bytes)
 
 -- what was added to the device's bytes is a prefix of these bytes, and not all of them

@@ -3,7 +3,7 @@
 ghost use Rattle.std.specs.Prelude.{◌≡◌, ◌≢◌, ◌<◌, length, if◌then◌else◌};
 ghost use Rattle.std.specs.Io.KnownBytes.{Appends, Keeps};
 ghost use Rattle.node_base.specs.Counted.{Watched, counted_once};
-ghost use Rattle.node_base.specs.Engines.{WritesBeginning, WritesPiece, WritesShort, ReadsPiece, counted_read, counted_write};
+ghost use Rattle.node_base.specs.Engines.{WritesPrefix, WritesPiece, WritesShort, ReadsPiece, counted_read, counted_write};
 ghost use Rattle.node_base.specs.Inside.{WritesOnce};
 
 use crate::one_read::OneRead;
@@ -57,7 +57,7 @@ impl<W: Write> Counted<W> {
     /// Writes all bytes and flushes the device, in as many calls as needed. What is written is
     /// always a prefix of `bytes`.
     pub fn write_whole(&mut self, bytes: &[u8]) -> WholeWrite
-        ensures beginning { WritesBeginning
+        ensures prefix { WritesPrefix
             (W.contents self.old.device) (W.contents self.new.device) bytes.now }
         ensures whole { result ≡ WholeWrite.Whole → Appends
             (W.contents self.old.device) (W.contents self.new.device) bytes.now }

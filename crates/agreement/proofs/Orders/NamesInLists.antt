@@ -8,7 +8,7 @@ use Rattle.whole.specs.lists.Lists.{In, IsPrefixOf}
 use Rattle.whole.specs.lists.Lists.In.{here, there}
 use Rattle.agreement.specs.Proposals.{commands_of}
 
--- a test of a beginning
+-- a test of a prefix
 pub filter_prefix : {X : Type 0} (test : X → Bool) (xs ys : List X) → IsPrefixOf xs ys → IsPrefixOf (filter test xs) (filter test ys)
 filter_prefix test xs ys p = record { rest = filter test p.rest; is = ap (filter test) p.is ∙ filter-append test xs p.rest }
 

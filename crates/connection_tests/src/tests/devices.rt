@@ -45,7 +45,7 @@ fn came_of(alloc: Global, bad_call: u64) -> Option<Came> {
 }
 
 #[test]
-fn what_stands_written_is_a_beginning(rt: HostRuntime) {
+fn what_stands_written_is_a_prefix(rt: HostRuntime) {
     for (bad_call, end, count, faults) in ROWS {
         let wanted = Some((*end, *count, *faults));
         assert_eq!(rt; came_of(rt.alloc(), *bad_call), wanted, "{bad_call}");

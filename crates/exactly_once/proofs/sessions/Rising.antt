@@ -10,7 +10,7 @@ use Rattle.exactly_once.specs.Carried.{is_two, published, publication_in}
 use Rattle.exactly_once.specs.Lives.{IsRising}
 use Rattle.exactly_once.proofs.carrying.Distinct.{number_first}
 
--- ---- a beginning, and more
+-- ---- a prefix, and more
 
 pub rising_front : (xs ys : List ℕ) → IsRising (xs ++ ys) → IsRising xs
 rising_front [] ys h = tt
