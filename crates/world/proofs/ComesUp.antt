@@ -15,7 +15,7 @@ use Rattle.world.specs.declared.connection_slot.ConnectionSlot.{ConnectionSlot}
 use Rattle.world.specs.declared.world.WorldClient.{WorldClient}
 use Rattle.world.specs.SlotsAreValid.{LeadsThere, leads_of}
 use Rattle.world.specs.Found.{with_less}
-use Rattle.world.specs.Inside.Carrying.{TakesUp}
+use Rattle.world.specs.Inside.Carrying.{CarriesUp}
 use Rattle.world.specs.StandsFor.{ModelStepsTo, StandsFor, FollowsModel}
 use Rattle.world.specs.StandsFor.Steps.{rests, goes_on}
 use Rattle.world.specs.World.{WorldState}
@@ -54,7 +54,7 @@ taken_up old m s place client one way x new count part acts =
     }
 
 pub takes_up : (old : WorldState) (number count : ℕ) (place : ConnectionSlot) (client : WorldClient) (new : NodesState) (later : Piped) → LeadsThere (leads_of old.clients) number place
-    → slice_get old.clients place.client ≡ Some client → TakesUp place (record { 0 = number }) count old.nodes client.piped new later
+    → slice_get old.clients place.client ≡ Some client → CarriesUp place (record { 0 = number }) count old.nodes client.piped new later
     → FollowsModel old (put_down place.client client later new old)
 takes_up old number count place client new later there at t nodes config cs m trail s =
     let l = led old.clients number place client there at in

@@ -17,7 +17,7 @@ use Rattle.world.specs.declared.world.WorldClient.{WorldClient}
 use Rattle.world.specs.Trace.{NodesGoOn}
 use Rattle.world.specs.SlotsAreValid.{SlotsAreValid, leads, leads_of}
 use Rattle.world.specs.Found.{port_of, with_down, with_less}
-use Rattle.world.specs.Inside.Carrying.{CanTake, CannotTake, CannotTakeOn, TakesUp, TakesUpOnWhere, TakesUpWhere}
+use Rattle.world.specs.Inside.Carrying.{CanCarryUp, CannotCarryUp, CannotCarryUpOn, CarriesUp, CarriesUpOnWhere, CarriesUpWhere}
 use Rattle.world.specs.Inside.Steps.{IsTrace}
 use Rattle.world.specs.Inside.Handing.{HandsDown, MayGatherOn, MayPutDown, PutsDown}
 use Rattle.world.specs.World.{WorldState}
@@ -86,7 +86,7 @@ takes_nothing old i client new later found same still = goes_on_rest old (put_do
 -- bytes come, or there is no memory for them
 pub takes_on : {E : Type 0} (r : Result Bool E) (old : WorldState) (number count : ℕ) (place : ConnectionSlot) (client : WorldClient) (new : NodesState) (later : Piped)
     → SlotsAreValid (leads_of old.clients) old.connections → slice_get old.connections (number - 1) ≡ Some place → 0 < number → slice_get old.clients place.client ≡ Some client
-    → NodesGoOn old.nodes new → IfOk r (λ had. TakesUpWhere had place (record { 0 = number }) count old.nodes client.piped new later)
+    → NodesGoOn old.nodes new → IfOk r (λ had. CarriesUpWhere had place (record { 0 = number }) count old.nodes client.piped new later)
     → OnErr r (new ≡ old.nodes) → OnErr r (later ≡ client.piped) → IsTrace old (put_down place.client client later new old)
 takes_on (Ok true) old number count place client new later housed at positive found nodes took same still =
     record {
@@ -102,7 +102,7 @@ pub takes_part : (place : ConnectionSlot) (port : Port) (count : ℕ) (old : Nod
     → place.at < length client.ways → IfSome (slice_get client.ways place.at) (λ way. waiting ≡ way.up) → 0 < count → count ≤ length waiting
     → (running old.nodes place.node ≡ None → ⊥) → piece ≡ take count waiting
     → IfSome (slice_get client.ways place.at) (λ way. later ≡ with_less place.at count way client) → TakesIn place.node (Bytes port piece 0) old new
-    → Acts (place.node - 1) (takes (Bytes port piece 0)) old new → TakesUp place port count old client new later
+    → Acts (place.node - 1) (takes (Bytes port piece 0)) old new → CarriesUp place port count old client new later
 takes_part place port count old client new later waiting piece below up some part runs is less step acts =
     let w = there client.ways place.at below in
     let waits : waiting ≡ w.0.up = of_some (λ (way : Way). waiting ≡ way.up) w.0 w.1 up in
@@ -122,7 +122,7 @@ takes_part place port count old client new later waiting piece below up some par
 
 -- if there is no memory for it, it could have come
 pub can_take : (place : ConnectionSlot) (count : ℕ) (old : NodesState) (client : Piped) (waiting : List ℕ) → place.at < length client.ways → IfSome (slice_get client.ways place.at) (λ way. waiting ≡ way.up)
-    → 0 < count → count ≤ length waiting → (running old.nodes place.node ≡ None → ⊥) → CanTake place count old client
+    → 0 < count → count ≤ length waiting → (running old.nodes place.node ≡ None → ⊥) → CanCarryUp place count old client
 can_take place count old client waiting below up some part runs =
     let w = there client.ways place.at below in
     let waits : waiting ≡ w.0.up = of_some (λ (way : Way). waiting ≡ way.up) w.0 w.1 up in
@@ -142,9 +142,9 @@ less_leads client later at count way found less =
 
 -- the same in a world: they come, or they cannot
 pub takes_up_on : {E : Type 0} (r : Result Bool E) (old : WorldState) (number count : ℕ) (place : ConnectionSlot) (client : WorldClient) (new : NodesState) (later : Piped)
-    → slice_get old.clients place.client ≡ Some client → IfOk r (λ had. TakesUpWhere had place (port_of number) count old.nodes client.piped new later)
-    → IfOk r (λ had. TakesUpOnWhere had number place count old (put_down place.client client later new old))
-takes_up_on (Ok true) old number count place client new later owned taken = record { client = client; owned = owned; between = new; piped = later; takes = taken; is = refl }
+    → slice_get old.clients place.client ≡ Some client → IfOk r (λ had. CarriesUpWhere had place (port_of number) count old.nodes client.piped new later)
+    → IfOk r (λ had. CarriesUpOnWhere had number place count old (put_down place.client client later new old))
+takes_up_on (Ok true) old number count place client new later owned taken = record { client = client; owned = owned; between = new; piped = later; carries = taken; is = refl }
 takes_up_on (Ok false) old number count place client new later owned taken = (unchanged old place.client client new later owned taken.0 taken.1, client, owned, taken.2)
 takes_up_on (Err e) old number count place client new later owned taken = tt
 
@@ -155,6 +155,6 @@ takes_none (Ok x) old place client new later owned same still = tt
 takes_none (Err e) old place client new later owned same still = unchanged old place.client client new later owned same still
 
 pub takes_nothing_on : {X : Type 0} (r : Result X Idle) (w : WorldState) (count : ℕ) (place : ConnectionSlot) (client : WorldClient) → slice_get w.clients place.client ≡ Some client
-    → OnErr r (CannotTake place count w.nodes client.piped) → OnErr r (CannotTakeOn place count w)
+    → OnErr r (CannotCarryUp place count w.nodes client.piped) → OnErr r (CannotCarryUpOn place count w)
 takes_nothing_on (Ok x) w count place client owned cannot = tt
-takes_nothing_on (Err e) w count place client owned cannot = λ other there. subst (λ (k : WorldClient). CannotTake place count w.nodes k.piped) (same_Some client other (sym owned ∙ there)) cannot
+takes_nothing_on (Err e) w count place client owned cannot = λ other there. subst (λ (k : WorldClient). CannotCarryUp place count w.nodes k.piped) (same_Some client other (sym owned ∙ there)) cannot

@@ -29,7 +29,7 @@ use Rattle.world.specs.ClientCalls.{CarriesDownWhere}
 use Rattle.world.specs.Happening.{Happens, HappensExactly, HappensLosing, Run}
 use Rattle.world.specs.SlotsAreValid.{SlotsAreValid, leads_of}
 use Rattle.world.specs.Quiet.{TakesNoMemory}
-use Rattle.world.specs.Inside.Carrying.{CanTake, CannotCarryDown, CannotTakeOn, CarriesDownOn, TakesUpOn}
+use Rattle.world.specs.Inside.Carrying.{CanCarryUp, CannotCarryDown, CannotCarryUpOn, CarriesDownOn, CarriesUpOn}
 use Rattle.world.specs.Inside.Steps.{IsCounted, IsDone, Meets}
 use Rattle.world.specs.Inside.Calling.{with_loss}
 use Rattle.world.specs.World.{WorldState}
@@ -156,7 +156,7 @@ no_part count waiting some part (inr more) = omega (arith, part, more)
 -- ---- bytes come up
 
 pub carries_up : (number : ℕ) (place : ConnectionSlot) (count : ℕ) (old mid new : WorldState) → slice_get old.connections (number - 1) ≡ Some place → 0 < number → place.is_open ≡ true
-    → TakesUpOn number place count old mid → Gathers false place.node mid new → new.losses ≡ old.losses → IsDone (events.CarryUp number count) old new
+    → CarriesUpOn number place count old mid → Gathers false place.node mid new → new.losses ≡ old.losses → IsDone (events.CarryUp number count) old new
 carries_up number place count old mid new at positive up t gathers still =
     record { can = can; does = inr (c, item); exact = λ none. (c, takes_exactly place.node piece less new item none); uncounted = still }
   where
@@ -166,31 +166,31 @@ carries_up number place count old mid new at positive up t gathers still =
       numbered = numbered_at number old.connections (Some place) positive at;
       client = t.client;
       owned = t.owned;
-      way = t.takes.way;
-      stands = t.takes.found;
+      way = t.carries.way;
+      stands = t.carries.found;
     }
 
     can : CannotHappen (events.CarryUp number count) old → ⊥
-    can (inl closed) = not_closed number old place at positive up t.takes.runs closed
-    can (inr few) = no_part count t.takes.way.up t.takes.some t.takes.part (subst (λ (o : Option Way). IsNoPart count (up_of o)) (way_found number old c) few)
+    can (inl closed) = not_closed number old place at positive up t.carries.runs closed
+    can (inr few) = no_part count t.carries.way.up t.carries.some t.carries.part (subst (λ (o : Option Way). IsNoPart count (up_of o)) (way_found number old c) few)
 
     piece : Item
-    piece = Bytes (port_of number) (take count t.takes.way.up) 0
+    piece = Bytes (port_of number) (take count t.carries.way.up) 0
 
     less : WorldState
-    less = with_piped place.client t.client (with_less place.at count t.takes.way t.client.piped) old
+    less = with_piped place.client t.client (with_less place.at count t.carries.way t.client.piped) old
 
     item : TakesItem false place.node piece less new
     item = (
       t.between,
-      t.takes.step,
+      t.carries.step,
       subst (λ (w : WorldState). Gathers false place.node w new)
-          (t.is ∙ ap (λ (p : Piped). let w : WorldState = record (with_piped place.client t.client p old) { nodes = t.between } in w) t.takes.is) gathers,
+          (t.is ∙ ap (λ (p : Piped). let w : WorldState = record (with_piped place.client t.client p old) { nodes = t.between } in w) t.carries.is) gathers,
     )
 
 -- there was no memory for them, and that is counted
 pub lost_up : (number : ℕ) (place : ConnectionSlot) (count : ℕ) (old mid new : WorldState) → slice_get old.connections (number - 1) ≡ Some place → 0 < number → place.is_open ≡ true
-    → (mid ≡ old) × (client : WorldClient) × (slice_get old.clients place.client ≡ Some client) × CanTake place count old.nodes client.piped → new ≡ with_loss mid
+    → (mid ≡ old) × (client : WorldClient) × (slice_get old.clients place.client ≡ Some client) × CanCarryUp place count old.nodes client.piped → new ≡ with_loss mid
     → HappensLosing (events.CarryUp number count) old new
 lost_up number place count old mid new at positive up (same, client, owned, t) forgot =
     record { can = can; needs = λ none low. none; done = old; does = inl refl; lost = inl refl; counted = forgot ∙ ap with_loss same }
@@ -210,7 +210,7 @@ lost_up number place count old mid new at positive up (same, client, owned, t) f
     can (inr few) = no_part count t.way.up t.some t.part (subst (λ (o : Option Way). IsNoPart count (up_of o)) (way_found number old c) few)
 
 pub carries_nothing : (number : ℕ) (place : ConnectionSlot) (count : ℕ) (old : WorldState) → SlotsAreValid (leads_of old.clients) old.connections → slice_get old.connections (number - 1) ≡ Some place → 0 < number
-    → CannotTakeOn place count old → CannotHappen (events.CarryUp number count) old
+    → CannotCarryUpOn place count old → CannotHappen (events.CarryUp number count) old
 carries_nothing number place count old housed at positive cannot = by (cannot c.client c.owned c.way c.stands)
   where
     c : Connected number old

@@ -4,7 +4,7 @@ ghost use Rattle.std.specs.Prelude.{◌≡◌, ◌⊎◌, ◌≤◌, ◌<◌, �
 ghost use Rattle.world_events.specs.world_pipes.Following.{FollowsAll};
 ghost use Rattle.world.specs.Trace.{CountsOnce, NodesGoOn};
 ghost use Rattle.world.specs.SlotsAreValid.{leads};
-ghost use Rattle.world.specs.Inside.Carrying.{CannotCarryDown, CannotTake, CannotTakeOn, CarriesDownOn, TakesUpOnWhere, TakesUpWhere};
+ghost use Rattle.world.specs.Inside.Carrying.{CannotCarryDown, CannotCarryUp, CannotCarryUpOn, CarriesDownOn, CarriesUpOnWhere, CarriesUpWhere};
 ghost use Rattle.world.specs.Inside.Steps.{IsTrace, Meets};
 ghost use Rattle.world.specs.Inside.Calling.{with_loss};
 
@@ -25,14 +25,14 @@ impl World {
         ensures once { CountsOnce self.old self.new }
     {
         match self.slot(number) {
-            Some(slot) if slot.is_open => self.bring_up(slot, number, count),
+            Some(slot) if slot.is_open => self.carry_up_on(slot, number, count),
             _ => Err(Idle),
         }
     }
 
     // Carries this many bytes from the front of a connection to its node, and what the node then
     // queues goes down. If there is no memory for them, they keep waiting, and that is counted.
-    fn bring_up(&mut self, slot: ConnectionSlot, number: u64, count: u64) -> Result<(), Idle>
+    fn carry_up_on(&mut self, slot: ConnectionSlot, number: u64, count: u64) -> Result<(), Idle>
         requires stands { slice_get self.old.connections (number - 1) ≡ Some slot }
         requires positive { 0 < number }
         requires up { slot.is_open ≡ true }
@@ -40,7 +40,7 @@ impl World {
         ensures meets { Meets (Event.CarryUp number count) self.old result self.new }
         ensures once { CountsOnce self.old self.new }
     {
-        let had = self.take_up(slot, number, count)?;
+        let had = self.carry_to_node(slot, number, count)?;
         if had {
             self.gather(slot.node);
         } else {
@@ -51,18 +51,18 @@ impl World {
 
     // Carries this many bytes from the front of a connection to its node. Returns whether there was
     // memory for them: if not, they keep waiting.
-    fn take_up(&mut self, slot: ConnectionSlot, number: u64, count: u64) -> Result<bool, Idle>
+    fn carry_to_node(&mut self, slot: ConnectionSlot, number: u64, count: u64) -> Result<bool, Idle>
         requires stands { slice_get self.old.connections (number - 1) ≡ Some slot }
         requires positive { 0 < number }
         ensures goes { IsTrace self.old self.new }
-        ensures takes { IfOk result
-            (λ had. TakesUpOnWhere had number slot count self.old self.new) }
+        ensures carries { IfOk result
+            (λ had. CarriesUpOnWhere had number slot count self.old self.new) }
         ensures still { self.new.losses ≡ self.old.losses }
-        ensures idle { OnErr result (CannotTakeOn slot count self.old) }
+        ensures idle { OnErr result (CannotCarryUpOn slot count self.old) }
         ensures same { OnErr result (self.new ≡ self.old) }
     {
         let piped = &mut self.clients[slot.client].piped;
-        take_up(
+        carry_to_node(
             self.alloc,
             &mut self.nodes,
             piped,
@@ -103,7 +103,7 @@ impl World {
 
 // Carries this many bytes from the front of a connection to its node, which knows it by this port.
 // Returns whether there was memory for them: if not, they keep waiting.
-fn take_up(
+fn carry_to_node(
     alloc: Global,
     nodes: &mut Nodes,
     piped: &mut PipedClient,
@@ -113,9 +113,9 @@ fn take_up(
 ) -> Result<bool, Idle>
     requires { slot.at < length piped.old.ways }
     ensures nodes { NodesGoOn nodes.old nodes.new }
-    ensures takes { IfOk result (λ had.
-        TakesUpWhere had slot port count nodes.old piped.old nodes.new piped.new) }
-    ensures idle { OnErr result (CannotTake slot count nodes.old piped.old) }
+    ensures carries { IfOk result (λ had.
+        CarriesUpWhere had slot port count nodes.old piped.old nodes.new piped.new) }
+    ensures idle { OnErr result (CannotCarryUp slot count nodes.old piped.old) }
     ensures leads { leads piped.new.ways ≡ leads piped.old.ways }
     ensures same { OnErr result (nodes.new ≡ nodes.old) }
     ensures still { OnErr result (piped.new ≡ piped.old) }

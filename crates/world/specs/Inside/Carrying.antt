@@ -21,7 +21,7 @@ use Rattle.world.specs.World.{WorldState}
 
 -- this many bytes in transit up on this connection reach its node, which runs, and are removed from
 -- it
-pub record TakesUp (slot : ConnectionSlot) (port : Port) (count : ℕ) (old : NodesState)
+pub record CarriesUp (slot : ConnectionSlot) (port : Port) (count : ℕ) (old : NodesState)
     (client : Piped) (new : NodesState) (later : Piped) : Type 0 where
   pub way : Way
   pub found : slice_get client.ways slot.at ≡ Some way
@@ -33,7 +33,7 @@ pub record TakesUp (slot : ConnectionSlot) (port : Port) (count : ℕ) (old : No
   pub is : later ≡ with_less slot.at count way client
 
 -- that many bytes wait, and the node runs
-pub record CanTake (slot : ConnectionSlot) (count : ℕ) (nodes : NodesState)
+pub record CanCarryUp (slot : ConnectionSlot) (count : ℕ) (nodes : NodesState)
     (client : Piped) : Type 0 where
   pub way : Way
   pub found : slice_get client.ways slot.at ≡ Some way
@@ -42,41 +42,41 @@ pub record CanTake (slot : ConnectionSlot) (count : ℕ) (nodes : NodesState)
   pub runs : running nodes.nodes slot.node ≡ None → ⊥
 
 -- if there is no memory for them, nothing happens
-abbrev pub TakesUpWhere : Bool → ConnectionSlot → Port → ℕ → NodesState → Piped → NodesState →
+abbrev pub CarriesUpWhere : Bool → ConnectionSlot → Port → ℕ → NodesState → Piped → NodesState →
     Piped → Type 0
-TakesUpWhere true slot port count old client new later =
-    TakesUp slot port count old client new later
-TakesUpWhere false slot port count old client new later =
-    (new ≡ old) × (later ≡ client) × CanTake slot count old client
+CarriesUpWhere true slot port count old client new later =
+    CarriesUp slot port count old client new later
+CarriesUpWhere false slot port count old client new later =
+    (new ≡ old) × (later ≡ client) × CanCarryUp slot count old client
 
 -- they cannot: too few wait, or the node has stopped
-abbrev pub CannotTake : ConnectionSlot → ℕ → NodesState → Piped → Type 0
-CannotTake slot count nodes client =
+abbrev pub CannotCarryUp : ConnectionSlot → ℕ → NodesState → Piped → Type 0
+CannotCarryUp slot count nodes client =
     (way : Way) → slice_get client.ways slot.at ≡ Some way →
     (running nodes.nodes slot.node ≡ None) ⊎ IsNoPart count way.up
 
 -- these bytes of a slot reach its node in a world
-pub record TakesUpOn (number : ℕ) (slot : ConnectionSlot) (count : ℕ)
+pub record CarriesUpOn (number : ℕ) (slot : ConnectionSlot) (count : ℕ)
     (old new : WorldState) : Type 0 where
   pub client : WorldClient
   pub owned : slice_get old.clients slot.client ≡ Some client
   pub between : NodesState
   pub piped : Piped
-  pub takes : TakesUp slot (port_of number) count old.nodes client.piped between piped
+  pub carries : CarriesUp slot (port_of number) count old.nodes client.piped between piped
   pub is : new ≡ record (with_piped slot.client client piped old) { nodes = between }
 
 -- if there is no memory for them, nothing happens
-abbrev pub TakesUpOnWhere : Bool → ℕ → ConnectionSlot → ℕ → WorldState → WorldState → Type 0
-TakesUpOnWhere true number slot count old new = TakesUpOn number slot count old new
-TakesUpOnWhere false number slot count old new =
+abbrev pub CarriesUpOnWhere : Bool → ℕ → ConnectionSlot → ℕ → WorldState → WorldState → Type 0
+CarriesUpOnWhere true number slot count old new = CarriesUpOn number slot count old new
+CarriesUpOnWhere false number slot count old new =
     (new ≡ old) × (client : WorldClient) × (slice_get old.clients slot.client ≡ Some client)
-    × CanTake slot count old.nodes client.piped
+    × CanCarryUp slot count old.nodes client.piped
 
 -- these bytes of a slot cannot reach its node: too few wait, or the node has stopped
-abbrev pub CannotTakeOn : ConnectionSlot → ℕ → WorldState → Type 0
-CannotTakeOn slot count w =
+abbrev pub CannotCarryUpOn : ConnectionSlot → ℕ → WorldState → Type 0
+CannotCarryUpOn slot count w =
     (client : WorldClient) → slice_get w.clients slot.client ≡ Some client →
-    CannotTake slot count w.nodes client.piped
+    CannotCarryUp slot count w.nodes client.piped
 
 -- ---- bytes reach a client
 

@@ -3,7 +3,7 @@ use Rattle.world.proofs.GroupGoes.{call_goes}
 use Rattle.world.proofs.Handed.{less_leads}
 use Rattle.world.proofs.NodesGoOn.{nodes_rest}
 use Rattle.world.proofs.Turned.{there}
-use Rattle.world.proofs.carrying.take_up.Goals as goal
+use Rattle.world.proofs.carrying.carry_to_node.Goals as goal
 
 pub returns-then-not-is_part-clause-nodes : goal.returns-then-not-is_part-clause-nodes
 returns-then-not-is_part-clause-nodes c = nodes_rest _ _ refl
