@@ -48,13 +48,13 @@ impl World {
         if self.has_no_name_left(node) {
             return Ok(());
         }
-        self.begin(at, node);
+        self.open_to(at, node);
         Ok(())
     }
 
     // Lets a client that holds no connection open one to a node that serves clients. If it then has
     // none, because memory ran out, that is counted, unless the nodes have counted it already.
-    fn begin(&mut self, client: usize, node: u8)
+    fn open_to(&mut self, client: usize, node: u8)
         requires some { client < length self.old.clients }
         requires free { IfSome (slice_get self.old.clients client)
             (λ found. is_holding found.piped ≡ false) }
@@ -64,7 +64,7 @@ impl World {
         ensures once { CountsOnce self.old self.new }
     {
         let before = self.nodes.losses();
-        if self.connect(client, node) {
+        if self.open_slot(client, node) {
             self.gather(node);
         } else if self.is_whole(before) {
             self.count_loss();
@@ -73,7 +73,7 @@ impl World {
 
     // Gives a client a connection to a node, with its CONNECT in transit. Returns whether it has
     // one.
-    fn connect(&mut self, client: usize, node: u8) -> bool
+    fn open_slot(&mut self, client: usize, node: u8) -> bool
         requires some { client < length self.old.clients }
         requires free { IfSome (slice_get self.old.clients client)
             (λ found. is_holding found.piped ≡ false) }
@@ -92,7 +92,7 @@ impl World {
         let number = (self.connections.len() as u64).saturating_add(1);
         let piped = &mut self.clients[client].piped;
         let at = piped.len();
-        if !reach(&mut self.nodes, piped, node, Port(number)) {
+        if !open_pipe(&mut self.nodes, piped, node, Port(number)) {
             return false;
         }
         self.connections.push_reserved(ConnectionSlot {
@@ -238,7 +238,7 @@ impl World {
 
 // Lets a client that holds no connection open one to a node, to which it is reported. Returns
 // whether the client then has one.
-fn reach(nodes: &mut Nodes, piped: &mut PipedClient, node: u8, port: Port) -> bool
+fn open_pipe(nodes: &mut Nodes, piped: &mut PipedClient, node: u8, port: Port) -> bool
     requires node { 0 < node }
     requires free { is_holding piped.old ≡ false }
     ensures nodes { NodesGoOn nodes.old nodes.new }
@@ -246,19 +246,19 @@ fn reach(nodes: &mut Nodes, piped: &mut PipedClient, node: u8, port: Port) -> bo
     ensures leads { result ≡ false → leads piped.new.ways ≡ leads piped.old.ways }
 {
     match piped.open(node as usize - 1, port) {
-        Ok(()) => offer(nodes, piped, node, port),
+        Ok(()) => keep_if_taken(nodes, piped, node, port),
         Err(_) => false,
     }
 }
 
 // Reports a client's new connection to a node, and removes it again if the node does not take it.
 // Returns whether the node takes it.
-fn offer(nodes: &mut Nodes, piped: &mut PipedClient, node: u8, port: Port) -> bool
+fn keep_if_taken(nodes: &mut Nodes, piped: &mut PipedClient, node: u8, port: Port) -> bool
     ensures nodes { NodesGoOn nodes.old nodes.new }
     ensures takes { HearsOfOne result node port nodes.old nodes.new }
     ensures piped { piped.new ≡ (if result then piped.old else taken_back piped.old) }
 {
-    let taken = takes(nodes, node, port);
+    let taken = report_opened(nodes, node, port);
     if !taken {
         piped.take_back();
     }
@@ -266,7 +266,7 @@ fn offer(nodes: &mut Nodes, piped: &mut PipedClient, node: u8, port: Port) -> bo
 }
 
 // Reports a new connection to a node, and says whether the node takes it.
-fn takes(nodes: &mut Nodes, node: u8, port: Port) -> bool
+fn report_opened(nodes: &mut Nodes, node: u8, port: Port) -> bool
     ensures nodes { NodesGoOn nodes.old nodes.new }
     ensures takes { HearsOfOne result node port nodes.old nodes.new }
 {

@@ -28,8 +28,8 @@ returns-then-is_open-clause-meets c =
 pub returns-then-not-serves-clause-goes : goal.returns-then-not-serves-clause-goes
 returns-then-not-serves-clause-goes c = goes_on_rest _ _ refl
 
-pub begin-requires-clause-free : goal.begin-requires-clause-free
-begin-requires-clause-free c =
+pub open_to-requires-clause-free : goal.open_to-requires-clause-free
+open_to-requires-clause-free c =
     let few : c.in-Some.at < length c.self.inside.clients.items = rw (← c.self.view_is) at c.in-Some.ensures.below in
     let found = get_there c.self.inside.clients.items c.in-Some.at c.index.result.now few c.index.ensures in
     let first = rw (← c.self.view_is) at c.in-Some.ensures.exact in
@@ -52,9 +52,9 @@ returns-clause-meets c =
       connections = c.self.inside.connections.items;
       losses = c.self.inside.losses;
     } in
-    rw (← c.self.view_is) (open_meets c.args.client.now c.in-Some.at c.args.node old c.begin.new.self c.index.result.now (sym first) found (sym c.is_open.ensures ∙ c.if-is_open.false)
+    rw (← c.self.view_is) (open_meets c.args.client.now c.in-Some.at c.args.node old c.open_to.new.self c.index.result.now (sym first) found (sym c.is_open.ensures ∙ c.if-is_open.false)
     (rw (← c.self.view_is) at (sym c.serves.ensures ∙ c.if-not-serves.false)) (rw (← c.self.view_is) at (sym c.has_no_name_left.ensures ∙ c.if-has_no_name_left.false))
-    (rw (← c.self.view_is) at c.begin.ensures.begins))
+    (rw (← c.self.view_is) at c.open_to.ensures.begins))
 
 pub returns-then-has_no_name_left-clause-goes : goal.returns-then-has_no_name_left-clause-goes
 returns-then-has_no_name_left-clause-goes c = goes_on_rest _ _ refl

@@ -1,16 +1,16 @@
 use Rattle.std.proofs.Common.{inl, refl}
 use Rattle.world.proofs.NodesGoOn.{nodes_rest}
 use Rattle.world.proofs.Offered.{back_leads, reaches}
-use Rattle.world.proofs.calling.reach.Goals as goal
+use Rattle.world.proofs.calling.open_pipe.Goals as goal
 
 pub returns-in-Ok-clause-reaches : goal.returns-in-Ok-clause-reaches
 returns-in-Ok-clause-reaches c =
-    reaches c.offer.result c.args.node c.args.port c.args.nodes.now c.offer.new.nodes c.args.piped.now c.open.new.self c.offer.new.piped
-    c.in-Ok.ensures.opens c.in-Ok.ensures.goes c.offer.ensures.takes c.offer.ensures.piped
+    reaches c.keep_if_taken.result c.args.node c.args.port c.args.nodes.now c.keep_if_taken.new.nodes c.args.piped.now c.open.new.self c.keep_if_taken.new.piped
+    c.in-Ok.ensures.opens c.in-Ok.ensures.goes c.keep_if_taken.ensures.takes c.keep_if_taken.ensures.piped
 
 pub returns-in-Ok-clause-leads : goal.returns-in-Ok-clause-leads
 returns-in-Ok-clause-leads c =
-    back_leads c.offer.result c.args.node c.args.port c.args.piped.now c.open.new.self c.offer.new.piped c.in-Ok.ensures.opens c.offer.ensures.piped
+    back_leads c.keep_if_taken.result c.args.node c.args.port c.args.piped.now c.open.new.self c.keep_if_taken.new.piped c.in-Ok.ensures.opens c.keep_if_taken.ensures.piped
 
 pub returns-in-Err-clause-nodes : goal.returns-in-Err-clause-nodes
 returns-in-Err-clause-nodes c = nodes_rest _ _ refl

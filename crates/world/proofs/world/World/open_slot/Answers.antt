@@ -10,7 +10,7 @@ use Rattle.world.proofs.HousedOpened.{housed_opened}
 use Rattle.world.proofs.Joined.{goes_on_still}
 use Rattle.world.proofs.OpenEnds.{one_opened}
 use Rattle.world.proofs.OpensOn.{connects_at, connects_on, of_found, opens_none, refused_on}
-use Rattle.world.proofs.world.World.connect.Goals as goal
+use Rattle.world.proofs.world.World.open_slot.Goals as goal
 
 pub returns-then-is_err-clause-goes : goal.returns-then-is_err-clause-goes
 returns-then-is_err-clause-goes c = rw (← c.self.view_is) (goes_on_still (let old : WorldState = record {
@@ -46,48 +46,48 @@ pub invariant_of-self-then-is_err-2 : goal.invariant_of-self-then-is_err-2
 invariant_of-self-then-is_err-2 c =
     (rw c.reserve.ensures.items c.self.invariant.0, rw (c.reserve-2.ensures.items, c.reserve.ensures.items) c.self.invariant.1)
 
-pub reach-requires-clause-free : goal.reach-requires-clause-free
-reach-requires-clause-free c =
+pub open_pipe-requires-clause-free : goal.open_pipe-requires-clause-free
+open_pipe-requires-clause-free c =
     let few : c.args.client < length c.self.inside.clients.items = rw (← c.self.view_is) at c.requires.some in
     let found = get_there c.self.inside.clients.items c.args.client c.index_mut.result.now few c.index_mut.ensures.value in
     of_found c.self.inside.clients.items c.args.client c.index_mut.result.now found (rw (← c.self.view_is) at c.requires.free)
 
-pub invariant_of-self-then-not-reach : goal.invariant_of-self-then-not-reach
-invariant_of-self-then-not-reach c =
+pub invariant_of-self-then-not-open_pipe : goal.invariant_of-self-then-not-open_pipe
+invariant_of-self-then-not-open_pipe c =
     let few : c.args.client < length c.self.inside.clients.items = rw (← c.self.view_is) at c.requires.some in
     let found = get_there c.self.inside.clients.items c.args.client c.index_mut.result.now few c.index_mut.ensures.value in (
       rw c.reserve.ensures.items
-          (housed_still c.self.inside.clients.items c.self.inside.connections.items c.args.client c.index_mut.result.now c.reach.new.piped found
-          (c.reach.ensures.leads c.if-not-reach.true) c.self.invariant.0),
+          (housed_still c.self.inside.clients.items c.self.inside.connections.items c.args.client c.index_mut.result.now c.open_pipe.new.piped found
+          (c.open_pipe.ensures.leads c.if-not-open_pipe.true) c.self.invariant.0),
       rw (c.reserve-2.ensures.items, c.reserve.ensures.items) c.self.invariant.1,
     )
 
-pub returns-then-not-reach-clause-goes : goal.returns-then-not-reach-clause-goes
-returns-then-not-reach-clause-goes c =
+pub returns-then-not-open_pipe-clause-goes : goal.returns-then-not-open_pipe-clause-goes
+returns-then-not-open_pipe-clause-goes c =
     let few : c.args.client < length c.self.inside.clients.items = rw (← c.self.view_is) at c.requires.some in
     let found = get_there c.self.inside.clients.items c.args.client c.index_mut.result.now few c.index_mut.ensures.value in
     let counted : c.saturating_add-number.result ≡ suc (length c.self.inside.connections.items) = omega arith in
-    let none = subst (λ (b : Bool). Reaches b c.args.node (port_of c.saturating_add-number.result) c.self.inside.nodes c.index_mut.result.now.piped c.reach.new.nodes c.reach.new.piped)
-    c.if-not-reach.true c.reach.ensures.reaches in
+    let none = subst (λ (b : Bool). Reaches b c.args.node (port_of c.saturating_add-number.result) c.self.inside.nodes c.index_mut.result.now.piped c.open_pipe.new.nodes c.open_pipe.new.piped)
+    c.if-not-open_pipe.true c.open_pipe.ensures.reaches in
     rw (← c.self.view_is, c.reserve.ensures.items)
     (refused_on (let old : WorldState = record {
       nodes = c.self.inside.nodes;
       clients = c.self.inside.clients.items;
       connections = c.self.inside.connections.items;
       losses = c.self.inside.losses;
-    } in old) c.args.client c.args.node c.index_mut.result.now c.reach.new.nodes c.reach.new.piped c.self.invariant.0 found c.reach.ensures.nodes none.0
-    (subst (λ (k : ℕ). HearsOfOne false c.args.node (port_of k) c.self.inside.nodes c.reach.new.nodes) counted none.1))
+    } in old) c.args.client c.args.node c.index_mut.result.now c.open_pipe.new.nodes c.open_pipe.new.piped c.self.invariant.0 found c.open_pipe.ensures.nodes none.0
+    (subst (λ (k : ℕ). HearsOfOne false c.args.node (port_of k) c.self.inside.nodes c.open_pipe.new.nodes) counted none.1))
 
 pub invariant_of-self-2 : goal.invariant_of-self-2
 invariant_of-self-2 c =
     let few : c.args.client < length c.self.inside.clients.items = rw (← c.self.view_is) at c.requires.some in
     let found = get_there c.self.inside.clients.items c.args.client c.index_mut.result.now few c.index_mut.ensures.value in
     let counted : c.saturating_add-number.result ≡ suc (length c.self.inside.connections.items) = omega arith in
-    let one = subst (λ (b : Bool). Reaches b c.args.node (port_of c.saturating_add-number.result) c.self.inside.nodes c.index_mut.result.now.piped c.reach.new.nodes c.reach.new.piped)
-    c.if-not-reach.false c.reach.ensures.reaches in
+    let one = subst (λ (b : Bool). Reaches b c.args.node (port_of c.saturating_add-number.result) c.self.inside.nodes c.index_mut.result.now.piped c.open_pipe.new.nodes c.open_pipe.new.piped)
+    c.if-not-open_pipe.false c.open_pipe.ensures.reaches in
     let place : ConnectionSlot = record { client = c.args.client; at = c.len-at.result; node = c.args.node; is_open = true } in (
       rw (c.push_reserved.ensures.items, c.reserve.ensures.items)
-          (housed_opened c.self.inside.clients.items c.self.inside.connections.items c.args.client c.index_mut.result.now c.reach.new.piped (c.args.node - 1) c.saturating_add-number.result place
+          (housed_opened c.self.inside.clients.items c.self.inside.connections.items c.args.client c.index_mut.result.now c.open_pipe.new.piped (c.args.node - 1) c.saturating_add-number.result place
           one.opens.0 found one.opens.2 counted refl c.len-at.ensures
           (let high = c.requires.node in let e : suc (c.args.node - 1) ≡ c.args.node = omega (arith, high) in e) c.self.invariant.0),
       c.push_reserved-2.ensures.items ∙ ap (λ (l : List ℕ). l ++ c.saturating_add-number.result ∷ []) (c.reserve-2.ensures.items ∙ c.self.invariant.1)
@@ -101,8 +101,8 @@ returns-clause-connects c =
     let few : c.args.client < length c.self.inside.clients.items = rw (← c.self.view_is) at c.requires.some in
     let found = get_there c.self.inside.clients.items c.args.client c.index_mut.result.now few c.index_mut.ensures.value in
     let counted : c.saturating_add-number.result ≡ suc (length c.self.inside.connections.items) = omega arith in
-    let one = subst (λ (b : Bool). Reaches b c.args.node (port_of c.saturating_add-number.result) c.self.inside.nodes c.index_mut.result.now.piped c.reach.new.nodes c.reach.new.piped)
-    c.if-not-reach.false c.reach.ensures.reaches in
+    let one = subst (λ (b : Bool). Reaches b c.args.node (port_of c.saturating_add-number.result) c.self.inside.nodes c.index_mut.result.now.piped c.open_pipe.new.nodes c.open_pipe.new.piped)
+    c.if-not-open_pipe.false c.open_pipe.ensures.reaches in
     let old : WorldState = record {
       nodes = c.self.inside.nodes;
       clients = c.self.inside.clients.items;
@@ -110,7 +110,7 @@ returns-clause-connects c =
       losses = c.self.inside.losses;
     } in
     let place : ConnectionSlot = record { client = c.args.client; at = c.len-at.result; node = c.args.node; is_open = true } in
-    let at = connects_at c.args.client c.args.node c.saturating_add-number.result c.len-at.result old c.index_mut.result.now c.reach.new.nodes c.reach.new.piped c.push_reserved.new.self.items
+    let at = connects_at c.args.client c.args.node c.saturating_add-number.result c.len-at.result old c.index_mut.result.now c.open_pipe.new.nodes c.open_pipe.new.piped c.push_reserved.new.self.items
     found counted c.len-at.ensures (c.push_reserved.ensures.items ∙ ap (λ (l : List ConnectionSlot). l ++ place ∷ []) c.reserve.ensures.items) one in
     rw (← c.self.view_is) (λ yes. at)
 
@@ -119,8 +119,8 @@ returns-clause-goes c =
     let few : c.args.client < length c.self.inside.clients.items = rw (← c.self.view_is) at c.requires.some in
     let found = get_there c.self.inside.clients.items c.args.client c.index_mut.result.now few c.index_mut.ensures.value in
     let counted : c.saturating_add-number.result ≡ suc (length c.self.inside.connections.items) = omega arith in
-    let one = subst (λ (b : Bool). Reaches b c.args.node (port_of c.saturating_add-number.result) c.self.inside.nodes c.index_mut.result.now.piped c.reach.new.nodes c.reach.new.piped)
-    c.if-not-reach.false c.reach.ensures.reaches in
+    let one = subst (λ (b : Bool). Reaches b c.args.node (port_of c.saturating_add-number.result) c.self.inside.nodes c.index_mut.result.now.piped c.open_pipe.new.nodes c.open_pipe.new.piped)
+    c.if-not-open_pipe.false c.open_pipe.ensures.reaches in
     let old : WorldState = record {
       nodes = c.self.inside.nodes;
       clients = c.self.inside.clients.items;
@@ -128,9 +128,9 @@ returns-clause-goes c =
       losses = c.self.inside.losses;
     } in
     let place : ConnectionSlot = record { client = c.args.client; at = c.len-at.result; node = c.args.node; is_open = true } in
-    let at = connects_at c.args.client c.args.node c.saturating_add-number.result c.len-at.result old c.index_mut.result.now c.reach.new.nodes c.reach.new.piped c.push_reserved.new.self.items
+    let at = connects_at c.args.client c.args.node c.saturating_add-number.result c.len-at.result old c.index_mut.result.now c.open_pipe.new.nodes c.open_pipe.new.piped c.push_reserved.new.self.items
     found counted c.len-at.ensures (c.push_reserved.ensures.items ∙ ap (λ (l : List ConnectionSlot). l ++ place ∷ []) c.reserve.ensures.items) one in
-    rw (← c.self.view_is) (connects_on c.args.client c.args.node old _ c.self.invariant.0 refl c.reach.ensures.nodes at)
+    rw (← c.self.view_is) (connects_on c.args.client c.args.node old _ c.self.invariant.0 refl c.open_pipe.ensures.nodes at)
 
 pub returns-then-is_err-clause-none : goal.returns-then-is_err-clause-none
 returns-then-is_err-clause-none c = rw (← c.self.view_is, c.reserve.ensures.items) (λ no. inl refl)
@@ -138,17 +138,17 @@ returns-then-is_err-clause-none c = rw (← c.self.view_is, c.reserve.ensures.it
 pub returns-then-is_err-2-clause-none : goal.returns-then-is_err-2-clause-none
 returns-then-is_err-2-clause-none c = rw (← c.self.view_is, c.reserve.ensures.items) (λ no. inl refl)
 
-pub returns-then-not-reach-clause-none : goal.returns-then-not-reach-clause-none
-returns-then-not-reach-clause-none c =
+pub returns-then-not-open_pipe-clause-none : goal.returns-then-not-open_pipe-clause-none
+returns-then-not-open_pipe-clause-none c =
     let few : c.args.client < length c.self.inside.clients.items = rw (← c.self.view_is) at c.requires.some in
     let found = get_there c.self.inside.clients.items c.args.client c.index_mut.result.now few c.index_mut.ensures.value in
     let counted : c.saturating_add-number.result ≡ suc (length c.self.inside.connections.items) = omega arith in
-    let none = subst (λ (b : Bool). Reaches b c.args.node (port_of c.saturating_add-number.result) c.self.inside.nodes c.index_mut.result.now.piped c.reach.new.nodes c.reach.new.piped)
-    c.if-not-reach.true c.reach.ensures.reaches in
+    let none = subst (λ (b : Bool). Reaches b c.args.node (port_of c.saturating_add-number.result) c.self.inside.nodes c.index_mut.result.now.piped c.open_pipe.new.nodes c.open_pipe.new.piped)
+    c.if-not-open_pipe.true c.open_pipe.ensures.reaches in
     rw (← c.self.view_is, c.reserve.ensures.items)
     (λ no. inr (opens_none c.args.node (let old : WorldState = record {
       nodes = c.self.inside.nodes;
       clients = c.self.inside.clients.items;
       connections = c.self.inside.connections.items;
       losses = c.self.inside.losses;
-    } in old) c.args.client c.saturating_add-number.result c.index_mut.result.now c.reach.new.nodes c.reach.new.piped found counted none.2))
+    } in old) c.args.client c.saturating_add-number.result c.index_mut.result.now c.open_pipe.new.nodes c.open_pipe.new.piped found counted none.2))

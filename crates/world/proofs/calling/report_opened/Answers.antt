@@ -1,7 +1,7 @@
 use Rattle.std.proofs.Common.{inl, refl, sym}
 use Rattle.world.proofs.GroupGoes.{call_goes}
 use Rattle.world.proofs.Offered.{hears_of_one, not_heard, still_there, was_heard}
-use Rattle.world.proofs.calling.takes.Goals as goal
+use Rattle.world.proofs.calling.report_opened.Goals as goal
 
 pub returns-then-is_err-clause-nodes : goal.returns-then-is_err-clause-nodes
 returns-then-is_err-clause-nodes c = call_goes c.opened.result c.args.nodes.now c.opened.new.self _ _ c.opened.ensures.rises c.opened.ensures.acts c.opened.ensures.same
