@@ -66,10 +66,10 @@ impl<J: NodeNaming> NodeState<J> {
     }
 
     /// Returns the number of its inbox.
-    pub fn number(&self) -> u8
+    pub fn inbox_number(&self) -> u8
         ensures { result ≡ self.now.taker.inbox }
     {
-        self.receiver.number()
+        self.receiver.inbox_number()
     }
 
     /// Returns how many lanes its inbox has.

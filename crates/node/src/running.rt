@@ -80,7 +80,7 @@ impl<'g, J: NodeNaming, G: Gate> Node<'g, J, NodeState<J>, G> {
         ensures lanes { IfOk result (λ node. node.lanes ≡ state.taker.lanes) }
         ensures gated { IfOk result (λ node. node.is_gated ≡ is_some gate.entry) }
     {
-        let number = state.number();
+        let number = state.inbox_number();
         let report = Report::with_capacity(alloc, state.lanes())?;
         Ok(Node {
             state: Mutex::new(state),
@@ -115,7 +115,10 @@ impl<'g, J: NodeNaming, G: Gate> Node<'g, J, NodeState<J>, G> {
         } = self;
         let state = state.into_inner();
         // They are all its lanes, but no clause is about what was under a lock.
-        if state.number() == number && state.lanes() == report.taken.len() && state.has_all(lanes) {
+        if state.inbox_number() == number
+            && state.lanes() == report.taken.len()
+            && state.has_all(lanes)
+        {
             return state.close(rt, lanes, report, missed.into_inner());
         }
         for _ in rt.forever() {}
@@ -139,7 +142,7 @@ impl<'g, J: NodeNaming, S: Stated<J>, G: Gate> Node<'g, J, S, G> {
             return false;
         }
         for (index, lane) in lanes.iter().enumerate() {
-            if lane.number() != self.number || usize::from(lane.lane()) != index {
+            if lane.inbox_number() != self.number || usize::from(lane.lane()) != index {
                 return false;
             }
         }

@@ -109,7 +109,7 @@ impl<'a, J: NodeNaming, S: Stated<J>, G: Gate> Shared<'a, J, S, G> {
         let state = node.state();
         // The lane is one of this node's inbox, and the permit is for its next taking; no clause
         // says so: see `OwnLane`.
-        if state.number() != lane.number() || !permit.is_for(state) {
+        if state.inbox_number() != lane.inbox_number() || !permit.is_for(state) {
             return true;
         }
         let (more, given) = take_up_to(rt, self.alloc, state, permit, lane);

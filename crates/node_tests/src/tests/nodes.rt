@@ -164,7 +164,7 @@ pub(super) fn met<J: NodeNaming>(
     index: usize,
 ) -> Option<u64> {
     let lane = lanes.get_mut(index)?;
-    if lane.number() == state.number() {
+    if lane.inbox_number() == state.inbox_number() {
         Some(state.meet(lane))
     } else {
         None
