@@ -7,7 +7,7 @@ use Rattle.node_group.specs.client_base.Keeper.{Written}
 use Rattle.node_group.specs.client_base.Written.{writes_first}
 use Rattle.node_group.specs.lists.Lists.{Each}
 use Rattle.node_group.proofs.of_packet_world.Lists.{each_get, each_set}
-use Rattle.node_group.specs.exactly_once.Sides.{Connection}
+use Rattle.node_group.specs.exactly_once.Sides.{ClientConnection}
 use Rattle.node_group.proofs.of_exactly_once.publishing.Grown.{handled_grows}
 use Rattle.byte_world.specs.Steps.{Reached, WorldStep}
 use Rattle.byte_world.specs.Steps.Reached.{begins, goes_on}
@@ -15,19 +15,19 @@ use Rattle.byte_world.specs.Steps.WorldStep.{goes_on as group_goes, calls, conne
 use Rattle.byte_world.specs.World.{ClientPipes, World, new_client}
 use Rattle.byte_world.proofs.WorldsKeep.{call_writes}
 
-pub record BeginsKept (κ : Connection) : Type 0 where
+pub record BeginsKept (κ : ClientConnection) : Type 0 where
   pub client : Client
   pub more : List Written
   pub written : κ.written ≡ opens client ∷ more
 
 -- so it does if more is written
-begins_still : (κ later : Connection) (new : List Written) → later.written ≡ κ.written ++ new → BeginsKept κ → BeginsKept later
+begins_still : (κ later : ClientConnection) (new : List Written) → later.written ≡ κ.written ++ new → BeginsKept κ → BeginsKept later
 begins_still κ later new is b = record { client = b.client; more = b.more ++ new; written = is ∙ ap (λ (l : List Written). l ++ new) b.written }
 
 abbrev pub AllBeginKept : ClientPipes → Type 0
 AllBeginKept c = Each BeginsKept c.connections
 
-writes_still : (new : List Written) (connections : List Connection) → Each BeginsKept connections → Each BeginsKept (writes_first new connections)
+writes_still : (new : List Written) (connections : List ClientConnection) → Each BeginsKept connections → Each BeginsKept (writes_first new connections)
 writes_still new [] each = tt
 writes_still new (κ ∷ others) (first, each) = (begins_still κ (record κ { written = κ.written ++ new }) new refl first, each)
 

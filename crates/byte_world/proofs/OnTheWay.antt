@@ -10,7 +10,7 @@ use Rattle.node_group.specs.lists.Lists.{Each}
 use Rattle.node_group.proofs.of_lists.OfEach.{each_append}
 use Rattle.node_group.specs.cutter.Pipe.{Joins}
 use Rattle.node_group.specs.node_moves.Puts.{spelled}
-use Rattle.node_group.specs.exactly_once.Sides.{Connection}
+use Rattle.node_group.specs.exactly_once.Sides.{ClientConnection}
 use Rattle.byte_world.specs.World.{newly_written, packets_of}
 
 -- ---- packets as bytes
@@ -98,9 +98,9 @@ packets_joined : (xs ys : List Written) → packets_of (xs ++ ys) ≡ packets_of
 packets_joined [] ys = refl
 packets_joined (x ∷ xs) ys = ap (λ l. x.packet ∷ l) (packets_joined xs ys)
 
-pub newly_is : (κ later : Connection) (others more : List Connection) (new : List Written) → later.written ≡ κ.written ++ new
+pub newly_is : (κ later : ClientConnection) (others more : List ClientConnection) (new : List Written) → later.written ≡ κ.written ++ new
     → newly_written (κ ∷ others) (later ∷ more) ≡ packets_of new
 newly_is κ later others more new e = ap packets_of (ap (drop (length κ.written)) e ∙ dropped κ.written new)
 
-pub packets_after : (κ later : Connection) (new : List Written) → later.written ≡ κ.written ++ new → packets_of later.written ≡ packets_of κ.written ++ packets_of new
+pub packets_after : (κ later : ClientConnection) (new : List Written) → later.written ≡ κ.written ++ new → packets_of later.written ≡ packets_of κ.written ++ packets_of new
 packets_after κ later new e = ap packets_of e ∙ packets_joined κ.written new

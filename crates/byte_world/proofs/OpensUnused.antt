@@ -6,7 +6,7 @@ use Rattle.std.proofs.lemmas.Bool.{both_ways}
 use Rattle.node_group.specs.ballot.Config.{Config}
 use Rattle.node_group.specs.broker_spec.Connection.{ConnectionName}
 use Rattle.node_group.proofs.of_lists.Tests.{eq_same}
-use Rattle.node_group.specs.exactly_once.Sides.{Connection}
+use Rattle.node_group.specs.exactly_once.Sides.{ClientConnection}
 use Rattle.node_group.specs.world_base.declared.Connection.{Connection as NodesEnd}
 use Rattle.node_group.specs.world_base.declared.item.Item.TheVariants.{Opened}
 use Rattle.node_group.specs.world_base.declared.Port.{Port}
@@ -59,7 +59,7 @@ pub record OpensUnused {nodes : ℕ} {config : Config} (v : World) (went : Group
   pub old_led : (m : ℕ) (old : CoreState) (e : NodesEnd) → slice_get v.group.nodes m ≡ Some old → IsOfOld old.connections e → Leads v m e.port
   pub opened_there : (m : ℕ) (old : CoreState) (e : NodesEnd) → IsOpened (node_call_of d.step) m old e → (m ≡ n) × (e.port.0 ≡ port.0)
   pub still_unheard : (x : ConnectionName) → IsUnheard went x → IsUnheard (then_went went d.step) x
-  pub old_holds : (i : ℕ) (c : ClientPipes) (j : ℕ) (κ : Connection) (p : Pipe) → HasPipe v i c j κ p → PipeHolds (then_went went d.step) κ p
+  pub old_holds : (i : ℕ) (c : ClientPipes) (j : ℕ) (κ : ClientConnection) (p : Pipe) → HasPipe v i c j κ p → PipeHolds (then_went went d.step) κ p
 
 module _ {nodes : ℕ} {config : Config} (v : World) (went : GroupTrace nodes config v.group) (h : Holds v went) (n : ℕ) (port : Port) (now : ℕ) (d : Does v.group (Some (n, takes (Opened port now))))
     (unused : is_used n port v.clients ≡ false) where
@@ -82,7 +82,7 @@ module _ {nodes : ℕ} {config : Config} (v : World) (went : GroupTrace nodes co
   still_unheard x none = (ap (λ l. l ++ comes_up x d.step) none.0 ∙ (quiet x).0, ap (λ l. l ++ goes_down x d.step) none.1 ∙ (quiet x).1)
 
   -- the pipes that were there continue
-  old_holds : (i : ℕ) (c : ClientPipes) (j : ℕ) (κ : Connection) (p : Pipe) → HasPipe v i c j κ p → PipeHolds (then_went went d.step) κ p
+  old_holds : (i : ℕ) (c : ClientPipes) (j : ℕ) (κ : ClientConnection) (p : Pipe) → HasPipe v i c j κ p → PipeHolds (then_went went d.step) κ p
   old_holds i c j κ p has =
       apart_on went d.step κ p
       (λ old e at o same. let z = opened_there p.node old e o in

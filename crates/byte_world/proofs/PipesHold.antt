@@ -12,7 +12,7 @@ use Rattle.node_group.specs.lists.Lists.{Each, In}
 use Rattle.node_group.specs.lists.Lists.In.{here, there}
 use Rattle.node_group.proofs.of_lists.Tests.{eq_is, eq_same}
 use Rattle.node_group.specs.cutter.Pipe.{Joins}
-use Rattle.node_group.specs.exactly_once.Sides.{Connection}
+use Rattle.node_group.specs.exactly_once.Sides.{ClientConnection}
 use Rattle.node_group.proofs.of_exactly_once.Takes.{same_name_self}
 use Rattle.node_group.specs.world_base.declared.Connection.{Connection as NodesEnd}
 use Rattle.node_group.specs.world_base.declared.item.Item.TheVariants.{Peer, Tick, Opened, Bytes, Ended, Expel, Cut, Crash}
@@ -55,7 +55,7 @@ pub record IsUp (g : Group) (written : List Packet) (came : List ℕ) (n : ℕ) 
   pub joined : Joins written (came ++ later)
   pub still : (core : CoreState) (d : NodesEnd) → slice_get g.nodes n ≡ Some core → In d core.connections → d.port.0 ≡ port.0 → live d ≡ true → later ≡ up
 
-pub record PipeHolds {nodes : ℕ} {config : Config} {g : Group} (went : GroupTrace nodes config g) (κ : Connection) (p : Pipe) : Type 0 where
+pub record PipeHolds {nodes : ℕ} {config : Config} {g : Group} (went : GroupTrace nodes config g) (κ : ClientConnection) (p : Pipe) : Type 0 where
   pub placed : IsPlaced went κ.name p.node p.port
   pub up : IsUp g (packets_of κ.written) (came_up κ.name went) p.node p.port p.up
   pub down : IsHandled κ.handled p.came p.down (went_down κ.name went)
@@ -227,7 +227,7 @@ up_piece {g = g} {h = h} went step x n port now {written = written} {came = came
 
 -- ---- a connection that has no part in a step
 
-pub apart_on : {nodes : ℕ} {config : Config} {g h : Group} (went : GroupTrace nodes config g) (step : GroupStep g h) (κ : Connection) (p : Pipe) → OpensNone step p.node p.port
+pub apart_on : {nodes : ℕ} {config : Config} {g h : Group} (went : GroupTrace nodes config g) (step : GroupStep g h) (κ : ClientConnection) (p : Pipe) → OpensNone step p.node p.port
     → comes_up κ.name step ≡ [] → goes_down κ.name step ≡ [] → PipeHolds went κ p → PipeHolds (then_went went step) κ p
 apart_on went step κ p none up down h =
     record {

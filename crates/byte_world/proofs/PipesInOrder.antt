@@ -4,7 +4,7 @@ use Rattle.node_group.specs.ballot.Config.{Config}
 use Rattle.node_group.specs.broker_spec.declared.command.Command.{Command}
 use Rattle.node_group.specs.broker_spec.Place.{Client}
 use Rattle.node_group.specs.lists.Lists.{In, IsPrefixOf}
-use Rattle.node_group.specs.exactly_once.Sides.{Connection}
+use Rattle.node_group.specs.exactly_once.Sides.{ClientConnection}
 use Rattle.node_group.specs.world_base.declared.Connection.{Connection as NodesEnd}
 use Rattle.node_group.specs.world_base.Core.{CoreState}
 use Rattle.node_group.specs.Group.{opening_cores}
@@ -28,7 +28,7 @@ use Rattle.byte_world.proofs.WorldsOpen.{connects_holds}
 
 -- ---- as it opens
 
-opens_bare : (cs : List Client) (i : ℕ) (c : ClientPipes) (j : ℕ) (κ : Connection) → slice_get (map new_client cs) i ≡ Some c → slice_get c.connections j ≡ Some κ → ⊥
+opens_bare : (cs : List Client) (i : ℕ) (c : ClientPipes) (j : ℕ) (κ : ClientConnection) → slice_get (map new_client cs) i ≡ Some c → slice_get c.connections j ≡ Some κ → ⊥
 opens_bare [] i c j κ e f = cc
 opens_bare (d ∷ cs) zero c j κ e f = nowhere j (ap (λ (z : ClientPipes). slice_get z.connections j) (some_is (new_client d) c e) ∙ f)
   where
@@ -81,7 +81,7 @@ reached_holds w (goes_on {v = v} before step) = step_holds v w (trace_of before)
 
 -- what is carried on each connection, by each list that is agreed
 pub in_order : {nodes : ℕ} {config : Config} (w : World) (went : GroupTrace nodes config w.group) → Holds w went → (so : CarriedSo went) (agreed : List Command) → IsAgreedSo so agreed
-    → (i : ℕ) (c : ClientPipes) (j : ℕ) (κ : Connection) (p : Pipe) → HasPipe w i c j κ p → IsInOrder agreed κ p
+    → (i : ℕ) (c : ClientPipes) (j : ℕ) (κ : ClientConnection) (p : Pipe) → HasPipe w i c j κ p → IsInOrder agreed κ p
 in_order w went holds so agreed is i c j κ p has =
     let h = holds.each i c j κ p has in
     let both = carries_each w.group went so agreed is κ.name (packets_of κ.written) h.up.later h.up.joined in

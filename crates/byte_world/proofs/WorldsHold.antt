@@ -10,7 +10,7 @@ use Rattle.node_group.specs.cutter.Stream.{Stream}
 use Rattle.node_group.specs.lists.Lists.{Each, In}
 use Rattle.node_group.proofs.of_lists.Places.{get_set, get_set_other}
 use Rattle.node_group.proofs.of_packet_world.Lists.{same_or_other, set_get}
-use Rattle.node_group.specs.exactly_once.Sides.{Connection}
+use Rattle.node_group.specs.exactly_once.Sides.{ClientConnection}
 use Rattle.node_group.specs.world_base.declared.Connection.{Connection as NodesEnd}
 use Rattle.node_group.specs.world_base.declared.Port.{Port}
 use Rattle.node_group.specs.world_base.Core.{CoreState}
@@ -28,7 +28,7 @@ pub record IsKnown (w : World) (x : ConnectionName) : Type 0 where
   pub i : ℕ
   pub c : ClientPipes
   pub j : ℕ
-  pub κ : Connection
+  pub κ : ClientConnection
   pub p : Pipe
   pub has : HasPipe w i c j κ p
   pub name : κ.name ≡ x
@@ -38,8 +38,8 @@ abbrev pub IsUnheard : {nodes : ℕ} {config : Config} {g : Group} → GroupTrac
 IsUnheard went x = (came_up x went ≡ []) × (went_down x went ≡ [])
 
 pub record Holds {nodes : ℕ} {config : Config} (w : World) (went : GroupTrace nodes config w.group) : Type 0 where
-  pub each : (i : ℕ) (c : ClientPipes) (j : ℕ) (κ : Connection) (p : Pipe) → HasPipe w i c j κ p → PipeHolds went κ p
-  pub one : (i : ℕ) (c : ClientPipes) (j : ℕ) (κ : Connection) (p : Pipe) (k : ℕ) (d : ClientPipes) (l : ℕ) (μ : Connection) (q : Pipe) → HasPipe w i c j κ p → HasPipe w k d l μ q
+  pub each : (i : ℕ) (c : ClientPipes) (j : ℕ) (κ : ClientConnection) (p : Pipe) → HasPipe w i c j κ p → PipeHolds went κ p
+  pub one : (i : ℕ) (c : ClientPipes) (j : ℕ) (κ : ClientConnection) (p : Pipe) (k : ℕ) (d : ClientPipes) (l : ℕ) (μ : ClientConnection) (q : Pipe) → HasPipe w i c j κ p → HasPipe w k d l μ q
       → κ.name ≡ μ.name → (i ≡ k) × (j ≡ l)
   pub used : (n : ℕ) (core : CoreState) (d : NodesEnd) → slice_get w.group.nodes n ≡ Some core → In d core.connections → Leads w n d.port
   pub known : (x : ConnectionName) → IsUnheard went x ⊎ IsKnown w x
@@ -47,18 +47,18 @@ pub record Holds {nodes : ℕ} {config : Config} (w : World) (went : GroupTrace 
 -- ---- a step that opens nothing
 
 -- a connection after a step, and the same one before
-pub record Came {nodes : ℕ} {config : Config} (v : World) {g : Group} (went : GroupTrace nodes config g) (k l : ℕ) (later : Connection) (q : Pipe) : Type 0 where
+pub record Came {nodes : ℕ} {config : Config} (v : World) {g : Group} (went : GroupTrace nodes config g) (k l : ℕ) (later : ClientConnection) (q : Pipe) : Type 0 where
   pub c : ClientPipes
-  pub κ : Connection
+  pub κ : ClientConnection
   pub p : Pipe
   pub has : HasPipe v k c l κ p
   pub name : later.name ≡ κ.name
   pub holds : PipeHolds went later q
 
 -- a connection before a step, and the same one after
-pub record Stays (w : World) (k l : ℕ) (κ : Connection) (p : Pipe) : Type 0 where
+pub record Stays (w : World) (k l : ℕ) (κ : ClientConnection) (p : Pipe) : Type 0 where
   pub c : ClientPipes
-  pub later : Connection
+  pub later : ClientConnection
   pub q : Pipe
   pub has : HasPipe w k c l later q
   pub name : later.name ≡ κ.name
@@ -66,8 +66,8 @@ pub record Stays (w : World) (k l : ℕ) (κ : Connection) (p : Pipe) : Type 0 w
   pub port : q.port ≡ p.port
 
 pub holds_on : {nodes : ℕ} {config : Config} (v w : World) (went : GroupTrace nodes config v.group) (after : GroupTrace nodes config w.group) → Holds v went
-    → ((k : ℕ) (c : ClientPipes) (l : ℕ) (κ : Connection) (p : Pipe) → HasPipe w k c l κ p → Came v after k l κ p)
-    → ((k : ℕ) (c : ClientPipes) (l : ℕ) (κ : Connection) (p : Pipe) → HasPipe v k c l κ p → Stays w k l κ p)
+    → ((k : ℕ) (c : ClientPipes) (l : ℕ) (κ : ClientConnection) (p : Pipe) → HasPipe w k c l κ p → Came v after k l κ p)
+    → ((k : ℕ) (c : ClientPipes) (l : ℕ) (κ : ClientConnection) (p : Pipe) → HasPipe v k c l κ p → Stays w k l κ p)
     → ((n : ℕ) (core : CoreState) (d : NodesEnd) → slice_get w.group.nodes n ≡ Some core → In d core.connections → Leads v n d.port)
     → ((x : ConnectionName) → IsUnheard after x ⊎ IsKnown v x) → Holds w after
 holds_on v w went after h back forth olds knows =
@@ -92,7 +92,7 @@ holds_on v w went after h back forth olds knows =
 
 -- ---- one connection of one client changes
 
-pub record ChangedAt (c later : ClientPipes) (j : ℕ) (κ μ : Connection) (p q : Pipe) : Type 0 where
+pub record ChangedAt (c later : ClientPipes) (j : ℕ) (κ μ : ClientConnection) (p q : Pipe) : Type 0 where
   pub connections : (l : ℕ) → (l ≡ j → ⊥) → slice_get later.connections l ≡ slice_get c.connections l
   pub connection : slice_get later.connections j ≡ Some μ
   pub pipes : (l : ℕ) → (l ≡ j → ⊥) → slice_get later.pipes l ≡ slice_get c.pipes l
@@ -105,12 +105,12 @@ some_is : {X : Type 0} (a b : X) → (let o : Option X = Some a in o) ≡ Some b
 some_is a b e = cc
 
 -- after it each connection is that one, or another that stays as it is
-pub data Place (v : World) (i j : ℕ) (μ : Connection) (q : Pipe) (k l : ℕ) (κ : Connection) (p : Pipe) : Type 0 where
+pub data Place (v : World) (i j : ℕ) (μ : ClientConnection) (q : Pipe) (k l : ℕ) (κ : ClientConnection) (p : Pipe) : Type 0 where
   mine : k ≡ i → l ≡ j → κ ≡ μ → p ≡ q → Place v i j μ q k l κ p
   another : ((k ≡ i) × (l ≡ j) → ⊥) → (d : ClientPipes) → HasPipe v k d l κ p → Place v i j μ q k l κ p
 
-pub place_back : (v : World) (g : Group) (i j : ℕ) (c later : ClientPipes) (κ μ : Connection) (p q : Pipe) → HasPipe v i c j κ p → ChangedAt c later j κ μ p q
-    → (k : ℕ) (d : ClientPipes) (l : ℕ) (ν : Connection) (r : Pipe) → HasPipe (with_client i later (record v { group = g })) k d l ν r → Place v i j μ q k l ν r
+pub place_back : (v : World) (g : Group) (i j : ℕ) (c later : ClientPipes) (κ μ : ClientConnection) (p q : Pipe) → HasPipe v i c j κ p → ChangedAt c later j κ μ p q
+    → (k : ℕ) (d : ClientPipes) (l : ℕ) (ν : ClientConnection) (r : Pipe) → HasPipe (with_client i later (record v { group = g })) k d l ν r → Place v i j μ q k l ν r
 place_back v g i j c later κ μ p q has change k d l ν r there_now = by (set_get v.clients i k c later d has.client there_now.client)
   where
     inner : k ≡ i → later ≡ d → (l ≡ j) ⊎ (l ≡ j → ⊥) → Place v i j μ q k l ν r
@@ -130,8 +130,8 @@ place_back v g i j c later κ μ p q has change k d l ν r there_now = by (set_g
     by (inl (same, is)) = inner same is (same_or_other l j)
     by (inr (apart, at)) = another (λ both. apart both.0) d (record { client = at; connection = there_now.connection; pipe = there_now.pipe })
 
-pub place_forth : (v : World) (g : Group) (i j : ℕ) (c later : ClientPipes) (κ μ : Connection) (p q : Pipe) → HasPipe v i c j κ p → ChangedAt c later j κ μ p q
-    → (k : ℕ) (d : ClientPipes) (l : ℕ) (ν : Connection) (r : Pipe) → HasPipe v k d l ν r → Stays (with_client i later (record v { group = g })) k l ν r
+pub place_forth : (v : World) (g : Group) (i j : ℕ) (c later : ClientPipes) (κ μ : ClientConnection) (p q : Pipe) → HasPipe v i c j κ p → ChangedAt c later j κ μ p q
+    → (k : ℕ) (d : ClientPipes) (l : ℕ) (ν : ClientConnection) (r : Pipe) → HasPipe v k d l ν r → Stays (with_client i later (record v { group = g })) k l ν r
 place_forth v g i j c later κ μ p q has change k d l ν r was = by (same_or_other k i)
   where
     inner : k ≡ i → d ≡ c → (l ≡ j) ⊎ (l ≡ j → ⊥) → Stays (with_client i later (record v { group = g })) k l ν r
@@ -147,7 +147,7 @@ place_forth v g i j c later κ μ p q has change k d l ν r was = by (same_or_ot
             connection = ap (slice_get later.connections) at ∙ change.connection;
             pipe = ap (slice_get later.pipes) at ∙ change.pipe;
           };
-          name = change.name ∙ ap (λ (z : Connection). z.name) (sym one);
+          name = change.name ∙ ap (λ (z : ClientConnection). z.name) (sym one);
           node = change.node ∙ ap (λ (z : Pipe). z.node) (sym two);
           port = change.port ∙ ap (λ (z : Pipe). z.port) (sym two);
         }
@@ -181,14 +181,14 @@ place_forth v g i j c later κ μ p q has change k d l ν r was = by (same_or_ot
 
 -- ---- the group rests
 
-pub client_holds : {nodes : ℕ} {config : Config} (v : World) (went : GroupTrace nodes config v.group) (i j : ℕ) (c later : ClientPipes) (κ μ : Connection) (p q : Pipe) → HasPipe v i c j κ p
+pub client_holds : {nodes : ℕ} {config : Config} (v : World) (went : GroupTrace nodes config v.group) (i j : ℕ) (c later : ClientPipes) (κ μ : ClientConnection) (p q : Pipe) → HasPipe v i c j κ p
     → ChangedAt c later j κ μ p q → PipeHolds went μ q → Holds v went → Holds (with_client i later v) went
 client_holds v went i j c later κ μ p q has change holds h =
     holds_on v (with_client i later v) went went h
     (λ k d l ν r there_now. by k d l ν r (place_back v v.group i j c later κ μ p q has change k d l ν r there_now))
     (place_forth v v.group i j c later κ μ p q has change) h.used h.known
   where
-    by : (k : ℕ) (d : ClientPipes) (l : ℕ) (ν : Connection) (r : Pipe) → Place v i j μ q k l ν r → Came v went k l ν r
+    by : (k : ℕ) (d : ClientPipes) (l : ℕ) (ν : ClientConnection) (r : Pipe) → Place v i j μ q k l ν r → Came v went k l ν r
     by k d l ν r (mine same at one two) =
         record {
           c = c;
@@ -199,13 +199,13 @@ client_holds v went i j c later κ μ p q has change holds h =
             connection = ap (slice_get c.connections) at ∙ has.connection;
             pipe = ap (slice_get c.pipes) at ∙ has.pipe;
           };
-          name = ap (λ (z : Connection). z.name) one ∙ change.name;
-          holds = subst (λ (z : Connection). PipeHolds went z r) (sym one) (subst (λ (z : Pipe). PipeHolds went μ z) (sym two) holds);
+          name = ap (λ (z : ClientConnection). z.name) one ∙ change.name;
+          holds = subst (λ (z : ClientConnection). PipeHolds went z r) (sym one) (subst (λ (z : Pipe). PipeHolds went μ z) (sym two) holds);
         }
     by k d l ν r (another apart e was) = record { c = e; κ = ν; p = r; has = was; name = refl; holds = h.each k e l ν r was }
 
 -- what a pipe is set to
-pub set_at : (c : ClientPipes) (j : ℕ) (κ : Connection) (p q : Pipe) → slice_get c.connections j ≡ Some κ → slice_get c.pipes j ≡ Some p → q.node ≡ p.node → q.port ≡ p.port
+pub set_at : (c : ClientPipes) (j : ℕ) (κ : ClientConnection) (p q : Pipe) → slice_get c.connections j ≡ Some κ → slice_get c.pipes j ≡ Some p → q.node ≡ p.node → q.port ≡ p.port
     → ChangedAt c (with_pipe j q c) j κ κ p q
 set_at c j κ p q connection pipe node port =
     record {
@@ -219,7 +219,7 @@ set_at c j κ p q connection pipe node port =
     }
 
 -- the newest one changes
-pub first_at : (c later : ClientPipes) (κ μ : Connection) (others : List Connection) (p q : Pipe) (pipes : List Pipe) → c.connections ≡ κ ∷ others → c.pipes ≡ p ∷ pipes
+pub first_at : (c later : ClientPipes) (κ μ : ClientConnection) (others : List ClientConnection) (p q : Pipe) (pipes : List Pipe) → c.connections ≡ κ ∷ others → c.pipes ≡ p ∷ pipes
     → later.connections ≡ μ ∷ others → later.pipes ≡ q ∷ pipes → μ.name ≡ κ.name → q.node ≡ p.node → q.port ≡ p.port → ChangedAt c later 0 κ μ p q
 first_at c later κ μ others p q pipes are piped now now_piped name node port =
     record { connections = connections; connection = ap (λ l. slice_get l 0) now; pipes = all_pipes; pipe = ap (λ l. slice_get l 0) now_piped; name = name; node = node; port = port }
@@ -234,12 +234,12 @@ first_at c later κ μ others p q pipes are piped now now_piped name node port =
 
 -- ---- what a client does with one
 
-pub arrives_holds : {nodes : ℕ} {config : Config} {g : Group} (went : GroupTrace nodes config g) (κ : Connection) (p : Pipe) (piece rest : List ℕ) → p.down ≡ piece ++ rest → PipeHolds went κ p
+pub arrives_holds : {nodes : ℕ} {config : Config} {g : Group} (went : GroupTrace nodes config g) (κ : ClientConnection) (p : Pipe) (piece rest : List ℕ) → p.down ≡ piece ++ rest → PipeHolds went κ p
     → PipeHolds went κ (record p { down = rest; came = record p.came { bytes = p.came.bytes ++ piece } })
 arrives_holds went κ p piece rest cut h = record { placed = h.placed; up = h.up; down = piece_down κ.handled p.came p.down piece rest (went_down κ.name went) cut h.down }
 
 -- it writes, and may have handled a packet
-pub does_holds : {nodes : ℕ} {config : Config} {g : Group} (went : GroupTrace nodes config g) (κ μ : Connection) (p : Pipe) (came : Stream) (new : List Written) → μ.name ≡ κ.name
+pub does_holds : {nodes : ℕ} {config : Config} {g : Group} (went : GroupTrace nodes config g) (κ μ : ClientConnection) (p : Pipe) (came : Stream) (new : List Written) → μ.name ≡ κ.name
     → μ.written ≡ κ.written ++ new → Each IsPacket (packets_of new) → IsHandled μ.handled came p.down (went_down κ.name went) → PipeHolds went κ p
     → PipeHolds went μ (record p { up = p.up ++ spelled (packets_of new); came = came })
 does_holds {g = g} went κ μ p came new name written whole down h =

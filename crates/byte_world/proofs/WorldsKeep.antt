@@ -19,7 +19,7 @@ use Rattle.node_group.proofs.of_lists.Places.{get_set_other}
 use Rattle.node_group.proofs.of_packet_world.Lists.{same_or_other, set_get}
 use Rattle.node_group.specs.world_base.declared.Port.{Port}
 use Rattle.node_group.specs.packet_world.Steps.{is_call}
-use Rattle.node_group.specs.exactly_once.Sides.{Connection, Side}
+use Rattle.node_group.specs.exactly_once.Sides.{ClientConnection, Side}
 use Rattle.node_group.specs.exactly_once.Story.{StoryStep, Story}
 use Rattle.node_group.specs.exactly_once.Story.StoryStep.{takes as takes_next, others_take, receives, opens_anew, loses, disconnects, publishes_one, subscribes, unsubscribes}
 use Rattle.node_group.proofs.of_exactly_once.Takes.{same_name_self}
@@ -46,7 +46,7 @@ use Rattle.byte_world.proofs.WorldsHold.Place.{mine, another}
 
 -- ---- a client calls
 
-writes_none : (connections : List Connection) → connections ≡ writes_first [] connections
+writes_none : (connections : List ClientConnection) → connections ≡ writes_first [] connections
 writes_none [] = refl
 writes_none (κ ∷ others) = ap (λ (l : List Written). record κ { written = l } ∷ others) (sym (append-nil κ.written))
 
@@ -68,11 +68,11 @@ call_writes (unsubscribes p on id) e = (plain (packets.Unsubscribe p) ∷ [], re
 
 -- a client that has no connection with a pipe changes no pipe
 no_pipe_holds : {nodes : ℕ} {config : Config} (v : World) (went : GroupTrace nodes config v.group) (i : ℕ) (c later : ClientPipes) → slice_get v.clients i ≡ Some c
-    → ((j : ℕ) (κ : Connection) (p : Pipe) → slice_get c.connections j ≡ Some κ → slice_get c.pipes j ≡ Some p → ⊥)
-    → ((j : ℕ) (κ : Connection) (p : Pipe) → slice_get later.connections j ≡ Some κ → slice_get later.pipes j ≡ Some p → ⊥) → Holds v went → Holds (with_client i later v) went
+    → ((j : ℕ) (κ : ClientConnection) (p : Pipe) → slice_get c.connections j ≡ Some κ → slice_get c.pipes j ≡ Some p → ⊥)
+    → ((j : ℕ) (κ : ClientConnection) (p : Pipe) → slice_get later.connections j ≡ Some κ → slice_get later.pipes j ≡ Some p → ⊥) → Holds v went → Holds (with_client i later v) went
 no_pipe_holds v went i c later at none none_later h = holds_on v (with_client i later v) went went h back forth h.used h.known
   where
-    back : (k : ℕ) (d : ClientPipes) (l : ℕ) (κ : Connection) (p : Pipe) → HasPipe (with_client i later v) k d l κ p → Came v went k l κ p
+    back : (k : ℕ) (d : ClientPipes) (l : ℕ) (κ : ClientConnection) (p : Pipe) → HasPipe (with_client i later v) k d l κ p → Came v went k l κ p
     back k d l κ p has = by (set_get v.clients i k c later d at has.client)
       where
         by : ((k ≡ i) × (later ≡ d)) ⊎ ((k ≡ i → ⊥) × (slice_get v.clients k ≡ Some d)) → Came v went k l κ p
@@ -82,7 +82,7 @@ no_pipe_holds v went i c later at none none_later h = holds_on v (with_client i 
             let old : HasPipe v k d l κ p = record { client = was; connection = has.connection; pipe = has.pipe } in
             record { c = d; κ = κ; p = p; has = old; name = refl; holds = h.each k d l κ p old }
 
-    forth : (k : ℕ) (d : ClientPipes) (l : ℕ) (κ : Connection) (p : Pipe) → HasPipe v k d l κ p → Stays (with_client i later v) k l κ p
+    forth : (k : ℕ) (d : ClientPipes) (l : ℕ) (κ : ClientConnection) (p : Pipe) → HasPipe v k d l κ p → Stays (with_client i later v) k l κ p
     forth k d l κ p has = by (same_or_other k i)
       where
         one : (a b : ClientPipes) → (let o : Option ClientPipes = Some a in o) ≡ Some b → a ≡ b
@@ -109,7 +109,7 @@ no_place xs j x none at = nowhere j (sym (ap (λ l. slice_get l j) none) ∙ at)
     nowhere : (k : ℕ) → slice_get (let l : List _ = [] in l) k ≡ Some x → ⊥
     nowhere k e = cc
 
-pub calls_hold : {nodes : ℕ} {config : Config} (v : World) (went : GroupTrace nodes config v.group) (i : ℕ) (c : ClientPipes) (keeper : Keeper) (connections : List Connection) (new : List Written)
+pub calls_hold : {nodes : ℕ} {config : Config} (v : World) (went : GroupTrace nodes config v.group) (i : ℕ) (c : ClientPipes) (keeper : Keeper) (connections : List ClientConnection) (new : List Written)
     → slice_get v.clients i ≡ Some c → connections ≡ writes_first new c.connections → CanBeSpelled c.connections connections → Holds v went
     → Holds (with_client i (after_writing keeper connections c) v) went
 calls_hold v went i c keeper connections new at is whole h = by c.connections c.pipes refl refl
@@ -117,7 +117,7 @@ calls_hold v went i c keeper connections new at is whole h = by c.connections c.
     later : ClientPipes
     later = after_writing keeper connections c
 
-    by : (cs : List Connection) (ps : List Pipe) → c.connections ≡ cs → c.pipes ≡ ps → Holds (with_client i later v) went
+    by : (cs : List ClientConnection) (ps : List Pipe) → c.connections ≡ cs → c.pipes ≡ ps → Holds (with_client i later v) went
     by [] ps are piped =
         no_pipe_holds v went i c later at (λ j κ p e f. no_place c.connections j κ are e)
         (λ j κ p e f. no_place connections j κ (is ∙ ap (writes_first new) are) e) h
@@ -138,7 +138,7 @@ calls_hold v went i c keeper connections new at is whole h = by c.connections c.
 
 -- ---- a client handles a packet
 
-pub handles_hold : {nodes : ℕ} {config : Config} (v : World) (went : GroupTrace nodes config v.group) (i : ℕ) (c : ClientPipes) (κ : Connection) (others : List Connection) (p : Pipe)
+pub handles_hold : {nodes : ℕ} {config : Config} (v : World) (went : GroupTrace nodes config v.group) (i : ℕ) (c : ClientPipes) (κ : ClientConnection) (others : List ClientConnection) (p : Pipe)
     (pipes : List Pipe) (packet : Packet) (left : Stream) → slice_get v.clients i ≡ Some c → c.connections ≡ κ ∷ others → c.pipes ≡ p ∷ pipes → Takes p.came (Ok (Some packet)) left
     → CanBeSpelled c.connections ((handled packet (record { keeper = c.keeper; connection = κ })).connection ∷ others) → Holds v went
     → Holds (with_client i (after_packet others pipes p left (handled packet (record { keeper = c.keeper; connection = κ })) c) v) went
@@ -211,7 +211,7 @@ group_holds v went node_call d apart h =
 
 -- ---- bytes of one connection are carried
 
-port_holds : {nodes : ℕ} {config : Config} (v : World) (g : Group) (went : GroupTrace nodes config v.group) (step : GroupStep v.group g) (i j : ℕ) (c later : ClientPipes) (κ : Connection) (p q : Pipe)
+port_holds : {nodes : ℕ} {config : Config} (v : World) (g : Group) (went : GroupTrace nodes config v.group) (step : GroupStep v.group g) (i j : ℕ) (c later : ClientPipes) (κ : ClientConnection) (p q : Pipe)
     → HasPipe v i c j κ p → ChangedAt c later j κ κ p q → opens_in (node_call_of step) ≡ false
     → ((y : ConnectionName) → (κ.name ≡ y → ⊥) → (comes_up y step ≡ []) × (goes_down y step ≡ [])) → PipeHolds (then_went went step) κ q → Holds v went
     → Holds (with_client i later (record v { group = g })) (then_went went step)
@@ -220,7 +220,7 @@ port_holds v g went step i j c later κ p q has change none quiet holds h =
     (λ k d l ν r now. back k d l ν r (place_back v g i j c later κ κ p q has change k d l ν r now))
     (place_forth v g i j c later κ κ p q has change) (still_used v g went step none h) (λ x. by x (same_connection κ.name x) refl (h.known x))
   where
-    back : (k : ℕ) (d : ClientPipes) (l : ℕ) (ν : Connection) (r : Pipe) → Place v i j κ q k l ν r → Came v (then_went went step) k l ν r
+    back : (k : ℕ) (d : ClientPipes) (l : ℕ) (ν : ClientConnection) (r : Pipe) → Place v i j κ q k l ν r → Came v (then_went went step) k l ν r
     back k d l ν r (mine same at one two) =
         record {
           c = c;
@@ -231,8 +231,8 @@ port_holds v g went step i j c later κ p q has change none quiet holds h =
             connection = ap (slice_get c.connections) at ∙ has.connection;
             pipe = ap (slice_get c.pipes) at ∙ has.pipe;
           };
-          name = ap (λ (z : Connection). z.name) one;
-          holds = subst (λ (z : Connection). PipeHolds (then_went went step) z r) (sym one) (subst (λ (z : Pipe). PipeHolds (then_went went step) κ z) (sym two) holds);
+          name = ap (λ (z : ClientConnection). z.name) one;
+          holds = subst (λ (z : ClientConnection). PipeHolds (then_went went step) z r) (sym one) (subst (λ (z : Pipe). PipeHolds (then_went went step) κ z) (sym two) holds);
         }
     back k d l ν r (another apart e was) =
         let other : κ.name ≡ ν.name → ⊥ = λ same. let at = h.one i c j κ p k e l ν r has was same in apart (sym at.0, sym at.1) in
@@ -255,7 +255,7 @@ port_holds v g went step i j c later κ p q has change none quiet holds h =
 same_core : (a b : CoreState) → (let o : Option CoreState = Some a in o) ≡ Some b → a ≡ b
 same_core a b e = cc
 
-pub comes_holds : {nodes : ℕ} {config : Config} (v : World) (went : GroupTrace nodes config v.group) (i j : ℕ) (c : ClientPipes) (κ : Connection) (p : Pipe) (piece rest : List ℕ) (now : ℕ)
+pub comes_holds : {nodes : ℕ} {config : Config} (v : World) (went : GroupTrace nodes config v.group) (i j : ℕ) (c : ClientPipes) (κ : ClientConnection) (p : Pipe) (piece rest : List ℕ) (now : ℕ)
     (d : Does v.group (Some (p.node, takes (Bytes p.port piece now)))) → HasPipe v i c j κ p → p.up ≡ piece ++ rest → Holds v went
     → Holds (with_client i (with_pipe j (record p { up = rest }) c) (record v { group = d.after })) (then_went went d.step)
 comes_holds v went i j c κ p piece rest now d has cut h =
@@ -272,7 +272,7 @@ comes_holds v went i j c κ p piece rest now d has cut h =
       down = subst (IsHandled κ.handled p.came p.down) (sym (ap (λ l. went_down κ.name went ++ l) (carried.down κ.name) ∙ append-nil (went_down κ.name went))) old.down;
     }) h
 
-pub goes_holds : {nodes : ℕ} {config : Config} (v : World) (went : GroupTrace nodes config v.group) (i j : ℕ) (c : ClientPipes) (κ : Connection) (p : Pipe)
+pub goes_holds : {nodes : ℕ} {config : Config} (v : World) (went : GroupTrace nodes config v.group) (i j : ℕ) (c : ClientPipes) (κ : ClientConnection) (p : Pipe)
     (d : Does v.group (Some (p.node, gives p.port))) → HasPipe v i c j κ p → Holds v went
     → Holds (with_client i (with_pipe j (record p { down = p.down ++ goes_down κ.name d.step }) c) (record v { group = d.after })) (then_went went d.step)
 goes_holds v went i j c κ p d has h =

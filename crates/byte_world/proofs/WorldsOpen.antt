@@ -13,7 +13,7 @@ use Rattle.node_group.specs.lists.Lists.In.{here, there}
 use Rattle.node_group.proofs.of_lists.Places.{get_set, get_set_other}
 use Rattle.node_group.proofs.of_packet_world.Lists.{same_or_other, set_get}
 use Rattle.node_group.specs.cutter.Pipe.{Joins}
-use Rattle.node_group.specs.exactly_once.Sides.{Connection}
+use Rattle.node_group.specs.exactly_once.Sides.{ClientConnection}
 use Rattle.node_group.proofs.of_exactly_once.Takes.{same_name_self}
 use Rattle.node_group.specs.world_base.declared.Connection.{Connection as NodesEnd}
 use Rattle.node_group.specs.world_base.declared.item.Item.TheVariants.{Opened}
@@ -104,7 +104,7 @@ module _ {nodes : ℕ} {config : Config} (v : World) (went : GroupTrace nodes co
   -- the new one
   module _ (i : ℕ) (c : ClientPipes) (at : slice_get v.clients i ≡ Some c)
       (whole : IsPacket (packets.Connect (record { client = c.keeper.client; clean = false; keep_alive = 0 }))) where
-    abbrev κ_new : Connection
+    abbrev κ_new : ClientConnection
     κ_new = new_connection c.keeper.client end.name
 
     abbrev p_new : Pipe
@@ -137,14 +137,14 @@ module _ {nodes : ℕ} {config : Config} (v : World) (went : GroupTrace nodes co
           down = record { handled = []; counted = refl; whole = tt; is = sym unheard.1; sound = refl };
         }
 
-    data Place (k l : ℕ) (κ : Connection) (p : Pipe) : Type 0 where
+    data Place (k l : ℕ) (κ : ClientConnection) (p : Pipe) : Type 0 where
       new : k ≡ i → l ≡ 0 → κ ≡ κ_new → p ≡ p_new → Place k l κ p
       old : (m : ℕ) (e : ClientPipes) → HasPipe v k e m κ p → ((k ≡ i) × (l ≡ suc m)) ⊎ ((k ≡ i → ⊥) × (l ≡ m)) → Place k l κ p
 
     some_is : {X : Type 0} (a b : X) → (let o : Option X = Some a in o) ≡ Some b → a ≡ b
     some_is a b e = cc
 
-    place : (k : ℕ) (e : ClientPipes) (l : ℕ) (κ : Connection) (p : Pipe) → HasPipe w k e l κ p → Place k l κ p
+    place : (k : ℕ) (e : ClientPipes) (l : ℕ) (κ : ClientConnection) (p : Pipe) → HasPipe w k e l κ p → Place k l κ p
     place k e l κ p has = by (set_get v.clients i k c later e at has.client)
       where
         inner : k ≡ i → (m : ℕ) → l ≡ m → slice_get later.connections m ≡ Some κ → slice_get later.pipes m ≡ Some p → Place k l κ p
@@ -156,10 +156,10 @@ module _ {nodes : ℕ} {config : Config} (v : World) (went : GroupTrace nodes co
             inner same l refl (ap (λ (z : ClientPipes). slice_get z.connections l) is ∙ has.connection) (ap (λ (z : ClientPipes). slice_get z.pipes l) is ∙ has.pipe)
         by (inr (apart, was_there)) = old l e (record { client = was_there; connection = has.connection; pipe = has.pipe }) (inr (apart, refl))
 
-    abbrev Stays : ℕ → Connection → Pipe → Type 0
+    abbrev Stays : ℕ → ClientConnection → Pipe → Type 0
     Stays k κ p = (e : ClientPipes) × (l : ℕ) × HasPipe w k e l κ p
 
-    forth : (k : ℕ) (e : ClientPipes) (m : ℕ) (κ : Connection) (p : Pipe) → HasPipe v k e m κ p → Stays k κ p
+    forth : (k : ℕ) (e : ClientPipes) (m : ℕ) (κ : ClientConnection) (p : Pipe) → HasPipe v k e m κ p → Stays k κ p
     forth k e m κ p has = by (same_or_other k i)
       where
         by : (k ≡ i) ⊎ (k ≡ i → ⊥) → Stays k κ p
@@ -178,11 +178,11 @@ module _ {nodes : ℕ} {config : Config} (v : World) (went : GroupTrace nodes co
     new_there : HasPipe w i later 0 κ_new p_new
     new_there = record { client = get_set v.clients i c later at; connection = refl; pipe = refl }
 
-    each_holds : (k : ℕ) (l : ℕ) (κ : Connection) (p : Pipe) → Place k l κ p → PipeHolds after κ p
-    each_holds k l κ p (new same is one two) = subst (λ (z : Connection). PipeHolds after z p) (sym one) (subst (λ (z : Pipe). PipeHolds after κ_new z) (sym two) new_holds)
+    each_holds : (k : ℕ) (l : ℕ) (κ : ClientConnection) (p : Pipe) → Place k l κ p → PipeHolds after κ p
+    each_holds k l κ p (new same is one two) = subst (λ (z : ClientConnection). PipeHolds after z p) (sym one) (subst (λ (z : Pipe). PipeHolds after κ_new z) (sym two) new_holds)
     each_holds k l κ p (old m e has is) = facts.old_holds k e m κ p has
 
-    known_of : (k : ℕ) (e : ClientPipes) (m : ℕ) (κ : Connection) (p : Pipe) → HasPipe v k e m κ p → κ.name ≡ end.name → IsKnown v end.name
+    known_of : (k : ℕ) (e : ClientPipes) (m : ℕ) (κ : ClientConnection) (p : Pipe) → HasPipe v k e m κ p → κ.name ≡ end.name → IsKnown v end.name
     known_of k e m κ p has is = record { i = k; c = e; j = m; κ = κ; p = p; has = has; name = is }
 
     same_places : (k l a b m o : ℕ) → k ≡ a → m ≡ o → ((k ≡ i) × (l ≡ suc m)) ⊎ ((k ≡ i → ⊥) × (l ≡ m)) → ((a ≡ i) × (b ≡ suc o)) ⊎ ((a ≡ i → ⊥) × (b ≡ o)) → (k ≡ a) × (l ≡ b)
@@ -191,10 +191,10 @@ module _ {nodes : ℕ} {config : Config} (v : World) (went : GroupTrace nodes co
     same_places k l a b m o e f (inl p) (inr q) = absurd (q.0 (sym e ∙ p.0))
     same_places k l a b m o e f (inr p) (inl q) = absurd (p.0 (e ∙ q.0))
 
-    one_place : (k l : ℕ) (κ : Connection) (p : Pipe) (a b : ℕ) (μ : Connection) (q : Pipe) → Place k l κ p → Place a b μ q → κ.name ≡ μ.name → (k ≡ a) × (l ≡ b)
+    one_place : (k l : ℕ) (κ : ClientConnection) (p : Pipe) (a b : ℕ) (μ : ClientConnection) (q : Pipe) → Place k l κ p → Place a b μ q → κ.name ≡ μ.name → (k ≡ a) × (l ≡ b)
     one_place k l κ p a b μ q (new s t x y) (new f g z u) same = (s ∙ sym f, t ∙ sym g)
-    one_place k l κ p a b μ q (new s t x y) (old m e has is) same = absurd (fresh (known_of a e m μ q has (sym same ∙ ap (λ (z : Connection). z.name) x)))
-    one_place k l κ p a b μ q (old m e has is) (new f g z u) same = absurd (fresh (known_of k e m κ p has (same ∙ ap (λ (r : Connection). r.name) z)))
+    one_place k l κ p a b μ q (new s t x y) (old m e has is) same = absurd (fresh (known_of a e m μ q has (sym same ∙ ap (λ (z : ClientConnection). z.name) x)))
+    one_place k l κ p a b μ q (old m e has is) (new f g z u) same = absurd (fresh (known_of k e m κ p has (same ∙ ap (λ (r : ClientConnection). r.name) z)))
     one_place k l κ p a b μ q (old m e has is) (old o r other at_too) same = let z = h.one k e m κ p a r o μ q has other same in same_places k l a b m o z.0 z.1 is at_too
 
     led_on : (m : ℕ) (q : Port) → Leads v m q → Leads w m q

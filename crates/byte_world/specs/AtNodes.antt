@@ -4,7 +4,7 @@ use Rattle.std.specs.Prelude.{◌≡◌, ℕ, List, slice_get, Some}
 use Rattle.node_group.specs.ballot.Config.{Config}
 use Rattle.node_group.specs.broker_spec.Place.{Client}
 use Rattle.node_group.specs.lists.Lists.{In}
-use Rattle.node_group.specs.exactly_once.Sides.{Connection}
+use Rattle.node_group.specs.exactly_once.Sides.{ClientConnection}
 use Rattle.node_group.specs.world_base.declared.Connection.{Connection as NodesEnd}
 use Rattle.node_group.specs.world_base.declared.Port.{Port}
 use Rattle.node_group.specs.world_base.Core.{CoreState}
@@ -17,7 +17,7 @@ pub record Leads (w : World) (n : ℕ) (port : Port) : Type 0 where
   pub i : ℕ
   pub c : ClientPipes
   pub j : ℕ
-  pub κ : Connection
+  pub κ : ClientConnection
   pub p : Pipe
   pub has : HasPipe w i c j κ p
   pub node : p.node ≡ n

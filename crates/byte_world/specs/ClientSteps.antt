@@ -6,7 +6,7 @@ use Rattle.node_group.specs.broker_spec.Connection.{ConnectionName}
 use Rattle.node_group.specs.client_base.Called.{new_connection}
 use Rattle.node_group.specs.client_base.Handled.{lost}
 use Rattle.node_group.specs.lists.Lists.{Each}
-use Rattle.node_group.specs.exactly_once.Sides.{Connection, Side}
+use Rattle.node_group.specs.exactly_once.Sides.{ClientConnection, Side}
 use Rattle.node_group.specs.exactly_once.Story.{Story}
 use Rattle.node_group.specs.world_base.declared.Port.{Port}
 use Rattle.node_group.specs.node_moves.Puts.{spelled}
@@ -32,7 +32,7 @@ after_connecting x n port c =
     }
 
 -- the client after a packet that its newest connection's cutter gave
-abbrev pub after_packet : List Connection → List Pipe → Pipe → Stream → Side → ClientPipes →
+abbrev pub after_packet : List ClientConnection → List Pipe → Pipe → Stream → Side → ClientPipes →
     ClientPipes
 after_packet others pipes p left side c =
     record {
@@ -43,5 +43,5 @@ after_packet others pipes p left side c =
     }
 
 -- all that clients write can be spelled
-abbrev pub CanBeSpelled : List Connection → List Connection → Type 0
+abbrev pub CanBeSpelled : List ClientConnection → List ClientConnection → Type 0
 CanBeSpelled before after = Each IsPacket (newly_written before after)

@@ -7,7 +7,7 @@ use Rattle.node_group.specs.ballot.Config.{Config}
 use Rattle.node_group.specs.broker_spec.declared.command.Command.{Command}
 use Rattle.node_group.specs.broker_spec.Place.{Client}
 use Rattle.node_group.specs.lists.Lists.{Each, IsPrefixOf}
-use Rattle.node_group.specs.exactly_once.Sides.{Connection}
+use Rattle.node_group.specs.exactly_once.Sides.{ClientConnection}
 use Rattle.node_group.specs.snapshots.Moments.{IsAgreed}
 use Rattle.node_group.specs.node_moves.Ends.{commands_of}
 use Rattle.node_group.specs.node_moves.Puts.{spelled}
@@ -23,7 +23,7 @@ use Rattle.byte_world.specs.Steps.{Reached}
 -- A connection's commands in the list are a prefix of the packets that its client wrote, in order.
 -- The packets that its client handled, spelled, with the bytes that came to it after them and those
 -- in transit to it, are a prefix of the spelled answers to it, and no fault was found in them.
-pub record IsInOrder (agreed : List Command) (κ : Connection) (p : Pipe) : Type 0 where
+pub record IsInOrder (agreed : List Command) (κ : ClientConnection) (p : Pipe) : Type 0 where
   pub up : IsPrefixOf (packets_in_list κ.name agreed) (commands_of κ.name 0 (packets_of κ.written))
   pub handled : List Packet
   pub counted : length handled ≡ κ.handled
@@ -37,7 +37,7 @@ pub record PipesAreInOrder {nodes : ℕ} {config : Config} {cs : List Client} {w
     (trail : Reached nodes config cs w) : Type 0 where
   pub of : HasPast config w.group (groups_of (trace_of trail)) (all_put (trace_of trail))
   pub each : (agreed : List Command) → IsAgreed config (moment_of w.group ∷ of.earlier) agreed →
-      (i : ℕ) (c : ClientPipes) (j : ℕ) (κ : Connection) (p : Pipe) →
+      (i : ℕ) (c : ClientPipes) (j : ℕ) (κ : ClientConnection) (p : Pipe) →
       HasPipe w i c j κ p → IsInOrder agreed κ p
 
 -- in each world that can be reached the connections of each client are in order

@@ -9,7 +9,7 @@ use Rattle.node_group.specs.agreement.World.{can_open}
 use Rattle.node_group.specs.broker_spec.Commands.{usual_limits}
 use Rattle.node_group.specs.broker_spec.Place.{Client}
 use Rattle.node_group.specs.client_base.Handled.{handled}
-use Rattle.node_group.specs.exactly_once.Sides.{Connection}
+use Rattle.node_group.specs.exactly_once.Sides.{ClientConnection}
 use Rattle.node_group.specs.exactly_once.Story.{Story, StoryStep}
 use Rattle.node_group.specs.packet_world.Steps.{is_call}
 use Rattle.node_group.specs.world_base.declared.Connection.{Connection as NodesEnd}
@@ -55,26 +55,26 @@ pub data WorldStep (w : World) : World → Type 0 where
       slice_get d.after.nodes n ≡ Some core → listed_at port core ≡ None →
       WorldStep w (record w { group = d.after })
   -- a prefix of the bytes in transit reaches the node
-  comes_up : (i j : ℕ) (c : ClientPipes) (κ : Connection) (p : Pipe) (piece rest : List ℕ) (now : ℕ)
-      (d : Does w.group (Some (p.node, takes (Bytes p.port piece now)))) →
+  comes_up : (i j : ℕ) (c : ClientPipes) (κ : ClientConnection) (p : Pipe) (piece rest : List ℕ)
+      (now : ℕ) (d : Does w.group (Some (p.node, takes (Bytes p.port piece now)))) →
       HasPipe w i c j κ p → p.up ≡ piece ++ rest →
       WorldStep w
       (with_client i (with_pipe j (record p { up = rest }) c) (record w { group = d.after }))
   -- a node hands over what it queued
-  goes_down : (i j : ℕ) (c : ClientPipes) (κ : Connection) (p : Pipe)
+  goes_down : (i j : ℕ) (c : ClientPipes) (κ : ClientConnection) (p : Pipe)
       (d : Does w.group (Some (p.node, gives p.port))) → HasPipe w i c j κ p →
       WorldStep w (with_client i
       (with_pipe j (record p { down = p.down ++ goes_down_in κ.name d.step }) c)
       (record w { group = d.after }))
   -- a prefix of the bytes in transit reaches the client
-  arrives : (i j : ℕ) (c : ClientPipes) (κ : Connection) (p : Pipe) (piece rest : List ℕ) →
+  arrives : (i j : ℕ) (c : ClientPipes) (κ : ClientConnection) (p : Pipe) (piece rest : List ℕ) →
       HasPipe w i c j κ p → p.down ≡ piece ++ rest →
       WorldStep w (with_client i
       (with_pipe j
       (record p { down = rest; came = record p.came { bytes = p.came.bytes ++ piece } }) c) w)
   -- a client handles the next packet that came whole on the connection that it holds
-  handles : (i : ℕ) (c : ClientPipes) (κ : Connection) (others : List Connection) (p : Pipe)
-      (pipes : List Pipe) (packet : Packet) (left : Stream) →
+  handles : (i : ℕ) (c : ClientPipes) (κ : ClientConnection) (others : List ClientConnection)
+      (p : Pipe) (pipes : List Pipe) (packet : Packet) (left : Stream) →
       slice_get w.clients i ≡ Some c → c.connections ≡ κ ∷ others → c.pipes ≡ p ∷ pipes →
       c.keeper.is_open ≡ true → Takes p.came (Ok (Some packet)) left →
       CanBeSpelled c.connections

@@ -6,7 +6,7 @@ use Rattle.node_group.specs.cutter.Stream.{Stream}
 use Rattle.node_group.specs.ballot.Config.{Config}
 use Rattle.node_group.specs.broker_spec.Place.{Client}
 use Rattle.node_group.specs.client_base.Keeper.{Keeper, Written, new_keeper}
-use Rattle.node_group.specs.exactly_once.Sides.{Connection}
+use Rattle.node_group.specs.exactly_once.Sides.{ClientConnection}
 use Rattle.node_group.specs.world_base.declared.Port.{Port}
 use Rattle.node_group.specs.node_moves.Puts.{spelled}
 use Rattle.node_group.specs.Group.{Group, opening_group}
@@ -23,7 +23,7 @@ pub record Pipe : Type 0 where
 -- connection is in the list of commands is not kept here
 pub record ClientPipes : Type 0 where
   pub keeper : Keeper
-  pub connections : List Connection
+  pub connections : List ClientConnection
   pub pipes : List Pipe
 
 -- a group of nodes, and its clients with their connections and pipes
@@ -44,7 +44,7 @@ opening nodes config cs = record { group = opening_group nodes config; clients =
 -- ---- places
 
 -- the j-th connection of the i-th client, and its pipe
-pub record HasPipe (w : World) (i : ℕ) (c : ClientPipes) (j : ℕ) (κ : Connection)
+pub record HasPipe (w : World) (i : ℕ) (c : ClientPipes) (j : ℕ) (κ : ClientConnection)
     (p : Pipe) : Type 0 where
   pub client : slice_get w.clients i ≡ Some c
   pub connection : slice_get c.connections j ≡ Some κ
@@ -73,7 +73,7 @@ abbrev pub packets_of : List Written → List Packet
 packets_of written = map (λ (w : Written). w.packet) written
 
 -- the packets that were written on the newest connection between these connections and those
-abbrev pub newly_written : List Connection → List Connection → List Packet
+abbrev pub newly_written : List ClientConnection → List ClientConnection → List Packet
 newly_written (κ ∷ connections) (later ∷ more) = packets_of (drop (length κ.written) later.written)
 newly_written _ _ = []
 
@@ -84,7 +84,7 @@ sent_up packets [] = []
 
 -- the client with another keeper and these connections, what was written on the newest one in
 -- transit
-abbrev pub after_writing : Keeper → List Connection → ClientPipes → ClientPipes
+abbrev pub after_writing : Keeper → List ClientConnection → ClientPipes → ClientPipes
 after_writing keeper connections c =
     record {
       keeper = keeper;

@@ -14,7 +14,7 @@ use Rattle.client_base.specs.declared.accepted.Accepted.{Accepted}
 use Rattle.client_base.specs.State.{ClientState}
 use Rattle.client_base.specs.Answered.{ClientOutcome, awaits_puback, on_publish, on_puback, on_pubrel}
 use Rattle.session_base.specs.Identifiers.{without_id}
-use Rattle.client_base.specs.Keeper.{Own, Connection, Keeper, Side}
+use Rattle.client_base.specs.Keeper.{Own, ClientConnection, Keeper, Side}
 use Rattle.client_base.specs.Written.{plain, writing}
 use Rattle.client_base.specs.Handshakes.{at_puback, takes_in}
 use Rattle.client_base.specs.History.{StandsFor, WritesMore, IsSentFirst}
@@ -27,11 +27,11 @@ pub record Same (before after : Side ℕ) (outcome : ClientOutcome) : Type 0 whe
   pub writes : WritesMore before.connection after.connection outcome.writes
 
 -- nothing is written
-pub silent : (connection : Connection ℕ) → WritesMore connection connection []
+pub silent : (connection : ClientConnection ℕ) → WritesMore connection connection []
 silent connection = ([], sym (append-nil connection.written), refl)
 
 -- one packet is
-pub one_written : (connection : Connection ℕ) (packet : Packet) → WritesMore connection (record connection { written = connection.written ++ plain packet ∷ [] }) (packet ∷ [])
+pub one_written : (connection : ClientConnection ℕ) (packet : Packet) → WritesMore connection (record connection { written = connection.written ++ plain packet ∷ [] }) (packet ∷ [])
 one_written connection packet = (plain packet ∷ [], refl, refl)
 
 -- ---- received identifiers

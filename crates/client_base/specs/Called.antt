@@ -8,7 +8,7 @@ use Rattle.session_base.specs.Publication.{is_answered}
 use Rattle.session_base.specs.Identifiers.{least_free}
 use Rattle.client_base.specs.declared.request.Request.{Request}
 use Rattle.client_base.specs.declared.request.Request.TheVariants as requests
-use Rattle.client_base.specs.Keeper.{Own, Written, Connection, Keeper, Side}
+use Rattle.client_base.specs.Keeper.{Own, Written, ClientConnection, Keeper, Side}
 use Rattle.client_base.specs.Keeper.{ids_in_use, next_number}
 use Rattle.client_base.specs.Written.{plain, publishes, writes}
 use Rattle.client_base.specs.Handled.{lost, handled}
@@ -26,7 +26,7 @@ abbrev pub opens : List ℕ → Written
 opens = connects 0
 
 -- a connection of a client, on which nothing but a CONNECT was written
-abbrev pub new_connection : {Name : Type 0} → List ℕ → Name → Connection Name
+abbrev pub new_connection : {Name : Type 0} → List ℕ → Name → ClientConnection Name
 new_connection c x =
     record {
       name = x;

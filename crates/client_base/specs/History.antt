@@ -4,7 +4,7 @@ use Rattle.session_base.specs.packet.declared.packet.Packet.{Packet}
 use Rattle.session_base.specs.lists.Lists.{has_id}
 use Rattle.client_base.specs.declared.kept_publication.KeptPublication.{KeptPublication}
 use Rattle.client_base.specs.State.{ClientState, is_open, is_online}
-use Rattle.client_base.specs.Keeper.{Own, Written, Connection, Keeper}
+use Rattle.client_base.specs.Keeper.{Own, Written, ClientConnection, Keeper}
 
 -- ---- what is kept of all that was published
 
@@ -51,7 +51,8 @@ pub record StandsFor (keeper : Keeper) (state : ClientState) : Type 0 where
   pub online_sent : keeper.is_online ≡ true → unsent_of keeper.own ≡ []
 
 -- what was written more on a connection is, packet by packet, what the step writes
-abbrev pub WritesMore : {Name : Type 0} → Connection Name → Connection Name → List Packet → Type 0
+abbrev pub WritesMore : {Name : Type 0} → ClientConnection Name → ClientConnection Name →
+    List Packet → Type 0
 WritesMore before after packets =
     (more : List Written) × (after.written ≡ before.written ++ more)
     × (map (λ written. written.packet) more ≡ packets)

@@ -2,7 +2,7 @@
 use Rattle.std.specs.Prelude.{◌≡◌, ℕ, true, List, map, None}
 use Rattle.session_base.specs.packet.declared.packet.Packet.{Packet}
 use Rattle.client_base.specs.State.{ClientState, is_open}
-use Rattle.client_base.specs.Keeper.{Connection, Side}
+use Rattle.client_base.specs.Keeper.{ClientConnection, Side}
 use Rattle.client_base.specs.Steps.{Call, keeper_step}
 use Rattle.client_base.specs.Called.{keeper_goes}
 use Rattle.client_base.specs.History.{StandsFor, WritesMore}
@@ -14,7 +14,7 @@ HasEffect (Call.Receives packet) state = is_open state.stage ≡ true
 HasEffect call state = (keeper_step call state).refusal ≡ None
 
 -- what the step writes comes after what was written, and first on a connection that it opens
-abbrev pub WritesSo : Call → Connection ℕ → Connection ℕ → List Packet → Type 0
+abbrev pub WritesSo : Call → ClientConnection ℕ → ClientConnection ℕ → List Packet → Type 0
 WritesSo Call.Opens before after packets = map (λ written. written.packet) after.written ≡ packets
 WritesSo call before after packets = WritesMore before after packets
 

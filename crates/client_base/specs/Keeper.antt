@@ -26,7 +26,7 @@ pub record Written : Type 0 where
 -- A connection that it opened: what it wrote on it, how much of that is in the server's list of
 -- commands, how many packets it handled there, and what it accepted at QoS 2. History: no field
 -- keeps it.
-pub record Connection (Name : Type 0) : Type 0 where
+pub record ClientConnection (Name : Type 0) : Type 0 where
   pub name : Name
   pub written : List Written
   pub taken : ℕ
@@ -93,4 +93,4 @@ ids_in_use keeper = ids_of_own keeper.own ++ map id_of_request keeper.requests
 -- the client's side of one connection
 pub record Side (Name : Type 0) : Type 0 where
   pub keeper : Keeper
-  pub connection : Connection Name
+  pub connection : ClientConnection Name

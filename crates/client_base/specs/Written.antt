@@ -5,7 +5,7 @@ use Rattle.session_base.specs.packet.declared.packet.Packet.{Packet}
 use Rattle.session_base.specs.packet.declared.packet.Packet.TheVariants as packets
 use Rattle.session_base.specs.declared.publication.Publication.{Publication}
 use Rattle.session_base.specs.Publication.{publish_of}
-use Rattle.client_base.specs.Keeper.{Own, Written, Connection, Keeper, Side}
+use Rattle.client_base.specs.Keeper.{Own, Written, ClientConnection, Keeper, Side}
 
 -- a packet that carries no publication of the client's own
 abbrev pub plain : Packet → Written
@@ -42,7 +42,7 @@ sent_all (o ∷ own) = o ∷ sent_all own
 sent_all [] = []
 
 -- more is written on a connection
-abbrev pub writes : {Name : Type 0} → List Written → Connection Name → Connection Name
+abbrev pub writes : {Name : Type 0} → List Written → ClientConnection Name → ClientConnection Name
 writes more connection = record connection { written = connection.written ++ more }
 
 -- more is written on the connection of a client
@@ -50,7 +50,7 @@ abbrev pub writing : {Name : Type 0} → List Written → Side Name → Side Nam
 writing more side = record side { connection = writes more side.connection }
 
 -- on the connection that was opened last
-abbrev pub writes_first : {Name : Type 0} → List Written → List (Connection Name)
-    → List (Connection Name)
+abbrev pub writes_first : {Name : Type 0} → List Written → List (ClientConnection Name)
+    → List (ClientConnection Name)
 writes_first more (κ ∷ connections) = writes more κ ∷ connections
 writes_first more [] = []

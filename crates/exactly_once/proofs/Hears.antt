@@ -25,7 +25,7 @@ use Rattle.exactly_once.specs.HandshakeInvariant.{IsGood, IsJoined, IsLinked}
 use Rattle.broker_base.specs.broker_spec.Past.{current_connection}
 use Rattle.exactly_once.specs.Sends.{put_to}
 use Rattle.client_base.specs.Keeper.{Own, Written, Keeper}
-use Rattle.exactly_once.specs.Sides.{Connection, Side}
+use Rattle.exactly_once.specs.Sides.{ClientConnection, Side}
 use Rattle.client_base.specs.Handled.{handled}
 use Rattle.client_base.specs.Handshakes.{at_pubrec, is_sent_with}
 use Rattle.client_base.specs.Written.{plain, writes}
@@ -166,11 +166,11 @@ same_self x = rw (same x.ballot, same x.count) refl
     same n = grind arith
 
 -- the connection with more written, whatever else of it changes
-abbrev pub written_more : Connection → List Written → ℕ → ℕ → Bool → List Publication → Connection
+abbrev pub written_more : ClientConnection → List Written → ℕ → ℕ → Bool → List Publication → ClientConnection
 written_more κ more taken handled confirmed accepted =
     record { name = κ.name; written = κ.written ++ more; taken = taken; handled = handled; confirmed = confirmed; accepted = accepted }
 
-number_more : (x : ConnectionName) (κ κ' : Connection) (others : List Connection) (more : List Written) (j : ℕ) → κ'.name ≡ κ.name → κ'.written ≡ κ.written ++ more → (x ≡ κ.name → j < length κ.written)
+number_more : (x : ConnectionName) (κ κ' : ClientConnection) (others : List ClientConnection) (more : List Written) (j : ℕ) → κ'.name ≡ κ.name → κ'.written ≡ κ.written ++ more → (x ≡ κ.name → j < length κ.written)
     → number_at j (connection_named x (κ' ∷ others)) ≡ number_at j (connection_named x (κ ∷ others))
 number_more x κ κ' others more j n w h = by (cases_Bool (same_connection x κ.name))
   where
@@ -178,7 +178,7 @@ number_more x κ κ' others more j n w h = by (cases_Bool (same_connection x κ.
     by (inr e) = rw (ap (same_connection x) n ∙ e, e) refl
     by (inl e) = rw (ap (same_connection x) n ∙ e, e) (ap number_of (ap (λ z. slice_get z j) w ∙ within_more κ.written more j (h (same_name x κ.name e))))
 
-pub numbers_more : (past : Past) (κ κ' : Connection) (others : List Connection) (more : List Written) → κ'.name ≡ κ.name → κ'.written ≡ κ.written ++ more → count_of κ.name past ≤ length κ.written
+pub numbers_more : (past : Past) (κ κ' : ClientConnection) (others : List ClientConnection) (more : List Written) → κ'.name ≡ κ.name → κ'.written ≡ κ.written ++ more → count_of κ.name past ≤ length κ.written
     → new_numbers (κ' ∷ others) past ≡ new_numbers (κ ∷ others) past
 numbers_more [] κ κ' others more n w h = refl
 numbers_more (place ∷ past) κ κ' others more n w h =
@@ -206,7 +206,7 @@ dropped zero (y ∷ xs) x e = let h : y ≡ x = cc in ap (λ z. z ∷ xs) h
 dropped (suc n) (y ∷ xs) x e = dropped n xs x e
 
 -- the link of a client that is online on its newest connection, the current one
-pub joined_link : (limits : Limits) (past : Past) (current : Option ConnectionName) (online : Bool) (κ : Connection) (others : List Connection) → online ≡ true → κ.confirmed ≡ true
+pub joined_link : (limits : Limits) (past : Past) (current : Option ConnectionName) (online : Bool) (κ : ClientConnection) (others : List ClientConnection) → online ≡ true → κ.confirmed ≡ true
     → is_current current κ.name ≡ true
     → link_of_own limits past current online (last_confirmed (κ ∷ others)) ≡ Link.Joined (forward_of_own (to_be_taken κ)) (backward_of_own (to_come limits past κ))
 joined_link limits past current online κ others on conf e = rw (on, conf) (rw e refl)
@@ -219,18 +219,18 @@ sent_front i (Item.Released v id ∷ old) new e = sent_front i old new e
 sent_front i (Item.Finished v ∷ old) new e = sent_front i old new e
 
 -- the side after the PUBREC
-abbrev pub heard_pubrec : ℕ → Keeper → Connection → Side
+abbrev pub heard_pubrec : ℕ → Keeper → ClientConnection → Side
 heard_pubrec i keeper κ =
     record {
       keeper = record keeper { own = map (at_pubrec i) keeper.own; releases = keeper.releases ++ i ∷ [] };
       connection = writes (plain (packets.Pubrel i) ∷ []) (record κ { handled = suc κ.handled });
     }
 
-handled_is : (i : ℕ) (keeper : Keeper) (κ : Connection) → keeper.is_online ≡ true → is_sent_with i keeper.own ≡ true
+handled_is : (i : ℕ) (keeper : Keeper) (κ : ClientConnection) → keeper.is_online ≡ true → is_sent_with i keeper.own ≡ true
     → handled (packets.Pubrec i) (record { keeper = keeper; connection = κ }) ≡ heard_pubrec i keeper κ
 handled_is i keeper κ on has = rw (on, has) refl
 
-pub hears_pubrec : (limits : Limits) (past : Past) (keeper : Keeper) (κ : Connection) (others : List Connection) (i : ℕ)
+pub hears_pubrec : (limits : Limits) (past : Past) (keeper : Keeper) (κ : ClientConnection) (others : List ClientConnection) (i : ℕ)
     → OwnAnswered keeper.own → keeper.is_online ≡ true → κ.confirmed ≡ true → κ.taken ≤ length κ.written → count_of κ.name past ≤ length κ.written
     → is_current (current_connection past keeper.client) κ.name ≡ true → slice_get (put_to limits past κ.name) κ.handled ≡ Some (packets.Pubrec i)
     → IsGood (as_publisher limits (record { past = past; connections = κ ∷ others; keeper = keeper }))

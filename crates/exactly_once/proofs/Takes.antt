@@ -21,7 +21,7 @@ use Rattle.exactly_once.specs.Handshake.{Forward, Backward, Link, Handshake, ans
 use Rattle.exactly_once.specs.Handshake.Advances.{takes}
 use Rattle.exactly_once.specs.Handshake.Run.{stays, goes_on}
 use Rattle.exactly_once.specs.Sends.{sends_to, put_to}
-use Rattle.exactly_once.specs.Sides.{Connection}
+use Rattle.exactly_once.specs.Sides.{ClientConnection}
 use Rattle.client_base.specs.Keeper.{Keeper}
 use Rattle.exactly_once.specs.Story.{Story}
 use Rattle.exactly_once.specs.StoryCommands.{count_of}
@@ -83,7 +83,7 @@ put_more limits place past x = refl
 
 -- ---- the event
 
-abbrev pub taken_once : Connection → Connection
+abbrev pub taken_once : ClientConnection → ClientConnection
 taken_once κ = record κ { taken = suc κ.taken }
 
 -- the handshake after an acceptance
@@ -92,7 +92,7 @@ accepting_like : (id k : ℕ) (b : Bool) (h : Handshake ℕ) (l : Link ℕ) (t :
 accepting_like id k true h l t n i a r e = absurd (both_ways true n refl)
 accepting_like id k false h l t n i a r e = record { items = i; accepted = a; received = r; link = e }
 
-pub takes_new : (limits : Limits) (past : Past) (keeper : Keeper) (κ : Connection) (others : List Connection) (p : Publish) (k : ℕ) (dup : Bool) (id : ℕ) (clean : Bool)
+pub takes_new : (limits : Limits) (past : Past) (keeper : Keeper) (κ : ClientConnection) (others : List ClientConnection) (p : Publish) (k : ℕ) (dup : Bool) (id : ℕ) (clean : Bool)
     → keeper.is_online ≡ true → κ.confirmed ≡ true → is_current (current_connection past keeper.client) κ.name ≡ true
     → slice_get κ.written κ.taken ≡ Some (record { packet = packets.Publish p; number = Some k }) → p.delivery ≡ deliveries.ExactlyOnce dup id
     → count_of κ.name past ≡ κ.taken → κ.taken ≤ length κ.written → κ.handled ≤ length (put_to limits past κ.name)
@@ -124,7 +124,7 @@ takes_new limits past keeper κ others p k dup id clean on conf current next two
     ∙ ap (λ z. Link.Joined f z) come) in
     let named : connection_named κ.name (taken_once κ ∷ others) ≡ Some (taken_once κ) = ap (λ b. if b then Some (taken_once κ) else connection_named κ.name others) (same_name_self κ.name) in
     let carried : number_at (count_of κ.name past) (connection_named κ.name (taken_once κ ∷ others)) ≡ Some k =
-    ap₂ (λ (n : ℕ) (o : Option Connection). number_at n o) counted named ∙ ap number_of next in
+    ap₂ (λ (n : ℕ) (o : Option ClientConnection). number_at n o) counted named ∙ ap number_of next in
     let accepted : h.accepted ++ k ∷ [] ≡ (as_publisher limits t).accepted =
     sym (ap₂ (λ xs n. xs ++ more_by (is_exactly_once p.delivery) n)
     (numbers_more past κ (taken_once κ) others [] refl (sym (append-nil κ.written)) (subst (λ n. n ≤ length κ.written) (sym counted) within)) carried

@@ -6,7 +6,7 @@ use Rattle.broker_base.specs.broker_spec.Entries.{Entry}
 use Rattle.broker_base.specs.broker_spec.Readings.{publication_in, release_place}
 use Rattle.broker_base.specs.broker_spec.Times.{entries_of}
 use Rattle.client_base.specs.lists.Lists.{Each}
-use Rattle.exactly_once.specs.Sides.{Connection}
+use Rattle.exactly_once.specs.Sides.{ClientConnection}
 use Rattle.exactly_once.specs.Story.{Story}
 use Rattle.exactly_once.specs.Carried.{is_two}
 
@@ -19,7 +19,7 @@ abbrev pub two_entries : List Entry → List Entry
 two_entries = filter is_two_entry
 
 -- what the client accepted, connection by connection, the oldest first
-abbrev pub accepted_on : List Connection → List Publication
+abbrev pub accepted_on : List ClientConnection → List Publication
 accepted_on (κ ∷ connections) = accepted_on connections ++ κ.accepted
 accepted_on [] = []
 

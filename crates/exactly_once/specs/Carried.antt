@@ -11,11 +11,11 @@ use Rattle.broker_base.specs.broker_spec.declared.command.Command.{Command}
 use Rattle.broker_base.specs.broker_spec.declared.command.Command.TheVariants as commands
 use Rattle.client_base.specs.session_base.declared.publication.Publication.{Publication}
 use Rattle.client_base.specs.Keeper.{Own, Written, number_in}
-use Rattle.exactly_once.specs.Sides.{Connection}
+use Rattle.exactly_once.specs.Sides.{ClientConnection}
 use Rattle.exactly_once.specs.StoryCommands.{count_of}
 
 -- the client's connection of this name, if it has one
-abbrev pub connection_named : ConnectionName → List Connection → Option Connection
+abbrev pub connection_named : ConnectionName → List ClientConnection → Option ClientConnection
 connection_named x (κ ∷ connections) =
     if same_connection x κ.name then Some κ else connection_named x connections
 connection_named x [] = None
@@ -31,12 +31,12 @@ number_of (Some w) = w.number
 number_of None = None
 
 -- the number of the j-th packet that was written on a connection
-abbrev pub number_at : ℕ → Option Connection → Option ℕ
+abbrev pub number_at : ℕ → Option ClientConnection → Option ℕ
 number_at j (Some κ) = number_of (slice_get κ.written j)
 number_at j None = None
 
 -- the publication, if the command is a PUBLISH that the client wrote on one of its connections
-abbrev pub carries : List Connection → Command → Past → Option ℕ
+abbrev pub carries : List ClientConnection → Command → Past → Option ℕ
 carries connections (commands.Packet x (packets.Publish p)) past =
     number_at (count_of x past) (connection_named x connections)
 carries connections _ past = None
@@ -47,7 +47,7 @@ more_by true (Some k) = k ∷ []
 more_by _ _ = []
 
 -- the client's publications that are new in the list, by place
-abbrev pub new_numbers : List Connection → Past → List ℕ
+abbrev pub new_numbers : List ClientConnection → Past → List ℕ
 new_numbers connections (place ∷ past) =
     new_numbers connections past
     ++ more_by (is_new place.command place.mark) (carries connections place.command past)

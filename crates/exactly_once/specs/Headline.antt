@@ -20,7 +20,7 @@ use Rattle.broker_base.specs.broker_spec.TakenLaws.{queued_at}
 use Rattle.broker_base.specs.broker_spec.declared.command.Command.TheVariants as commands
 use Rattle.broker_base.specs.broker_spec.declared.command.Output.TheVariants.{Send}
 use Rattle.client_base.specs.lists.Lists.{In, IsPrefixOf}
-use Rattle.exactly_once.specs.Sides.{Connection}
+use Rattle.exactly_once.specs.Sides.{ClientConnection}
 use Rattle.exactly_once.specs.Story.{Story}
 use Rattle.exactly_once.specs.StoryTrace.{StoryTrace}
 use Rattle.exactly_once.specs.Carried.{is_this, carries, new_numbers, publications_of, published}
@@ -33,7 +33,7 @@ abbrev pub IsAnsweredBy : Limits → Place → Past → ConnectionName → Packe
 IsAnsweredBy limits place below x packet = In (Send x packet) (answers_at limits place below)
 
 -- how many of these entries come from places that carry publication k of the client
-abbrev pub made_by : List Connection → ℕ → Past → List Entry → ℕ
+abbrev pub made_by : List ClientConnection → ℕ → Past → List Entry → ℕ
 made_by connections k (place ∷ below) entries =
     (if is_this k (carries connections place.command below)
     then length (filter (is_from_publish (length below)) entries) else 0)

@@ -8,7 +8,7 @@ use Rattle.broker_base.specs.broker_spec.Place.{Client, Past, Limits}
 use Rattle.broker_base.specs.broker_spec.Past.{accepts, begins, session_start}
 use Rattle.broker_base.specs.broker_spec.Entries.{Entry}
 use Rattle.broker_base.specs.broker_spec.Times.{entries_of}
-use Rattle.exactly_once.specs.Sides.{Connection}
+use Rattle.exactly_once.specs.Sides.{ClientConnection}
 use Rattle.exactly_once.specs.Carried.{is_this}
 use Rattle.exactly_once.specs.Story.{Story}
 
@@ -64,7 +64,7 @@ entries_in limits (place ∷ past) c start =
 entries_in limits [] c start = []
 
 -- what the client accepted at QoS 2 on connections of that session, the oldest first
-abbrev pub accepted_in : Past → Client → ℕ → List Connection → List Publication
+abbrev pub accepted_in : Past → Client → ℕ → List ClientConnection → List Publication
 accepted_in past c start (κ ∷ connections) =
     accepted_in past c start connections
     ++ (if is_this start (opened_in past c κ.name) then κ.accepted else [])
@@ -73,11 +73,11 @@ accepted_in past c start [] = []
 -- ---- in step
 
 -- if a connection's Connect began a session that is not the first, its CONNACK was received
-abbrev pub WasWelcome : Past → Client → Connection → Type 0
+abbrev pub WasWelcome : Past → Client → ClientConnection → Type 0
 WasWelcome past c κ = began_again past c κ.name ≡ true → κ.confirmed ≡ true
 
 -- on each connection except the newest, the CONNACK of a session that is not the first was received
-abbrev pub AreWelcome : Past → Client → List Connection → Type 0
+abbrev pub AreWelcome : Past → Client → List ClientConnection → Type 0
 AreWelcome past c (κ ∷ connections) = Each (WasWelcome past c) connections
 AreWelcome past c [] = Unit {0}
 

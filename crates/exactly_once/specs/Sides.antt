@@ -3,8 +3,8 @@ use Rattle.broker_base.specs.broker_spec.Connection.{ConnectionName}
 use Rattle.client_base.specs.Keeper as keeper
 
 -- a connection that the client opened, with what it wrote and received on it
-abbrev pub Connection : Type 0
-Connection = keeper.Connection ConnectionName
+abbrev pub ClientConnection : Type 0
+ClientConnection = keeper.ClientConnection ConnectionName
 
 -- the client's side of one connection
 abbrev pub Side : Type 0

@@ -15,7 +15,7 @@ use Rattle.broker_base.specs.broker_spec.declared.command.Command.{Command}
 use Rattle.exactly_once.specs.Sends.{put_to}
 use Rattle.client_base.specs.Keeper.{Written, Keeper, new_keeper, ids_in_use}
 use Rattle.client_base.specs.declared.request.Request.TheVariants as requests
-use Rattle.exactly_once.specs.Sides.{Connection, Side}
+use Rattle.exactly_once.specs.Sides.{ClientConnection, Side}
 use Rattle.client_base.specs.Written.{plain}
 use Rattle.client_base.specs.Handled.{handled, lost}
 use Rattle.client_base.specs.Called.{new_connection, adds_own, written_for}
@@ -25,7 +25,7 @@ use Rattle.exactly_once.specs.StoryCommands.{command_of, counted_at, names_clien
 -- the connections, the newest first: the client holds the first one while it is open
 pub record Story : Type 0 where
   pub past : Past
-  pub connections : List Connection
+  pub connections : List ClientConnection
   pub keeper : Keeper
 
 -- a client's story before anything has happened
@@ -35,7 +35,7 @@ no_story c = record { past = []; connections = []; keeper = new_keeper c }
 -- ---- the client
 
 -- the story with another state of the client and of its newest connection
-abbrev pub with_side : Story → List Connection → Side → Story
+abbrev pub with_side : Story → List ClientConnection → Side → Story
 with_side s others side =
     record { past = s.past; connections = side.connection ∷ others; keeper = side.keeper }
 
@@ -45,7 +45,7 @@ with_side s others side =
 -- come next in the list, and any client may be lost at any time.
 pub data StoryStep (limits : Limits) (s : Story) : Story → Type 0 where
   -- the next packet that the client wrote on one of its connections comes next in the list
-  takes : (i : ℕ) (κ : Connection) (w : Written) → slice_get s.connections i ≡ Some κ →
+  takes : (i : ℕ) (κ : ClientConnection) (w : Written) → slice_get s.connections i ≡ Some κ →
       slice_get κ.written κ.taken ≡ Some w →
       StoryStep limits s (record {
         past = place_of limits s.past (command_of κ.name κ.taken w.packet) ∷ s.past;
@@ -57,7 +57,7 @@ pub data StoryStep (limits : Limits) (s : Story) : Story → Type 0 where
       any_named (is_packet_of command) s.connections ≡ false →
       StoryStep limits s (record s { past = place_of limits s.past command ∷ s.past })
   -- the client handles the next packet that was sent on the connection that it holds
-  receives : (κ : Connection) (others : List Connection) (packet : Packet) →
+  receives : (κ : ClientConnection) (others : List ClientConnection) (packet : Packet) →
       s.connections ≡ κ ∷ others → s.keeper.is_open ≡ true →
       slice_get (put_to limits s.past κ.name) κ.handled ≡ Some packet →
       StoryStep limits s

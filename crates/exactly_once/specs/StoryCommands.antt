@@ -7,7 +7,7 @@ use Rattle.broker_base.specs.broker_spec.Connection.{ConnectionName, same_connec
 use Rattle.broker_base.specs.broker_spec.Place.{Client, Past}
 use Rattle.broker_base.specs.broker_spec.declared.command.Command.{Command}
 use Rattle.broker_base.specs.broker_spec.declared.command.Command.TheVariants as commands
-use Rattle.exactly_once.specs.Sides.{Connection}
+use Rattle.exactly_once.specs.Sides.{ClientConnection}
 use Rattle.broker_base.specs.broker_spec.Past.{session_of}
 
 -- the first packet of a connection is a CONNECT and becomes a Connect; each later one a Packet
@@ -16,7 +16,7 @@ command_of x zero (packets.Connect c) = commands.Connect x c.client c.clean
 command_of x taken packet = commands.Packet x packet
 
 -- the connection at this index of the list, one more packet of it taken
-abbrev pub counted_at : ℕ → List Connection → List Connection
+abbrev pub counted_at : ℕ → List ClientConnection → List ClientConnection
 counted_at i [] = []
 counted_at zero (κ ∷ connections) = record κ { taken = suc κ.taken } ∷ connections
 counted_at (suc i) (κ ∷ connections) = κ ∷ counted_at i connections
@@ -40,6 +40,6 @@ count_of x (place ∷ past) =
 count_of x [] = 0
 
 -- whether the name of any of these connections passes a test
-abbrev pub any_named : (ConnectionName → Bool) → List Connection → Bool
+abbrev pub any_named : (ConnectionName → Bool) → List ClientConnection → Bool
 any_named test (κ ∷ connections) = test κ.name || any_named test connections
 any_named test [] = false

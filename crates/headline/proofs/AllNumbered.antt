@@ -16,7 +16,7 @@ use Rattle.byte_world.specs.client_base.Keeper.{Keeper, Own, Written, ids_in_use
 use Rattle.byte_world.specs.client_base.Written.{plain, publishes, resent, sent_again, sent_first, writes_first, writing}
 use Rattle.byte_world.specs.lists.Lists.{Each, has_id}
 use Rattle.byte_world.proofs.of_lists.OfEach.{each_append}
-use Rattle.byte_world.specs.exactly_once.Sides.{Connection, Side}
+use Rattle.byte_world.specs.exactly_once.Sides.{ClientConnection, Side}
 use Rattle.byte_world.specs.exactly_once.Story.{StoryStep, Story}
 use Rattle.byte_world.specs.exactly_once.StoryCommands.{counted_at}
 use Rattle.byte_world.specs.exactly_once.Story.StoryStep.{takes, others_take, receives, opens_anew, loses, disconnects, publishes_one, subscribes, unsubscribes}
@@ -30,12 +30,12 @@ is_unnumbered _ _ = false
 abbrev pub IsNumbered : Written → Type 0
 IsNumbered w = is_unnumbered w.packet w.number ≡ false
 
-abbrev pub AreNumbered : List Connection → Type 0
-AreNumbered = Each (λ (κ : Connection). Each IsNumbered κ.written)
+abbrev pub AreNumbered : List ClientConnection → Type 0
+AreNumbered = Each (λ (κ : ClientConnection). Each IsNumbered κ.written)
 
 -- ---- what is written
 
-one_more : (κ : Connection) (w : Written) → IsNumbered w → Each IsNumbered κ.written → Each IsNumbered (κ.written ++ w ∷ [])
+one_more : (κ : ClientConnection) (w : Written) → IsNumbered w → Each IsNumbered κ.written → Each IsNumbered (κ.written ++ w ∷ [])
 one_more κ w numbered all = each_append IsNumbered κ.written (w ∷ []) all (numbered, tt)
 
 releases_numbered : (ids : List ℕ) → Each IsNumbered (map (λ id. plain (packets.Pubrel id)) ids)
@@ -64,15 +64,15 @@ resent_numbered keeper =
 
 -- ---- what a packet does to the newest connection
 
-abbrev StaysNumbered : Connection → Side → Type 0
+abbrev StaysNumbered : ClientConnection → Side → Type 0
 StaysNumbered κ side = Each IsNumbered κ.written → Each IsNumbered side.connection.written
 
-confirmed_numbered : (κ : Connection) (keeper : Keeper) (present : Bool) → StaysNumbered κ (confirmed present (counted_side keeper κ))
+confirmed_numbered : (κ : ClientConnection) (keeper : Keeper) (present : Bool) → StaysNumbered κ (confirmed present (counted_side keeper κ))
 confirmed_numbered κ keeper present all =
     let kept = if not present && keeper.was_served then discarded keeper else keeper in
     each_append IsNumbered κ.written (resent kept) all (resent_numbered kept)
 
-publish_numbered : (κ : Connection) (keeper : Keeper) (d : Delivery) (p : Publication) → StaysNumbered κ (takes_in d p (counted_side keeper κ))
+publish_numbered : (κ : ClientConnection) (keeper : Keeper) (d : Delivery) (p : Publication) → StaysNumbered κ (takes_in d p (counted_side keeper κ))
 publish_numbered κ keeper deliveries.AtMostOnce p all = all
 publish_numbered κ keeper (deliveries.AtLeastOnce dup id) p all = one_more κ (plain (packets.Puback id)) refl all
 publish_numbered κ keeper (deliveries.ExactlyOnce dup id) p all = by (has_id id keeper.received)
@@ -84,7 +84,7 @@ publish_numbered κ keeper (deliveries.ExactlyOnce dup id) p all = by (has_id id
     by true = one_more κ (plain (packets.Pubrec id)) refl all
     by false = one_more κ (plain (packets.Pubrec id)) refl all
 
-pubrec_numbered : (κ : Connection) (keeper : Keeper) (i : ℕ) → StaysNumbered κ (releasing i (counted_side keeper κ))
+pubrec_numbered : (κ : ClientConnection) (keeper : Keeper) (i : ℕ) → StaysNumbered κ (releasing i (counted_side keeper κ))
 pubrec_numbered κ keeper i all = by (is_sent_with i keeper.own) (has_id i keeper.releases)
   where
     by : (b r : Bool) → Each IsNumbered (if b then writing (plain (packets.Pubrel i) ∷ [])
@@ -94,13 +94,13 @@ pubrec_numbered κ keeper i all = by (is_sent_with i keeper.own) (has_id i keepe
     by false true = one_more κ (plain (packets.Pubrel i)) refl all
     by false false = all
 
-online_numbered : (κ : Connection) (keeper : Keeper) (packet : Packet) → StaysNumbered κ (handled_online packet (counted_side keeper κ))
+online_numbered : (κ : ClientConnection) (keeper : Keeper) (packet : Packet) → StaysNumbered κ (handled_online packet (counted_side keeper κ))
 online_numbered κ keeper (packets.Publish p) all = publish_numbered κ keeper p.delivery (publication_of p) all
 online_numbered κ keeper (packets.Pubrec i) all = pubrec_numbered κ keeper i all
 online_numbered κ keeper (packets.Pubrel i) all = one_more κ (plain (packets.Pubcomp i)) refl all
 online_numbered κ keeper _ all = all
 
-handled_numbered : (κ : Connection) (keeper : Keeper) (packet : Packet) → StaysNumbered κ (handled packet (record { keeper = keeper; connection = κ }))
+handled_numbered : (κ : ClientConnection) (keeper : Keeper) (packet : Packet) → StaysNumbered κ (handled packet (record { keeper = keeper; connection = κ }))
 handled_numbered κ keeper packet all = by keeper.is_online
   where
     first : (q : Packet) → Each IsNumbered (handled_first q (counted_side keeper κ)).connection.written
@@ -114,12 +114,12 @@ handled_numbered κ keeper packet all = by keeper.is_online
 
 -- ---- every event
 
-counted_numbered : (i : ℕ) (connections : List Connection) → AreNumbered connections → AreNumbered (counted_at i connections)
+counted_numbered : (i : ℕ) (connections : List ClientConnection) → AreNumbered connections → AreNumbered (counted_at i connections)
 counted_numbered i [] all = tt
 counted_numbered zero (κ ∷ connections) all = all
 counted_numbered (suc i) (κ ∷ connections) all = (all.0, counted_numbered i connections all.1)
 
-more_numbered : (more : List Written) (connections : List Connection) → Each IsNumbered more → AreNumbered connections → AreNumbered (writes_first more connections)
+more_numbered : (more : List Written) (connections : List ClientConnection) → Each IsNumbered more → AreNumbered connections → AreNumbered (writes_first more connections)
 more_numbered more [] of all = tt
 more_numbered more (κ ∷ connections) of all = (each_append IsNumbered κ.written more all.0 of, all.1)
 

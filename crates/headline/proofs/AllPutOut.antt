@@ -9,7 +9,7 @@ use Rattle.byte_world.specs.broker_spec.Place.{Client}
 use Rattle.byte_world.specs.lists.Lists.{Each}
 use Rattle.byte_world.proofs.of_lists.Places.{get_set}
 use Rattle.byte_world.specs.exactly_once.Sends.{put_to}
-use Rattle.byte_world.specs.exactly_once.Sides.{Connection}
+use Rattle.byte_world.specs.exactly_once.Sides.{ClientConnection}
 use Rattle.byte_world.specs.packet_world.World.{AreApart, ClientEnds, End, World, with_client}
 use Rattle.byte_world.specs.packet_world.Steps.{HasPipe, Reached}
 use Rattle.byte_world.specs.packet_world.Steps.Goes.{reads}
@@ -25,11 +25,11 @@ use Rattle.headline.proofs.Places.{in_turn, take_whole}
 
 -- the open end of a connection of which all is read, whose node has applied this list and sent all
 -- the answers
-abbrev pub end_of : List Command → Connection → End
+abbrev pub end_of : List Command → ClientConnection → End
 end_of agreed κ =
     record { read = length κ.written; seen = length agreed; put = put_to usual_limits (past_of usual_limits agreed) κ.name; is_open = true }
 
-abbrev pub ends_of : List Command → List Connection → List End
+abbrev pub ends_of : List Command → List ClientConnection → List End
 ends_of agreed connections = map (end_of agreed) connections
 
 abbrev pub IsFull : List Command → ClientEnds → Type 0
@@ -37,7 +37,7 @@ IsFull agreed c = c.ends ≡ ends_of agreed c.connections
 
 -- ---- reading
 
-more_read : (cs : List Client) (w : World) (i j : ℕ) (c : ClientEnds) (κ : Connection) (e : End) → Reached cs w → HasPipe w i c j κ e → e.is_open ≡ true
+more_read : (cs : List Client) (w : World) (i j : ℕ) (c : ClientEnds) (κ : ClientConnection) (e : End) → Reached cs w → HasPipe w i c j κ e → e.is_open ≡ true
     → (k : ℕ) → e.read + k ≤ length κ.written → Reached cs (with_client i (record c { ends = set c.ends j (record e { read = e.read + k }) }) w)
 more_read cs w i j c κ e reached pipe is_open zero within =
     let none : e.read + 0 ≡ e.read = omega arith in
@@ -65,7 +65,7 @@ past_less zero (suc b) low = absurd (omega (arith, low))
 past_less (suc a) (suc b) low = let z = past_less a b (omega (arith, low)) in let f = z.1 in (z.0, omega (arith, f))
 
 -- an open end reads all that was written
-pub all_read : (cs : List Client) (w : World) (i j : ℕ) (c : ClientEnds) (κ : Connection) (e : End) → Reached cs w → HasPipe w i c j κ e → e.is_open ≡ true
+pub all_read : (cs : List Client) (w : World) (i j : ℕ) (c : ClientEnds) (κ : ClientConnection) (e : End) → Reached cs w → HasPipe w i c j κ e → e.is_open ≡ true
     → e.read ≤ length κ.written → Reached cs (with_client i (record c { ends = set c.ends j (record e { read = length κ.written }) }) w)
 all_read cs w i j c κ e reached pipe is_open low =
     let z = past_less (length κ.written) e.read low in
@@ -79,7 +79,7 @@ same_end : (e f : End) → e.read ≡ f.read → e.seen ≡ f.seen → e.put ≡
 same_end e f a b c d = rw (a, b, c, d) refl
 
 -- one end
-one_put_out : (cs : List Client) (old : List Command) (w : World) (i j : ℕ) (c : ClientEnds) (κ : Connection) → AreApart cs → Reached cs w
+one_put_out : (cs : List Client) (old : List Command) (w : World) (i j : ℕ) (c : ClientEnds) (κ : ClientConnection) → AreApart cs → Reached cs w
     → HasPipe w i c j κ (end_of old κ) → length old ≤ length w.agreed → Reached cs (with_client i (record c { ends = set c.ends j (end_of w.agreed κ) }) w)
 one_put_out cs old w i j c κ apart reached pipe low =
     let given = outputs (outputs_between broker_rules w.agreed (length old) (length w.agreed)) in

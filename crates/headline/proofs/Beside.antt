@@ -7,7 +7,7 @@ use Rattle.byte_world.specs.broker_spec.Place.{Client}
 use Rattle.byte_world.specs.client_base.Keeper.{Keeper, Written}
 use Rattle.byte_world.specs.lists.Lists.{Each, In, IsPrefixOf}
 use Rattle.byte_world.proofs.of_lists.Prefixes.{prefix_length}
-use Rattle.byte_world.specs.exactly_once.Sides.{Connection}
+use Rattle.byte_world.specs.exactly_once.Sides.{ClientConnection}
 use Rattle.byte_world.specs.exactly_once.StoryCommands.{is_packet_of}
 use Rattle.byte_world.specs.packet_world.World.{AreApart, ClientEnds, End, World}
 use Rattle.byte_world.specs.packet_world.Exact.{commands_from}
@@ -24,9 +24,9 @@ use Rattle.headline.proofs.Places.{each_of_made, map_back, map_twice, same_place
 -- a client with its connections, except how much of them is in the list
 pub record Alone : Type 0 where
   pub keeper : Keeper
-  pub connections : List Connection
+  pub connections : List ClientConnection
 
-abbrev pub alone : Keeper → List Connection → Alone
+abbrev pub alone : Keeper → List ClientConnection → Alone
 alone keeper connections = record { keeper = keeper; connections = map untaken_connection connections }
 
 abbrev pub ends_alone : ClientEnds → Alone
@@ -43,11 +43,11 @@ pub record Beside (cs : List Client) (agreed : List Command) (clients : List Alo
 -- ---- what a client shows of its ends without its nodes
 
 -- ends do not depend on how much is in the list
-ends_untaken : (agreed : List Command) (connections : List Connection) → ends_of agreed (map untaken_connection connections) ≡ ends_of agreed connections
+ends_untaken : (agreed : List Command) (connections : List ClientConnection) → ends_of agreed (map untaken_connection connections) ≡ ends_of agreed connections
 ends_untaken agreed [] = refl
 ends_untaken agreed (κ ∷ connections) = ap (λ l. end_of agreed κ ∷ l) (ends_untaken agreed connections)
 
-pub same_ends : (agreed : List Command) (connections others : List Connection) → AreSameUntaken connections others → ends_of agreed connections ≡ ends_of agreed others
+pub same_ends : (agreed : List Command) (connections others : List ClientConnection) → AreSameUntaken connections others → ends_of agreed connections ≡ ends_of agreed others
 same_ends agreed connections others same = sym (ends_untaken agreed connections) ∙ ap (ends_of agreed) same ∙ ends_untaken agreed others
 
 -- if all that is not taken of two lists of clients is the same, their ends are full together
@@ -73,7 +73,7 @@ pub record IsOfAlone (clients : List Alone) (command : Command) : Type 0 where
   pub i : ℕ
   pub j : ℕ
   pub client : Alone
-  pub connection : Connection
+  pub connection : ClientConnection
   pub there : slice_get clients i ≡ Some client
   pub at : slice_get client.connections j ≡ Some connection
   pub named : is_packet_of command connection.name ≡ true
@@ -81,19 +81,19 @@ pub record IsOfAlone (clients : List Alone) (command : Command) : Type 0 where
 -- a list has of each connection a prefix of what was written, in order, and only packets of these
 -- connections
 pub record IsOfWritten (clients : List Alone) (agreed : List Command) : Type 0 where
-  pub order : (i j : ℕ) (c : Alone) (κ : Connection) → slice_get clients i ≡ Some c → slice_get c.connections j ≡ Some κ →
+  pub order : (i j : ℕ) (c : Alone) (κ : ClientConnection) → slice_get clients i ≡ Some c → slice_get c.connections j ≡ Some κ →
       IsPrefixOf (filter (of_name κ.name) agreed) (commands_from κ.name 0 κ.written)
   pub known : (command : Command) → In command agreed → is_of_connection command ≡ true → IsOfAlone clients command
 
 module _ (cs : List Client) (apart : AreApart cs) (agreed later : List Command) (clients : List Alone) (b : Beside cs agreed clients) (grown : IsPrefixOf agreed later)
     (of : IsOfWritten clients later) where
   -- a connection without its node
-  alone_at : (i j : ℕ) (c : ClientEnds) (κ : Connection) → slice_get b.world.clients i ≡ Some c → slice_get c.connections j ≡ Some κ
+  alone_at : (i j : ℕ) (c : ClientEnds) (κ : ClientConnection) → slice_get b.world.clients i ≡ Some c → slice_get c.connections j ≡ Some κ
       → (slice_get clients i ≡ Some (ends_alone c)) × (slice_get (ends_alone c).connections j ≡ Some (untaken_connection κ))
   alone_at i j c κ at there =
       (sym (ap (λ l. slice_get l i) b.same) ∙ get_mapped ends_alone b.world.clients i c at, get_mapped untaken_connection c.connections j κ there)
 
-  all_taken : (i j : ℕ) (c : ClientEnds) (κ : Connection) (e : End) → HasPipe b.world i c j κ e → take e.read κ.written ≡ κ.written
+  all_taken : (i j : ℕ) (c : ClientEnds) (κ : ClientConnection) (e : End) → HasPipe b.world i c j κ e → take e.read κ.written ≡ κ.written
   all_taken i j c κ e pipe =
       let full = each_get (IsFull agreed) b.world.clients i c b.full pipe.client in
       let one = get_mapped (end_of agreed) c.connections j κ pipe.connection in
@@ -127,7 +127,7 @@ module _ (cs : List Client) (apart : AreApart cs) (agreed later : List Command) 
                 connection = z.0;
                 end = end_of agreed z.0;
                 pipe = record { client = at; connection = z.1; end = ap (λ l. slice_get l o.j) full ∙ get_mapped (end_of agreed) c.connections o.j z.0 z.1 };
-                named = ap (λ (κ : Connection). is_packet_of command κ.name) z.2 ∙ o.named;
+                named = ap (λ (κ : ClientConnection). is_packet_of command κ.name) z.2 ∙ o.named;
               }
 
   -- then the world continues to the longer list

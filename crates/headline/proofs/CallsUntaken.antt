@@ -7,7 +7,7 @@ use Rattle.byte_world.specs.client_base.Handled.{lost}
 use Rattle.byte_world.specs.client_base.Keeper.{Keeper, Written}
 use Rattle.byte_world.specs.client_base.Written.{plain, writes_first}
 use Rattle.byte_world.specs.client_base.declared.request.Request.TheVariants as requests
-use Rattle.byte_world.specs.exactly_once.Sides.{Connection}
+use Rattle.byte_world.specs.exactly_once.Sides.{ClientConnection}
 use Rattle.byte_world.specs.exactly_once.Story.{StoryStep, Story}
 use Rattle.byte_world.specs.exactly_once.Story.StoryStep.{takes, others_take, receives, opens_anew, loses, disconnects, publishes_one, subscribes, unsubscribes}
 use Rattle.byte_world.specs.packet_world.Steps.{is_call}
@@ -15,17 +15,17 @@ use Rattle.headline.proofs.Untaken.{AreSameUntaken, untaken_connection}
 
 -- ---- what is written on the newest connection
 
-written_untaken : (more : List Written) (connections : List Connection) → map untaken_connection (writes_first more connections) ≡ writes_first more (map untaken_connection connections)
+written_untaken : (more : List Written) (connections : List ClientConnection) → map untaken_connection (writes_first more connections) ≡ writes_first more (map untaken_connection connections)
 written_untaken more [] = refl
 written_untaken more (κ ∷ connections) = refl
 
 -- on two lists of connections
-pub same_written : (more : List Written) (connections others : List Connection) → AreSameUntaken connections others
+pub same_written : (more : List Written) (connections others : List ClientConnection) → AreSameUntaken connections others
     → AreSameUntaken (writes_first more connections) (writes_first more others)
 same_written more connections others same = written_untaken more connections ∙ ap (writes_first more) same ∙ sym (written_untaken more others)
 
 -- what is written may come after a test
-if_written : (online : Bool) (more : List Written) (connections others : List Connection) → AreSameUntaken connections others
+if_written : (online : Bool) (more : List Written) (connections others : List ClientConnection) → AreSameUntaken connections others
     → AreSameUntaken (if online then writes_first more connections else connections) (if online then writes_first more others else others)
 if_written true more connections others same = same_written more connections others same
 if_written false more connections others same = same
@@ -42,7 +42,7 @@ pub record SameCall (limits : Limits) (s t : Story) : Type 0 where
   pub connections : AreSameUntaken after.connections t.connections
 
 -- of a story with the same keeper
-called : (limits : Limits) (past : Past) (connections : List Connection) (s t : Story) (h : StoryStep limits s t) → is_call h ≡ true → AreSameUntaken connections s.connections
+called : (limits : Limits) (past : Past) (connections : List ClientConnection) (s t : Story) (h : StoryStep limits s t) → is_call h ≡ true → AreSameUntaken connections s.connections
     → SameCall limits (record { past = past; connections = connections; keeper = s.keeper }) t
 called limits past connections s t (takes i κ w stands next) is same = cc
 called limits past connections s t (others_take command other none) is same = cc

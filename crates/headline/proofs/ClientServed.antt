@@ -9,7 +9,7 @@ use Rattle.byte_world.specs.client_base.Called.{new_connection}
 use Rattle.byte_world.specs.client_base.Handled.{lost}
 use Rattle.byte_world.specs.client_base.Keeper.{Keeper, new_keeper}
 use Rattle.byte_world.specs.exactly_once.Rows.{first_name, writer}
-use Rattle.byte_world.specs.exactly_once.Sides.{Connection}
+use Rattle.byte_world.specs.exactly_once.Sides.{ClientConnection}
 use Rattle.byte_world.specs.world_base.declared.item.Item.TheVariants.{Opened}
 use Rattle.byte_world.specs.world_base.Connections.{fresh}
 use Rattle.byte_world.specs.node_group.Group.{opening_group}
@@ -40,13 +40,13 @@ connack_whole = (tt, tt, within_by _ _ refl)
 abbrev pub keeper_opens : Keeper
 keeper_opens = record (lost (new_keeper writer)) { is_open = true }
 
-abbrev pub its_connection : Connection
+abbrev pub its_connection : ClientConnection
 its_connection = new_connection writer first_name
 
 abbrev pub keeper_served : Keeper
 keeper_served = record keeper_opens { is_online = true; was_served = true }
 
-abbrev pub connection_served : Connection
+abbrev pub connection_served : ClientConnection
 connection_served = record its_connection { handled = 1; confirmed = true }
 
 row_opens : Row core_opened (client_with keeper_opens its_connection (pipe_with (spelled (packets_of its_connection.written)) [] []))

@@ -15,7 +15,7 @@ use Rattle.byte_world.proofs.of_node_group.Placed.{get_of_set, set_mapped, set_t
 use Rattle.byte_world.specs.lists.Lists.{Each}
 use Rattle.byte_world.proofs.of_lists.OfEach.{each_then}
 use Rattle.byte_world.specs.exactly_once.Sends.{put_to}
-use Rattle.byte_world.specs.exactly_once.Sides.{Connection, Side}
+use Rattle.byte_world.specs.exactly_once.Sides.{ClientConnection, Side}
 use Rattle.byte_world.specs.exactly_once.Story.{StoryStep, Story}
 use Rattle.byte_world.specs.exactly_once.StoryCommands.{any_named}
 use Rattle.byte_world.proofs.of_exactly_once.publishing.Grown.{handled_grows}
@@ -49,7 +49,7 @@ becomes {agreed = agreed} b i later reached full =
     }
 
 -- the node of its newest connection reads all that it wrote there
-first_reads : (cs : List Client) (w : World) (i : ℕ) (before : ClientEnds) (keeper : Keeper) (κ : Connection) (others : List Connection) (e : End) (ends : List End)
+first_reads : (cs : List Client) (w : World) (i : ℕ) (before : ClientEnds) (keeper : Keeper) (κ : ClientConnection) (others : List ClientConnection) (e : End) (ends : List End)
     → slice_get w.clients i ≡ Some before → Reached cs (with_client i (record { keeper = keeper; connections = κ ∷ others; ends = e ∷ ends }) w) → e.is_open ≡ true
     → e.read ≤ length κ.written
     → Reached cs (with_client i (record { keeper = keeper; connections = κ ∷ others; ends = record e { read = length κ.written } ∷ ends }) w)
@@ -67,7 +67,7 @@ same_alone a b k l = rw (k, l) refl
 
 -- more is written on its newest connection, and more may be handled there
 writes_beside : {cs : List Client} {agreed : List Command} {clients : List Alone} (b : Beside cs agreed clients) (i : ℕ) (before : ClientEnds) (keeper : Keeper)
-    (later : Connection) (others : List Connection) (e : End) → slice_get b.world.clients i ≡ Some before
+    (later : ClientConnection) (others : List ClientConnection) (e : End) → slice_get b.world.clients i ≡ Some before
     → Reached cs (with_client i (record { keeper = keeper; connections = later ∷ others; ends = e ∷ ends_of agreed others }) b.world) → e.is_open ≡ true
     → e.read ≤ length later.written → (let f : End = record e { read = length later.written } in f) ≡ end_of agreed later
     → Beside cs agreed (set clients i (alone keeper (later ∷ others)))
@@ -90,7 +90,7 @@ calls_beside {cs = cs} {agreed = agreed} {clients = clients} b i s t h call at =
         subst (λ a. Beside cs agreed (set clients i a)) (same_alone (ends_alone now) (alone t.keeper t.connections) same.keeper same.connections)
         (on d.connections refl same.after.keeper same.after.connections new.0 new.1 (goes_on b.reached (calls i d same.after same.happens there same.is)))
       where
-        on : (connections : List Connection) → d.connections ≡ connections → (keeper : Keeper) (after : List Connection) (new : List Written) → after ≡ writes_first new d.connections
+        on : (connections : List ClientConnection) → d.connections ≡ connections → (keeper : Keeper) (after : List ClientConnection) (new : List Written) → after ≡ writes_first new d.connections
             → Reached cs (with_client i (record d { keeper = keeper; connections = after }) b.world) → Beside cs agreed (set clients i (alone keeper after))
         on [] none keeper after new is reached =
             becomes b i (record d { keeper = keeper; connections = after }) reached
@@ -107,8 +107,8 @@ calls_beside {cs = cs} {agreed = agreed} {clients = clients} b i s t h call at =
 
 -- ---- it handles the next packet that was sent
 
-pub handles_beside : {cs : List Client} {agreed : List Command} {clients : List Alone} (b : Beside cs agreed clients) (i : ℕ) (keeper : Keeper) (κ : Connection)
-    (others : List Connection) (packet : Packet) → slice_get clients i ≡ Some (alone keeper (κ ∷ others)) → keeper.is_open ≡ true
+pub handles_beside : {cs : List Client} {agreed : List Command} {clients : List Alone} (b : Beside cs agreed clients) (i : ℕ) (keeper : Keeper) (κ : ClientConnection)
+    (others : List ClientConnection) (packet : Packet) → slice_get clients i ≡ Some (alone keeper (κ ∷ others)) → keeper.is_open ≡ true
     → slice_get (put_to usual_limits (past_of usual_limits agreed) κ.name) κ.handled ≡ Some packet → (side : Side)
     → side ≡ handled packet (record { keeper = keeper; connection = κ }) → Beside cs agreed (set clients i (alone side.keeper (side.connection ∷ others)))
 handles_beside {cs = cs} {agreed = agreed} {clients = clients} b i keeper κ others packet at is_open next side side_is =
@@ -118,7 +118,7 @@ handles_beside {cs = cs} {agreed = agreed} {clients = clients} b i keeper κ oth
         → Beside cs agreed (set clients i (alone side.keeper (side.connection ∷ others)))
     by (d, there, is) = on d.connections refl (ap (λ (a : Alone). a.connections) is)
       where
-        on : (connections : List Connection) → d.connections ≡ connections → map untaken_connection connections ≡ untaken_connection κ ∷ map untaken_connection others
+        on : (connections : List ClientConnection) → d.connections ≡ connections → map untaken_connection connections ≡ untaken_connection κ ∷ map untaken_connection others
             → Beside cs agreed (set clients i (alone side.keeper (side.connection ∷ others)))
         on [] none same = cc
         on (μ ∷ rest) are same =
@@ -130,8 +130,8 @@ handles_beside {cs = cs} {agreed = agreed} {clients = clients} b i keeper κ oth
             (record { keeper = ap (λ (a : Alone). a.keeper) is; connection = one }) in
             let grown = handled_grows μ d.keeper packet in
             let long = ap length grown.written ∙ length-append μ.written grown.more in
-            let name : κ.name ≡ μ.name = ap (λ (ν : Connection). ν.name) (sym one) in
-            let count : κ.handled ≡ μ.handled = ap (λ (ν : Connection). ν.handled) (sym one) in
+            let name : κ.name ≡ μ.name = ap (λ (ν : ClientConnection). ν.name) (sym one) in
+            let count : κ.handled ≡ μ.handled = ap (λ (ν : ClientConnection). ν.handled) (sym one) in
             let now = goes_on b.reached
             (handles i d μ (end_of agreed μ) rest (ends_of agreed rest) packet there are ends (ap (λ (k : Keeper). k.is_open) (ap (λ (a : Alone). a.keeper) is) ∙ is_open)
             (ap₂ (λ x n. slice_get (put_to usual_limits (past_of usual_limits agreed) x) n) (sym name) (sym count) ∙ next)) in
@@ -149,12 +149,12 @@ handles_beside {cs = cs} {agreed = agreed} {clients = clients} b i keeper κ oth
 abbrev pub IsFreshAlone : ConnectionName → List Alone → Type 0
 IsFreshAlone x = Each (λ (a : Alone). any_named (same_connection x) a.connections ≡ false)
 
-pub named_untaken : (test : ConnectionName → Bool) (connections : List Connection) → any_named test (map untaken_connection connections) ≡ any_named test connections
+pub named_untaken : (test : ConnectionName → Bool) (connections : List ClientConnection) → any_named test (map untaken_connection connections) ≡ any_named test connections
 named_untaken test [] = refl
 named_untaken test (κ ∷ connections) = ap (λ b. test κ.name || b) (named_untaken test connections)
 
 pub opens_beside : {cs : List Client} {agreed : List Command} {clients : List Alone} → AreApart cs → (b : Beside cs agreed clients) (i : ℕ) (keeper : Keeper)
-    (connections : List Connection) (x : ConnectionName) → slice_get clients i ≡ Some (alone keeper connections) → IsFreshAlone x clients
+    (connections : List ClientConnection) (x : ConnectionName) → slice_get clients i ≡ Some (alone keeper connections) → IsFreshAlone x clients
     → Beside cs agreed (set clients i (alone (record (lost keeper) { is_open = true }) (new_connection keeper.client x ∷ connections)))
 opens_beside {cs = cs} {agreed = agreed} {clients = clients} apart b i keeper connections x at fresh =
     by (map_back ends_alone b.world.clients i (alone keeper connections) (ap (λ l. slice_get l i) b.same ∙ at))
@@ -169,7 +169,7 @@ opens_beside {cs = cs} {agreed = agreed} {clients = clients} apart b i keeper co
         → Beside cs agreed (set clients i (alone (record (lost keeper) { is_open = true }) (new_connection keeper.client x ∷ connections)))
     by (d, there, is) =
         let later : ClientEnds = after_opening x (length agreed) d in
-        let κ : Connection = new_connection d.keeper.client x in
+        let κ : ClientConnection = new_connection d.keeper.client x in
         let ends = each_get (IsFull agreed) b.world.clients i d b.full there in
         let now = goes_on b.reached (opens i d x (length agreed) there none (let same = ap length b.is in omega (arith, same))) in
         let held = reached_holds cs (with_client i later b.world) apart now in

@@ -20,7 +20,7 @@ use Rattle.byte_world.specs.lists.Lists.{Each, In, IsPrefixOf}
 use Rattle.byte_world.proofs.of_lists.Places.{get_set, get_set_other}
 use Rattle.byte_world.specs.cutter.Pipe.{Joins}
 use Rattle.byte_world.specs.exactly_once.Sends.{put_to}
-use Rattle.byte_world.specs.exactly_once.Sides.{Connection, Side}
+use Rattle.byte_world.specs.exactly_once.Sides.{ClientConnection, Side}
 use Rattle.byte_world.specs.exactly_once.Story.{StoryStep, Story}
 use Rattle.byte_world.specs.exactly_once.StoryCommands.{any_named, is_packet_of}
 use Rattle.byte_world.specs.packet_world.World.{AreApart}
@@ -69,7 +69,7 @@ sent_length ps (p ∷ pipes) = refl
 
 -- ---- it calls
 
-writes_length : (new : List Written) (connections : List Connection) → length (writes_first new connections) ≡ length connections
+writes_length : (new : List Written) (connections : List ClientConnection) → length (writes_first new connections) ≡ length connections
 writes_length new [] = refl
 writes_length new (κ ∷ connections) = refl
 
@@ -106,7 +106,7 @@ module _ {nodes : ℕ} {config : Config} {cs : List Client} (v : World) (went : 
       }
 
   -- the next packet that it cuts is the next answer
-  pub next_there : (i : ℕ) (c : ClientPipes) (j : ℕ) (κ : Connection) (p : Pipe) (packet : Packet) (left : Stream) → HasPipe v i c j κ p → Takes p.came (Ok (Some packet)) left
+  pub next_there : (i : ℕ) (c : ClientPipes) (j : ℕ) (κ : ClientConnection) (p : Pipe) (packet : Packet) (left : Stream) → HasPipe v i c j κ p → Takes p.came (Ok (Some packet)) left
       → slice_get (put_to usual_limits (past_of usual_limits agreed) κ.name) κ.handled ≡ Some packet
   next_there i c j κ p packet left has cut =
       let h = s.holds.each i c j κ p has in
@@ -115,7 +115,7 @@ module _ {nodes : ℕ} {config : Config} {cs : List Client} (v : World) (went : 
       ∙ next_answer h.down.handled (put_to usual_limits (past_of usual_limits agreed) κ.name) p.came left p.down packet h.down.whole
       (answers_fit agreed κ.name (list_fits agreed was_written)) h.down.sound (subst (λ l. IsPrefixOf l (answers_to κ.name agreed)) (sym h.down.is) down) cut
 
-pub handles_so : {nodes : ℕ} {config : Config} {cs : List Client} (v : World) (went : GroupTrace nodes config v.group) (i : ℕ) (c : ClientPipes) (κ : Connection) (others : List Connection) (p : Pipe) (pipes : List Pipe)
+pub handles_so : {nodes : ℕ} {config : Config} {cs : List Client} (v : World) (went : GroupTrace nodes config v.group) (i : ℕ) (c : ClientPipes) (κ : ClientConnection) (others : List ClientConnection) (p : Pipe) (pipes : List Pipe)
     (packet : Packet) (left : Stream) (s : GoesBeside nodes config cs v went) → slice_get v.clients i ≡ Some c → c.connections ≡ κ ∷ others → c.pipes ≡ p ∷ pipes → c.keeper.is_open ≡ true
     → Takes p.came (Ok (Some packet)) left → Holds (with_client i (after_packet others pipes p left (handled packet (record { keeper = c.keeper; connection = κ })) c) v) went
     → GoesBeside nodes config cs (with_client i (after_packet others pipes p left (handled packet (record { keeper = c.keeper; connection = κ })) c) v) went
@@ -130,17 +130,17 @@ handles_so v went i c κ others p pipes packet left s at are piped is_open cut h
 
 -- ---- it opens a connection
 
-named_at : (x : ConnectionName) (connections : List Connection) → any_named (same_connection x) connections ≡ true → (j : ℕ) × (κ : Connection) × (slice_get connections j ≡ Some κ) × (x ≡ κ.name)
+named_at : (x : ConnectionName) (connections : List ClientConnection) → any_named (same_connection x) connections ≡ true → (j : ℕ) × (κ : ClientConnection) × (slice_get connections j ≡ Some κ) × (x ≡ κ.name)
 named_at x [] e = absurd (both_ways false refl e)
 named_at x (κ ∷ connections) e = by (same_connection x κ.name) refl e (named_at x connections)
   where
     by : (b : Bool) → same_connection x κ.name ≡ b → (b || any_named (same_connection x) connections) ≡ true
-        → (any_named (same_connection x) connections ≡ true → (j : ℕ) × (μ : Connection) × (slice_get connections j ≡ Some μ) × (x ≡ μ.name))
-        → (j : ℕ) × (μ : Connection) × (slice_get (κ ∷ connections) j ≡ Some μ) × (x ≡ μ.name)
+        → (any_named (same_connection x) connections ≡ true → (j : ℕ) × (μ : ClientConnection) × (slice_get connections j ≡ Some μ) × (x ≡ μ.name))
+        → (j : ℕ) × (μ : ClientConnection) × (slice_get (κ ∷ connections) j ≡ Some μ) × (x ≡ μ.name)
     by true is rest next = (zero, κ, refl, same_name x κ.name is)
     by false is rest next = let z = next rest in (suc z.0, z.1, z.2, z.3)
 
-module _ {nodes : ℕ} {config : Config} (v : World) (g : Group) (i : ℕ) (c : ClientPipes) (κ : Connection) (p : Pipe) (later : ClientPipes) (at : slice_get v.clients i ≡ Some c)
+module _ {nodes : ℕ} {config : Config} (v : World) (g : Group) (i : ℕ) (c : ClientPipes) (κ : ClientConnection) (p : Pipe) (later : ClientPipes) (at : slice_get v.clients i ≡ Some c)
     (are : later.connections ≡ κ ∷ c.connections) (piped_so : later.pipes ≡ p ∷ c.pipes) (piped : Each HasAllPipes v.clients) {went : GroupTrace nodes config g}
     (holds : Holds (with_client i later (record v { group = g })) went) where
   abbrev w : World
@@ -149,7 +149,7 @@ module _ {nodes : ℕ} {config : Config} (v : World) (g : Group) (i : ℕ) (c : 
   mine : HasPipe w i later 0 κ p
   mine = record { client = get_set v.clients i c later at; connection = ap (λ l. slice_get l 0) are; pipe = ap (λ l. slice_get l 0) piped_so }
 
-  other_name : (k : ℕ) (e : ClientPipes) (l : ℕ) (μ : Connection) → slice_get v.clients k ≡ Some e → slice_get e.connections l ≡ Some μ → κ.name ≡ μ.name → ⊥
+  other_name : (k : ℕ) (e : ClientPipes) (l : ℕ) (μ : ClientConnection) → slice_get v.clients k ≡ Some e → slice_get e.connections l ≡ Some μ → κ.name ≡ μ.name → ⊥
   other_name k e l μ there stood same = by (same_or_other k i)
     where
       q : (r : Pipe) × (slice_get e.pipes l ≡ Some r)
@@ -190,7 +190,7 @@ pub connects_so : {nodes : ℕ} {config : Config} {cs : List Client} → AreApar
     → GoesBeside nodes config cs (with_client i (after_connecting x n port c) (record v { group = d.after })) (then_went went d.step)
 connects_so {cs = cs} apart v went i n c x port now d s at holds =
     let later = after_connecting x n port c in
-    let κ : Connection = new_connection c.keeper.client x in
+    let κ : ClientConnection = new_connection c.keeper.client x in
     let p : Pipe = record { node = n; port = port; up = spelled (packets_of κ.written); down = []; came = record { bytes = []; failed = false } } in
     group_beside apart (with_client i later (record v { group = d.after })) v.group went s.so d.step
     (λ agreed is.

@@ -9,7 +9,7 @@ use Rattle.byte_world.specs.broker_spec.Connection.{ConnectionName, same_connect
 use Rattle.byte_world.specs.broker_spec.Past.{accepts, current_connection}
 use Rattle.byte_world.specs.broker_spec.Place.{Client, Limits, Mark, Past, Place}
 use Rattle.byte_world.proofs.of_broker_base.ClientsInOrder.{same_self}
-use Rattle.byte_world.specs.exactly_once.Sides.{Connection}
+use Rattle.byte_world.specs.exactly_once.Sides.{ClientConnection}
 use Rattle.byte_world.specs.exactly_once.StoryCommands.{any_named, counted_at}
 use Rattle.byte_world.proofs.of_exactly_once.places.After.{current_opens}
 use Rattle.byte_world.proofs.of_exactly_once.publishing.Last.{is_named}
@@ -18,11 +18,11 @@ use Rattle.byte_world.proofs.of_exactly_once.sessions.EachPlaced.{IsOwnCommand}
 use Rattle.byte_world.proofs.of_exactly_once.subscribing.Newest.{stays_or_none}
 
 -- it is one that it opened
-abbrev pub IsCurrentNamed : Client → List Connection → Past → Type 0
+abbrev pub IsCurrentNamed : Client → List ClientConnection → Past → Type 0
 IsCurrentNamed c connections past = (y : ConnectionName) → current_connection past c ≡ Some y → any_named (same_connection y) connections ≡ true
 
 -- a place that opens none of the client's connections
-pub stays_named : (place : Place) (past : Past) (c : Client) (connections : List Connection) → accepts place.command place.mark c ≡ None → IsCurrentNamed c connections past
+pub stays_named : (place : Place) (past : Past) (c : Client) (connections : List ClientConnection) → accepts place.command place.mark c ≡ None → IsCurrentNamed c connections past
     → IsCurrentNamed c connections (place ∷ past)
 stays_named place past c connections closed h y is = by (stays_or_none place past c closed)
   where
@@ -31,7 +31,7 @@ stays_named place past c connections closed h y is = by (stays_or_none place pas
     by (inr none) = absurd (let f : None ≡ Some y = sym none ∙ is in cc)
 
 -- one of its own that does
-opens_named : (place : Place) (past : Past) (c : Client) (connections : List Connection) (opened : ConnectionName × Bool) → accepts place.command place.mark c ≡ Some opened
+opens_named : (place : Place) (past : Past) (c : Client) (connections : List ClientConnection) (opened : ConnectionName × Bool) → accepts place.command place.mark c ≡ Some opened
     → any_named (same_connection opened.0) connections ≡ true → IsCurrentNamed c connections (place ∷ past)
 opens_named place past c connections opened e named y is =
     let both : Some opened.0 ≡ Some y = sym (current_opens place past c opened e) ∙ is in
@@ -46,7 +46,7 @@ accepted_name x c Mark.Accepted opened e =
     ap (λ (p : ConnectionName × Bool). p.0) same
 accepted_name x c _ opened e = cc
 
-pub taken_named : (limits : Limits) (past : Past) (c : Client) (i : ℕ) (κ : Connection) (packet : Packet) (command : Command) (connections : List Connection) → IsOwnCommand c κ packet command
+pub taken_named : (limits : Limits) (past : Past) (c : Client) (i : ℕ) (κ : ClientConnection) (packet : Packet) (command : Command) (connections : List ClientConnection) → IsOwnCommand c κ packet command
     → slice_get connections i ≡ Some κ → IsCurrentNamed c connections past → IsCurrentNamed c (counted_at i connections) (place_of limits past command ∷ past)
 taken_named limits past c i κ packet command connections kind at h = by (accepts command place.mark c) refl
   where

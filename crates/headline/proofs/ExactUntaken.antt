@@ -17,7 +17,7 @@ use Rattle.byte_world.specs.exactly_once.Acceptance.{accepted_on}
 use Rattle.byte_world.specs.exactly_once.InStep.{AreWelcome, IsFirstSession, IsInStep, WasWelcome, accepted_in, opened_in, starts_of}
 use Rattle.byte_world.specs.exactly_once.Lives.{AcceptedInSession, ExactlyOnceOverSessions, IsRising, PublishedOverSessions}
 use Rattle.byte_world.specs.exactly_once.Unexpelled.{HasOneSession}
-use Rattle.byte_world.specs.exactly_once.Sides.{Connection}
+use Rattle.byte_world.specs.exactly_once.Sides.{ClientConnection}
 use Rattle.byte_world.specs.exactly_once.Story.{Story}
 use Rattle.byte_world.specs.exactly_once.StoryCommands.{count_of}
 use Rattle.byte_world.proofs.of_exactly_once.sessions.InTurn.{flat_map_same}
@@ -25,7 +25,7 @@ use Rattle.headline.proofs.Untaken.{AreSameUntaken, untaken_connection}
 
 -- ---- what is read of connections
 
-number_untaken : (x : ConnectionName) (j : ℕ) (connections : List Connection)
+number_untaken : (x : ConnectionName) (j : ℕ) (connections : List ClientConnection)
     → number_at j (connection_named x (map untaken_connection connections)) ≡ number_at j (connection_named x connections)
 number_untaken x j [] = refl
 number_untaken x j (κ ∷ connections) = by (same_connection x κ.name) (number_untaken x j connections)
@@ -36,63 +36,63 @@ number_untaken x j (κ ∷ connections) = by (same_connection x κ.name) (number
     by true ih = refl
     by false ih = ih
 
-carries_untaken : (command : Command) (past : Past) (connections : List Connection) → carries (map untaken_connection connections) command past ≡ carries connections command past
+carries_untaken : (command : Command) (past : Past) (connections : List ClientConnection) → carries (map untaken_connection connections) command past ≡ carries connections command past
 carries_untaken (commands.Packet x (packets.Publish p)) past connections = number_untaken x (count_of x past) connections
 carries_untaken _ past connections = refl
 
-numbers_untaken : (past : Past) (connections : List Connection) → new_numbers (map untaken_connection connections) past ≡ new_numbers connections past
+numbers_untaken : (past : Past) (connections : List ClientConnection) → new_numbers (map untaken_connection connections) past ≡ new_numbers connections past
 numbers_untaken [] connections = refl
 numbers_untaken (place ∷ past) connections =
     ap₂ (λ l o. l ++ more_by (is_new place.command place.mark) o) (numbers_untaken past connections) (carries_untaken place.command past connections)
 
-made_untaken : (k : ℕ) (past : Past) (entries : List Entry) (connections : List Connection) → made_by (map untaken_connection connections) k past entries ≡ made_by connections k past entries
+made_untaken : (k : ℕ) (past : Past) (entries : List Entry) (connections : List ClientConnection) → made_by (map untaken_connection connections) k past entries ≡ made_by connections k past entries
 made_untaken k [] entries connections = refl
 made_untaken k (place ∷ below) entries connections =
     ap₂ (λ o n. (if is_this k o then length (filter (is_from_publish (length below)) entries) else 0) + n)
     (carries_untaken place.command below connections) (made_untaken k below entries connections)
 
-accepted_untaken : (connections : List Connection) → accepted_on (map untaken_connection connections) ≡ accepted_on connections
+accepted_untaken : (connections : List ClientConnection) → accepted_on (map untaken_connection connections) ≡ accepted_on connections
 accepted_untaken [] = refl
 accepted_untaken (κ ∷ connections) = ap (λ l. l ++ κ.accepted) (accepted_untaken connections)
 
-accepted_in_untaken : (past : Past) (c : Client) (start : ℕ) (connections : List Connection) → accepted_in past c start (map untaken_connection connections) ≡ accepted_in past c start connections
+accepted_in_untaken : (past : Past) (c : Client) (start : ℕ) (connections : List ClientConnection) → accepted_in past c start (map untaken_connection connections) ≡ accepted_in past c start connections
 accepted_in_untaken past c start [] = refl
 accepted_in_untaken past c start (κ ∷ connections) =
     ap (λ l. l ++ (if is_this start (opened_in past c κ.name) then κ.accepted else [])) (accepted_in_untaken past c start connections)
 
 -- the same holds for other connections
-same_by : {X : Type 0} (f : List Connection → X) → ((connections : List Connection) → f (map untaken_connection connections) ≡ f connections)
-    → (connections others : List Connection) → AreSameUntaken connections others → f connections ≡ f others
+same_by : {X : Type 0} (f : List ClientConnection → X) → ((connections : List ClientConnection) → f (map untaken_connection connections) ≡ f connections)
+    → (connections others : List ClientConnection) → AreSameUntaken connections others → f connections ≡ f others
 same_by f untaken connections others same = sym (untaken connections) ∙ ap f same ∙ untaken others
 
-pub same_accepted_on : (connections others : List Connection) → AreSameUntaken connections others → accepted_on connections ≡ accepted_on others
+pub same_accepted_on : (connections others : List ClientConnection) → AreSameUntaken connections others → accepted_on connections ≡ accepted_on others
 same_accepted_on = same_by accepted_on accepted_untaken
 
 -- ---- who is in step
 
-untaken_each : (past : Past) (c : Client) (connections : List Connection) → Each (WasWelcome past c) connections → Each (WasWelcome past c) (map untaken_connection connections)
+untaken_each : (past : Past) (c : Client) (connections : List ClientConnection) → Each (WasWelcome past c) connections → Each (WasWelcome past c) (map untaken_connection connections)
 untaken_each past c [] h = tt
 untaken_each past c (κ ∷ connections) h = (h.0, untaken_each past c connections h.1)
 
-each_untaken : (past : Past) (c : Client) (connections : List Connection) → Each (WasWelcome past c) (map untaken_connection connections) → Each (WasWelcome past c) connections
+each_untaken : (past : Past) (c : Client) (connections : List ClientConnection) → Each (WasWelcome past c) (map untaken_connection connections) → Each (WasWelcome past c) connections
 each_untaken past c [] h = tt
 each_untaken past c (κ ∷ connections) h = (h.0, each_untaken past c connections h.1)
 
-untaken_welcome : (past : Past) (c : Client) (connections : List Connection) → AreWelcome past c connections → AreWelcome past c (map untaken_connection connections)
+untaken_welcome : (past : Past) (c : Client) (connections : List ClientConnection) → AreWelcome past c connections → AreWelcome past c (map untaken_connection connections)
 untaken_welcome past c [] h = tt
 untaken_welcome past c (κ ∷ connections) h = untaken_each past c connections h
 
-welcome_untaken : (past : Past) (c : Client) (connections : List Connection) → AreWelcome past c (map untaken_connection connections) → AreWelcome past c connections
+welcome_untaken : (past : Past) (c : Client) (connections : List ClientConnection) → AreWelcome past c (map untaken_connection connections) → AreWelcome past c connections
 welcome_untaken past c [] h = tt
 welcome_untaken past c (κ ∷ connections) h = each_untaken past c connections h
 
-pub same_welcome : (past : Past) (c : Client) (connections others : List Connection) → AreSameUntaken connections others → AreWelcome past c connections → AreWelcome past c others
+pub same_welcome : (past : Past) (c : Client) (connections others : List ClientConnection) → AreSameUntaken connections others → AreWelcome past c connections → AreWelcome past c others
 same_welcome past c connections others same h =
     welcome_untaken past c others (subst (AreWelcome past c) same (untaken_welcome past c connections h))
 
 -- ---- what is promised
 
-module _ (limits : Limits) (past : Past) (keeper : Keeper) (connections others : List Connection) (same : AreSameUntaken connections others) where
+module _ (limits : Limits) (past : Past) (keeper : Keeper) (connections others : List ClientConnection) (same : AreSameUntaken connections others) where
   abbrev before : Story
   before = record { past = past; connections = connections; keeper = keeper }
 

@@ -12,7 +12,7 @@ use Rattle.byte_world.specs.client_base.Handled.{confirmed, discarded, handled, 
 use Rattle.byte_world.specs.client_base.Handshakes.{at_pubrec, is_sent_with, releasing, takes_in}
 use Rattle.byte_world.specs.client_base.Keeper.{Keeper}
 use Rattle.byte_world.specs.client_base.Written.{plain, resent, sent_all, writing}
-use Rattle.byte_world.specs.exactly_once.Sides.{Connection, Side}
+use Rattle.byte_world.specs.exactly_once.Sides.{ClientConnection, Side}
 use Rattle.headline.proofs.Untaken.{untaken_connection}
 
 abbrev pub untaken_side : Side → Side
@@ -106,7 +106,7 @@ pub same_handled : (packet : Packet) (one other : Side) → AreAlike one other �
 same_handled packet one other alike =
     record { keeper = ap (λ (side : Side). side.keeper) same; connection = ap (λ (side : Side). side.connection) same }
   where
-    sides : (k l : Keeper) (κ μ : Connection) → k ≡ l → κ ≡ μ → (let a : Side = record { keeper = k; connection = κ } in a) ≡ (let b : Side = record { keeper = l; connection = μ } in b)
+    sides : (k l : Keeper) (κ μ : ClientConnection) → k ≡ l → κ ≡ μ → (let a : Side = record { keeper = k; connection = κ } in a) ≡ (let b : Side = record { keeper = l; connection = μ } in b)
     sides k l κ μ e f = rw (e, f) refl
 
     same : untaken_side (handled packet one) ≡ untaken_side (handled packet other)

@@ -17,7 +17,7 @@ use Rattle.byte_world.specs.broker_spec.Received.{is_exactly_once, is_new, is_re
 use Rattle.byte_world.proofs.of_broker_base.ClientsInOrder.{same_is, same_self}
 use Rattle.byte_world.proofs.of_broker_base.MarksOfPlaces.{AreMarked}
 use Rattle.byte_world.specs.exactly_once.Carried.{carries, more_by, new_numbers}
-use Rattle.byte_world.specs.exactly_once.Sides.{Connection}
+use Rattle.byte_world.specs.exactly_once.Sides.{ClientConnection}
 use Rattle.byte_world.proofs.of_exactly_once.carrying.PlacesSay.{PlacesSay, Says}
 use Rattle.headline.specs.Shown.{new_at, new_of}
 use Rattle.headline.proofs.OwnCarried.{CarriesOwn, OwnAreCarried}
@@ -46,7 +46,7 @@ picked get true false None q own mine is = refl
 picked get false false (Some k) q own mine is = refl
 picked get false false None q own mine is = refl
 
-module _ (limits : Limits) (c : Client) (ps : List Publication) (connections : List Connection) where
+module _ (limits : Limits) (c : Client) (ps : List Publication) (connections : List ClientConnection) where
   abbrev get : ℕ → Option Publication
   get = slice_get ps
 

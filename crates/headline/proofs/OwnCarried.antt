@@ -19,7 +19,7 @@ use Rattle.byte_world.specs.client_base.Keeper.{Written}
 use Rattle.byte_world.specs.client_base.Written.{plain, writes_first}
 use Rattle.byte_world.specs.lists.Lists.{Each}
 use Rattle.byte_world.specs.exactly_once.Carried.{carries, connection_named, number_at}
-use Rattle.byte_world.specs.exactly_once.Sides.{Connection}
+use Rattle.byte_world.specs.exactly_once.Sides.{ClientConnection}
 use Rattle.byte_world.specs.exactly_once.Story.{StoryStep, Story}
 use Rattle.byte_world.specs.exactly_once.StoryCommands.{any_named, command_of, counted_at, count_of, is_packet_of, names_client}
 use Rattle.byte_world.specs.exactly_once.Lives.{Lived}
@@ -44,15 +44,15 @@ use Rattle.headline.proofs.CurrentNamed.{IsCurrentNamed, stays_named, taken_name
 use Rattle.headline.proofs.AllNumbered.{AreNumbered, IsNumbered, happens_numbered, is_unnumbered}
 
 -- if it is the client's
-abbrev pub CarriesOwn : Client → List Connection → Command → Past → Type 0
+abbrev pub CarriesOwn : Client → List ClientConnection → Command → Past → Type 0
 CarriesOwn c connections command past =
     (x : ConnectionName) (p : Publish) → command ≡ commands.Packet x (packets.Publish p) → owner_of past x ≡ Some c → (k : ℕ) × (carries connections command past ≡ Some k)
 
-abbrev pub OwnAreCarried : Client → List Connection → Past → Type 0
+abbrev pub OwnAreCarried : Client → List ClientConnection → Past → Type 0
 OwnAreCarried c connections (place ∷ past) = CarriesOwn c connections place.command past × OwnAreCarried c connections past
 OwnAreCarried c connections [] = Unit {0}
 
-pub own_at : (c : Client) (connections : List Connection) (past : Past) (place : Place) (below : Past) → OwnAreCarried c connections past → StandsAt past place below → CarriesOwn c connections place.command below
+pub own_at : (c : Client) (connections : List ClientConnection) (past : Past) (place : Place) (below : Past) → OwnAreCarried c connections past → StandsAt past place below → CarriesOwn c connections place.command below
 own_at c connections past place below all s = by s.later (subst (OwnAreCarried c connections) s.is all)
   where
     by : (later : Past) → OwnAreCarried c connections (later ++ place ∷ below) → CarriesOwn c connections place.command below
@@ -60,7 +60,7 @@ own_at c connections past place below all s = by s.later (subst (OwnAreCarried c
     by (next ∷ later) h = by later h.1
 
 -- in a later story
-own_later : (c : Client) (connections later : List Connection) (past : Past) → SameNumbers connections later past → OwnAreCarried c connections past → OwnAreCarried c later past
+own_later : (c : Client) (connections later : List ClientConnection) (past : Past) → SameNumbers connections later past → OwnAreCarried c connections past → OwnAreCarried c later past
 own_later c connections later [] same all = tt
 own_later c connections later (place ∷ past) same all = (
   λ x p is own. let k = all.0 x p is own in (k.0, same_carries connections later place past same ∙ k.1),
@@ -73,7 +73,7 @@ has_number : (p : Publish) (o : Option ℕ) → is_unnumbered (packets.Publish p
 has_number p (Some k) e = (k, refl)
 has_number p None e = absurd (both_ways true e refl)
 
-taken_carries : (i : ℕ) (limits : Limits) (c : Client) (s : Story) (κ : Connection) (w : Written) → IsLife limits c s → slice_get s.connections i ≡ Some κ
+taken_carries : (i : ℕ) (limits : Limits) (c : Client) (s : Story) (κ : ClientConnection) (w : Written) → IsLife limits c s → slice_get s.connections i ≡ Some κ
     → slice_get κ.written κ.taken ≡ Some w → IsNumbered w → (n : ℕ) → CarriesOwn c (counted_at i s.connections) (command_of κ.name n w.packet) s.past
 taken_carries i limits c s κ w life stands next numbered n x p is own = by n w.packet refl is
   where
@@ -99,7 +99,7 @@ taken_carries i limits c s κ w life stands next numbered n x p is own = by n w.
 
 -- ---- a command of others is
 
-others_carry : (past : Past) (c : Client) (connections : List Connection) (command : Command) → IsCurrentNamed c connections past → any_named (is_packet_of command) connections ≡ false
+others_carry : (past : Past) (c : Client) (connections : List ClientConnection) (command : Command) → IsCurrentNamed c connections past → any_named (is_packet_of command) connections ≡ false
     → CarriesOwn c connections command past
 others_carry past c connections command current none x p is own =
     let unnamed : any_named (same_connection x) connections ≡ false = subst (λ (k : Command). any_named (is_packet_of k) connections ≡ false) is none in
@@ -107,7 +107,7 @@ others_carry past c connections command current none x p is own =
 
 -- ---- every life
 
-record AllOwn (c : Client) (connections : List Connection) (past : Past) : Type 0 where
+record AllOwn (c : Client) (connections : List ClientConnection) (past : Past) : Type 0 where
   pub current : IsCurrentNamed c connections past
   pub carried : OwnAreCarried c connections past
 
@@ -122,16 +122,16 @@ stays_own limits c s t life h same more all =
     })
 
 -- what is written keeps the names
-written_more : (y : ConnectionName) (more : List Written) (connections : List Connection) → any_named (same_connection y) connections ≡ true → any_named (same_connection y) (writes_first more connections) ≡ true
+written_more : (y : ConnectionName) (more : List Written) (connections : List ClientConnection) → any_named (same_connection y) connections ≡ true → any_named (same_connection y) (writes_first more connections) ≡ true
 written_more y more [] e = e
 written_more y more (κ ∷ others) e = e
 
-maybe_more : (y : ConnectionName) (b : Bool) (more : List Written) (connections : List Connection) → any_named (same_connection y) connections ≡ true
+maybe_more : (y : ConnectionName) (b : Bool) (more : List Written) (connections : List ClientConnection) → any_named (same_connection y) connections ≡ true
     → any_named (same_connection y) (if b then writes_first more connections else connections) ≡ true
 maybe_more y true more connections e = written_more y more connections e
 maybe_more y false more connections e = e
 
-first_more : (y x : ConnectionName) (connections : List Connection) → any_named (same_connection y) connections ≡ true → (same_connection y x || any_named (same_connection y) connections) ≡ true
+first_more : (y x : ConnectionName) (connections : List ClientConnection) → any_named (same_connection y) connections ≡ true → (same_connection y x || any_named (same_connection y) connections) ≡ true
 first_more y x connections e = by (same_connection y x)
   where
     by : (b : Bool) → (b || any_named (same_connection y) connections) ≡ true
@@ -140,7 +140,7 @@ first_more y x connections e = by (same_connection y x)
 
 happens_own : (limits : Limits) (c : Client) (s t : Story) → IsLife limits c s → StoryStep limits s t → AreNumbered s.connections → AllOwn c s.connections s.past → AllOwn c t.connections t.past
 happens_own limits c s t life (takes i κ w stands next) numbered all =
-    let one = each_at IsNumbered κ.taken κ.written w next (each_there (λ (μ : Connection). Each IsNumbered μ.written) i s.connections κ stands numbered) in
+    let one = each_at IsNumbered κ.taken κ.written w next (each_there (λ (μ : ClientConnection). Each IsNumbered μ.written) i s.connections κ stands numbered) in
     let within = counted_all_within s.past s.connections life.connections.counted in
     record {
       current = taken_named limits s.past c i κ w.packet (command_of κ.name κ.taken w.packet) s.connections (life_command limits c s i κ w life stands next) stands all.current;

@@ -16,7 +16,7 @@ use Rattle.byte_world.specs.client_base.Handled.{handled}
 use Rattle.byte_world.specs.client_base.Keeper.{Keeper, Own, all_own, ids_in_use, next_number}
 use Rattle.byte_world.specs.client_base.OrderLaws.{AreNumbered}
 use Rattle.byte_world.specs.exactly_once.Carried.{publication_in, publications_of}
-use Rattle.byte_world.specs.exactly_once.Sides.{Connection, Side}
+use Rattle.byte_world.specs.exactly_once.Sides.{ClientConnection, Side}
 use Rattle.byte_world.specs.exactly_once.Story.{StoryStep, Story}
 use Rattle.byte_world.specs.exactly_once.Story.StoryStep.{takes, others_take, receives, opens_anew, loses, disconnects, publishes_one, subscribes, unsubscribes}
 use Rattle.byte_world.proofs.of_exactly_once.carrying.Handles.{handles as handles_kept}
@@ -95,7 +95,7 @@ call_says {s = s} (unsubscribes p on id) call = sym (append-nil (publications_of
 -- ---- a packet
 
 packet_says : {nodes : ℕ} {config : Config} {cs : List Client} → AreApart cs → (v : World) (went : GroupTrace nodes config v.group) (s : GoesBeside nodes config cs v went) (i : ℕ)
-    (c : ClientPipes) (κ : Connection) (packet : Packet) → slice_get v.clients i ≡ Some c
+    (c : ClientPipes) (κ : ClientConnection) (packet : Packet) → slice_get v.clients i ≡ Some c
     → publications_of (all_own (handled packet (let side : Side = record { keeper = c.keeper; connection = κ } in side)).keeper) ≡ publications_of (all_own c.keeper)
 packet_says {config = config} apart v went s i c κ packet at =
     let list = has_agreed rules config (moment_of v.group) s.so.of.earlier s.so.of.past in

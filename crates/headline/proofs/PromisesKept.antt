@@ -33,7 +33,7 @@ use Rattle.byte_world.specs.exactly_once.Carried.{carries, more_by, new_numbers,
 use Rattle.byte_world.specs.exactly_once.InStep.{IsInStep, accepted_in, starts_of}
 use Rattle.byte_world.specs.exactly_once.Lives.{ExactlyOnceOverSessions, Lived}
 use Rattle.byte_world.specs.exactly_once.Acceptance.{accepted_on}
-use Rattle.byte_world.specs.exactly_once.Sides.{Connection}
+use Rattle.byte_world.specs.exactly_once.Sides.{ClientConnection}
 use Rattle.byte_world.specs.exactly_once.Story.{Story}
 use Rattle.byte_world.proofs.of_exactly_once.Entering.{entering_as}
 use Rattle.byte_world.proofs.of_exactly_once.Packets.{at_packet}
@@ -68,11 +68,11 @@ in_got get (n ∷ ns) (r ∷ qs) k q e (there i) is = let rest : map get ns ≡ 
 
 -- ---- the part of a list from a place on
 
-says_below : (c : Client) (ps : List Publication) (connections : List Connection) (later rest : Past) → PlacesSay c ps connections (later ++ rest) → PlacesSay c ps connections rest
+says_below : (c : Client) (ps : List Publication) (connections : List ClientConnection) (later rest : Past) → PlacesSay c ps connections (later ++ rest) → PlacesSay c ps connections rest
 says_below c ps connections [] rest all = all
 says_below c ps connections (place ∷ later) rest all = says_below c ps connections later rest all.1
 
-own_below : (c : Client) (connections : List Connection) (later rest : Past) → OwnAreCarried c connections (later ++ rest) → OwnAreCarried c connections rest
+own_below : (c : Client) (connections : List ClientConnection) (later rest : Past) → OwnAreCarried c connections (later ++ rest) → OwnAreCarried c connections rest
 own_below c connections [] rest all = all
 own_below c connections (place ∷ later) rest all = own_below c connections later rest all.1
 

@@ -11,7 +11,7 @@ use Rattle.byte_world.specs.broker_spec.Connection.{ConnectionName}
 use Rattle.byte_world.specs.client_base.Handled.{handled}
 use Rattle.byte_world.specs.client_base.Keeper.{Keeper}
 use Rattle.byte_world.specs.exactly_once.Rows.{writer}
-use Rattle.byte_world.specs.exactly_once.Sides.{Connection, Side}
+use Rattle.byte_world.specs.exactly_once.Sides.{ClientConnection, Side}
 use Rattle.byte_world.specs.exactly_once.Story.{StoryStep, Story}
 use Rattle.byte_world.specs.packet_world.Steps.{is_call}
 use Rattle.byte_world.specs.world_base.declared.item.Item.TheVariants.{Bytes}
@@ -64,7 +64,7 @@ the_port = record { 0 = 0 }
 abbrev pub pipe_with : List ℕ → List ℕ → List ℕ → Pipe
 pipe_with up down held = record { node = 0; port = the_port; up = up; down = down; came = record { bytes = held; failed = false } }
 
-abbrev pub client_with : Keeper → Connection → Pipe → ClientPipes
+abbrev pub client_with : Keeper → ClientConnection → Pipe → ClientPipes
 client_with keeper κ p = record { keeper = keeper; connections = κ ∷ []; pipes = p ∷ [] }
 
 abbrev pub world_with : Group → ClientPipes → World
@@ -76,7 +76,7 @@ pub record Row (core : CoreState) (c : ClientPipes) : Type 0 where
   pub trail : Reached 1 one_node (writer ∷ []) (world_with group c)
   pub stands : slice_get group.nodes 0 ≡ Some core
 
-module _ {core : CoreState} {keeper : Keeper} {κ : Connection} {up down held : List ℕ} (r : Row core (client_with keeper κ (pipe_with up down held))) where
+module _ {core : CoreState} {keeper : Keeper} {κ : ClientConnection} {up down held : List ℕ} (r : Row core (client_with keeper κ (pipe_with up down held))) where
   -- bytes come to the node
   pub row_up : (later : CoreState) (piece rest : List ℕ) (now : ℕ) → up ≡ piece ++ rest → (done (takes (Bytes the_port piece now)) core).core ≡ later
       → Row later (client_with keeper κ (pipe_with rest down held))
@@ -130,13 +130,13 @@ module _ {core : CoreState} {keeper : Keeper} {κ : Connection} {up down held : 
       }
 
   -- the client calls, and writes on its connection
-  pub row_calls : (t : Story) (later : Connection) (h : StoryStep usual_limits (story_alone (client_with keeper κ (pipe_with up down held))) t) → is_call h ≡ true → t.connections ≡ later ∷ []
+  pub row_calls : (t : Story) (later : ClientConnection) (h : StoryStep usual_limits (story_alone (client_with keeper κ (pipe_with up down held))) t) → is_call h ≡ true → t.connections ≡ later ∷ []
       → CanBeSpelled (κ ∷ []) (later ∷ []) → Row core (client_with t.keeper later (pipe_with (up ++ spelled (newly_written (κ ∷ []) (later ∷ []))) down held))
   row_calls t later h call same fits =
       record {
         group = r.group;
-        trail = subst (λ (l : List Connection). Reached 1 one_node (writer ∷ []) (world_with r.group (after_writing t.keeper l (client_with keeper κ (pipe_with up down held))))) same
+        trail = subst (λ (l : List ClientConnection). Reached 1 one_node (writer ∷ []) (world_with r.group (after_writing t.keeper l (client_with keeper κ (pipe_with up down held))))) same
             (goes_on r.trail (calls 0 (client_with keeper κ (pipe_with up down held)) t h refl call
-            (subst (λ (l : List Connection). CanBeSpelled (κ ∷ []) l) (sym same) fits)));
+            (subst (λ (l : List ClientConnection). CanBeSpelled (κ ∷ []) l) (sym same) fits)));
         stands = r.stands;
       }

@@ -39,7 +39,7 @@ use Rattle.headline.proofs.PromisesKept.{promise_kept}
 use Rattle.headline.proofs.LivedBeside.{lived_beside}
 use Rattle.headline.proofs.Untaken.{AreSameUntaken}
 use Rattle.headline.proofs.WorldsWrite.{clients_alone, pipes_alone}
-use Rattle.byte_world.specs.exactly_once.Sides.{Connection}
+use Rattle.byte_world.specs.exactly_once.Sides.{ClientConnection}
 
 exact_by : {nodes : ℕ} {config : Config} {cs : List Client} → AreApart cs → (w : World) (went : GroupTrace nodes config w.group) (s : GoesBeside nodes config cs w went) (agreed : List Command) → IsAgreedSo s.so agreed
     → IsExactBy agreed w
@@ -73,7 +73,7 @@ exact_by {cs = cs} apart w went s agreed is =
         (subst (λ (p : Past). IsUnexpelled h.story.keeper.client p) (sym h.past) (subst (λ (k : Keeper). IsUnexpelled k.client (past_of usual_limits agreed)) (sym h.keeper) none)))
 
 -- a promise does not depend on how much is counted as taken
-promise_untaken : (c : Client) (connections others : List Connection) (published : List Publication) (past : Past) (state : ClientState) → AreSameUntaken connections others
+promise_untaken : (c : Client) (connections others : List ClientConnection) (published : List Publication) (past : Past) (state : ClientState) → AreSameUntaken connections others
     → PromiseBy c connections published past state → PromiseBy c others published past state
 promise_untaken c connections others published past state same p =
     record {

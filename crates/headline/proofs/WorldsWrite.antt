@@ -9,7 +9,7 @@ use Rattle.byte_world.specs.broker_spec.Connection.{ConnectionName}
 use Rattle.byte_world.specs.client_base.Keeper.{Written}
 use Rattle.byte_world.specs.lists.Lists.{Each, In, IsPrefixOf}
 use Rattle.byte_world.specs.lists.Lists.In.{here, there}
-use Rattle.byte_world.specs.exactly_once.Sides.{Connection}
+use Rattle.byte_world.specs.exactly_once.Sides.{ClientConnection}
 use Rattle.byte_world.specs.exactly_once.StoryCommands.{command_of, is_packet_of}
 use Rattle.byte_world.proofs.of_exactly_once.Takes.{same_name_self}
 use Rattle.byte_world.specs.packet_world.Exact.{commands_from}
@@ -70,14 +70,14 @@ none_in x [] front i = elim i [ ]
 module _ {nodes : ℕ} {config : Config} (w : World) (went : GroupTrace nodes config w.group) (holds : Holds w went) (piped : Each HasAllPipes w.clients) (so : CarriedSo went)
     (agreed : List Command) (is : IsAgreedSo so agreed) where
   -- a connection of a client, with its pipe
-  pub record Stands (i j : ℕ) (a : Alone) (κ : Connection) : Type 0 where
+  pub record Stands (i j : ℕ) (a : Alone) (κ : ClientConnection) : Type 0 where
     pub c : ClientPipes
-    pub μ : Connection
+    pub μ : ClientConnection
     pub p : Pipe
     pub has : HasPipe w i c j μ p
     pub same : untaken_connection μ ≡ κ
 
-  pub stands_there : (i j : ℕ) (a : Alone) (κ : Connection) → slice_get (clients_alone w) i ≡ Some a → slice_get a.connections j ≡ Some κ → Stands i j a κ
+  pub stands_there : (i j : ℕ) (a : Alone) (κ : ClientConnection) → slice_get (clients_alone w) i ≡ Some a → slice_get a.connections j ≡ Some κ → Stands i j a κ
   stands_there i j a κ at stood = by (map_back pipes_alone w.clients i a at)
     where
       by : (c : ClientPipes) × (slice_get w.clients i ≡ Some c) × (pipes_alone c ≡ a) → Stands i j a κ
@@ -88,7 +88,7 @@ module _ {nodes : ℕ} {config : Config} (w : World) (went : GroupTrace nodes co
           record { c = c; μ = z.0; p = p.0; has = record { client = client; connection = z.1; pipe = p.1 }; same = z.2 }
 
   -- the list has a prefix of what was written on it
-  pub order_at : (i : ℕ) (c : ClientPipes) (j : ℕ) (κ : Connection) (p : Pipe) → HasPipe w i c j κ p
+  pub order_at : (i : ℕ) (c : ClientPipes) (j : ℕ) (κ : ClientConnection) (p : Pipe) → HasPipe w i c j κ p
       → IsPrefixOf (packets_in_list κ.name agreed) (commands_of κ.name 0 (packets_of κ.written))
   order_at i c j κ p has = let h = holds.each i c j κ p has in (carries_each w.group went so agreed is κ.name (packets_of κ.written) h.up.later h.up.joined).up
 
@@ -107,7 +107,7 @@ module _ {nodes : ℕ} {config : Config} (w : World) (went : GroupTrace nodes co
       record {
         order = λ i j a κ at stood.
             let s = stands_there i j a κ at stood in
-            subst (λ (ν : Connection). IsPrefixOf (filter (of_name ν.name) agreed) (commands_from ν.name 0 ν.written)) s.same
+            subst (λ (ν : ClientConnection). IsPrefixOf (filter (of_name ν.name) agreed) (commands_from ν.name 0 ν.written)) s.same
             (subst (λ l. IsPrefixOf (packets_in_list s.μ.name agreed) l) (same_commands s.μ.name 0 s.μ.written) (order_at i s.c j s.μ s.p s.has));
         known = λ command among own.
             let z = known_at command among own in

@@ -14,7 +14,7 @@ use Rattle.byte_world.specs.exactly_once.Acceptance.{accepted_on}
 use Rattle.byte_world.specs.exactly_once.InStep.{IsInStep}
 use Rattle.byte_world.specs.exactly_once.Lives.{ExactlyOnceOverSessions}
 use Rattle.byte_world.specs.exactly_once.Unexpelled.{HasOneSession, IsUnexpelled}
-use Rattle.byte_world.specs.exactly_once.Sides.{Connection}
+use Rattle.byte_world.specs.exactly_once.Sides.{ClientConnection}
 use Rattle.byte_world.specs.exactly_once.Story.{Story}
 use Rattle.byte_world.specs.snapshots.Moments.{IsAgreed}
 use Rattle.byte_world.specs.packet_world.World.{AreApart}
@@ -58,8 +58,8 @@ pub record IsExactBy (agreed : List Command) (w : World) : Type 0 where
   pub names : (x : ConnectionName) → connects_of x (past_of usual_limits agreed) ≤ 1
   pub sessions : EndsWithTheSession usual_limits (past_of usual_limits agreed)
   -- connections carry their packets in order, both ways
-  pub pipes : (i : ℕ) (c : ClientPipes) (j : ℕ) (κ : Connection) (p : Pipe) → HasPipe w i c j κ p →
-      IsInOrder agreed κ p
+  pub pipes : (i : ℕ) (c : ClientPipes) (j : ℕ) (κ : ClientConnection) (p : Pipe) →
+      HasPipe w i c j κ p → IsInOrder agreed κ p
 
 -- A world that is reached by these steps: the steps of its group are a past, there is a list on
 -- which the nodes agree at its end, and the world is exact by that list.

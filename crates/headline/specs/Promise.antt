@@ -19,7 +19,7 @@ use Rattle.byte_world.specs.broker_spec.TakenLaws.{queued_at, takes_publication}
 use Rattle.byte_world.specs.broker_spec.Times.{entries_of}
 use Rattle.byte_world.specs.client_base.State.{ClientState}
 use Rattle.byte_world.specs.exactly_once.InStep.{AreWelcome, IsFirstSession, sessions_begun}
-use Rattle.byte_world.specs.exactly_once.Sides.{Connection}
+use Rattle.byte_world.specs.exactly_once.Sides.{ClientConnection}
 use Rattle.headline.specs.Shown.{AcceptsInOrder, AreNewInOrder, AreStillKept, IsAnswered, at_two, kept_of, new_of}
 
 -- for client c, as long as it is in step, by the places of the list
@@ -46,8 +46,8 @@ pub record PromiseInStep (c : Client) (published : List Publication) (past : Pas
   pub accepts : AcceptsInOrder c past state
 
 -- for each client, with its connections, the newest first
-pub record PromiseBy (c : Client) (connections : List Connection) (published : List Publication)
-    (past : Past) (state : ClientState) : Type 0 where
+pub record PromiseBy (c : Client) (connections : List ClientConnection)
+    (published : List Publication) (past : Past) (state : ClientState) : Type 0 where
   -- in step: a connection that began a session after the first was confirmed before it opened
   -- another one
   pub in_step : AreWelcome past c connections → PromiseInStep c published past state
@@ -70,6 +70,6 @@ pub record PromiseBy (c : Client) (connections : List Connection) (published : L
   pub ended : EndsWithTheSession usual_limits past
 
 -- the promise by the list of commands on which the nodes agree
-abbrev pub Promise : List Connection → List Publication → List Command → ClientState → Type 0
+abbrev pub Promise : List ClientConnection → List Publication → List Command → ClientState → Type 0
 Promise connections published agreed state =
     PromiseBy state.client connections published (past_of usual_limits agreed) state

@@ -13,7 +13,7 @@ use Rattle.exactly_once.proofs.of_broker_base.ConnectionNames.{same_name}
 use Rattle.exactly_once.proofs.of_broker_base.PacketOfNobody.{window_is_steady}
 use Rattle.exactly_once.specs.client_base.Keeper.{Written}
 use Rattle.exactly_once.specs.client_base.Called.{opens}
-use Rattle.exactly_once.specs.Sides.{Connection}
+use Rattle.exactly_once.specs.Sides.{ClientConnection}
 use Rattle.exactly_once.specs.Story.{Story}
 use Rattle.exactly_once.specs.StoryCommands.{any_named, is_packet_of, counted_at, command_of, names_client}
 use Rattle.exactly_once.specs.Lives.{Lived}
@@ -60,7 +60,7 @@ else_of (commands.Lost y) x e = refl
 else_of (commands.Start b) x e = refl
 else_of (commands.Expel d) x e = refl
 
-else_named : (command : Command) (connections : List Connection) → is_of_connection command ≡ false → any_named (is_packet_of command) connections ≡ false
+else_named : (command : Command) (connections : List ClientConnection) → is_of_connection command ≡ false → any_named (is_packet_of command) connections ≡ false
 else_named command [] e = refl
 else_named command (κ ∷ connections) e = ap₂ (λ a b. a || b) (else_of command κ.name e) (else_named command connections e)
 
@@ -99,18 +99,18 @@ no_client past c x n (packets.Connect q) h = h
 no_client past c x n _ h = h
 
 -- it is no Connect of another client
-not_theirs : (c d : Client) (κ : Connection) (v : Written) (limits : Limits) (past : Past) → (κ.taken ≡ 0 → IsUntouched limits past c κ) → slice_get κ.written κ.taken ≡ Some v → (c ≡ d → ⊥)
+not_theirs : (c d : Client) (κ : ClientConnection) (v : Written) (limits : Limits) (past : Past) → (κ.taken ≡ 0 → IsUntouched limits past c κ) → slice_get κ.written κ.taken ≡ Some v → (c ≡ d → ⊥)
     → names_client past d (command_of κ.name κ.taken v.packet) → ⊥
 not_theirs c d κ v limits past untouched next other = by κ.taken refl
   where
     by : (n : ℕ) → κ.taken ≡ n → names_client past d (command_of κ.name n v.packet) → ⊥
     by zero e =
-        let first : Some (opens c) ≡ Some v = sym (ap (λ (z : Connection). slice_get z.written z.taken) (untouched e).is) ∙ next in
+        let first : Some (opens c) ≡ Some v = sym (ap (λ (z : ClientConnection). slice_get z.written z.taken) (untouched e).is) ∙ next in
         let same : opens c ≡ v = cc in
         subst (λ (z : Written). names_client past d (command_of κ.name 0 z.packet) → ⊥) same other
     by (suc n) e = no_client past d κ.name n v.packet
 
-pub keeps_agreed : (w : World) (i j : ℕ) (c : ClientEnds) (κ : Connection) (e : End) (v : Written) → Holds w → HasPipe w i c j κ e → κ.taken < e.read → slice_get κ.written κ.taken ≡ Some v
+pub keeps_agreed : (w : World) (i j : ℕ) (c : ClientEnds) (κ : ClientConnection) (e : End) (v : Written) → Holds w → HasPipe w i c j κ e → κ.taken < e.read → slice_get κ.written κ.taken ≡ Some v
     → Holds (record {
       agreed = w.agreed ++ command_of κ.name κ.taken v.packet ∷ [];
       clients = set w.clients i (record c { connections = counted_at j c.connections });
@@ -140,7 +140,7 @@ keeps_agreed w i j c κ e v h pipe less next =
     life = lived_is_life usual_limits c.keeper.client (story_of w.agreed c) told
 
     untouched : κ.taken ≡ 0 → IsUntouched usual_limits past c.keeper.client κ
-    untouched = each_there (λ (μ : Connection). μ.taken ≡ 0 → IsUntouched usual_limits past c.keeper.client μ) j c.connections κ pipe.connection life.connections.untouched
+    untouched = each_there (λ (μ : ClientConnection). μ.taken ≡ 0 → IsUntouched usual_limits past c.keeper.client μ) j c.connections κ pipe.connection life.connections.untouched
 
     counted : IsCounted past κ
     counted = each_there (IsCounted past) j c.connections κ pipe.connection life.connections.counted

@@ -10,7 +10,7 @@ use Rattle.exactly_once.specs.broker_spec.declared.command.Command.{Command}
 use Rattle.exactly_once.specs.client_base.Keeper.{Written}
 use Rattle.exactly_once.specs.client_base.Written.{plain, writes_first}
 use Rattle.exactly_once.specs.client_base.Called.{written_for}
-use Rattle.exactly_once.specs.Sides.{Connection}
+use Rattle.exactly_once.specs.Sides.{ClientConnection}
 use Rattle.exactly_once.specs.Story.{Story, StoryStep}
 use Rattle.exactly_once.specs.StoryCommands.{any_named}
 use Rattle.exactly_once.specs.Lives.{Lived}
@@ -34,7 +34,7 @@ call_past (publishes_one p needs) e = refl
 call_past (subscribes p on id) e = refl
 call_past (unsubscribes p on id) e = refl
 
-written_named : (test : ConnectionName → Bool) (more : List Written) (connections : List Connection) → any_named test (writes_first more connections) ≡ any_named test connections
+written_named : (test : ConnectionName → Bool) (more : List Written) (connections : List ClientConnection) → any_named test (writes_first more connections) ≡ any_named test connections
 written_named test more [] = refl
 written_named test more (κ ∷ connections) = refl
 

@@ -10,7 +10,7 @@ use Rattle.exactly_once.proofs.of_broker_base.ConnectionNames.{same_itself}
 use Rattle.snapshots.specs.lists.Lists.{Each}
 use Rattle.exactly_once.specs.client_base.Keeper.{Written}
 use Rattle.exactly_once.specs.Sends.{put_to}
-use Rattle.exactly_once.specs.Sides.{Connection}
+use Rattle.exactly_once.specs.Sides.{ClientConnection}
 use Rattle.exactly_once.specs.StoryCommands.{any_named, is_packet_of, counted_at, command_of}
 use Rattle.exactly_once.specs.Inside.Shape.{NamesApart}
 use Rattle.exactly_once.proofs.publishing.Last.{none_named, each_there}
@@ -29,7 +29,7 @@ none_filtered x agreed command none =
     filter_push (of_name x) agreed command ∙ ap (λ b. filter (of_name x) agreed ++ (if b then command ∷ [] else [])) none ∙ append-nil (filter (of_name x) agreed)
 
 -- of another connection
-pub others_more : (agreed : List Command) (command : Command) (κ : Connection) (e : End) → is_packet_of command κ.name ≡ false → PipeHolds agreed κ e → PipeHolds (agreed ++ command ∷ []) κ e
+pub others_more : (agreed : List Command) (command : Command) (κ : ClientConnection) (e : End) → is_packet_of command κ.name ≡ false → PipeHolds agreed κ e → PipeHolds (agreed ++ command ∷ []) κ e
 others_more agreed command κ e none h =
     let s = h.seen in
     let long = length-append agreed (command ∷ []) in
@@ -42,7 +42,7 @@ others_more agreed command κ e none h =
       handled = h.handled;
     }
 
-pub others_agreed : (agreed : List Command) (command : Command) (connections : List Connection) (ends : List End) → Each (λ (κ : Connection). is_packet_of command κ.name ≡ false) connections
+pub others_agreed : (agreed : List Command) (command : Command) (connections : List ClientConnection) (ends : List End) → Each (λ (κ : ClientConnection). is_packet_of command κ.name ≡ false) connections
     → PipesHold agreed connections ends → PipesHold (agreed ++ command ∷ []) connections ends
 others_agreed agreed command [] [] none h = tt
 others_agreed agreed command [] (e ∷ ends) none h = h
@@ -64,7 +64,7 @@ pub command_is_of : (x y : ConnectionName) (n : ℕ) (packet : Packet) → is_pa
 command_is_of x y n packet = packet_of x y n packet
 
 -- its next packet
-next_agreed : (agreed : List Command) (κ : Connection) (e : End) (v : Written) → PipeHolds agreed κ e → κ.taken < e.read → slice_get κ.written κ.taken ≡ Some v
+next_agreed : (agreed : List Command) (κ : ClientConnection) (e : End) (v : Written) → PipeHolds agreed κ e → κ.taken < e.read → slice_get κ.written κ.taken ≡ Some v
     → PipeHolds (agreed ++ command_of κ.name κ.taken v.packet ∷ []) (record κ { taken = suc κ.taken }) e
 next_agreed agreed κ e v h less next =
     let command = command_of κ.name κ.taken v.packet in
@@ -87,7 +87,7 @@ next_agreed agreed κ e v h less next =
     }
 
 -- of one of these connections
-pub one_agreed : (agreed : List Command) (connections : List Connection) (ends : List End) (j : ℕ) (κ : Connection) (e : End) (v : Written) → NamesApart connections → PipesHold agreed connections ends
+pub one_agreed : (agreed : List Command) (connections : List ClientConnection) (ends : List End) (j : ℕ) (κ : ClientConnection) (e : End) (v : Written) → NamesApart connections → PipesHold agreed connections ends
     → slice_get connections j ≡ Some κ → slice_get ends j ≡ Some e → κ.taken < e.read → slice_get κ.written κ.taken ≡ Some v
     → PipesHold (agreed ++ command_of κ.name κ.taken v.packet ∷ []) (counted_at j connections) ends
 one_agreed agreed [] ends j κ e v apart h a b less next = cc
@@ -96,23 +96,23 @@ one_agreed agreed (μ ∷ connections) (f ∷ ends) zero κ e v apart h a b less
     let same : κ ≡ μ = cc in
     let other : e ≡ f = cc in
     let first : PipeHolds (agreed ++ command_of κ.name κ.taken v.packet ∷ []) (record κ { taken = suc κ.taken }) e =
-    next_agreed agreed κ e v (subst (λ (ν : Connection). PipeHolds agreed ν e) (sym same) (subst (λ (g : End). PipeHolds agreed μ g) (sym other) h.0)) less next in
+    next_agreed agreed κ e v (subst (λ (ν : ClientConnection). PipeHolds agreed ν e) (sym same) (subst (λ (g : End). PipeHolds agreed μ g) (sym other) h.0)) less next in
     let command = command_of κ.name κ.taken v.packet in
     let names = each_named μ κ same connections apart.0 in (
-      subst (λ (ν : Connection). PipeHolds (agreed ++ command ∷ []) (record ν { taken = suc ν.taken }) f) same
+      subst (λ (ν : ClientConnection). PipeHolds (agreed ++ command ∷ []) (record ν { taken = suc ν.taken }) f) same
           (subst (λ (g : End). PipeHolds (agreed ++ command ∷ []) (record κ { taken = suc κ.taken }) g) other first),
       others_agreed agreed command connections ends names h.1,
     )
   where
-    each_named : (μ κ : Connection) → κ ≡ μ → (cs : List Connection) → any_named (same_connection μ.name) cs ≡ false
-        → Each (λ (ν : Connection). is_packet_of (command_of κ.name κ.taken v.packet) ν.name ≡ false) cs
+    each_named : (μ κ : ClientConnection) → κ ≡ μ → (cs : List ClientConnection) → any_named (same_connection μ.name) cs ≡ false
+        → Each (λ (ν : ClientConnection). is_packet_of (command_of κ.name κ.taken v.packet) ν.name ≡ false) cs
     each_named μ κ same cs none = by cs (none_named (same_connection μ.name) cs none)
       where
-        by : (ds : List Connection) → Each (λ (ν : Connection). same_connection μ.name ν.name ≡ false) ds → Each (λ (ν : Connection). is_packet_of (command_of κ.name κ.taken v.packet) ν.name ≡ false) ds
+        by : (ds : List ClientConnection) → Each (λ (ν : ClientConnection). same_connection μ.name ν.name ≡ false) ds → Each (λ (ν : ClientConnection). is_packet_of (command_of κ.name κ.taken v.packet) ν.name ≡ false) ds
         by [] n = tt
-        by (ν ∷ ds) n = (command_is_of κ.name ν.name κ.taken v.packet ∙ ap (λ (ξ : Connection). same_connection ξ.name ν.name) same ∙ n.0, by ds n.1)
+        by (ν ∷ ds) n = (command_is_of κ.name ν.name κ.taken v.packet ∙ ap (λ (ξ : ClientConnection). same_connection ξ.name ν.name) same ∙ n.0, by ds n.1)
 one_agreed agreed (μ ∷ connections) (f ∷ ends) (suc j) κ e v apart h a b less next =
-    let other = each_there (λ (ν : Connection). same_connection μ.name ν.name ≡ false) j connections κ a (none_named (same_connection μ.name) connections apart.0) in (
+    let other = each_there (λ (ν : ClientConnection). same_connection μ.name ν.name ≡ false) j connections κ a (none_named (same_connection μ.name) connections apart.0) in (
       others_more agreed (command_of κ.name κ.taken v.packet) μ f (command_is_of κ.name μ.name κ.taken v.packet ∙ same_turned κ.name μ.name ∙ other) h.0,
       one_agreed agreed connections ends j κ e v apart.1 h.1 a b less next,
     )

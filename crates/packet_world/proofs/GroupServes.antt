@@ -15,7 +15,7 @@ use Rattle.snapshots.proofs.PastsAgree.{nodes_agree}
 use Rattle.snapshots.proofs.PastsAgree.{agreed_grows}
 use Rattle.snapshots.proofs.Orders.{keeps_the_order}
 use Rattle.snapshots.proofs.Orders.{taken_at_in}
-use Rattle.exactly_once.specs.Sides.{Connection}
+use Rattle.exactly_once.specs.Sides.{ClientConnection}
 use Rattle.exactly_once.specs.StoryCommands.{is_packet_of}
 use Rattle.packet_world.specs.World.{End}
 use Rattle.packet_world.specs.Steps.{is_of_connection}
@@ -98,7 +98,7 @@ groups_serve rules starts config a past w later came before after takes =
     in_order : (x : ConnectionName) → IsPrefixOf (filter (of_name x) later) (filter (of_name x) (commands_of (taken_of came)))
     in_order x = (agreed_in_order rules (keeps_the_order rules) (nodes_agree rules) config a past later came after).1 (of_name x) x.ballot (of_ballot x)
 
-    order : (κ : Connection) (e : End) → ReadsAt came κ e → IsPrefixOf (filter (of_name κ.name) later) (commands_from κ.name 0 (take e.read κ.written))
+    order : (κ : ClientConnection) (e : End) → ReadsAt came κ e → IsPrefixOf (filter (of_name κ.name) later) (commands_from κ.name 0 (take e.read κ.written))
     order κ e r =
         let whole = named_in (of_name κ.name) κ.name.ballot (taken_of came) (λ row j is. takes.ballots row j κ.name is) in
         let own = named_in (of_name κ.name) κ.name.ballot (taken_at r.node came) (λ row j is. takes.ballots row (taken_at_in rules config a past came r.node row j) κ.name is) in

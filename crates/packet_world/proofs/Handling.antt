@@ -11,7 +11,7 @@ use Rattle.snapshots.proofs.of_lists.Prefixes.{prefix_get, prefix_take}
 use Rattle.exactly_once.specs.client_base.Called.{new_connection}
 use Rattle.exactly_once.specs.client_base.Handled.{handled}
 use Rattle.exactly_once.specs.Sends.{put_to}
-use Rattle.exactly_once.specs.Sides.{Connection}
+use Rattle.exactly_once.specs.Sides.{ClientConnection}
 use Rattle.exactly_once.specs.Story.{StoryStep}
 use Rattle.exactly_once.specs.StoryCommands.{any_named, count_of}
 use Rattle.exactly_once.specs.Lives.{Lived}
@@ -29,14 +29,14 @@ use Rattle.packet_world.proofs.Holds.{IsTold, HasPipes, Holds, keeps_client, kee
 
 -- ---- a packet is handled
 
-pub keeps_handled : (w : World) (i : ℕ) (c : ClientEnds) (κ : Connection) (e : End) (others : List Connection) (ends : List End) (packet : Packet) → Holds w → slice_get w.clients i ≡ Some c
+pub keeps_handled : (w : World) (i : ℕ) (c : ClientEnds) (κ : ClientConnection) (e : End) (others : List ClientConnection) (ends : List End) (packet : Packet) → Holds w → slice_get w.clients i ≡ Some c
     → c.connections ≡ κ ∷ others → c.ends ≡ e ∷ ends → c.keeper.is_open ≡ true → slice_get e.put κ.handled ≡ Some packet
     → Holds (with_client i (after_packet others (e ∷ ends) (handled packet (record { keeper = c.keeper; connection = κ }))) w)
 keeps_handled w i c κ e others ends packet h there' are ends_are opened next =
     let side = handled packet (record { keeper = c.keeper; connection = κ }) in
     let grown = handled_grows κ c.keeper packet in
     let pipes : PipesHold w.agreed (κ ∷ others) (e ∷ ends) =
-    subst (λ (cs : List Connection). PipesHold w.agreed cs (e ∷ ends)) are (subst (λ (es : List End). PipesHold w.agreed c.connections es) ends_are (each_get (HasPipes w.agreed) w.clients i c h.pipes there')) in
+    subst (λ (cs : List ClientConnection). PipesHold w.agreed cs (e ∷ ends)) are (subst (λ (es : List End). PipesHold w.agreed c.connections es) ends_are (each_get (HasPipes w.agreed) w.clients i c h.pipes there')) in
     let put : IsPrefixOf e.put (put_to usual_limits (past_of usual_limits w.agreed) κ.name) =
     subst (λ (l : List Packet). IsPrefixOf l (put_to usual_limits (past_of usual_limits w.agreed) κ.name)) (sym pipes.0.shown)
     (put_front usual_limits (take e.seen w.agreed) w.agreed κ.name (prefix_take e.seen w.agreed)) in

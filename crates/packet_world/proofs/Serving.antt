@@ -11,7 +11,7 @@ use Rattle.snapshots.specs.lists.Lists.In.{here}
 use Rattle.snapshots.proofs.of_lists.Members.{in_right}
 use Rattle.snapshots.proofs.of_lists.Places.{get_set, get_set_other}
 use Rattle.exactly_once.specs.client_base.Keeper.{Written}
-use Rattle.exactly_once.specs.Sides.{Connection}
+use Rattle.exactly_once.specs.Sides.{ClientConnection}
 use Rattle.exactly_once.specs.StoryCommands.{is_packet_of, counted_at, command_of}
 use Rattle.packet_world.specs.World.{End, ClientEnds, World, AreApart}
 use Rattle.packet_world.specs.Steps.{HasPipe, Reached, is_of_connection}
@@ -27,7 +27,7 @@ use Rattle.packet_world.proofs.TakenOn.{IsKept, counted_back, counted_on, counte
 
 -- ---- the world after it
 
-abbrev after : World → ℕ → ℕ → ClientEnds → Connection → Written → World
+abbrev after : World → ℕ → ℕ → ClientEnds → ClientConnection → Written → World
 after w i j c κ v =
     record {
       agreed = w.agreed ++ command_of κ.name κ.taken v.packet ∷ [];
@@ -38,15 +38,15 @@ some_is : {X : Type 0} (x y : X) → Some x ≡ Some y → x ≡ y
 some_is x y e = cc
 
 -- a connection after it was there before
-pub record WasPipe (w : World) (κ : Connection) (e : End) : Type 0 where
+pub record WasPipe (w : World) (κ : ClientConnection) (e : End) : Type 0 where
   pub i : ℕ
   pub j : ℕ
   pub client : ClientEnds
-  pub connection : Connection
+  pub connection : ClientConnection
   pub pipe : HasPipe w i client j connection e
   pub kept : IsKept connection κ
 
-pipe_before : (w : World) (i j : ℕ) (c : ClientEnds) (κ : Connection) (v : Written) → slice_get w.clients i ≡ Some c → (k l : ℕ) (d : ClientEnds) (μ : Connection) (f : End)
+pipe_before : (w : World) (i j : ℕ) (c : ClientEnds) (κ : ClientConnection) (v : Written) → slice_get w.clients i ≡ Some c → (k l : ℕ) (d : ClientEnds) (μ : ClientConnection) (f : End)
     → HasPipe (after w i j c κ v) k d l μ f → WasPipe w μ f
 pipe_before w i j c κ v there' k l d μ f pipe = by (set_get w.clients i k c later d there' pipe.client)
   where
@@ -68,7 +68,7 @@ pipe_before w i j c κ v there' k l d μ f pipe = by (set_get w.clients i k c la
         record { i = k; j = l; client = d; connection = μ; pipe = record { client = at; connection = pipe.connection; end = pipe.end }; kept = record { name = refl; written = refl } }
 
 -- and one that was there is there
-pipe_after : (w : World) (i j : ℕ) (c : ClientEnds) (κ : Connection) (v : Written) → slice_get w.clients i ≡ Some c → (command : Command) → IsOfPipe w command → IsOfPipe (after w i j c κ v) command
+pipe_after : (w : World) (i j : ℕ) (c : ClientEnds) (κ : ClientConnection) (v : Written) → slice_get w.clients i ≡ Some c → (command : Command) → IsOfPipe w command → IsOfPipe (after w i j c κ v) command
 pipe_after w i j c κ v there' command of = by (same_or_other of.i i)
   where
     later : ClientEnds
@@ -102,7 +102,7 @@ pipe_after w i j c κ v there' command of = by (same_or_other of.i i)
           named = ap (is_packet_of command) on.2.name ∙ of.named;
         }
 
-served_after : (w : World) (later rest : List Command) (i j : ℕ) (c : ClientEnds) (κ : Connection) (v : Written) → slice_get w.clients i ≡ Some c → IsServed w later
+served_after : (w : World) (later rest : List Command) (i j : ℕ) (c : ClientEnds) (κ : ClientConnection) (v : Written) → slice_get w.clients i ≡ Some c → IsServed w later
     → later ≡ (after w i j c κ v).agreed ++ rest → IsServed (after w i j c κ v) later
 served_after w later rest i j c κ v there' served is =
     record {

@@ -18,7 +18,7 @@ use Rattle.exactly_once.specs.broker_spec.declared.command.Command.TheVariants a
 use Rattle.exactly_once.specs.client_base.Keeper.{Own, Keeper}
 use Rattle.exactly_once.specs.client_base.Written.{plain, publishes}
 use Rattle.exactly_once.specs.client_base.Called.{opens}
-use Rattle.exactly_once.specs.Sides.{Connection}
+use Rattle.exactly_once.specs.Sides.{ClientConnection}
 use Rattle.exactly_once.specs.Story.StoryStep.{subscribes, publishes_one, loses}
 use Rattle.exactly_once.specs.Rows.{writer, first_name, second_name, news, asks_for_news}
 use Rattle.packet_world.specs.World.{End, ClientEnds, World}
@@ -33,7 +33,7 @@ less_by n m e = grind (arith, e)
 within_by : (n m : ℕ) → nat_le n m ≡ true → n ≤ m
 within_by n m e = grind (arith, e)
 
-abbrev first_one : Connection
+abbrev first_one : ClientConnection
 first_one =
     record {
       name = first_name;
@@ -96,7 +96,7 @@ until_lost =
     goes_on e14 (calls 0 _ _ (loses) refl refl)
 
 -- the client has come back to another node, and its publication was sent again
-abbrev second_one : Connection
+abbrev second_one : ClientConnection
 second_one =
     record {
       name = second_name;
@@ -150,7 +150,7 @@ until_again =
     goes_on e7 (answers 0 0 _ _ _ _ (record { client = refl; connection = refl; end = refl }) refl refl)
 
 -- what it sent and what it was sent are released
-abbrev released_one : Connection
+abbrev released_one : ClientConnection
 released_one =
     record second_one {
       written = opens writer ∷ publishes true 0 1 news ∷ plain (packets.Pubrec 1) ∷ plain (packets.Pubrel 1) ∷ plain (packets.Pubcomp 1) ∷ [];

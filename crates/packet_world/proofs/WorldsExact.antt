@@ -5,7 +5,7 @@ use Rattle.exactly_once.specs.broker_spec.Commands.{usual_limits}
 use Rattle.exactly_once.proofs.of_broker_base.NothingAfterTheEnd.{nothing_after_the_end}
 use Rattle.exactly_once.proofs.of_broker_base.PacketOfNobody.{window_is_steady}
 use Rattle.snapshots.proofs.of_lists.OfEach.{each_then}
-use Rattle.exactly_once.specs.Sides.{Connection}
+use Rattle.exactly_once.specs.Sides.{ClientConnection}
 use Rattle.exactly_once.proofs.sessions.LivesExact.{lives_exact}
 use Rattle.packet_world.specs.World.{End, ClientEnds, World, AreApart, story_of, with_client}
 use Rattle.packet_world.specs.Steps.{Goes, Reached, HasPipe}
@@ -21,7 +21,7 @@ use Rattle.packet_world.proofs.Handling.{keeps_handled, keeps_opened}
 use Rattle.packet_world.proofs.Agrees.{keeps_agreed, keeps_else}
 
 -- a node's end becomes another
-keeps_end : (w : World) (i j : ℕ) (c : ClientEnds) (κ : Connection) (e later : End) → Holds w → HasPipe w i c j κ e → (PipeHolds w.agreed κ e → PipeHolds w.agreed κ later)
+keeps_end : (w : World) (i j : ℕ) (c : ClientEnds) (κ : ClientConnection) (e later : End) → Holds w → HasPipe w i c j κ e → (PipeHolds w.agreed κ e → PipeHolds w.agreed κ later)
     → Holds (with_client i (record c { ends = set c.ends j later }) w)
 keeps_end w i j c κ e later h pipe keeps =
     let pipes = each_get (HasPipes w.agreed) w.clients i c h.pipes pipe.client in

@@ -8,7 +8,7 @@ use Rattle.exactly_once.specs.broker_spec.declared.command.Command.{Command}
 use Rattle.snapshots.specs.lists.Lists.{Each, IsPrefixOf}
 use Rattle.exactly_once.specs.client_base.Keeper.{Written}
 use Rattle.exactly_once.specs.Sends.{put_to}
-use Rattle.exactly_once.specs.Sides.{Connection}
+use Rattle.exactly_once.specs.Sides.{ClientConnection}
 use Rattle.exactly_once.specs.StoryCommands.{command_of, is_packet_of}
 use Rattle.exactly_once.specs.InStep.{IsInStep}
 use Rattle.exactly_once.specs.Lives.{ExactlyOnceOverSessions}
@@ -22,14 +22,14 @@ commands_from x n [] = []
 
 -- A connection's commands in the agreed list are a prefix of what its client wrote, in order. What
 -- its node sent is a prefix of the answers to it, and its client handled a prefix of that.
-pub record PipeInOrder (agreed : List Command) (κ : Connection) (e : End) : Type 0 where
+pub record PipeInOrder (agreed : List Command) (κ : ClientConnection) (e : End) : Type 0 where
   pub up : IsPrefixOf (filter (λ command. is_packet_of command κ.name) agreed)
       (commands_from κ.name 0 κ.written)
   pub down : IsPrefixOf e.put (put_to usual_limits (past_of usual_limits agreed) κ.name)
   pub handled : κ.handled ≤ length e.put
 
 -- `PipeInOrder` of each connection of a client and the node's end of it
-abbrev pub PipesInOrder : List Command → List Connection → List End → Type 0
+abbrev pub PipesInOrder : List Command → List ClientConnection → List End → Type 0
 PipesInOrder agreed (κ ∷ connections) (e ∷ ends) =
     PipeInOrder agreed κ e × PipesInOrder agreed connections ends
 PipesInOrder agreed [] [] = Unit {0}

@@ -12,7 +12,7 @@ use Rattle.snapshots.specs.Moments.{Moment, Moments, IsAgreed}
 use Rattle.snapshots.specs.Agreeing.{IsPrimary}
 use Rattle.snapshots.specs.agreement.Proposals.{commands_of}
 use Rattle.snapshots.specs.Proposals.{taken_at, taken_of}
-use Rattle.exactly_once.specs.Sides.{Connection}
+use Rattle.exactly_once.specs.Sides.{ClientConnection}
 use Rattle.exactly_once.specs.StoryCommands.{is_packet_of}
 use Rattle.packet_world.specs.World.{End, ClientEnds, World}
 use Rattle.packet_world.specs.Steps.{HasPipe, is_of_connection}
@@ -23,7 +23,7 @@ use Rattle.packet_world.specs.Served.{IsOfPipe, IsServed}
 -- its end has read.
 pub record ReadsAt {rules : Rules State Command Output} {config : Config}
     {past : List (Moment State Command Output)} (came : Moments rules config past)
-    (κ : Connection) (e : End) : Type 0 where
+    (κ : ClientConnection) (e : End) : Type 0 where
   pub node : ℕ
   pub moment : Moment State Command Output
   pub among : In moment past
@@ -38,7 +38,7 @@ pub record TakesAsRead {rules : Rules State Command Output} {config : Config}
     (w : World) : Type 0 where
   pub ballots : (row : ℕ × Command) → In row (taken_of came) → (x : ConnectionName) →
       is_packet_of row.1 x ≡ true → row.0 ≡ x.ballot
-  pub ends : (i j : ℕ) (c : ClientEnds) (κ : Connection) (e : End) → HasPipe w i c j κ e →
+  pub ends : (i j : ℕ) (c : ClientEnds) (κ : ClientConnection) (e : End) → HasPipe w i c j κ e →
       ReadsAt came κ e
   pub known : (row : ℕ × Command) → In row (taken_of came) → is_of_connection row.1 ≡ true →
       IsOfPipe w row.1

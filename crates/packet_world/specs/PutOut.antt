@@ -19,7 +19,7 @@ use Rattle.exactly_once.specs.broker_base.Step.{step}
 use Rattle.broker_form.specs.Form.{thawed}
 use Rattle.broker_form.specs.Writing.{frozen}
 use Rattle.exactly_once.specs.Sends.{sends_to}
-use Rattle.exactly_once.specs.Sides.{Connection}
+use Rattle.exactly_once.specs.Sides.{ClientConnection}
 use Rattle.packet_world.specs.World.{End, ClientEnds, World, with_client}
 use Rattle.packet_world.specs.Steps.{HasPipe, Reached}
 
@@ -49,7 +49,7 @@ end_given x past given e = record e { seen = past; put = e.put ++ sends_to x (an
 -- an open end: the world reaches a state that has them.
 abbrev pub GivenIsPutOut : Type 0
 GivenIsPutOut =
-    (cs : List Client) (w : World) (i j : ℕ) (c : ClientEnds) (κ : Connection) (e : End)
+    (cs : List Client) (w : World) (i j : ℕ) (c : ClientEnds) (κ : ClientConnection) (e : End)
     (past : ℕ) → Reached cs w → HasPipe w i c j κ e →
     e.is_open ≡ true → e.seen ≤ past → past ≤ length w.agreed →
     Reached cs (with_client i
@@ -70,7 +70,7 @@ GroupsPutOut =
     slice_get b.world.nodes n ≡ Some new →
     (given : List (ℕ × Output)) → given_of n more ≡ given_of n came ++ given →
     (cs : List Client) (w : World) → Reached cs w → IsAgreed config (b ∷ later) w.agreed →
-    (i j : ℕ) (c : ClientEnds) (κ : Connection) (e : End) → HasPipe w i c j κ e →
+    (i j : ℕ) (c : ClientEnds) (κ : ClientConnection) (e : End) → HasPipe w i c j κ e →
     e.is_open ≡ true → e.seen ≡ old.committed →
     Reached cs (with_client i
     (record c { ends = set c.ends j (end_given κ.name new.committed given e) }) w)

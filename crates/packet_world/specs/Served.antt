@@ -4,7 +4,7 @@ use Rattle.std.specs.Prelude.{◌≡◌, ℕ, true, List, map, filter, take}
 use Rattle.exactly_once.specs.broker_spec.Place.{Client}
 use Rattle.exactly_once.specs.broker_spec.declared.command.Command.{Command}
 use Rattle.snapshots.specs.lists.Lists.{In, IsPrefixOf}
-use Rattle.exactly_once.specs.Sides.{Connection}
+use Rattle.exactly_once.specs.Sides.{ClientConnection}
 use Rattle.exactly_once.specs.StoryCommands.{is_packet_of}
 use Rattle.packet_world.specs.World.{End, ClientEnds, World, AreApart}
 use Rattle.packet_world.specs.Steps.{HasPipe, Reached, is_of_connection}
@@ -15,7 +15,7 @@ pub record IsOfPipe (w : World) (command : Command) : Type 0 where
   pub i : ℕ
   pub j : ℕ
   pub client : ClientEnds
-  pub connection : Connection
+  pub connection : ClientConnection
   pub end : End
   pub pipe : HasPipe w i client j connection end
   pub named : is_packet_of command connection.name ≡ true
@@ -24,7 +24,7 @@ pub record IsOfPipe (w : World) (command : Command) : Type 0 where
 -- proposed, in order; and it has packets only of connections of the world.
 pub record IsServed (w : World) (later : List Command) : Type 0 where
   pub grows : IsPrefixOf w.agreed later
-  pub order : (i j : ℕ) (c : ClientEnds) (κ : Connection) (e : End) → HasPipe w i c j κ e →
+  pub order : (i j : ℕ) (c : ClientEnds) (κ : ClientConnection) (e : End) → HasPipe w i c j κ e →
       IsPrefixOf (filter (λ command. is_packet_of command κ.name) later)
       (commands_from κ.name 0 (take e.read κ.written))
   pub known : (command : Command) → In command later → is_of_connection command ≡ true →
@@ -33,7 +33,7 @@ pub record IsServed (w : World) (later : List Command) : Type 0 where
 -- a client, except how much of what it wrote is in the list
 abbrev pub untaken : ClientEnds → ClientEnds
 untaken c =
-    record c { connections = map (λ (κ : Connection). record κ { taken = 0 }) c.connections }
+    record c { connections = map (λ (κ : ClientConnection). record κ { taken = 0 }) c.connections }
 
 -- The world comes to this list, command by command, and all else stays as it is.
 pub record ComesTo (cs : List Client) (w : World) (later : List Command) : Type 0 where

@@ -11,7 +11,7 @@ use Rattle.exactly_once.specs.client_base.Keeper.{Written}
 use Rattle.exactly_once.specs.client_base.Called.{new_connection}
 use Rattle.exactly_once.specs.client_base.Handled.{handled, lost}
 use Rattle.exactly_once.specs.Sends.{sends_to}
-use Rattle.exactly_once.specs.Sides.{Connection, Side}
+use Rattle.exactly_once.specs.Sides.{ClientConnection, Side}
 use Rattle.exactly_once.specs.Story.{Story, StoryStep}
 use Rattle.exactly_once.specs.StoryCommands.{command_of, counted_at}
 use Rattle.exactly_once.specs.Story.StoryStep.{takes, others_take, receives, opens_anew, loses, disconnects, publishes_one, subscribes, unsubscribes}
@@ -37,7 +37,7 @@ is_of_connection (commands.Packet x packet) = true
 is_of_connection _ = false
 
 -- the client after a packet that it handled on its newest connection
-abbrev pub after_packet : List Connection → List End → Side → ClientEnds
+abbrev pub after_packet : List ClientConnection → List End → Side → ClientEnds
 after_packet others ends side =
     record { keeper = side.keeper; connections = side.connection ∷ others; ends = ends }
 
@@ -60,7 +60,7 @@ shown agreed x command e =
     }
 
 -- the j-th connection of a client, and the node's end of it
-pub record HasPipe (w : World) (i : ℕ) (c : ClientEnds) (j : ℕ) (κ : Connection)
+pub record HasPipe (w : World) (i : ℕ) (c : ClientEnds) (j : ℕ) (κ : ClientConnection)
     (e : End) : Type 0 where
   pub client : slice_get w.clients i ≡ Some c
   pub connection : slice_get c.connections j ≡ Some κ
@@ -78,8 +78,8 @@ pub data Goes (w : World) : World → Type 0 where
       slice_get w.clients i ≡ Some c → IsFresh x w.clients → seen ≤ length w.agreed →
       Goes w (with_client i (after_opening x seen c) w)
   -- a client handles the next packet that was sent on the connection that it holds
-  handles : (i : ℕ) (c : ClientEnds) (κ : Connection) (e : End) (others : List Connection)
-      (ends : List End) (packet : Packet) →
+  handles : (i : ℕ) (c : ClientEnds) (κ : ClientConnection) (e : End)
+      (others : List ClientConnection) (ends : List End) (packet : Packet) →
       slice_get w.clients i ≡ Some c → c.connections ≡ κ ∷ others → c.ends ≡ e ∷ ends →
       c.keeper.is_open ≡ true →
       slice_get e.put κ.handled ≡ Some packet →
@@ -87,20 +87,20 @@ pub data Goes (w : World) : World → Type 0 where
       (after_packet others (e ∷ ends)
       (handled packet (record { keeper = c.keeper; connection = κ }))) w)
   -- a node reads the next packet of an open connection, and proposes it
-  reads : (i j : ℕ) (c : ClientEnds) (κ : Connection) (e : End) → HasPipe w i c j κ e →
+  reads : (i j : ℕ) (c : ClientEnds) (κ : ClientConnection) (e : End) → HasPipe w i c j κ e →
       e.is_open ≡ true → e.read < length κ.written →
       Goes w (with_client i (record c { ends = set c.ends j (record e { read = suc e.read }) }) w)
   -- a node applies its next place of the agreed list, and sends what the broker answers on an open
   -- connection
-  answers : (i j : ℕ) (c : ClientEnds) (κ : Connection) (e : End) (command : Command) →
+  answers : (i j : ℕ) (c : ClientEnds) (κ : ClientConnection) (e : End) (command : Command) →
       HasPipe w i c j κ e → e.is_open ≡ true →
       slice_get w.agreed e.seen ≡ Some command →
       Goes w (with_client i (record c { ends = set c.ends j (shown w.agreed κ.name command e) }) w)
   -- a node's end is closed, alone or with its node
-  closes : (i j : ℕ) (c : ClientEnds) (κ : Connection) (e : End) → HasPipe w i c j κ e →
+  closes : (i j : ℕ) (c : ClientEnds) (κ : ClientConnection) (e : End) → HasPipe w i c j κ e →
       Goes w (with_client i (record c { ends = set c.ends j (record e { is_open = false }) }) w)
   -- of what was proposed for a connection, the next comes next in the agreed list
-  agrees : (i j : ℕ) (c : ClientEnds) (κ : Connection) (e : End) (v : Written) →
+  agrees : (i j : ℕ) (c : ClientEnds) (κ : ClientConnection) (e : End) (v : Written) →
       HasPipe w i c j κ e → κ.taken < e.read →
       slice_get κ.written κ.taken ≡ Some v →
       Goes w (record {

@@ -8,7 +8,7 @@ use Rattle.exactly_once.specs.broker_spec.Commands.{past_of, usual_limits}
 use Rattle.exactly_once.specs.broker_spec.declared.command.Command.{Command}
 use Rattle.snapshots.specs.lists.Lists.{Each}
 use Rattle.exactly_once.specs.client_base.Keeper.{Keeper, new_keeper}
-use Rattle.exactly_once.specs.Sides.{Connection}
+use Rattle.exactly_once.specs.Sides.{ClientConnection}
 use Rattle.exactly_once.specs.Story.{Story}
 use Rattle.exactly_once.specs.StoryCommands.{any_named}
 
@@ -26,7 +26,7 @@ new_end seen = record { read = 0; seen = seen; put = []; is_open = true }
 -- a client with its connections, the newest first, and the nodes' ends of these in the same order
 pub record ClientEnds : Type 0 where
   pub keeper : Keeper
-  pub connections : List Connection
+  pub connections : List ClientConnection
   pub ends : List End
 
 -- a client that has no connection yet

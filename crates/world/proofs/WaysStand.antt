@@ -2,7 +2,7 @@
 use Rattle.std.proofs.Common.{◌≡◌, ℕ, zero, suc, List, [], ◌∷◌, Some, reverse, set, slice_get, refl, sym, ap, ◌∙◌, subst}
 use Rattle.std.proofs.lemmas.List.{length-set}
 use Rattle.std.proofs.lemmas.Option.{same_Some, none-some}
-use Rattle.headline.specs.exactly_once.Sides.{Connection}
+use Rattle.headline.specs.exactly_once.Sides.{ClientConnection}
 use Rattle.headline.specs.byte_world.World.{ClientPipes, Pipe, with_pipe}
 use Rattle.world_events.specs.world_pipes.declared.way.Way.{Way}
 use Rattle.world_events.specs.world_pipes.Piped.{Piped}
@@ -34,7 +34,7 @@ ways_set (w ∷ ways) (q ∷ pipes) (suc j) way p are is = (are.0, ways_set ways
 -- its connection and its pipe in the model, where the newest comes first
 pub record PipeAt (client : Piped) (m : ClientPipes) (at : ℕ) (way : Way) : Type 0 where
   pub turned : IsTurned client.ways at way
-  pub κ : Connection
+  pub κ : ClientConnection
   pub p : Pipe
   pub connection : slice_get m.connections turned.place ≡ Some κ
   pub pipe : slice_get m.pipes turned.place ≡ Some p

@@ -4,7 +4,7 @@ use Rattle.headline.specs.ballot.Config.{Config}
 use Rattle.headline.specs.broker_spec.Place.{Client}
 use Rattle.headline.specs.packet_world.World.{AreApart}
 use Rattle.escaping_client.specs.session_base.declared.publication.Publication.{Publication}
-use Rattle.headline.specs.exactly_once.Sides.{Connection}
+use Rattle.headline.specs.exactly_once.Sides.{ClientConnection}
 use Rattle.headline.specs.Exact.{IsExact}
 use Rattle.headline.specs.byte_world.World.{ClientPipes, World}
 use Rattle.headline.specs.byte_world.Steps.{Reached, WorldStep}
@@ -79,12 +79,12 @@ abbrev pub asked_on : {nodes : ℕ} {config : Config} {cs : List Client} {w : Wo
 asked_on reached = published_on reached.trail
 
 -- the connections of a client of the model's world, the newest first: history
-abbrev pub connections_in : Option ClientPipes → List Connection
+abbrev pub connections_in : Option ClientPipes → List ClientConnection
 connections_in (Some c) = c.connections
 connections_in None = []
 
 -- the connections of the client at this index
-abbrev pub connections_at : ℕ → World → List Connection
+abbrev pub connections_at : ℕ → World → List ClientConnection
 connections_at i world = connections_in (slice_get world.clients i)
 
 -- a world that can be reached still can after it, and this was published since

@@ -12,7 +12,7 @@ use Rattle.client.specs.client_base.Written.{writes, writes_first}
 use Rattle.client.specs.Core.{AppendsAll, Core, gone}
 use Rattle.byte_world.specs.node_moves.Puts.{spelled}
 use Rattle.client.specs.session_base.declared.publication.Publication.{Publication}
-use Rattle.byte_world.specs.exactly_once.Sides.{Connection}
+use Rattle.byte_world.specs.exactly_once.Sides.{ClientConnection}
 use Rattle.byte_world.specs.World.{ClientPipes, Pipe, after_writing, newly_written, sent_up}
 use Rattle.byte_world.specs.ClientSteps.{CanBeSpelled}
 use Rattle.byte_world.specs.Published.{published_by}
@@ -37,7 +37,7 @@ use Rattle.world_pipes.proofs.Ways.{last_same, losing, losing_silent, newest_way
 
 -- the model's client after its call, with the held connection apart
 record HasCalled (outcome : ClientOutcome) (core : Core) (older : List Way) (way : Way) (m : ClientPipes) (c : IsCalled outcome m) : Type 0 where
-  pub others : List Connection
+  pub others : List ClientConnection
   pub pipe : Pipe
   pub further : List Pipe
   pub left : IsLeft way.up core (after_writing c.keeper c.connections m) others pipe further

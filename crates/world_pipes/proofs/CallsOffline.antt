@@ -20,7 +20,7 @@ use Rattle.client.specs.client_base.Steps.{Call, keeper_step, subscribed, unless
 use Rattle.client.specs.client_base.Written.{writes, writes_first}
 use Rattle.client.proofs.of_client_base.FollowsCalls.{publish_outcome}
 use Rattle.client.specs.Core.{Core}
-use Rattle.byte_world.specs.exactly_once.Sides.{Connection}
+use Rattle.byte_world.specs.exactly_once.Sides.{ClientConnection}
 use Rattle.byte_world.specs.World.{after_writing, newly_written, packets_of, sent_up}
 use Rattle.byte_world.proofs.OnTheWay.{newly_is}
 use Rattle.world_pipes.specs.declared.sending.Sending.{Sending}
@@ -70,15 +70,15 @@ unsubscribing_offline filter state closed =
 
 -- ---- so the pipes are as they were
 
-newly_none : (more : List Written) (connections : List Connection) → packets_of more ≡ [] → newly_written connections (writes_first more connections) ≡ []
+newly_none : (more : List Written) (connections : List ClientConnection) → packets_of more ≡ [] → newly_written connections (writes_first more connections) ≡ []
 newly_none more [] none = refl
 newly_none more (κ ∷ others) none = newly_is κ (writes more κ) others others more refl ∙ none
 
-as_many : (more : List Written) (connections : List Connection) → length (writes_first more connections) ≡ length connections
+as_many : (more : List Written) (connections : List ClientConnection) → length (writes_first more connections) ≡ length connections
 as_many more [] = refl
 as_many more (κ ∷ others) = refl
 
-same_accepted : (more : List Written) (connections : List Connection) → accepted_on (writes_first more connections) ≡ accepted_on connections
+same_accepted : (more : List Written) (connections : List ClientConnection) → accepted_on (writes_first more connections) ≡ accepted_on connections
 same_accepted more [] = refl
 same_accepted more (κ ∷ others) = refl
 

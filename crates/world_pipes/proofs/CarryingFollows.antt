@@ -12,7 +12,7 @@ use Rattle.client.specs.client_base.History as history
 use Rattle.client.proofs.of_client_base.FollowsHandled.{lost_stands}
 use Rattle.client.specs.Core.{Core, gone}
 use Rattle.client.specs.Reading.{EndsWith, Handles, OnBytes, fed}
-use Rattle.byte_world.specs.exactly_once.Sides.{Connection}
+use Rattle.byte_world.specs.exactly_once.Sides.{ClientConnection}
 use Rattle.byte_world.specs.World.{ClientPipes, Pipe, with_pipe}
 use Rattle.world_pipes.specs.declared.way.Way.{Way}
 use Rattle.world_pipes.specs.Following.{Follows, CarryingFollows, after_losing}
@@ -28,11 +28,11 @@ use Rattle.world_pipes.proofs.Ways.{last_same, losing, losing_silent, lost_fits,
 -- ---- after a piece
 
 -- As in the midst of it, but that the connection may be lost.
-pub record IsLeft (before : List ℕ) (core : Core) (m : ClientPipes) (others : List Connection) (p₀ : Pipe) (further : List Pipe) : Type 0 where
+pub record IsLeft (before : List ℕ) (core : Core) (m : ClientPipes) (others : List ClientConnection) (p₀ : Pipe) (further : List Pipe) : Type 0 where
   pub keeper : history.StandsFor m.keeper core.state
   pub fits : CanGoOut core.state
   pub accepted : accepted_once core.state.accepted ≡ accepted_on m.connections
-  pub connection : Connection
+  pub connection : ClientConnection
   pub connections : m.connections ≡ connection ∷ others
   pub pipe : Pipe
   pub pipes : m.pipes ≡ pipe ∷ further
@@ -40,13 +40,13 @@ pub record IsLeft (before : List ℕ) (core : Core) (m : ClientPipes) (others : 
   pub up : pipe.up ≡ before ++ core.out
   pub came : is_open core.state.stage ≡ true → pipe.came ≡ core.unread
 
-record Leaves (before : List ℕ) (core : Core) (m : ClientPipes) (others : List Connection) (p₀ : Pipe) (further : List Pipe) : Type 0 where
+record Leaves (before : List ℕ) (core : Core) (m : ClientPipes) (others : List ClientConnection) (p₀ : Pipe) (further : List Pipe) : Type 0 where
   pub last : ClientPipes
   pub steps : ClientGoes m last
   pub silent : published_along steps ≡ []
   pub left : IsLeft before core last others p₀ further
 
-left_so : (before : List ℕ) (core : Core) (m : ClientPipes) (others : List Connection) (p₀ : Pipe) (further : List Pipe) →
+left_so : (before : List ℕ) (core : Core) (m : ClientPipes) (others : List ClientConnection) (p₀ : Pipe) (further : List Pipe) →
     IsInMidst before core m others p₀ further → IsLeft before core m others p₀ further
 left_so before core m others p₀ further s =
     record {
@@ -62,7 +62,7 @@ left_so before core m others p₀ further s =
       came = λ on. s.came;
     }
 
-pub left_lost : (before : List ℕ) (core : Core) (m : ClientPipes) (others : List Connection) (p₀ : Pipe) (further : List Pipe) →
+pub left_lost : (before : List ℕ) (core : Core) (m : ClientPipes) (others : List ClientConnection) (p₀ : Pipe) (further : List Pipe) →
     IsLeft before core m others p₀ further → IsLeft before (gone core) (after_losing m) others p₀ further
 left_lost before core m others p₀ further s =
     record {
@@ -78,7 +78,7 @@ left_lost before core m others p₀ further s =
       came = λ on. absurd (both_ways false refl on);
     }
 
-lose : (before : List ℕ) (core new : Core) (m : ClientPipes) (others : List Connection) (p₀ : Pipe) (further : List Pipe) →
+lose : (before : List ℕ) (core new : Core) (m : ClientPipes) (others : List ClientConnection) (p₀ : Pipe) (further : List Pipe) →
     new ≡ gone core → Leaves before core m others p₀ further → Leaves before new m others p₀ further
 lose before core new m others p₀ further is l =
     record {
@@ -88,7 +88,7 @@ lose before core new m others p₀ further is l =
       left = subst (λ c. IsLeft before c (after_losing l.last) others p₀ further) (sym is) (left_lost before core l.last others p₀ further l.left);
     }
 
-ends : (before : List ℕ) (last new : Core) (m : ClientPipes) (others : List Connection) (p₀ : Pipe) (further : List Pipe) (read : Result (Unit {0}) ClientError) →
+ends : (before : List ℕ) (last new : Core) (m : ClientPipes) (others : List ClientConnection) (p₀ : Pipe) (further : List Pipe) (read : Result (Unit {0}) ClientError) →
     is_open last.state.stage ≡ true → GoFar before last m others p₀ further → EndsWith last read new → Leaves before new m others p₀ further
 ends before last new m others p₀ further read up far end = by read end
   where
@@ -121,13 +121,13 @@ has_read piece stages.Online old new read up heard = record { last = heard.0; ha
 
 -- ---- after the call
 
-pub way_up : (older : List Way) (way : Way) (before : List ℕ) (core : Core) (m : ClientPipes) (others : List Connection) (p₀ : Pipe) (further : List Pipe) (up rest : List ℕ) →
+pub way_up : (older : List Way) (way : Way) (before : List ℕ) (core : Core) (m : ClientPipes) (others : List ClientConnection) (p₀ : Pipe) (further : List Pipe) (up rest : List ℕ) →
     (l : IsLeft before core m others p₀ further) → p₀.node ≡ way.node → p₀.port ≡ way.port → p₀.down ≡ way.down → before ++ core.out ≡ up ++ rest →
     IsWay (record way { up = up }) l.pipe
 way_up older way before core m others p₀ further up rest l node port down is =
     record { node = l.leads.0 ∙ node; port = l.leads.1 ∙ port; up = record { rest = rest; is = l.up ∙ is }; down = l.leads.2 ∙ down }
 
-pub finished : (older : List Way) (way : Way) (before : List ℕ) (core shown : Core) (m : ClientPipes) (others : List Connection) (p₀ : Pipe) (further : List Pipe) (up rest : List ℕ) →
+pub finished : (older : List Way) (way : Way) (before : List ℕ) (core shown : Core) (m : ClientPipes) (others : List ClientConnection) (p₀ : Pipe) (further : List Pipe) (up rest : List ℕ) →
     (l : IsLeft before core m others p₀ further) → shown.state ≡ core.state → length others ≡ length further → AreWays (reverse older) further →
     IsWay (record way { up = up }) l.pipe →
     (is_open core.state.stage ≡ true → (l.pipe.up ≡ up) × (shown.out ≡ []) × (shown.unread ≡ core.unread)) →
@@ -208,7 +208,7 @@ carrying_follows count old new result m s up h =
     (all_go h.way.up (fed piece old.core) r.last m₁ others p₁ further up start r.handled) r.ends in
     shown count old new result m h others further p₁ m₁ many ways.1 ways.0.node ways.0.port refl coming refl l h.goes_up
   where
-    shown : (count : ℕ) (old new : Piped) (result : Result (Unit {0}) ClientError) (m : ClientPipes) (h : CarriesDown count old result new) (others : List Connection)
+    shown : (count : ℕ) (old new : Piped) (result : Result (Unit {0}) ClientError) (m : ClientPipes) (h : CarriesDown count old result new) (others : List ClientConnection)
         (further : List Pipe) (p₁ : Pipe) (m₁ : ClientPipes) → length others ≡ length further → AreWays (reverse h.older) further → p₁.node ≡ h.way.node →
         p₁.port ≡ h.way.port → p₁.down ≡ drop count h.way.down → (coming : ClientStep m m₁) → published_with coming ≡ [] → Leaves h.way.up h.core m₁ others p₁ further →
         ((result ≡ h.read) × (new ≡ sent_up h.core h.older (come_down count h.way)))

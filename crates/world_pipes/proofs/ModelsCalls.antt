@@ -23,7 +23,7 @@ use Rattle.client.specs.client_base.Steps.{Call, disconnected, keeper_step, requ
 use Rattle.client.specs.client_base.Written.{plain, writes_first}
 use Rattle.client.proofs.of_client_base.Follows.{calls_follow}
 use Rattle.byte_world.specs.packet_world.Steps.{is_call}
-use Rattle.byte_world.specs.exactly_once.Sides.{Connection}
+use Rattle.byte_world.specs.exactly_once.Sides.{ClientConnection}
 use Rattle.byte_world.specs.exactly_once.Story.{StoryStep}
 use Rattle.byte_world.specs.World.{ClientPipes, packets_of}
 use Rattle.byte_world.specs.ClientSteps.{story_alone}
@@ -33,7 +33,7 @@ use Rattle.world_pipes.proofs.NotRefused.{asked_so, is_published, not_refused}
 -- a call of the model's client, and what it writes on its newest connection
 pub record IsCalled (outcome : ClientOutcome) (m : ClientPipes) : Type 0 where
   pub keeper : Keeper
-  pub connections : List Connection
+  pub connections : List ClientConnection
   pub call : StoryStep usual_limits (story_alone m) (record { past = []; connections = connections; keeper = keeper })
   pub is_one : is_call call ≡ true
   pub stands : history.StandsFor keeper outcome.state
@@ -116,7 +116,7 @@ unsubscribes_silently filter m state s zero taken = refl
 -- ---- leaving
 
 -- writing nothing is no writing
-written_where : (online : Bool) (connections : List Connection) →
+written_where : (online : Bool) (connections : List ClientConnection) →
     (if online then writes_first (plain packets.Disconnect ∷ []) connections else connections)
     ≡ writes_first (if online then plain packets.Disconnect ∷ [] else []) connections
 written_where true connections = refl

@@ -16,7 +16,7 @@ use Rattle.client.proofs.of_client_base.FollowsPackets.{Same}
 use Rattle.client.specs.Core.{AppendsAll, Core, IsDone}
 use Rattle.client.specs.Reading.{Handles, Reads, outcome_of}
 use Rattle.byte_world.specs.node_moves.Puts.{spelled}
-use Rattle.byte_world.specs.exactly_once.Sides.{Connection, Side}
+use Rattle.byte_world.specs.exactly_once.Sides.{ClientConnection, Side}
 use Rattle.byte_world.specs.World.{ClientPipes, Pipe, newly_written}
 use Rattle.byte_world.specs.ClientSteps.{after_packet}
 use Rattle.byte_world.proofs.OnTheWay.{newly_is}
@@ -43,11 +43,11 @@ appended old new (p ∷ packets) fits (between, (bytes, spells, is), more) =
 
 -- The client corresponds to the model's, whose newest connection has this pipe: what was in transit
 -- before, and after it what the client wrote.
-pub record IsInMidst (before : List ℕ) (core : Core) (m : ClientPipes) (others : List Connection) (p₀ : Pipe) (further : List Pipe) : Type 0 where
+pub record IsInMidst (before : List ℕ) (core : Core) (m : ClientPipes) (others : List ClientConnection) (p₀ : Pipe) (further : List Pipe) : Type 0 where
   pub keeper : history.StandsFor m.keeper core.state
   pub fits : CanGoOut core.state
   pub accepted : accepted_once core.state.accepted ≡ accepted_on m.connections
-  pub connection : Connection
+  pub connection : ClientConnection
   pub connections : m.connections ≡ connection ∷ others
   pub pipe : Pipe
   pub pipes : m.pipes ≡ pipe ∷ further
@@ -56,7 +56,7 @@ pub record IsInMidst (before : List ℕ) (core : Core) (m : ClientPipes) (others
   pub came : pipe.came ≡ core.unread
 
 -- one packet more
-pub record GoesOn (before : List ℕ) (core : Core) (m : ClientPipes) (others : List Connection) (p₀ : Pipe) (further : List Pipe) : Type 0 where
+pub record GoesOn (before : List ℕ) (core : Core) (m : ClientPipes) (others : List ClientConnection) (p₀ : Pipe) (further : List Pipe) : Type 0 where
   pub next : ClientPipes
   pub step : ClientStep m next
   pub silent : published_with step ≡ []
@@ -65,7 +65,7 @@ pub record GoesOn (before : List ℕ) (core : Core) (m : ClientPipes) (others : 
 taken_fits : (old left : Stream) (packet : Packet) → Takes old (Ok (Some packet)) left → IsPacket packet
 taken_fits old left packet (a, b, (front, spells, is, e), c) = is
 
-pub one_goes : (before : List ℕ) (core next after : Core) (m : ClientPipes) (others : List Connection) (p₀ : Pipe) (further : List Pipe) (packet : Packet) →
+pub one_goes : (before : List ℕ) (core next after : Core) (m : ClientPipes) (others : List ClientConnection) (p₀ : Pipe) (further : List Pipe) (packet : Packet) →
     is_open core.state.stage ≡ true → IsInMidst before core m others p₀ further → Reads core packet next → IsDone (outcome_of packet next) next after →
     GoesOn before after m others p₀ further
 one_goes before core next after m others p₀ further packet up s reads done =
@@ -109,13 +109,13 @@ one_goes before core next after m others p₀ further packet up s reads done =
     }
 
 -- all that were handled
-pub record GoFar (before : List ℕ) (core : Core) (m : ClientPipes) (others : List Connection) (p₀ : Pipe) (further : List Pipe) : Type 0 where
+pub record GoFar (before : List ℕ) (core : Core) (m : ClientPipes) (others : List ClientConnection) (p₀ : Pipe) (further : List Pipe) : Type 0 where
   pub last : ClientPipes
   pub steps : ClientGoes m last
   pub silent : published_along steps ≡ []
   pub stands : IsInMidst before core last others p₀ further
 
-pub all_go : (before : List ℕ) (start last : Core) (m : ClientPipes) (others : List Connection) (p₀ : Pipe) (further : List Pipe) → is_open start.state.stage ≡ true →
+pub all_go : (before : List ℕ) (start last : Core) (m : ClientPipes) (others : List ClientConnection) (p₀ : Pipe) (further : List Pipe) → is_open start.state.stage ≡ true →
     IsInMidst before start m others p₀ further → Handles start last → GoFar before last m others p₀ further
 all_go before start last m others p₀ further up s Handles.none = record { last = m; steps = ClientGoes.stays; silent = refl; stands = s }
 all_go before start last m others p₀ further up s (Handles.more {s = mid} {t = next} packet run reads taken done) =

@@ -11,10 +11,10 @@ use Rattle.client.specs.lists.Lists.{has_id}
 use Rattle.client.specs.client_base.Keeper as keepers
 use Rattle.client.specs.client_base.Handled.{handled, handled_first, handled_online}
 use Rattle.client.specs.client_base.Handshakes.{is_sent_with, releasing, takes_in}
-use Rattle.byte_world.specs.exactly_once.Sides.{Connection, Side}
+use Rattle.byte_world.specs.exactly_once.Sides.{ClientConnection, Side}
 
 -- a side whose connection has a number for a name
-abbrev pub renamed_connection : Connection → keepers.Connection ℕ
+abbrev pub renamed_connection : ClientConnection → keepers.ClientConnection ℕ
 renamed_connection κ =
     record { name = 0; written = κ.written; taken = κ.taken; handled = κ.handled; confirmed = κ.confirmed; accepted = κ.accepted }
 

@@ -7,7 +7,7 @@ use Rattle.client.specs.packet.Spelling.{IsPacket}
 use Rattle.client.specs.client_base.Handled.{lost}
 use Rattle.client.proofs.of_client_base.FollowsHandled.{lost_stands}
 use Rattle.client.specs.Core.{Core, gone}
-use Rattle.byte_world.specs.exactly_once.Sides.{Connection}
+use Rattle.byte_world.specs.exactly_once.Sides.{ClientConnection}
 use Rattle.byte_world.specs.exactly_once.Story.{StoryStep}
 use Rattle.byte_world.specs.World.{ClientPipes, Pipe, newly_written, sent_up}
 use Rattle.byte_world.proofs.OnTheWay.{newly_is}
@@ -36,7 +36,7 @@ with_newest older way further p one others =
 
 -- ---- nothing is written
 
-none_newly : (connections : List Connection) → newly_written connections connections ≡ []
+none_newly : (connections : List ClientConnection) → newly_written connections connections ≡ []
 none_newly [] = refl
 none_newly (κ ∷ others) = newly_is κ κ others others [] (sym (append-nil κ.written))
 

@@ -1,6 +1,6 @@
 -- How the client of a model follows bytes that reach a node, and bytes that go down from it.
 use Rattle.std.specs.Prelude.{◌≡◌, ◌-◌, ℕ, List, ◌++◌, length, take, slice_get, IfSome, Some}
-use Rattle.byte_world.specs.exactly_once.Sides.{Connection}
+use Rattle.byte_world.specs.exactly_once.Sides.{ClientConnection}
 use Rattle.byte_world.specs.World.{ClientPipes, Pipe, with_pipe}
 use Rattle.world_pipes.specs.declared.way.Way.{Way}
 use Rattle.world_pipes.specs.Piped.{Piped}
@@ -12,7 +12,7 @@ index_in_model at client = length client.ways - 1 - at
 
 -- the model's connection for the one at this index, with its pipe
 pub record HasWay (at : ℕ) (old : Piped) (way : Way) (m : ClientPipes) : Type 0 where
-  pub connection : Connection
+  pub connection : ClientConnection
   pub pipe : Pipe
   pub connected : slice_get m.connections (index_in_model at old) ≡ Some connection
   pub piped : slice_get m.pipes (index_in_model at old) ≡ Some pipe

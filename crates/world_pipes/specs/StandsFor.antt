@@ -8,7 +8,7 @@ use Rattle.client.specs.client_base.declared.kept_publication.KeptPublication.{K
 use Rattle.client.specs.client_base.State.{ClientState, publish_kept}
 use Rattle.client.specs.client_base.History as history
 use Rattle.byte_world.specs.exactly_once.Acceptance.{accepted_on}
-use Rattle.byte_world.specs.exactly_once.Sides.{Connection}
+use Rattle.byte_world.specs.exactly_once.Sides.{ClientConnection}
 use Rattle.byte_world.specs.Accepted.{accepted_once}
 use Rattle.byte_world.specs.World.{ClientPipes, Pipe}
 use Rattle.world_pipes.specs.declared.way.Way.{Way}
@@ -31,8 +31,8 @@ AreWays _ _ = ⊥
 -- the connection that is held, from end to end: what came and is not handled is what the client did
 -- not read
 pub record IsHolding (client : Piped) (m : ClientPipes) : Type 0 where
-  pub connection : Connection
-  pub others : List Connection
+  pub connection : ClientConnection
+  pub others : List ClientConnection
   pub connections : m.connections ≡ connection ∷ others
   pub pipe : Pipe
   pub further : List Pipe

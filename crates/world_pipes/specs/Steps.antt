@@ -5,7 +5,7 @@ use Rattle.client.specs.cutter.Stream.{Stream, Takes}
 use Rattle.byte_world.specs.broker_spec.Commands.{usual_limits}
 use Rattle.client.specs.session_base.declared.publication.Publication.{Publication}
 use Rattle.client.specs.client_base.Handled.{handled}
-use Rattle.byte_world.specs.exactly_once.Sides.{Connection}
+use Rattle.byte_world.specs.exactly_once.Sides.{ClientConnection}
 use Rattle.byte_world.specs.exactly_once.Story.{Story, StoryStep}
 use Rattle.byte_world.specs.packet_world.Steps.{is_call}
 use Rattle.byte_world.specs.World.{ClientPipes, Pipe, World, after_writing, with_client, with_pipe}
@@ -20,14 +20,14 @@ pub data ClientStep (c : ClientPipes) : ClientPipes → Type 0 where
       CanBeSpelled c.connections t.connections →
       ClientStep c (after_writing t.keeper t.connections c)
   -- a prefix of the bytes in transit reaches it
-  arrives : (j : ℕ) (κ : Connection) (p : Pipe) (piece rest : List ℕ) →
+  arrives : (j : ℕ) (κ : ClientConnection) (p : Pipe) (piece rest : List ℕ) →
       slice_get c.connections j ≡ Some κ → slice_get c.pipes j ≡ Some p →
       p.down ≡ piece ++ rest →
       ClientStep c
       (with_pipe j
       (record p { down = rest; came = record p.came { bytes = p.came.bytes ++ piece } }) c)
   -- it handles the next packet that came whole on the connection that it holds
-  handles : (κ : Connection) (others : List Connection) (p : Pipe) (pipes : List Pipe)
+  handles : (κ : ClientConnection) (others : List ClientConnection) (p : Pipe) (pipes : List Pipe)
       (packet : Packet) (left : Stream) → c.connections ≡ κ ∷ others →
       c.pipes ≡ p ∷ pipes → c.keeper.is_open ≡ true → Takes p.came (Ok (Some packet)) left →
       CanBeSpelled c.connections

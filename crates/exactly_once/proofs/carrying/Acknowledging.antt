@@ -27,7 +27,7 @@ use Rattle.broker_base.proofs.CopiesAreUnasked.{AnswersNothing, copies_are_unask
 use Rattle.client_base.specs.lists.Lists.{In}
 use Rattle.client_base.specs.lists.Lists.In.{here, there}
 use Rattle.client_base.proofs.of_lists.Members.{in_left, in_append}
-use Rattle.exactly_once.specs.Sides.{Connection}
+use Rattle.exactly_once.specs.Sides.{ClientConnection}
 use Rattle.exactly_once.specs.Carried.{carries, more_by, new_numbers}
 use Rattle.exactly_once.proofs.Packets.{at_packet}
 use Rattle.exactly_once.proofs.carrying.PlacesSay.{is_again, Says, PlacesSay}
@@ -41,7 +41,7 @@ pub record IsPublish (command : Command) : Type 0 where
   pub publish : Publish
   pub is : command ≡ commands.Packet on (packets.Publish publish)
 
-pub carried_publish : (connections : List Connection) (command : Command) (past : Past) (k : ℕ) → carries connections command past ≡ Some k → IsPublish command
+pub carried_publish : (connections : List ClientConnection) (command : Command) (past : Past) (k : ℕ) → carries connections command past ≡ Some k → IsPublish command
 carried_publish connections (commands.Packet x (packets.Publish p)) past k e = record { on = x; publish = p; is = refl }
 carried_publish connections (commands.Packet x _) past k e = cc
 carried_publish connections (commands.Connect x d clean) past k e = cc
@@ -49,7 +49,7 @@ carried_publish connections (commands.Lost x) past k e = cc
 carried_publish connections (commands.Start ballot) past k e = cc
 carried_publish connections (commands.Expel d) past k e = cc
 
-pub says_at : (c : Client) (ps : List Publication) (connections : List Connection) (past : Past) (place : Place) (below : Past) → PlacesSay c ps connections past → StandsAt past place below
+pub says_at : (c : Client) (ps : List Publication) (connections : List ClientConnection) (past : Past) (place : Place) (below : Past) → PlacesSay c ps connections past → StandsAt past place below
     → Says c ps connections place below
 says_at c ps connections past place below all s = by s.later (subst (PlacesSay c ps connections) s.is all)
   where
@@ -58,7 +58,7 @@ says_at c ps connections past place below all s = by s.later (subst (PlacesSay c
     by (next ∷ later) h = by later h.1
 
 -- what is new below is new in the whole
-pub new_later : (connections : List Connection) (k : ℕ) (later past : Past) → In k (new_numbers connections past) → In k (new_numbers connections (later ++ past))
+pub new_later : (connections : List ClientConnection) (k : ℕ) (later past : Past) → In k (new_numbers connections past) → In k (new_numbers connections (later ++ past))
 new_later connections k [] past i = i
 new_later connections k (next ∷ later) past i =
     in_left (more_by (is_new next.command next.mark) (carries connections next.command (later ++ past))) (new_later connections k later past i)

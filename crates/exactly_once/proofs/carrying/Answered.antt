@@ -21,7 +21,7 @@ use Rattle.broker_base.proofs.MarksOfPlaces.{mark_is}
 use Rattle.client_base.specs.lists.Lists.{In}
 use Rattle.client_base.specs.lists.Lists.In.{here, there}
 use Rattle.client_base.proofs.of_lists.Members.{in_left, in_right, in_append}
-use Rattle.exactly_once.specs.Sides.{Connection}
+use Rattle.exactly_once.specs.Sides.{ClientConnection}
 use Rattle.exactly_once.specs.Story.{Story}
 use Rattle.exactly_once.specs.Carried.{carries, more_by, new_numbers, publications_of}
 use Rattle.exactly_once.specs.Headline.{IsAnsweredBy, IsTakenAt}
@@ -91,11 +91,11 @@ new_is_taken (commands.Start ballot) mark e = absurd (both_ways false refl e)
 new_is_taken (commands.Expel d) mark e = absurd (both_ways false refl e)
 
 -- a place of these that carries k, and is taken for the client
-abbrev TakenIn : Client → List Connection → ℕ → Past → Type 0
+abbrev TakenIn : Client → List ClientConnection → ℕ → Past → Type 0
 TakenIn c connections k past =
     (place : Place) × (below : Past) × StandsAt past place below × (carries connections place.command below ≡ Some k) × (place.mark ≡ Mark.Taken c)
 
-taken_in : (c : Client) (ps : List Publication) (connections : List Connection) (k : ℕ) (past : Past) → PlacesSay c ps connections past → In k (new_numbers connections past) → TakenIn c connections k past
+taken_in : (c : Client) (ps : List Publication) (connections : List ClientConnection) (k : ℕ) (past : Past) → PlacesSay c ps connections past → In k (new_numbers connections past) → TakenIn c connections k past
 taken_in c ps connections k [] all i = elim i [ ]
 taken_in c ps connections k (place ∷ past) all i =
     by (taken_in c ps connections k past all.1) (in_append (new_numbers connections past) (more_by (is_new place.command place.mark) (carries connections place.command past)) i)

@@ -13,24 +13,24 @@ use Rattle.client_base.specs.Keeper.{Keeper, all_own}
 use Rattle.client_base.specs.Written.{plain, writing, resent, sent_all}
 use Rattle.client_base.specs.Handled.{discarded, confirmed, handled, handled_online, handled_first}
 use Rattle.client_base.specs.Handshakes.{at_pubrec, is_sent_with, takes_in, releasing, at_puback, at_pubcomp}
-use Rattle.exactly_once.specs.Sides.{Connection, Side}
+use Rattle.exactly_once.specs.Sides.{ClientConnection, Side}
 use Rattle.exactly_once.specs.Carried.{publications_of}
 use Rattle.client_base.specs.OrderLaws.{AreNumbered}
 use Rattle.std.proofs.lemmas.List.{append-nil}
 use Rattle.exactly_once.proofs.publishing.Answered.{counted_side}
 use Rattle.exactly_once.proofs.carrying.Publications.{IsOfOwn, plain_of, said_puback, said_pubrec, said_pubcomp, said_sent, resent_of, said_after}
 
-pub record Handles (keeper : Keeper) (κ : Connection) (side : Side) : Type 0 where
+pub record Handles (keeper : Keeper) (κ : ClientConnection) (side : Side) : Type 0 where
   pub said : publications_of (all_own side.keeper) ≡ publications_of (all_own keeper)
   pub of : Each (IsOfOwn (publications_of (all_own keeper))) κ.written → Each (IsOfOwn (publications_of (all_own keeper))) side.connection.written
 
 -- one packet more is written
-one_more : (keeper : Keeper) (κ : Connection) (packet : Packet) → Each (IsOfOwn (publications_of (all_own keeper))) κ.written
+one_more : (keeper : Keeper) (κ : ClientConnection) (packet : Packet) → Each (IsOfOwn (publications_of (all_own keeper))) κ.written
     → Each (IsOfOwn (publications_of (all_own keeper))) (κ.written ++ plain packet ∷ [])
 one_more keeper κ packet all = each_append (IsOfOwn (publications_of (all_own keeper))) κ.written (plain packet ∷ []) all (plain_of (publications_of (all_own keeper)) packet, tt)
 
 -- after a PUBLISH
-publish_handles : (keeper : Keeper) (κ : Connection) (d : Delivery) (p : Publication) → Handles keeper κ (takes_in d p (counted_side keeper κ))
+publish_handles : (keeper : Keeper) (κ : ClientConnection) (d : Delivery) (p : Publication) → Handles keeper κ (takes_in d p (counted_side keeper κ))
 publish_handles keeper κ deliveries.AtMostOnce p = record { said = refl; of = λ all. all }
 publish_handles keeper κ (deliveries.AtLeastOnce dup id) p = record { said = refl; of = one_more keeper κ (packets.Puback id) }
 publish_handles keeper κ (deliveries.ExactlyOnce dup id) p = by (has_id id keeper.received)
@@ -43,7 +43,7 @@ publish_handles keeper κ (deliveries.ExactlyOnce dup id) p = by (has_id id keep
     by false = record { said = refl; of = one_more keeper κ (packets.Pubrec id) }
 
 -- after a PUBREC
-pubrec_handles : (keeper : Keeper) (κ : Connection) (i : ℕ) → Handles keeper κ (releasing i (counted_side keeper κ))
+pubrec_handles : (keeper : Keeper) (κ : ClientConnection) (i : ℕ) → Handles keeper κ (releasing i (counted_side keeper κ))
 pubrec_handles keeper κ i = by (is_sent_with i keeper.own) (has_id i keeper.releases)
   where
     by : (b r : Bool) → Handles keeper κ (if b then writing (plain (packets.Pubrel i) ∷ [])
@@ -53,7 +53,7 @@ pubrec_handles keeper κ i = by (is_sent_with i keeper.own) (has_id i keeper.rel
     by false true = record { said = refl; of = one_more keeper κ (packets.Pubrel i) }
     by false false = record { said = refl; of = λ all. all }
 
-online_handles : (keeper : Keeper) (κ : Connection) (packet : Packet) → Handles keeper κ (handled_online packet (counted_side keeper κ))
+online_handles : (keeper : Keeper) (κ : ClientConnection) (packet : Packet) → Handles keeper κ (handled_online packet (counted_side keeper κ))
 online_handles keeper κ (packets.Publish p) = publish_handles keeper κ p.delivery (publication_of p)
 online_handles keeper κ (packets.Puback i) = record { said = said_after keeper.earlier keeper.own (map (at_puback i) keeper.own) (said_puback i keeper.own); of = λ all. all }
 online_handles keeper κ (packets.Pubrec i) = pubrec_handles keeper κ i
@@ -62,7 +62,7 @@ online_handles keeper κ (packets.Pubrel i) = record { said = refl; of = one_mor
 online_handles keeper κ _ = record { said = refl; of = λ all. all }
 
 -- after a CONNACK 0, whether it discards what was kept or not
-confirmed_handles : (keeper : Keeper) (κ : Connection) (present : Bool) → AreNumbered (length keeper.earlier) keeper.own → Handles keeper κ (confirmed present (counted_side keeper κ))
+confirmed_handles : (keeper : Keeper) (κ : ClientConnection) (present : Bool) → AreNumbered (length keeper.earlier) keeper.own → Handles keeper κ (confirmed present (counted_side keeper κ))
 confirmed_handles keeper κ present numbered = by (not present && keeper.was_served)
   where
     by : (gone : Bool) → Handles keeper κ (let kept = if gone then discarded keeper else keeper in record {
@@ -80,12 +80,12 @@ confirmed_handles keeper κ present numbered = by (not present && keeper.was_ser
           of = λ all. each_append (IsOfOwn (publications_of (all_own keeper))) κ.written (resent keeper) all (resent_of keeper numbered);
         }
 
-first_handles : (keeper : Keeper) (κ : Connection) (packet : Packet) → AreNumbered (length keeper.earlier) keeper.own → Handles keeper κ (handled_first packet (counted_side keeper κ))
+first_handles : (keeper : Keeper) (κ : ClientConnection) (packet : Packet) → AreNumbered (length keeper.earlier) keeper.own → Handles keeper κ (handled_first packet (counted_side keeper κ))
 first_handles keeper κ (packets.Connack (connacks.Accepted present)) numbered = confirmed_handles keeper κ present numbered
 first_handles keeper κ (packets.Connack (connacks.Refused code)) numbered = record { said = refl; of = λ all. all }
 first_handles keeper κ _ numbered = record { said = refl; of = λ all. all }
 
-pub handles : (keeper : Keeper) (κ : Connection) (packet : Packet) → AreNumbered (length keeper.earlier) keeper.own → Handles keeper κ (handled packet (record { keeper = keeper; connection = κ }))
+pub handles : (keeper : Keeper) (κ : ClientConnection) (packet : Packet) → AreNumbered (length keeper.earlier) keeper.own → Handles keeper κ (handled packet (record { keeper = keeper; connection = κ }))
 handles keeper κ packet numbered = by keeper.is_online
   where
     by : (b : Bool) → Handles keeper κ (if b then handled_online packet (counted_side keeper κ) else handled_first packet (counted_side keeper κ))

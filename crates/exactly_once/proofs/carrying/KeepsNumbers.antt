@@ -7,7 +7,7 @@ use Rattle.client_base.specs.Keeper.{Written}
 use Rattle.client_base.specs.Written.{plain, writes, writes_first}
 use Rattle.client_base.specs.Called.{new_connection, written_for}
 use Rattle.client_base.specs.Handled.{handled}
-use Rattle.exactly_once.specs.Sides.{Connection}
+use Rattle.exactly_once.specs.Sides.{ClientConnection}
 use Rattle.exactly_once.specs.Story.{Story, StoryStep}
 use Rattle.exactly_once.specs.StoryCommands.{count_of}
 use Rattle.exactly_once.specs.Story.StoryStep.{takes, others_take, receives, opens_anew, loses, disconnects, publishes_one, subscribes, unsubscribes}
@@ -19,15 +19,15 @@ use Rattle.exactly_once.proofs.publishing.kept.Numbers.{SameNumbers, same_writte
 use Rattle.client_base.proofs.of_lists.OfEach.{each_then}
 
 -- nothing changes
-pub same_itself : (past : Past) (connections : List Connection) → SameNumbers connections connections past
+pub same_itself : (past : Past) (connections : List ClientConnection) → SameNumbers connections connections past
 same_itself past connections x j less = refl
 
 -- the packets that are taken are among those written
-abbrev pub AreWithin : Past → List Connection → Type 0
-AreWithin past = Each (λ (κ : Connection). count_of κ.name past ≤ length κ.written)
+abbrev pub AreWithin : Past → List ClientConnection → Type 0
+AreWithin past = Each (λ (κ : ClientConnection). count_of κ.name past ≤ length κ.written)
 
 -- more is written on the newest one
-pub first_written : (past : Past) (connections : List Connection) (more : List Written) → AreWithin past connections → SameNumbers connections (writes_first more connections) past
+pub first_written : (past : Past) (connections : List ClientConnection) (more : List Written) → AreWithin past connections → SameNumbers connections (writes_first more connections) past
 first_written past [] more within = same_itself past []
 first_written past (κ ∷ others) more within = same_written past κ (writes more κ) others more refl refl within.0
 
@@ -38,7 +38,7 @@ numbers_keep limits s t within (receives κ others packet are opened next) =
     let mine = subst (AreWithin s.past) are within in
     let after = (handled packet (record { keeper = s.keeper; connection = κ })).connection in
     let grown = handled_grows κ s.keeper packet in
-    subst (λ (cs : List Connection). SameNumbers cs (after ∷ others) s.past) (sym are) (same_written s.past κ after others grown.more grown.name grown.written mine.0)
+    subst (λ (cs : List ClientConnection). SameNumbers cs (after ∷ others) s.past) (sym are) (same_written s.past κ after others grown.more grown.name grown.written mine.0)
 numbers_keep limits s t within (opens_anew x fresh none uncounted) = same_opened s.past (new_connection s.keeper.client x) s.connections uncounted
 numbers_keep limits s t within loses = same_itself s.past s.connections
 numbers_keep limits s t within disconnects = by s.keeper.is_online
@@ -53,7 +53,7 @@ numbers_keep limits s t within (unsubscribes p on id) = first_written s.past s.c
 -- so in every story
 pub shape_within : (limits : Limits) (s : Story) → HasShape limits s → AreWithin s.past s.connections
 shape_within limits s shape =
-    each_then (ConnectionInShape limits s.past s.keeper.client) (λ (κ : Connection). count_of κ.name s.past ≤ length κ.written) s.connections (λ κ. counted_within limits s.past s.keeper κ) shape.connections
+    each_then (ConnectionInShape limits s.past s.keeper.client) (λ (κ : ClientConnection). count_of κ.name s.past ≤ length κ.written) s.connections (λ κ. counted_within limits s.past s.keeper κ) shape.connections
 
 pub events_keep_numbers : (limits : Limits) (s t : Story) → HasShape limits s → StoryStep limits s t → SameNumbers s.connections t.connections s.past
 events_keep_numbers limits s t shape = numbers_keep limits s t (shape_within limits s shape)

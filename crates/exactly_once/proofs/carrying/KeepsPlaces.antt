@@ -10,7 +10,7 @@ use Rattle.broker_base.specs.broker_spec.declared.command.Command.TheVariants as
 use Rattle.broker_base.proofs.MarksOfPlaces.{AreMarked, past_is_marked}
 use Rattle.client_base.specs.lists.Lists.{Each}
 use Rattle.client_base.proofs.of_lists.Tests.{or_none}
-use Rattle.exactly_once.specs.Sides.{Connection}
+use Rattle.exactly_once.specs.Sides.{ClientConnection}
 use Rattle.exactly_once.specs.Story.{Story, StoryStep}
 use Rattle.exactly_once.specs.StoryCommands.{any_named, is_packet_of, counted_at, command_of}
 use Rattle.exactly_once.specs.StoryTrace.{StoryTrace}
@@ -43,13 +43,13 @@ pub record IsCarried (limits : Limits) (s : Story) : Type 0 where
 
 -- ---- a command of none of them
 
-pub none_there : (x : ConnectionName) (connections : List Connection) → any_named (same_connection x) connections ≡ false → connection_named x connections ≡ None
+pub none_there : (x : ConnectionName) (connections : List ClientConnection) → any_named (same_connection x) connections ≡ false → connection_named x connections ≡ None
 none_there x [] e = refl
 none_there x (κ ∷ connections) e =
     let h = or_none (same_connection x κ.name) (any_named (same_connection x) connections) e in
     ap (λ b. if b then Some κ else connection_named x connections) h.0 ∙ none_there x connections h.1
 
-pub none_carried : (connections : List Connection) (command : Command) (past : Past) → any_named (is_packet_of command) connections ≡ false → carries connections command past ≡ None
+pub none_carried : (connections : List ClientConnection) (command : Command) (past : Past) → any_named (is_packet_of command) connections ≡ false → carries connections command past ≡ None
 none_carried connections (commands.Packet x (packets.Publish p)) past e = ap (number_at _) (none_there x connections e)
 none_carried connections (commands.Packet x _) past e = refl
 none_carried connections (commands.Connect x d clean) past e = refl
@@ -111,7 +111,7 @@ says_next : (limits : Limits) (s t : Story) → IsSoundStory limits s → IsCarr
 says_next limits s t sound c (takes i κ w stands next) =
     let ps = publications_of (all_own s.keeper) in
     taken_says limits s.past s.keeper s.connections ps i κ w.packet w.number κ.taken sound.shape sound.publisher stands next refl
-    (each_at (IsOfOwn ps) κ.taken κ.written w next (each_there (λ (μ : Connection). Each (IsOfOwn ps) μ.written) i s.connections κ stands c.written))
+    (each_at (IsOfOwn ps) κ.taken κ.written w next (each_there (λ (μ : ClientConnection). Each (IsOfOwn ps) μ.written) i s.connections κ stands c.written))
 says_next limits s t sound c (others_take command other none) = tt
 says_next limits s t sound c (receives κ others packet are opened next) = tt
 says_next limits s t sound c (opens_anew x fresh none uncounted) = tt

@@ -14,7 +14,7 @@ use Rattle.client_base.proofs.of_lists.Places.{get_pushed}
 use Rattle.client_base.specs.Keeper.{Own, Written, Keeper, ids_in_use, all_own, next_number}
 use Rattle.client_base.specs.Written.{plain, publishes, writes_first}
 use Rattle.client_base.specs.Called.{adds_own, written_for}
-use Rattle.exactly_once.specs.Sides.{Connection}
+use Rattle.exactly_once.specs.Sides.{ClientConnection}
 use Rattle.exactly_once.specs.Carried.{publication_in, publications_of}
 use Rattle.exactly_once.specs.Story.{Story, StoryStep}
 use Rattle.exactly_once.specs.StoryCommands.{counted_at}
@@ -63,18 +63,18 @@ events_say limits s t numbered (unsubscribes p on id) = prefix_same (publication
 -- ---- what is written
 
 -- more is published
-more_published : (ps qs : List Publication) (connections : List Connection) → IsPrefixOf ps qs → AreOfOwn ps connections → AreOfOwn qs connections
+more_published : (ps qs : List Publication) (connections : List ClientConnection) → IsPrefixOf ps qs → AreOfOwn ps connections → AreOfOwn qs connections
 more_published ps qs connections front all =
-    each_then (λ (κ : Connection). Each (IsOfOwn ps) κ.written) (λ (κ : Connection). Each (IsOfOwn qs) κ.written) connections
+    each_then (λ (κ : ClientConnection). Each (IsOfOwn ps) κ.written) (λ (κ : ClientConnection). Each (IsOfOwn qs) κ.written) connections
     (λ κ each. each_then (IsOfOwn ps) (IsOfOwn qs) κ.written (λ w. of_more ps qs front w.packet w.number) each) all
 
 -- more is written
-more_written : (ps : List Publication) (more : List Written) (connections : List Connection) → Each (IsOfOwn ps) more → AreOfOwn ps connections → AreOfOwn ps (writes_first more connections)
+more_written : (ps : List Publication) (more : List Written) (connections : List ClientConnection) → Each (IsOfOwn ps) more → AreOfOwn ps connections → AreOfOwn ps (writes_first more connections)
 more_written ps more [] of all = tt
 more_written ps more (κ ∷ connections) of all = (each_append (IsOfOwn ps) κ.written more all.0 of, all.1)
 
 -- one more is taken
-counted_of : (ps : List Publication) (i : ℕ) (connections : List Connection) → AreOfOwn ps connections → AreOfOwn ps (counted_at i connections)
+counted_of : (ps : List Publication) (i : ℕ) (connections : List ClientConnection) → AreOfOwn ps connections → AreOfOwn ps (counted_at i connections)
 counted_of ps i [] all = tt
 counted_of ps zero (κ ∷ connections) all = all
 counted_of ps (suc i) (κ ∷ connections) all = (all.0, counted_of ps i connections all.1)

@@ -14,7 +14,7 @@ use Rattle.client_base.proofs.of_lists.OfEach.{each_append}
 use Rattle.client_base.specs.Keeper.{Own, Written, Keeper, all_own}
 use Rattle.client_base.specs.Written.{plain, sent_again, sent_first, sent_all, resent}
 use Rattle.client_base.specs.Handshakes.{at_puback, at_pubrec, at_pubcomp}
-use Rattle.exactly_once.specs.Sides.{Connection}
+use Rattle.exactly_once.specs.Sides.{ClientConnection}
 use Rattle.exactly_once.specs.Carried.{publication_in, publications_of}
 use Rattle.client_base.specs.OrderLaws.{AreNumbered}
 use Rattle.std.proofs.lemmas.List.{map-append, length-map}
@@ -30,8 +30,8 @@ abbrev pub IsOfOwn : List Publication → Written → Type 0
 IsOfOwn ps w = IsOf ps w.packet w.number
 
 -- each that was written
-abbrev pub AreOfOwn : List Publication → List Connection → Type 0
-AreOfOwn ps = Each (λ (κ : Connection). Each (IsOfOwn ps) κ.written)
+abbrev pub AreOfOwn : List Publication → List ClientConnection → Type 0
+AreOfOwn ps = Each (λ (κ : ClientConnection). Each (IsOfOwn ps) κ.written)
 
 -- while more is published
 pub of_more : (ps qs : List Publication) → IsPrefixOf ps qs → (packet : Packet) (number : Option ℕ) → IsOf ps packet number → IsOf qs packet number

@@ -24,7 +24,7 @@ use Rattle.exactly_once.specs.HandshakeInvariant.{IsGood}
 use Rattle.exactly_once.proofs.Repeats.{good_repeat}
 use Rattle.client_base.specs.Keeper.{Written, Keeper}
 use Rattle.client_base.specs.Called.{opens}
-use Rattle.exactly_once.specs.Sides.{Connection}
+use Rattle.exactly_once.specs.Sides.{ClientConnection}
 use Rattle.exactly_once.specs.StoryCommands.{counted_at, count_of, command_of}
 use Rattle.exactly_once.specs.Carried.{connection_named, number_at, new_numbers}
 use Rattle.exactly_once.specs.Inside.Projections.{forward_of_own, forward_of_one, backward_of_own, to_come, is_current, link_of_own, as_publisher}
@@ -50,7 +50,7 @@ next_link true m f b = refl
 next_link false m f b = refl
 
 -- what comes next to the broker
-next_there : (limits : Limits) (past : Past) (keeper : Keeper) (connections : List Connection) (i : ℕ) (κ : Connection) (p : Publish) (dup : Bool) (id k : ℕ)
+next_there : (limits : Limits) (past : Past) (keeper : Keeper) (connections : List ClientConnection) (i : ℕ) (κ : ClientConnection) (p : Publish) (dup : Bool) (id k : ℕ)
     → p.delivery ≡ deliveries.ExactlyOnce dup id → OnCurrent limits past keeper connections i κ (record { packet = packets.Publish p; number = Some k })
     → next_of (as_publisher limits (story_by past connections keeper)).link ≡ Some (Forward.Publish id k)
 next_there limits past keeper connections i κ p dup id k two o =
@@ -64,7 +64,7 @@ next_there limits past keeper connections i κ p dup id k two o =
     ∙ ap₂ (λ c g. link_by c online g b) here (taken_front κ (record { packet = packets.Publish p; number = Some k }) o.next ∙ front))
     ∙ next_link online (Forward.Publish id k) f b
 
-again_known : (limits : Limits) (past : Past) (keeper : Keeper) (connections : List Connection) (i : ℕ) (κ : Connection) (p : Publish) (k : ℕ) (d : Delivery)
+again_known : (limits : Limits) (past : Past) (keeper : Keeper) (connections : List ClientConnection) (i : ℕ) (κ : ClientConnection) (p : Publish) (k : ℕ) (d : Delivery)
     → p.delivery ≡ d → IsGood (as_publisher limits (story_by past connections keeper)) → OnCurrent limits past keeper connections i κ (record { packet = packets.Publish p; number = Some k })
     → is_repeat past keeper.client d ≡ true → In k (new_numbers connections past)
 again_known limits past keeper connections i κ p k (deliveries.ExactlyOnce dup id) e good o known =
@@ -87,7 +87,7 @@ only_own false false c d e = cc
 -- ---- the place
 
 -- a PUBLISH of one of the client's connections, after its CONNECT
-publish_says : (limits : Limits) (past : Past) (keeper : Keeper) (connections : List Connection) (ps : List Publication) (i n : ℕ) (κ : Connection) (p : Publish) (number : Option ℕ)
+publish_says : (limits : Limits) (past : Past) (keeper : Keeper) (connections : List ClientConnection) (ps : List Publication) (i n : ℕ) (κ : ClientConnection) (p : Publish) (number : Option ℕ)
     → HasShape limits (story_by past connections keeper) → IsGood (as_publisher limits (story_by past connections keeper)) → slice_get connections i ≡ Some κ
     → slice_get κ.written κ.taken ≡ Some (record { packet = packets.Publish p; number = number }) → κ.taken ≡ suc n → IsOf ps (packets.Publish p) number
     → Says keeper.client ps (counted_at i connections) (place_of limits past (commands.Packet κ.name (packets.Publish p))) past
@@ -158,7 +158,7 @@ no_publish c p number e =
     no_connect (record { client = c; clean = false; keep_alive = 0 }) p (ap (λ (w : Written). w.packet) same)
 
 -- any packet of one of the client's connections
-pub taken_says : (limits : Limits) (past : Past) (keeper : Keeper) (connections : List Connection) (ps : List Publication) (i : ℕ) (κ : Connection) (packet : Packet) (number : Option ℕ) (n : ℕ)
+pub taken_says : (limits : Limits) (past : Past) (keeper : Keeper) (connections : List ClientConnection) (ps : List Publication) (i : ℕ) (κ : ClientConnection) (packet : Packet) (number : Option ℕ) (n : ℕ)
     → HasShape limits (story_by past connections keeper) → IsGood (as_publisher limits (story_by past connections keeper)) → slice_get connections i ≡ Some κ
     → slice_get κ.written κ.taken ≡ Some (record { packet = packet; number = number }) → κ.taken ≡ n → IsOf ps packet number
     → Says keeper.client ps (counted_at i connections) (place_of limits past (command_of κ.name n packet)) past

@@ -3,7 +3,7 @@ use Rattle.std.proofs.Common.{List, [], ◌∷◌, sym, subst}
 use Rattle.broker_base.specs.broker_spec.Place.{Client, Past, Limits}
 use Rattle.client_base.specs.lists.Lists.{Each}
 use Rattle.client_base.proofs.of_lists.OfEach.{each_then}
-use Rattle.exactly_once.specs.Sides.{Connection}
+use Rattle.exactly_once.specs.Sides.{ClientConnection}
 use Rattle.exactly_once.specs.Story.{Story, StoryStep}
 use Rattle.exactly_once.specs.Inside.Shape.{HasShape}
 use Rattle.exactly_once.specs.Inside.ConnectionShape.{ConnectionInShape}
@@ -15,7 +15,7 @@ use Rattle.exactly_once.proofs.connections.KeepsFirst.{events_keep_first}
 use Rattle.exactly_once.proofs.connections.KeepsClient.{events_keep_client}
 
 -- all rows of one connection
-rows_shape : (limits : Limits) (past : Past) (c : Client) (κ : Connection) → WritesOf c κ → FirstOf limits past κ → CountsOf past κ → RowsOf limits past κ → ConnectionInShape limits past c κ
+rows_shape : (limits : Limits) (past : Past) (c : Client) (κ : ClientConnection) → WritesOf c κ → FirstOf limits past κ → CountsOf past κ → RowsOf limits past κ → ConnectionInShape limits past c κ
 rows_shape limits past c κ w f n r =
     record {
       more = w.more;
@@ -32,7 +32,7 @@ rows_shape limits past c κ w f n r =
     }
 
 -- of each
-all_shape : (limits : Limits) (past : Past) (c : Client) (connections : List Connection) → Each (WritesOf c) connections → Each (FirstOf limits past) connections → Each (CountsOf past) connections
+all_shape : (limits : Limits) (past : Past) (c : Client) (connections : List ClientConnection) → Each (WritesOf c) connections → Each (FirstOf limits past) connections → Each (CountsOf past) connections
     → Each (RowsOf limits past) connections → Each (ConnectionInShape limits past c) connections
 all_shape limits past c [] w f n r = tt
 all_shape limits past c (κ ∷ connections) w f n r = (rows_shape limits past c κ w.0 f.0 n.0 r.0, all_shape limits past c connections w.1 f.1 n.1 r.1)

@@ -15,7 +15,7 @@ use Rattle.client_base.specs.lists.Lists.{Each}
 use Rattle.client_base.proofs.of_lists.OfEach.{each_then}
 use Rattle.exactly_once.specs.Sends.{sends_to, put_to}
 use Rattle.client_base.specs.Keeper.{Written}
-use Rattle.exactly_once.specs.Sides.{Connection}
+use Rattle.exactly_once.specs.Sides.{ClientConnection}
 use Rattle.client_base.specs.Written.{plain}
 use Rattle.client_base.specs.Handled.{handled}
 use Rattle.exactly_once.specs.Story.{Story, StoryStep}
@@ -54,11 +54,11 @@ place_none limits place past y = by place.command
         closes (Some x) = refl
 
 -- what a connection keeps
-abbrev pub KeptFirst : Limits → Past → Connection → Type 0
+abbrev pub KeptFirst : Limits → Past → ClientConnection → Type 0
 KeptFirst limits past κ = (count_of κ.name past ≡ κ.taken) × FirstOf limits past κ
 
 -- so it keeps its rows
-first_other : (limits : Limits) (place : Place) (past : Past) (κ : Connection) → is_packet_of place.command κ.name ≡ false → KeptFirst limits past κ → FirstOf limits (place ∷ past) κ
+first_other : (limits : Limits) (place : Place) (past : Past) (κ : ClientConnection) → is_packet_of place.command κ.name ≡ false → KeptFirst limits past κ → FirstOf limits (place ∷ past) κ
 first_other limits place past κ other r =
     record {
       connack_first = subst (ConnackFirst κ.taken) (sym (put_more limits place past κ.name)) (by κ.taken r.0 r.1.connack_first);
@@ -77,29 +77,29 @@ first_other limits place past κ other r =
     by (suc n) e h = connack_more n n put sends h (place_no_connack limits place past κ.name (not_its_connect place.command κ.name other))
 
 -- and each does
-each_other : (limits : Limits) (place : Place) (past : Past) (connections : List Connection) → any_named (is_packet_of place.command) connections ≡ false → Each (KeptFirst limits past) connections
+each_other : (limits : Limits) (place : Place) (past : Past) (connections : List ClientConnection) → any_named (is_packet_of place.command) connections ≡ false → Each (KeptFirst limits past) connections
     → Each (FirstOf limits (place ∷ past)) connections
 each_other limits place past connections e rows = both connections (none_named (is_packet_of place.command) connections e) rows
   where
-    both : (cs : List Connection) → Each (λ (κ : Connection). is_packet_of place.command κ.name ≡ false) cs → Each (KeptFirst limits past) cs → Each (FirstOf limits (place ∷ past)) cs
+    both : (cs : List ClientConnection) → Each (λ (κ : ClientConnection). is_packet_of place.command κ.name ≡ false) cs → Each (KeptFirst limits past) cs → Each (FirstOf limits (place ∷ past)) cs
     both [] n r = tt
     both (κ ∷ cs) n r = (first_other limits place past κ n.0 r.0, both cs n.1 r.1)
 
 -- ---- the next packet of one of them
 
 -- it is one of them, and the place is not of one of the others
-first_taken : (limits : Limits) (place : Place) (past : Past) (i : ℕ) (connections : List Connection) (κ : Connection) → ((y : ConnectionName) → is_packet_of place.command y ≡ same_connection κ.name y)
+first_taken : (limits : Limits) (place : Place) (past : Past) (i : ℕ) (connections : List ClientConnection) (κ : ClientConnection) → ((y : ConnectionName) → is_packet_of place.command y ≡ same_connection κ.name y)
     → NamesApart connections → slice_get connections i ≡ Some κ → FirstOf limits (place ∷ past) (taken_more κ) → Each (KeptFirst limits past) connections
     → Each (FirstOf limits (place ∷ past)) (counted_at i connections)
 first_taken limits place past i [] κ is apart stands own rows = tt
 first_taken limits place past zero (μ ∷ connections) κ is apart stands own rows =
     let same : κ ≡ μ = cc in (
-      subst (λ (ν : Connection). FirstOf limits (place ∷ past) (taken_more ν)) same own,
+      subst (λ (ν : ClientConnection). FirstOf limits (place ∷ past) (taken_more ν)) same own,
       each_other limits place past connections
-          (ap (λ (test : ConnectionName → Bool). any_named test connections) (λ j y. (is y ∙ ap (λ (ν : Connection). same_connection ν.name y) same) j) ∙ apart.0) rows.1,
+          (ap (λ (test : ConnectionName → Bool). any_named test connections) (λ j y. (is y ∙ ap (λ (ν : ClientConnection). same_connection ν.name y) same) j) ∙ apart.0) rows.1,
     )
 first_taken limits place past (suc i) (μ ∷ connections) κ is apart stands own rows =
-    let other = each_there (λ (ν : Connection). same_connection μ.name ν.name ≡ false) i connections κ stands (none_named (same_connection μ.name) connections apart.0) in
+    let other = each_there (λ (ν : ClientConnection). same_connection μ.name ν.name ≡ false) i connections κ stands (none_named (same_connection μ.name) connections apart.0) in
     (first_other limits place past μ (is μ.name ∙ same_turned κ.name μ.name ∙ other) rows.0, first_taken limits place past i connections κ is apart.1 stands own rows.1)
 
 -- its command is of its connection
@@ -121,12 +121,12 @@ kept_of limits s shape =
     each_then (ConnectionInShape limits s.past s.keeper.client) (KeptFirst limits s.past) s.connections (λ κ r. (r.counted, record { connack_first = r.connack_first; asks_first = r.asks_first })) shape.connections
 
 -- what is written is no matter
-first_written : (limits : Limits) (past : Past) (more : List Written) (connections : List Connection) → Each (FirstOf limits past) connections → Each (FirstOf limits past) (writes_first more connections)
+first_written : (limits : Limits) (past : Past) (more : List Written) (connections : List ClientConnection) → Each (FirstOf limits past) connections → Each (FirstOf limits past) (writes_first more connections)
 first_written limits past more [] rows = tt
 first_written limits past more (κ ∷ connections) rows = (record { connack_first = rows.0.connack_first; asks_first = rows.0.asks_first }, rows.1)
 
 -- nor what is handled
-first_same : (limits : Limits) (past : Past) (κ after : Connection) → after.name ≡ κ.name → after.taken ≡ κ.taken → FirstOf limits past κ → FirstOf limits past after
+first_same : (limits : Limits) (past : Past) (κ after : ClientConnection) → after.name ≡ κ.name → after.taken ≡ κ.taken → FirstOf limits past κ → FirstOf limits past after
 first_same limits past κ after name taken r =
     record {
       connack_first = subst (λ (x : ConnectionName). ConnackFirst after.taken (put_to limits past x)) (sym name) (subst (λ (n : ℕ). ConnackFirst n (put_to limits past κ.name)) (sym taken) r.connack_first);

@@ -8,7 +8,7 @@ use Rattle.broker_base.specs.broker_spec.Place.{Client, Past, Limits}
 use Rattle.client_base.specs.lists.Lists.{Each}
 use Rattle.client_base.proofs.of_lists.OfEach.{each_append, each_then}
 use Rattle.client_base.specs.Keeper.{Written, Keeper, ids_in_use, next_number}
-use Rattle.exactly_once.specs.Sides.{Connection}
+use Rattle.exactly_once.specs.Sides.{ClientConnection}
 use Rattle.client_base.specs.Written.{plain, publishes, writes}
 use Rattle.client_base.specs.Handled.{handled}
 use Rattle.exactly_once.specs.Story.{Story, StoryStep}
@@ -22,7 +22,7 @@ use Rattle.exactly_once.proofs.publishing.Grown.{IsLater, Grown, handled_grows}
 use Rattle.exactly_once.proofs.connections.Silent.{StaysSilent, handled_silent}
 
 -- the rows of one connection
-pub record WritesOf (c : Client) (κ : Connection) : Type 0 where
+pub record WritesOf (c : Client) (κ : ClientConnection) : Type 0 where
   pub more : List Written
   pub written : κ.written ≡ opens c ∷ more
   pub one_connect : Each (λ w. is_connect w ≡ false) more
@@ -32,7 +32,7 @@ pub record WritesOf (c : Client) (κ : Connection) : Type 0 where
 -- ---- the rows are kept
 
 -- more is written
-writes_grown : (c : Client) (κ after : Connection) (n : ℕ) → Grown κ after n → StaysSilent κ after → (after.confirmed ≡ true → 1 ≤ n) → WritesOf c κ → WritesOf c after
+writes_grown : (c : Client) (κ after : ClientConnection) (n : ℕ) → Grown κ after n → StaysSilent κ after → (after.confirmed ≡ true → 1 ≤ n) → WritesOf c κ → WritesOf c after
 writes_grown c κ after n g still some r =
     let all : after.written ≡ opens c ∷ r.more ++ g.more = g.written ∙ ap (λ ws. ws ++ g.more) r.written in
     record {
@@ -47,24 +47,24 @@ writes_grown c κ after n g still some r =
     }
 
 -- one more is taken
-writes_counted : (c : Client) (i : ℕ) (connections : List Connection) → Each (WritesOf c) connections → Each (WritesOf c) (counted_at i connections)
+writes_counted : (c : Client) (i : ℕ) (connections : List ClientConnection) → Each (WritesOf c) connections → Each (WritesOf c) (counted_at i connections)
 writes_counted c i [] rows = tt
 writes_counted c zero (κ ∷ connections) rows =
     (record { more = rows.0.more; written = rows.0.written; one_connect = rows.0.one_connect; silent = rows.0.silent; handled_some = rows.0.handled_some }, rows.1)
 writes_counted c (suc i) (κ ∷ connections) rows = (rows.0, writes_counted c i connections rows.1)
 
 -- the first connection is confirmed
-abbrev pub FirstConfirmed : List Connection → Type 0
+abbrev pub FirstConfirmed : List ClientConnection → Type 0
 FirstConfirmed (κ ∷ connections) = κ.confirmed ≡ true
 FirstConfirmed [] = Unit {0}
 
 -- it is while the client is online
-pub first_confirmed : (limits : Limits) (past : Past) (keeper : Keeper) (connections : List Connection) → HeldInShape limits past keeper connections → keeper.is_online ≡ true → FirstConfirmed connections
+pub first_confirmed : (limits : Limits) (past : Past) (keeper : Keeper) (connections : List ClientConnection) → HeldInShape limits past keeper connections → keeper.is_online ≡ true → FirstConfirmed connections
 first_confirmed limits past keeper [] held on = tt
 first_confirmed limits past keeper (κ ∷ connections) held on = held.0 (held.1 on) ∙ on
 
 -- more is written on it
-writes_more : (c : Client) (more : List Written) (connections : List Connection) → FirstConfirmed connections → Each IsLater more → Each (WritesOf c) connections → Each (WritesOf c) (writes_first more connections)
+writes_more : (c : Client) (more : List Written) (connections : List ClientConnection) → FirstConfirmed connections → Each IsLater more → Each (WritesOf c) connections → Each (WritesOf c) (writes_first more connections)
 writes_more c more [] on later rows = tt
 writes_more c more (κ ∷ connections) on later rows = (
   writes_grown c κ (writes more κ) κ.handled (record { name = refl; taken = refl; handled = refl; more = more; written = refl; later = later })
@@ -86,7 +86,7 @@ writes_online limits s true shape on more later =
 writes_online limits s false shape on more later = writes_of limits s shape
 
 -- nothing is written
-writes_none : (c : Client) (connections : List Connection) → Each (WritesOf c) connections → Each (WritesOf c) (writes_first [] connections)
+writes_none : (c : Client) (connections : List ClientConnection) → Each (WritesOf c) connections → Each (WritesOf c) (writes_first [] connections)
 writes_none c [] rows = tt
 writes_none c (κ ∷ connections) rows =
     let same = append-nil κ.written in

@@ -18,7 +18,7 @@ use Rattle.broker_base.specs.broker_spec.declared.command.Output.TheVariants.{Cl
 use Rattle.client_base.proofs.of_lists.OfEach.{each_append}
 use Rattle.exactly_once.specs.Sends.{sends_to, put_to}
 use Rattle.client_base.specs.Keeper.{Written}
-use Rattle.exactly_once.specs.Sides.{Connection}
+use Rattle.exactly_once.specs.Sides.{ClientConnection}
 use Rattle.exactly_once.specs.StoryCommands.{command_of}
 use Rattle.exactly_once.specs.Inside.Projections.{backward_of_own}
 use Rattle.exactly_once.specs.Inside.ConnectionShape.{is_connack, no_connacks, ConnackFirst, ConnectionInShape}
@@ -33,7 +33,7 @@ use Rattle.exactly_once.proofs.connections.Answers.{GoesRight, resent_right}
 use Rattle.exactly_once.proofs.connections.GoRight.{no_connack_sent, place_no_connack}
 
 -- the rows of one connection
-pub record FirstOf (limits : Limits) (past : Past) (κ : Connection) : Type 0 where
+pub record FirstOf (limits : Limits) (past : Past) (κ : ClientConnection) : Type 0 where
   pub connack_first : ConnackFirst κ.taken (put_to limits past κ.name)
   pub asks_first : κ.taken ≤ 1 → backward_of_own (put_to limits past κ.name) ≡ []
 
@@ -63,7 +63,7 @@ resent_plain past y limits place c =
     (resent_right (GoesRight (commands.Packet y packets.Pingreq) past) y (length past) (λ q e. (inl (same_itself y), inl e)) es)
 
 -- nothing came before, so what the place sends is all
-opens_with : (limits : Limits) (past : Past) (c : Client) (κ : Connection) (mark : Mark) → put_to limits past κ.name ≡ [] → ConnackFirst (suc κ.taken) (sends_to κ.name (answers_at limits (at_own κ.name c mark) past))
+opens_with : (limits : Limits) (past : Past) (c : Client) (κ : ClientConnection) (mark : Mark) → put_to limits past κ.name ≡ [] → ConnackFirst (suc κ.taken) (sends_to κ.name (answers_at limits (at_own κ.name c mark) past))
     → FirstOf limits (at_own κ.name c mark ∷ past) (taken_more κ)
 opens_with limits past c κ mark none h =
     let all : put_to limits (at_own κ.name c mark ∷ past) κ.name ≡ sends_to κ.name (answers_at limits (at_own κ.name c mark) past) =
@@ -74,7 +74,7 @@ opens_with limits past c κ mark none h =
     }
 
 -- the next packet of a connection is taken
-pub own_first : (limits : Limits) (past : Past) (c : Client) (κ : Connection) (w : Written) → ConnectionInShape limits past c κ → slice_get κ.written κ.taken ≡ Some w
+pub own_first : (limits : Limits) (past : Past) (c : Client) (κ : ClientConnection) (w : Written) → ConnectionInShape limits past c κ → slice_get κ.written κ.taken ≡ Some w
     → FirstOf limits (place_of limits past (command_of κ.name κ.taken w.packet) ∷ past) (taken_more κ)
 own_first limits past c κ w shape next = by κ.taken refl
   where

@@ -10,7 +10,7 @@ use Rattle.client_base.specs.packet.declared.packet.Packet.TheVariants as packet
 use Rattle.client_base.specs.session_base.declared.publication.Publication.{Publication}
 use Rattle.client_base.specs.lists.Lists.{has_id}
 use Rattle.client_base.specs.session_base.Publication.{publication_of}
-use Rattle.exactly_once.specs.Sides.{Connection, Side}
+use Rattle.exactly_once.specs.Sides.{ClientConnection, Side}
 use Rattle.client_base.specs.Keeper.{Keeper}
 use Rattle.client_base.specs.Written.{plain, writing}
 use Rattle.client_base.specs.Handled.{handled, handled_online, handled_first}
@@ -50,17 +50,17 @@ online_confirmed (packets.Pubrec i) side = releasing_confirmed i side
 online_confirmed _ side = refl
 
 -- one that is not confirmed after a packet was not before, and wrote nothing
-abbrev pub StaysSilent : Connection → Connection → Type 0
+abbrev pub StaysSilent : ClientConnection → ClientConnection → Type 0
 StaysSilent κ after = after.confirmed ≡ false → (κ.confirmed ≡ false) × (after.written ≡ κ.written)
 
 -- after a first packet
-first_silent : (packet : Packet) (keeper : Keeper) (κ : Connection) → StaysSilent κ (handled_first packet (counted_side keeper κ)).connection
+first_silent : (packet : Packet) (keeper : Keeper) (κ : ClientConnection) → StaysSilent κ (handled_first packet (counted_side keeper κ)).connection
 first_silent (packets.Connack (connacks.Accepted present)) keeper κ e = absurd (both_ways true e refl)
 first_silent (packets.Connack (connacks.Refused code)) keeper κ e = (e, refl)
 first_silent _ keeper κ e = (e, refl)
 
 -- after any
-pub handled_silent : (packet : Packet) (keeper : Keeper) (κ : Connection) → (keeper.is_online ≡ true → κ.confirmed ≡ true) → StaysSilent κ (handled packet (record { keeper = keeper; connection = κ })).connection
+pub handled_silent : (packet : Packet) (keeper : Keeper) (κ : ClientConnection) → (keeper.is_online ≡ true → κ.confirmed ≡ true) → StaysSilent κ (handled packet (record { keeper = keeper; connection = κ })).connection
 handled_silent packet keeper κ on = by keeper.is_online on
   where
     by : (b : Bool) → (b ≡ true → κ.confirmed ≡ true) → StaysSilent κ (if b then handled_online packet (counted_side keeper κ) else handled_first packet (counted_side keeper κ)).connection

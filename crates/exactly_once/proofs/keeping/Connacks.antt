@@ -22,7 +22,7 @@ use Rattle.client_base.specs.lists.Lists.{Each}
 use Rattle.client_base.proofs.of_lists.OfEach.{each_append}
 use Rattle.exactly_once.specs.Sends.{sends_to, put_to}
 use Rattle.client_base.specs.Keeper.{Written}
-use Rattle.exactly_once.specs.Sides.{Connection}
+use Rattle.exactly_once.specs.Sides.{ClientConnection}
 use Rattle.exactly_once.specs.StoryCommands.{is_packet_of, command_of}
 use Rattle.exactly_once.specs.Inside.ConnectionShape.{is_connack, ConnectionInShape}
 use Rattle.exactly_once.proofs.Deliveries.{sends_append}
@@ -70,7 +70,7 @@ packet_sends P asked limits past y x packet =
     quiet_sends (P place) (asked.quiet place) y (answers_at limits place past) (packet_quiet packet (mark_of limits past (commands.Packet x packet)) limits place past x)
 
 -- if the next written packet of one of the client's connections is taken
-pub own_sends : (P : Place → Packet → Type 0) → IsAsked P → (limits : Limits) (past : Past) (c : Client) (κ : Connection) (w : Written) (y : ConnectionName) → ConnectionInShape limits past c κ
+pub own_sends : (P : Place → Packet → Type 0) → IsAsked P → (limits : Limits) (past : Past) (c : Client) (κ : ClientConnection) (w : Written) (y : ConnectionName) → ConnectionInShape limits past c κ
     → slice_get κ.written κ.taken ≡ Some w
     → ((mark : Mark) → mark ≡ Mark.Accepted → P (at_connect κ.name c false mark) (packets.Connack (connacks.Accepted (not (begins (at_connect κ.name c false mark) past c)))))
     → Each (P (place_of limits past (command_of κ.name κ.taken w.packet))) (sends_to y (answers_at limits (place_of limits past (command_of κ.name κ.taken w.packet)) past))

@@ -13,7 +13,7 @@ use Rattle.broker_base.specs.broker_spec.declared.command.Command.TheVariants as
 use Rattle.broker_base.proofs.ClientsInOrder.{same_is, same_self}
 use Rattle.client_base.proofs.of_lists.Tests.{or_right}
 use Rattle.client_base.specs.Keeper.{Written}
-use Rattle.exactly_once.specs.Sides.{Connection}
+use Rattle.exactly_once.specs.Sides.{ClientConnection}
 use Rattle.exactly_once.specs.Story.{Story}
 use Rattle.exactly_once.specs.StoryCommands.{any_named, names_client, command_of, counted_at}
 use Rattle.client_base.specs.Written.{writes_first}
@@ -29,34 +29,34 @@ use Rattle.exactly_once.proofs.subscribing.events.OtherConnects.{at_connect, not
 use Rattle.exactly_once.proofs.keeping.Rising.{IsTop, none_unconfirmed, unconfirmed_top, top_of, this_of, top_counted, top_written, one_unconfirmed}
 
 -- the row, said from the newest connection on
-abbrev pub IsTopOne : Option ConnectionName → List Connection → Type 0
+abbrev pub IsTopOne : Option ConnectionName → List ClientConnection → Type 0
 IsTopOne None connections = Unit {0}
 IsTopOne (Some x) connections = (any_named (same_connection x) connections ≡ true) × IsTop x connections
 
 -- from the row and back
-pub top_one : (current : Option ConnectionName) (connections : List Connection) → NamesApart connections → LastIsCurrent current connections → IsTopOne current connections
+pub top_one : (current : Option ConnectionName) (connections : List ClientConnection) → NamesApart connections → LastIsCurrent current connections → IsTopOne current connections
 top_one None connections apart h = tt
 top_one (Some x) connections apart h = (h.0, top_of x connections apart h.1)
 
 -- back to the row
-pub last_one : (current : Option ConnectionName) (connections : List Connection) → IsTopOne current connections → LastIsCurrent current connections
+pub last_one : (current : Option ConnectionName) (connections : List ClientConnection) → IsTopOne current connections → LastIsCurrent current connections
 last_one None connections h = tt
 last_one (Some x) connections h = (h.0, this_of x connections h.1)
 
 -- ---- places
 
 -- a place after which it stays or there is none
-pub top_stays : (before behind : Option ConnectionName) (connections : List Connection) → IsTopOne before connections → (behind ≡ before) ⊎ (behind ≡ None) → IsTopOne behind connections
+pub top_stays : (before behind : Option ConnectionName) (connections : List ClientConnection) → IsTopOne before connections → (behind ≡ before) ⊎ (behind ≡ None) → IsTopOne behind connections
 top_stays before behind connections h (inl e) = subst (λ (o : Option ConnectionName). IsTopOne o connections) (sym e) h
 top_stays before behind connections h (inr e) = subst (λ (o : Option ConnectionName). IsTopOne o connections) (sym e) tt
 
 -- one more is taken
-one_counted : (current : Option ConnectionName) (i : ℕ) (connections : List Connection) → IsTopOne current connections → IsTopOne current (counted_at i connections)
+one_counted : (current : Option ConnectionName) (i : ℕ) (connections : List ClientConnection) → IsTopOne current connections → IsTopOne current (counted_at i connections)
 one_counted None i connections h = tt
 one_counted (Some x) i connections h = (counted_named (same_connection x) i connections ∙ h.0, top_counted x i connections h.1)
 
 -- more is written
-pub one_written : (current : Option ConnectionName) (more : List Written) (connections : List Connection) → IsTopOne current connections → IsTopOne current (writes_first more connections)
+pub one_written : (current : Option ConnectionName) (more : List Written) (connections : List ClientConnection) → IsTopOne current connections → IsTopOne current (writes_first more connections)
 one_written None more connections h = tt
 one_written (Some x) more [] h = h
 one_written (Some x) more (κ ∷ others) h = (h.0, top_written x more (κ ∷ others) h.1)
@@ -74,7 +74,7 @@ none_opened past c (commands.Connect x d clean) mark other = not_accepted x d c 
     by (inr e) = e
 
 -- a CONNECT of the client, accepted or not
-one_opened : (past : Past) (c : Client) (connections : List Connection) (i : ℕ) (κ : Connection) (mark : Mark) → NamesApart connections → slice_get connections i ≡ Some κ → κ.confirmed ≡ false
+one_opened : (past : Past) (c : Client) (connections : List ClientConnection) (i : ℕ) (κ : ClientConnection) (mark : Mark) → NamesApart connections → slice_get connections i ≡ Some κ → κ.confirmed ≡ false
     → IsTopOne (current_connection past c) connections → IsTopOne (current_connection (at_connect κ.name c false mark ∷ past) c) (counted_at i connections)
 one_opened past c connections i κ mark apart at u h = by (accepts (commands.Connect κ.name c false) mark c) refl (of mark)
   where
@@ -97,7 +97,7 @@ one_opened past c connections i κ mark apart at u h = by (accepts (commands.Con
         )
 
 -- the next written packet is taken
-pub one_taken : (limits : Limits) (s : Story) → HasShape limits s → IsTopOne (current_connection s.past s.keeper.client) s.connections → (i : ℕ) (κ : Connection) (w : Written)
+pub one_taken : (limits : Limits) (s : Story) → HasShape limits s → IsTopOne (current_connection s.past s.keeper.client) s.connections → (i : ℕ) (κ : ClientConnection) (w : Written)
     → slice_get s.connections i ≡ Some κ → slice_get κ.written κ.taken ≡ Some w
     → IsTopOne (current_connection (place_of limits s.past (command_of κ.name κ.taken w.packet) ∷ s.past) s.keeper.client) (counted_at i s.connections)
 one_taken limits s shape h i κ w at next = by κ.taken refl
@@ -119,7 +119,7 @@ one_taken limits s shape h i κ w at next = by κ.taken refl
 -- ---- the client
 
 -- a packet is handled on the newest connection, which has its Connect taken
-pub one_handled : (current : Option ConnectionName) (κ after : Connection) (others : List Connection) → NamesApart (κ ∷ others) → after.name ≡ κ.name → 1 ≤ κ.taken
+pub one_handled : (current : Option ConnectionName) (κ after : ClientConnection) (others : List ClientConnection) → NamesApart (κ ∷ others) → after.name ≡ κ.name → 1 ≤ κ.taken
     → NewestIsServed current (κ ∷ others) → IsTopOne current (κ ∷ others) → IsTopOne current (after ∷ others)
 one_handled None κ after others apart name taken served h = tt
 one_handled (Some x) κ after others apart name taken served h =
@@ -135,6 +135,6 @@ some_taken zero put n packet g e = absurd (let f : slice_get [] n ≡ Some packe
 some_taken (suc m) put n packet g e = omega arith
 
 -- a new connection is unconfirmed
-pub one_new : (current : Option ConnectionName) (κ : Connection) (connections : List Connection) → κ.confirmed ≡ false → IsTopOne current connections → IsTopOne current (κ ∷ connections)
+pub one_new : (current : Option ConnectionName) (κ : ClientConnection) (connections : List ClientConnection) → κ.confirmed ≡ false → IsTopOne current connections → IsTopOne current (κ ∷ connections)
 one_new None κ connections u h = tt
 one_new (Some x) κ connections u h = (or_right (same_connection x κ.name) (any_named (same_connection x) connections) h.0, (λ e. absurd (both_ways κ.confirmed u e), h.1))

@@ -18,7 +18,7 @@ use Rattle.client_base.proofs.of_lists.Tests.{or_none}
 use Rattle.exactly_once.specs.Sends.{sends_to}
 use Rattle.client_base.specs.Keeper.{Own, Written, Keeper}
 use Rattle.client_base.specs.declared.request.Request.{Request}
-use Rattle.exactly_once.specs.Sides.{Connection, Side}
+use Rattle.exactly_once.specs.Sides.{ClientConnection, Side}
 use Rattle.client_base.specs.Written.{plain}
 use Rattle.client_base.specs.Handled.{handled, lost}
 use Rattle.exactly_once.specs.Story.{Story, StoryStep}
@@ -58,44 +58,44 @@ says_present past x c mark there e f =
 -- ---- places
 
 -- if what the first one is sent then is in order
-held_placed : (limits : Limits) (place : Place) (past : Past) (keeper : Keeper) (connections : List Connection)
-    → (keeper.was_served ≡ true → Each (λ (κ : Connection). Each IsPresent (sends_to κ.name (answers_at limits place past))) connections)
+held_placed : (limits : Limits) (place : Place) (past : Past) (keeper : Keeper) (connections : List ClientConnection)
+    → (keeper.was_served ≡ true → Each (λ (κ : ClientConnection). Each IsPresent (sends_to κ.name (answers_at limits place past))) connections)
     → HeldInShape limits past keeper connections → HeldInShape limits (place ∷ past) keeper connections
 held_placed limits place past keeper [] sends h = h
 held_placed limits place past keeper (κ ∷ others) sends h =
     (h.0, h.1, λ opened off served. put_each IsPresent limits place past κ.name (h.2 opened off served) (sends served).0)
 
 -- one more is taken of one
-held_counted : (limits : Limits) (past : Past) (keeper : Keeper) (i : ℕ) (connections : List Connection) → HeldInShape limits past keeper connections → HeldInShape limits past keeper (counted_at i connections)
+held_counted : (limits : Limits) (past : Past) (keeper : Keeper) (i : ℕ) (connections : List ClientConnection) → HeldInShape limits past keeper connections → HeldInShape limits past keeper (counted_at i connections)
 held_counted limits past keeper i [] h = h
 held_counted limits past keeper zero (κ ∷ others) h = h
 held_counted limits past keeper (suc i) (κ ∷ others) h = h
 
 -- of all connections
-of_all : (P : Connection → Type 0) (connections : List Connection) → ((κ : Connection) → P κ) → Each P connections
+of_all : (P : ClientConnection → Type 0) (connections : List ClientConnection) → ((κ : ClientConnection) → P κ) → Each P connections
 of_all P [] h = tt
 of_all P (κ ∷ others) h = (h κ, of_all P others h)
 
 -- of those that a test leaves out
-of_others : (P : Connection → Type 0) (test : ConnectionName → Bool) (connections : List Connection) → any_named test connections ≡ false → ((κ : Connection) → test κ.name ≡ false → P κ) → Each P connections
+of_others : (P : ClientConnection → Type 0) (test : ConnectionName → Bool) (connections : List ClientConnection) → any_named test connections ≡ false → ((κ : ClientConnection) → test κ.name ≡ false → P κ) → Each P connections
 of_others P test [] none h = tt
 of_others P test (κ ∷ others) none h = let two = or_none (test κ.name) (any_named test others) none in (h κ two.0, of_others P test others two.1 h)
 
 -- ---- the client
 
 -- it leaves
-held_lost : (limits : Limits) (past : Past) (keeper : Keeper) (connections : List Connection) → HeldInShape limits past (lost keeper) connections
+held_lost : (limits : Limits) (past : Past) (keeper : Keeper) (connections : List ClientConnection) → HeldInShape limits past (lost keeper) connections
 held_lost limits past keeper [] = refl
 held_lost limits past keeper (κ ∷ others) = (λ e. absurd (both_ways false refl e), λ e. absurd (both_ways false refl e), λ e off served. absurd (both_ways false refl e))
 
 -- it writes more, and keeps other publications and requests
-held_written : (limits : Limits) (past : Past) (keeper : Keeper) (own : List Own) (requests : List Request) (more : List Written) (connections : List Connection)
+held_written : (limits : Limits) (past : Past) (keeper : Keeper) (own : List Own) (requests : List Request) (more : List Written) (connections : List ClientConnection)
     → HeldInShape limits past keeper connections → HeldInShape limits past (record keeper { own = own; requests = requests }) (writes_first more connections)
 held_written limits past keeper own requests more [] h = h
 held_written limits past keeper own requests more (κ ∷ others) h = h
 
 -- it handled a packet
-held_settled : (limits : Limits) (past : Past) (side : Side) (others : List Connection) → IsSettled side → HeldInShape limits past side.keeper (side.connection ∷ others)
+held_settled : (limits : Limits) (past : Past) (side : Side) (others : List ClientConnection) → IsSettled side → HeldInShape limits past side.keeper (side.connection ∷ others)
 held_settled limits past side others (inl h) = (λ e. h.2 ∙ sym h.1, λ e. h.0, λ e off served. absurd (both_ways side.keeper.is_online off h.1))
 held_settled limits past side others (inr h) =
     (λ e. absurd (both_ways side.keeper.is_open h.0 e), λ e. absurd (both_ways side.keeper.is_online h.1 e), λ e off served. absurd (both_ways side.keeper.is_open h.0 e))
@@ -110,13 +110,13 @@ events_keep_held limits s t sound (takes i κ w stands next) =
     let this = each_there (ConnectionInShape limits s.past c) i s.connections κ stands sound.shape.connections in
     held_counted limits (place ∷ s.past) s.keeper i s.connections
     (held_placed limits place s.past s.keeper s.connections
-    (λ served. of_all (λ (μ : Connection). Each IsPresent (sends_to μ.name (answers_at limits place s.past))) s.connections
+    (λ served. of_all (λ (μ : ClientConnection). Each IsPresent (sends_to μ.name (answers_at limits place s.past))) s.connections
     (λ μ. own_sends (λ (place : Place) (packet : Packet). IsPresent packet) asks_present limits s.past c κ w μ.name this next
     (λ mark e. says_present s.past κ.name c mark (sound.shape.served served) e))) sound.shape.held)
 events_keep_held limits s t sound (others_take command other none) =
     let place = place_of limits s.past command in
     held_placed limits place s.past s.keeper s.connections
-    (λ served. of_others (λ (μ : Connection). Each IsPresent (sends_to μ.name (answers_at limits place s.past))) (is_packet_of command) s.connections none
+    (λ served. of_others (λ (μ : ClientConnection). Each IsPresent (sends_to μ.name (answers_at limits place s.past))) (is_packet_of command) s.connections none
     (λ μ e. other_sends (λ (place : Place) (packet : Packet). IsPresent packet) asks_present limits s.past command μ.name e)) sound.shape.held
 events_keep_held limits s t sound (receives κ others packet are opened next) =
     let side : Side = record { keeper = s.keeper; connection = κ } in

@@ -16,7 +16,7 @@ use Rattle.client_base.proofs.of_lists.OfEach.{each_then}
 use Rattle.client_base.proofs.of_lists.Tests.{or_none}
 use Rattle.exactly_once.specs.Sends.{sends_to, put_to}
 use Rattle.client_base.specs.Keeper.{Written}
-use Rattle.exactly_once.specs.Sides.{Connection, Side}
+use Rattle.exactly_once.specs.Sides.{ClientConnection, Side}
 use Rattle.client_base.specs.Written.{plain}
 use Rattle.client_base.specs.Handled.{handled}
 use Rattle.exactly_once.specs.Story.{Story, StoryStep}
@@ -66,18 +66,18 @@ meant_before limits place past c x spared kept = each_then (IsMeant c past) (IsM
 -- ---- connections
 
 -- one more is taken of one
-pub welcomed_counted : (limits : Limits) (past : Past) (c : Client) (i : ℕ) (connections : List Connection) → AreWelcomed limits past c connections → AreWelcomed limits past c (counted_at i connections)
+pub welcomed_counted : (limits : Limits) (past : Past) (c : Client) (i : ℕ) (connections : List ClientConnection) → AreWelcomed limits past c connections → AreWelcomed limits past c (counted_at i connections)
 welcomed_counted limits past c i [] h = tt
 welcomed_counted limits past c zero (κ ∷ others) h = (h.0, h.1)
 welcomed_counted limits past c (suc i) (κ ∷ others) h = (h.0, welcomed_counted limits past c i others h.1)
 
 -- more is written
-welcomed_written : (limits : Limits) (past : Past) (c : Client) (more : List Written) (connections : List Connection) → AreWelcomed limits past c connections → AreWelcomed limits past c (writes_first more connections)
+welcomed_written : (limits : Limits) (past : Past) (c : Client) (more : List Written) (connections : List ClientConnection) → AreWelcomed limits past c connections → AreWelcomed limits past c (writes_first more connections)
 welcomed_written limits past c more [] h = tt
 welcomed_written limits past c more (κ ∷ others) h = (h.0, h.1)
 
 -- a command of none of them is taken
-welcomed_other : (limits : Limits) (place : Place) (past : Past) (c : Client) (connections : List Connection) → IsSpared place.command past c → IsKeptSession (session_of (place ∷ past) c)
+welcomed_other : (limits : Limits) (place : Place) (past : Past) (c : Client) (connections : List ClientConnection) → IsSpared place.command past c → IsKeptSession (session_of (place ∷ past) c)
     → any_named (is_packet_of place.command) connections ≡ false → ((y : ConnectionName) → is_packet_of place.command y ≡ false → Each (IsMeant c (place ∷ past)) (sends_to y (answers_at limits place past)))
     → AreWelcomed limits past c connections → AreWelcomed limits (place ∷ past) c connections
 welcomed_other limits place past c [] spared kept none sends h = tt
@@ -98,7 +98,7 @@ events_keep_welcomed limits s t sound h (takes i κ w stands next) =
     let this = each_there (ConnectionInShape limits s.past c) i s.connections κ stands sound.shape.connections in
     let kept = events_keep_session limits s t sound (takes i κ w stands next) in
     welcomed_counted limits (place ∷ s.past) c i s.connections
-    (each_then (λ (μ : Connection). IsWelcomed limits s.past c μ.name) (λ (μ : Connection). IsWelcomed limits (place ∷ s.past) c μ.name) s.connections
+    (each_then (λ (μ : ClientConnection). IsWelcomed limits s.past c μ.name) (λ (μ : ClientConnection). IsWelcomed limits (place ∷ s.past) c μ.name) s.connections
     (λ μ g. put_each (IsMeant c (place ∷ s.past)) limits place s.past μ.name (meant_before limits place s.past c μ.name (inl (taken_spares κ.name κ.taken w.packet c)) kept g)
     (own_sends (λ (place : Place) (packet : Packet). IsMeant c (place ∷ s.past) packet) (asks_meant c s.past) limits s.past c κ w μ.name this next
     (λ mark e b f. opened_there s.past κ.name c mark e))) h)

@@ -12,7 +12,7 @@ use Rattle.broker_base.specs.broker_spec.Marks.{packet_mark, packet_mark_of}
 use Rattle.broker_base.specs.broker_spec.Commands.{place_of}
 use Rattle.broker_base.specs.broker_spec.declared.command.Command.TheVariants as commands
 use Rattle.broker_base.proofs.ClientsInOrder.{same_self}
-use Rattle.exactly_once.specs.Sides.{Connection}
+use Rattle.exactly_once.specs.Sides.{ClientConnection}
 use Rattle.exactly_once.specs.StoryCommands.{any_named}
 use Rattle.exactly_once.proofs.Packets.{at_packet}
 use Rattle.broker_base.proofs.ConnectionNames.{same_itself}
@@ -63,14 +63,14 @@ after_connect past c x kept =
 -- ---- a packet on the client's current connection
 
 -- its mark
-pub own_mark : (limits : Limits) (past : Past) (c : Client) (connections : List Connection) (x : ConnectionName) (packet : Packet) → NobodyElse past c connections
+pub own_mark : (limits : Limits) (past : Past) (c : Client) (connections : List ClientConnection) (x : ConnectionName) (packet : Packet) → NobodyElse past c connections
     → any_named (same_connection x) connections ≡ true → current_connection past c ≡ Some x
     → place_of limits past (commands.Packet x packet) ≡ at_packet x packet (packet_mark limits past c packet)
 own_mark limits past c connections x packet nobody named current =
     ap (λ o. at_packet x packet (packet_mark_of limits past packet o)) (own_owner past c connections x nobody named current)
 
 -- and of one that is not current
-pub nobodys_mark : (limits : Limits) (past : Past) (c : Client) (connections : List Connection) (x : ConnectionName) (packet : Packet) → NobodyElse past c connections
+pub nobodys_mark : (limits : Limits) (past : Past) (c : Client) (connections : List ClientConnection) (x : ConnectionName) (packet : Packet) → NobodyElse past c connections
     → any_named (same_connection x) connections ≡ true → (current_connection past c ≡ Some x → ⊥) → place_of limits past (commands.Packet x packet) ≡ at_packet x packet Mark.NoPart
 nobodys_mark limits past c connections x packet nobody named not =
     ap (λ o. at_packet x packet (packet_mark_of limits past packet o)) (none_owns past c connections x nobody named not)

@@ -8,13 +8,13 @@ use Rattle.broker_base.specs.broker_spec.Place.{Client, Past, same_client}
 use Rattle.broker_base.specs.broker_spec.Past.{any_connection, current_connection}
 use Rattle.broker_base.specs.broker_spec.Owner.{owner_of}
 use Rattle.broker_base.proofs.ClientsInOrder.{same_is}
-use Rattle.exactly_once.specs.Sides.{Connection}
+use Rattle.exactly_once.specs.Sides.{ClientConnection}
 use Rattle.exactly_once.specs.StoryCommands.{any_named}
 use Rattle.broker_base.proofs.ConnectionNames.{same_name, same_itself}
 use Rattle.exactly_once.proofs.places.Owners.{owner_has, owner_there}
 
 -- no other client is on one of these connections
-abbrev pub NobodyElse : Past → Client → List Connection → Type 0
+abbrev pub NobodyElse : Past → Client → List ClientConnection → Type 0
 NobodyElse past c connections = (d : Client) (x : ConnectionName) → current_connection past d ≡ Some x → any_named (same_connection x) connections ≡ true → same_client d c ≡ true
 
 -- a connection that passes the test of a name has that name
@@ -23,7 +23,7 @@ current_named x None e = absurd (both_ways false refl e)
 current_named x (Some y) e = ap (λ z. Some z) (sym (same_name x y e))
 
 -- an owner of one of them is the client, which has it
-pub owner_is_own : (past : Past) (c d : Client) (connections : List Connection) (x : ConnectionName) → NobodyElse past c connections → any_named (same_connection x) connections ≡ true
+pub owner_is_own : (past : Past) (c d : Client) (connections : List ClientConnection) (x : ConnectionName) → NobodyElse past c connections → any_named (same_connection x) connections ≡ true
     → owner_of past x ≡ Some d → (d ≡ c) × (current_connection past c ≡ Some x)
 owner_is_own past c d connections x nobody named e =
     let has : current_connection past d ≡ Some x = current_named x (current_connection past d) (owner_has past x d e) in
@@ -31,7 +31,7 @@ owner_is_own past c d connections x nobody named e =
     (same, subst (λ (k : Client). current_connection past k ≡ Some x) same has)
 
 -- one that is not current has no client
-pub none_owns : (past : Past) (c : Client) (connections : List Connection) (x : ConnectionName) → NobodyElse past c connections → any_named (same_connection x) connections ≡ true
+pub none_owns : (past : Past) (c : Client) (connections : List ClientConnection) (x : ConnectionName) → NobodyElse past c connections → any_named (same_connection x) connections ≡ true
     → (current_connection past c ≡ Some x → ⊥) → owner_of past x ≡ None
 none_owns past c connections x nobody named not = by (owner_of past x) refl
   where
@@ -40,7 +40,7 @@ none_owns past c connections x nobody named not = by (owner_of past x) refl
     by (Some d) e = absurd (not (owner_is_own past c d connections x nobody named e).1)
 
 -- the current one is the client's own
-pub own_owner : (past : Past) (c : Client) (connections : List Connection) (x : ConnectionName) → NobodyElse past c connections → any_named (same_connection x) connections ≡ true
+pub own_owner : (past : Past) (c : Client) (connections : List ClientConnection) (x : ConnectionName) → NobodyElse past c connections → any_named (same_connection x) connections ≡ true
     → current_connection past c ≡ Some x → owner_of past x ≡ Some c
 own_owner past c connections x nobody named current = by (owner_of past x) refl (owner_there past x x c current (same_itself x))
   where
@@ -49,7 +49,7 @@ own_owner past c connections x nobody named current = by (owner_of past x) refl 
     by (Some d) e some = ap (λ k. Some k) (owner_is_own past c d connections x nobody named e).0
 
 -- an owner of a connection that is not one of them is not the client
-pub owner_is_other : (past : Past) (c d : Client) (connections : List Connection) (x : ConnectionName)
+pub owner_is_other : (past : Past) (c d : Client) (connections : List ClientConnection) (x : ConnectionName)
     → ((y : ConnectionName) → current_connection past c ≡ Some y → any_named (same_connection y) connections ≡ true) → any_named (same_connection x) connections ≡ false
     → owner_of past x ≡ Some d → same_client d c ≡ false
 owner_is_other past c d connections x mine unnamed e = by (same_client d c) refl

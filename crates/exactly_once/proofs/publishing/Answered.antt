@@ -12,7 +12,7 @@ use Rattle.exactly_once.specs.Handshake.{Forward, Backward, Link, Handshake, hea
 use Rattle.exactly_once.specs.HandshakeInvariant.{IsGood, IsDue, IsLinked}
 use Rattle.client_base.proofs.of_lists.Tests.{or_then}
 use Rattle.exactly_once.specs.Sends.{put_to}
-use Rattle.exactly_once.specs.Sides.{Connection, Side}
+use Rattle.exactly_once.specs.Sides.{ClientConnection, Side}
 use Rattle.client_base.specs.Keeper.{Keeper}
 use Rattle.client_base.specs.Written.{plain, writing}
 use Rattle.client_base.specs.Handled.{handled_online}
@@ -41,18 +41,18 @@ sent_among i (Item.Released v id ∷ old) new e = sent_among i old new e
 sent_among i (Item.Finished v ∷ old) new e = sent_among i old new e
 
 -- the client's side of its newest connection, this packet counted
-abbrev pub counted_side : Keeper → Connection → Side
+abbrev pub counted_side : Keeper → ClientConnection → Side
 counted_side keeper κ = record { keeper = keeper; connection = record κ { handled = suc κ.handled } }
 
 -- what a PUBREC does, by whether it is of a publication that is sent
-abbrev pub releasing_by : Bool → ℕ → Keeper → Connection → Side
+abbrev pub releasing_by : Bool → ℕ → Keeper → ClientConnection → Side
 releasing_by has i keeper κ =
     if has
     then writing (plain (packets.Pubrel i) ∷ []) (counted_side (record keeper { own = map (at_pubrec i) keeper.own; releases = keeper.releases ++ i ∷ [] }) κ)
     else if has_id i keeper.releases then writing (plain (packets.Pubrel i) ∷ []) (counted_side keeper κ) else counted_side keeper κ
 
 -- the link with the answer that comes in front
-pub answer_link : (limits : Limits) (past : Past) (keeper : Keeper) (κ : Connection) (others : List Connection) (m : Backward) (b : List Backward) → keeper.is_online ≡ true → κ.confirmed ≡ true
+pub answer_link : (limits : Limits) (past : Past) (keeper : Keeper) (κ : ClientConnection) (others : List ClientConnection) (m : Backward) (b : List Backward) → keeper.is_online ≡ true → κ.confirmed ≡ true
     → backward_of_own (drop κ.handled (put_to limits past κ.name)) ≡ m ∷ b
     → (as_publisher limits (story_by past (κ ∷ others) keeper)).link ≡ link_by (is_current (current_connection past keeper.client) κ.name) true (forward_of_own (to_be_taken κ)) (m ∷ b)
 answer_link limits past keeper κ others m b on conf come =
@@ -61,7 +61,7 @@ answer_link limits past keeper κ others m b on conf come =
     first_link limits past keeper κ others conf
     ∙ ap (λ online. link_by cur online f (backward_of_own (drop κ.handled (put_to limits past κ.name)))) on ∙ ap (λ l. link_by cur true f l) come
 
-pub hears_pubrec : (limits : Limits) (past : Past) (keeper : Keeper) (κ : Connection) (others : List Connection) (i : ℕ) → ConnectionInShape limits past keeper.client κ
+pub hears_pubrec : (limits : Limits) (past : Past) (keeper : Keeper) (κ : ClientConnection) (others : List ClientConnection) (i : ℕ) → ConnectionInShape limits past keeper.client κ
     → keeper.is_online ≡ true → κ.confirmed ≡ true → slice_get (put_to limits past κ.name) κ.handled ≡ Some (packets.Pubrec i)
     → IsGood (as_publisher limits (story_by past (κ ∷ others) keeper))
     → GoesTo (as_publisher limits (story_by past (κ ∷ others) keeper))
@@ -85,7 +85,7 @@ hears_pubrec limits past keeper κ others i shape on conf next good =
     (sym (items_released i keeper.own)) refl refl in
     subst (λ (z : Bool). GoesTo h (as_publisher limits (with_side s others (releasing_by z i keeper κ)))) (sym has) goes
 
-pub hears_pubcomp : (limits : Limits) (past : Past) (keeper : Keeper) (κ : Connection) (others : List Connection) (i : ℕ) → ConnectionInShape limits past keeper.client κ
+pub hears_pubcomp : (limits : Limits) (past : Past) (keeper : Keeper) (κ : ClientConnection) (others : List ClientConnection) (i : ℕ) → ConnectionInShape limits past keeper.client κ
     → keeper.is_online ≡ true → κ.confirmed ≡ true → slice_get (put_to limits past κ.name) κ.handled ≡ Some (packets.Pubcomp i)
     → GoesTo (as_publisher limits (story_by past (κ ∷ others) keeper))
     (as_publisher limits (with_side (story_by past (κ ∷ others) keeper) others (handled_online (packets.Pubcomp i) (counted_side keeper κ))))

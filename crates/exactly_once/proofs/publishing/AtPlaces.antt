@@ -10,7 +10,7 @@ use Rattle.broker_base.specs.broker_spec.Received.{is_new, received_of}
 use Rattle.broker_base.specs.broker_spec.Answers.{answers_at}
 use Rattle.exactly_once.specs.Handshake.{Forward, Backward, Link, Handshake}
 use Rattle.exactly_once.specs.Sends.{sends_to, put_to}
-use Rattle.exactly_once.specs.Sides.{Connection}
+use Rattle.exactly_once.specs.Sides.{ClientConnection}
 use Rattle.client_base.specs.Keeper.{Keeper}
 use Rattle.exactly_once.specs.Carried.{carries, more_by, new_numbers}
 use Rattle.exactly_once.specs.Inside.Projections.{backward_of_own, to_come, last_confirmed, as_publisher, GoesTo}
@@ -28,28 +28,28 @@ unfolding put_to
 put_more limits place past x = refl
 
 -- come after those that are not handled yet
-pub come_more : (limits : Limits) (place : Place) (past : Past) (κ : Connection) → κ.handled ≤ length (put_to limits past κ.name)
+pub come_more : (limits : Limits) (place : Place) (past : Past) (κ : ClientConnection) → κ.handled ≤ length (put_to limits past κ.name)
     → backward_of_own (drop κ.handled (put_to limits (place ∷ past) κ.name)) ≡ backward_of_own (to_come limits past κ) ++ backward_of_own (sends_to κ.name (answers_at limits place past))
 come_more limits place past κ within =
     ap (λ l. backward_of_own (drop κ.handled l)) (put_more limits place past κ.name) ∙ backward_more κ.handled (put_to limits past κ.name) (sends_to κ.name (answers_at limits place past)) within
 
 -- a place that brings no new publication
-pub no_number : (connections later : List Connection) (place : Place) (past : Past) → is_new place.command place.mark ≡ false → SameNumbers connections later past
+pub no_number : (connections later : List ClientConnection) (place : Place) (past : Past) → is_new place.command place.mark ≡ false → SameNumbers connections later past
     → new_numbers connections past ≡ new_numbers later (place ∷ past)
 no_number connections later place past old same =
     sym (ap₂ (λ xs new. xs ++ more_by new (carries later place.command past)) (same_numbers connections later past same) old ∙ append-nil (new_numbers connections past))
 
 -- nothing of the handshake is sent to the last confirmed connection
-abbrev pub NoneToLast : Limits → Place → Past → List Connection → Type 0
-NoneToLast limits place past connections = (κ : Connection) → last_confirmed connections ≡ Some κ → NoneSent κ.name (answers_at limits place past)
+abbrev pub NoneToLast : Limits → Place → Past → List ClientConnection → Type 0
+NoneToLast limits place past connections = (κ : ClientConnection) → last_confirmed connections ≡ Some κ → NoneSent κ.name (answers_at limits place past)
 
 -- so nothing more is in transit to it
-pub come_same : (limits : Limits) (place : Place) (past : Past) (keeper : Keeper) (connections : List Connection) → Each (ConnectionInShape limits past keeper.client) connections
+pub come_same : (limits : Limits) (place : Place) (past : Past) (keeper : Keeper) (connections : List ClientConnection) → Each (ConnectionInShape limits past keeper.client) connections
     → NoneToLast limits place past connections
     → backward_last limits past (last_confirmed connections) ≡ backward_last limits (place ∷ past) (last_confirmed connections)
 come_same limits place past keeper connections each none = by (last_confirmed connections) refl
   where
-    by : (o : Option Connection) → last_confirmed connections ≡ o → backward_last limits past o ≡ backward_last limits (place ∷ past) o
+    by : (o : Option ClientConnection) → last_confirmed connections ≡ o → backward_last limits past o ≡ backward_last limits (place ∷ past) o
     by None e = refl
     by (Some κ) e =
         let shape = each_last (ConnectionInShape limits past keeper.client) connections κ each e in
@@ -63,7 +63,7 @@ ignores : (on : Bool) (f g : List (Forward ℕ)) (b : List Backward) → link_by
 ignores true f g b = refl
 ignores false f g b = refl
 
-pub goes_place : (limits : Limits) (place : Place) (past : Past) (keeper : Keeper) (connections later : List Connection) → new_numbers connections past ≡ new_numbers later (place ∷ past)
+pub goes_place : (limits : Limits) (place : Place) (past : Past) (keeper : Keeper) (connections later : List ClientConnection) → new_numbers connections past ≡ new_numbers later (place ∷ past)
     → received_of past keeper.client ≡ received_of (place ∷ past) keeper.client
     → backward_last limits past (last_confirmed connections) ≡ backward_last limits (place ∷ past) (last_confirmed later)
     → StaysOrLeaves (current_last (current_connection past keeper.client) (last_confirmed connections)) (current_last (current_connection (place ∷ past) keeper.client) (last_confirmed later))

@@ -10,7 +10,7 @@ use Rattle.broker_base.specs.broker_spec.Received.{received_of}
 use Rattle.client_base.specs.lists.Lists.{has_id, Each}
 use Rattle.exactly_once.specs.Handshake.{Handshake}
 use Rattle.client_base.specs.Keeper.{Written, Keeper}
-use Rattle.exactly_once.specs.Sides.{Connection}
+use Rattle.exactly_once.specs.Sides.{ClientConnection}
 use Rattle.client_base.specs.Written.{plain}
 use Rattle.client_base.specs.Handled.{lost}
 use Rattle.exactly_once.specs.Story.{Story}
@@ -25,7 +25,7 @@ use Rattle.exactly_once.proofs.publishing.kept.Numbers.{same_numbers, same_opene
 use Rattle.exactly_once.proofs.publishing.First.{story_by, first_link, goes_first, leaves_first}
 
 -- the client leaves, and its confirmed connections stay as they are
-pub leaves_all : (limits : Limits) (past : Past) (keeper later : Keeper) (connections after : List Connection) → keeper.client ≡ later.client → keeper.own ≡ later.own → later.is_online ≡ false
+pub leaves_all : (limits : Limits) (past : Past) (keeper later : Keeper) (connections after : List ClientConnection) → keeper.client ≡ later.client → keeper.own ≡ later.own → later.is_online ≡ false
     → last_confirmed connections ≡ last_confirmed after → (as_publisher limits (story_by past connections keeper)).accepted ≡ (as_publisher limits (story_by past after later)).accepted
     → GoesTo (as_publisher limits (story_by past connections keeper)) (as_publisher limits (story_by past after later))
 leaves_all limits past keeper later connections after client own offline last numbers =
@@ -53,16 +53,16 @@ opens_another limits s x none =
     (sym (same_numbers s.connections (new ∷ s.connections) s.past (same_opened s.past new s.connections none)))
 
 -- what is given of the newest connection
-pub record Holds (limits : Limits) (past : Past) (keeper : Keeper) (κ : Connection) : Type 0 where
+pub record Holds (limits : Limits) (past : Past) (keeper : Keeper) (κ : ClientConnection) : Type 0 where
   pub shape : ConnectionInShape limits past keeper.client κ
   pub confirmed : keeper.is_online ≡ true → κ.confirmed ≡ true
 
-pub holds_of : (limits : Limits) (past : Past) (keeper : Keeper) (κ : Connection) (others : List Connection) → Each (ConnectionInShape limits past keeper.client) (κ ∷ others)
+pub holds_of : (limits : Limits) (past : Past) (keeper : Keeper) (κ : ClientConnection) (others : List ClientConnection) → Each (ConnectionInShape limits past keeper.client) (κ ∷ others)
     → HeldInShape limits past keeper (κ ∷ others) → Holds limits past keeper κ
 holds_of limits past keeper κ others each held = record { shape = each.0; confirmed = λ on. held.0 (held.1 on) ∙ on }
 
 -- it sends DISCONNECT, if it is online
-pub disconnects_it : (limits : Limits) (past : Past) (keeper : Keeper) (connections : List Connection) → Each (ConnectionInShape limits past keeper.client) connections
+pub disconnects_it : (limits : Limits) (past : Past) (keeper : Keeper) (connections : List ClientConnection) → Each (ConnectionInShape limits past keeper.client) connections
     → HeldInShape limits past keeper connections
     → GoesTo (as_publisher limits (story_by past connections keeper))
     (as_publisher limits (story_by past (if keeper.is_online then writes_first (plain packets.Disconnect ∷ []) connections else connections) (lost keeper)))
@@ -89,7 +89,7 @@ disconnects_it limits past keeper (κ ∷ others) each held = by (cases_Bool kee
         subst (λ (b : Bool). GoesTo h (after b)) (sym off) (leaves_all limits past keeper (lost keeper) (κ ∷ others) (κ ∷ others) refl refl refl refl refl)
 
 -- it writes what is not of the handshake
-pub writes_quietly : (limits : Limits) (past : Past) (keeper later : Keeper) (connections : List Connection) (more : List Written) → Each (ConnectionInShape limits past keeper.client) connections
+pub writes_quietly : (limits : Limits) (past : Past) (keeper later : Keeper) (connections : List ClientConnection) (more : List Written) → Each (ConnectionInShape limits past keeper.client) connections
     → HeldInShape limits past keeper connections → keeper.is_online ≡ true → keeper.client ≡ later.client → keeper.is_online ≡ later.is_online → items_of_own keeper.own ≡ items_of_own later.own
     → forward_of_own more ≡ []
     → GoesTo (as_publisher limits (story_by past connections keeper)) (as_publisher limits (story_by past (writes_first more connections) later))

@@ -14,7 +14,7 @@ use Rattle.client_base.proofs.of_lists.Tests.{eq_same, or_left, or_right}
 use Rattle.client_base.proofs.of_lists.Identifiers.{distinct_front}
 use Rattle.exactly_once.specs.Sends.{put_to}
 use Rattle.client_base.specs.Keeper.{Written, Keeper, Own, ids_of_own}
-use Rattle.exactly_once.specs.Sides.{Connection}
+use Rattle.exactly_once.specs.Sides.{ClientConnection}
 use Rattle.client_base.specs.State.{id_of_request}
 use Rattle.client_base.specs.Written.{sent_all, sent_first, resent}
 use Rattle.client_base.specs.Handled.{discarded, confirmed}
@@ -71,7 +71,7 @@ forward_opens n ws more w quiet e none = ap (λ l. forward_of_own (drop n l)) (e
     by (suc zero) = refl
     by (suc (suc n)) = refl
 
-pub confirms : (limits : Limits) (past : Past) (keeper : Keeper) (κ : Connection) (others : List Connection) (present : Bool) → OwnInShape keeper → ConnectionInShape limits past keeper.client κ
+pub confirms : (limits : Limits) (past : Past) (keeper : Keeper) (κ : ClientConnection) (others : List ClientConnection) (present : Bool) → OwnInShape keeper → ConnectionInShape limits past keeper.client κ
     → κ.confirmed ≡ false → (present ≡ false → keeper.was_served ≡ false) → slice_get (put_to limits past κ.name) κ.handled ≡ Some (packets.Connack (connacks.Accepted present))
     → GoesTo (as_publisher limits (story_by past (κ ∷ others) keeper)) (as_publisher limits (with_side (story_by past (κ ∷ others) keeper) others (confirmed present (counted_side keeper κ))))
 confirms limits past keeper κ others present own shape unconfirmed served next =

@@ -13,7 +13,7 @@ use Rattle.broker_base.specs.broker_spec.Marks.{packet_mark_of}
 use Rattle.broker_base.specs.broker_spec.Answers.{packet_answers}
 use Rattle.broker_base.specs.broker_spec.Commands.{place_of}
 use Rattle.broker_base.specs.broker_spec.declared.command.Command.TheVariants as commands
-use Rattle.exactly_once.specs.Sides.{Connection}
+use Rattle.exactly_once.specs.Sides.{ClientConnection}
 use Rattle.client_base.specs.Keeper.{Keeper}
 use Rattle.exactly_once.specs.StoryCommands.{counted_at}
 use Rattle.exactly_once.specs.Inside.Projections.{is_current, last_confirmed, as_publisher, GoesTo}
@@ -30,7 +30,7 @@ use Rattle.exactly_once.proofs.publishing.Elsewhere.{NoneSent}
 use Rattle.exactly_once.proofs.publishing.AtPlaces.{no_number, NoneToLast, come_same, StaysOrLeaves, goes_place}
 
 -- if no packet of the handshake is taken
-pub goes_counted : (limits : Limits) (place : Place) (past : Past) (keeper : Keeper) (connections : List Connection) (i : ℕ) (κ : Connection) → HasShape limits (story_by past connections keeper)
+pub goes_counted : (limits : Limits) (place : Place) (past : Past) (keeper : Keeper) (connections : List ClientConnection) (i : ℕ) (κ : ClientConnection) → HasShape limits (story_by past connections keeper)
     → slice_get connections i ≡ Some κ → is_new place.command place.mark ≡ false → received_of past keeper.client ≡ received_of (place ∷ past) keeper.client → NoneToLast limits place past connections
     → (LastAfter (last_confirmed connections) (last_confirmed (counted_at i connections)) κ
     → StaysOrLeaves (current_last (current_connection past keeper.client) (last_confirmed connections))
@@ -81,7 +81,7 @@ never_ended x packet (Some y) = by (same_connection x y)
     by true = refl
     by false = refl
 
-pub takes_nobodys : (limits : Limits) (past : Past) (keeper : Keeper) (connections : List Connection) (i : ℕ) (κ : Connection) (packet : Packet) → HasShape limits (story_by past connections keeper)
+pub takes_nobodys : (limits : Limits) (past : Past) (keeper : Keeper) (connections : List ClientConnection) (i : ℕ) (κ : ClientConnection) (packet : Packet) → HasShape limits (story_by past connections keeper)
     → slice_get connections i ≡ Some κ → (current_connection past keeper.client ≡ Some κ.name → ⊥)
     → GoesTo (as_publisher limits (story_by past connections keeper))
     (as_publisher limits (story_by (place_of limits past (commands.Packet κ.name packet) ∷ past) (counted_at i connections) keeper))

@@ -12,7 +12,7 @@ use Rattle.exactly_once.specs.Items.{Item}
 use Rattle.exactly_once.specs.Handshake.{Forward, Backward}
 use Rattle.exactly_once.specs.Sends.{put_to}
 use Rattle.client_base.specs.Keeper.{Written, Keeper}
-use Rattle.exactly_once.specs.Sides.{Connection}
+use Rattle.exactly_once.specs.Sides.{ClientConnection}
 use Rattle.exactly_once.specs.Story.{Story}
 use Rattle.exactly_once.specs.StoryCommands.{count_of}
 use Rattle.exactly_once.specs.Inside.Projections.{items_of_own, forward_of_own, backward_of_own, to_come, to_be_taken, is_current, link_of_own, last_confirmed, as_publisher, GoesTo}
@@ -21,15 +21,15 @@ use Rattle.exactly_once.proofs.publishing.Links.{link_by, link_is, Reaches, reac
 use Rattle.exactly_once.proofs.publishing.kept.Numbers.{same_numbers, same_written}
 use Rattle.exactly_once.proofs.publishing.Written.{dropped_next, forward_more}
 
-abbrev pub story_by : Past → List Connection → Keeper → Story
+abbrev pub story_by : Past → List ClientConnection → Keeper → Story
 story_by past connections keeper = record { past = past; connections = connections; keeper = keeper }
 
 -- the connection after an event of the client
-abbrev pub after_by : Connection → List Written → ℕ → Bool → List Publication → Connection
+abbrev pub after_by : ClientConnection → List Written → ℕ → Bool → List Publication → ClientConnection
 after_by κ ws handled confirmed accepted = record { name = κ.name; written = ws; taken = κ.taken; handled = handled; confirmed = confirmed; accepted = accepted }
 
 -- the link if the newest connection is confirmed
-pub first_link : (limits : Limits) (past : Past) (keeper : Keeper) (κ : Connection) (others : List Connection) → κ.confirmed ≡ true
+pub first_link : (limits : Limits) (past : Past) (keeper : Keeper) (κ : ClientConnection) (others : List ClientConnection) → κ.confirmed ≡ true
     → (as_publisher limits (story_by past (κ ∷ others) keeper)).link
     ≡ link_by (is_current (current_connection past keeper.client) κ.name) keeper.is_online (forward_of_own (to_be_taken κ)) (backward_of_own (to_come limits past κ))
 first_link limits past keeper κ others e =
@@ -37,10 +37,10 @@ first_link limits past keeper κ others e =
     ∙ link_is limits past (current_connection past keeper.client) keeper.is_online (Some κ)
 
 -- the packets that are taken are among those written
-pub counted_within : (limits : Limits) (past : Past) (keeper : Keeper) (κ : Connection) → ConnectionInShape limits past keeper.client κ → count_of κ.name past ≤ length κ.written
+pub counted_within : (limits : Limits) (past : Past) (keeper : Keeper) (κ : ClientConnection) → ConnectionInShape limits past keeper.client κ → count_of κ.name past ≤ length κ.written
 counted_within limits past keeper κ shape = subst (λ n. n ≤ length κ.written) (sym shape.counted) shape.within
 
-pub goes_first : (limits : Limits) (past : Past) (keeper later : Keeper) (κ : Connection) (others : List Connection) (ws more : List Written) (n : ℕ) (confirmed : Bool)
+pub goes_first : (limits : Limits) (past : Past) (keeper later : Keeper) (κ : ClientConnection) (others : List ClientConnection) (ws more : List Written) (n : ℕ) (confirmed : Bool)
     (accepted : List Publication) (items : List (Item ℕ)) (f : List (Forward ℕ)) (b : List Backward)
     → ConnectionInShape limits past keeper.client κ → keeper.client ≡ later.client → confirmed ≡ true → ws ≡ κ.written ++ more
     → Reaches (as_publisher limits (story_by past (κ ∷ others) keeper)) items (link_by (is_current (current_connection past keeper.client) κ.name) later.is_online f b)
@@ -58,7 +58,7 @@ goes_first limits past keeper later κ others ws more n confirmed accepted items
     ∙ sym (first_link limits past later after others conf))
 
 -- a packet comes that is not of the handshake, and what is written is not of it either
-pub quiet_first : (limits : Limits) (past : Past) (keeper later : Keeper) (κ : Connection) (others : List Connection) (ws more : List Written) (accepted : List Publication) (packet : Packet)
+pub quiet_first : (limits : Limits) (past : Past) (keeper later : Keeper) (κ : ClientConnection) (others : List ClientConnection) (ws more : List Written) (accepted : List Publication) (packet : Packet)
     → ConnectionInShape limits past keeper.client κ → keeper.client ≡ later.client → keeper.is_online ≡ later.is_online → κ.confirmed ≡ true → ws ≡ κ.written ++ more
     → items_of_own keeper.own ≡ items_of_own later.own → forward_of_own more ≡ [] → slice_get (put_to limits past κ.name) κ.handled ≡ Some packet
     → ((rest : List Packet) → backward_of_own (packet ∷ rest) ≡ backward_of_own rest)
@@ -74,7 +74,7 @@ quiet_first limits past keeper later κ others ws more accepted packet shape cli
     (ap backward_of_own (dropped_next κ.handled (put_to limits past κ.name) packet next) ∙ quiet (drop (suc κ.handled) (put_to limits past κ.name)))
 
 -- a packet comes for which the client leaves
-pub leaves_first : (limits : Limits) (past : Past) (keeper later : Keeper) (κ : Connection) (others : List Connection) (ws more : List Written) (n : ℕ) (accepted : List Publication)
+pub leaves_first : (limits : Limits) (past : Past) (keeper later : Keeper) (κ : ClientConnection) (others : List ClientConnection) (ws more : List Written) (n : ℕ) (accepted : List Publication)
     → ConnectionInShape limits past keeper.client κ → keeper.client ≡ later.client → later.is_online ≡ false → κ.confirmed ≡ true → ws ≡ κ.written ++ more
     → items_of_own keeper.own ≡ items_of_own later.own → forward_of_own more ≡ []
     → backward_of_own (to_come limits past κ) ≡ backward_of_own (drop n (put_to limits past κ.name))

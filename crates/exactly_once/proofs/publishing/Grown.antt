@@ -12,7 +12,7 @@ use Rattle.client_base.specs.lists.Lists.{has_id, Each}
 use Rattle.client_base.specs.session_base.Publication.{publication_of}
 use Rattle.client_base.proofs.of_lists.OfEach.{each_append}
 use Rattle.client_base.specs.Keeper.{Own, Written, Keeper}
-use Rattle.exactly_once.specs.Sides.{Connection, Side}
+use Rattle.exactly_once.specs.Sides.{ClientConnection, Side}
 use Rattle.client_base.specs.Written.{plain, writing, sent_again, sent_first, resent}
 use Rattle.client_base.specs.Handled.{discarded, confirmed, handled, handled_online, handled_first}
 use Rattle.client_base.specs.Handshakes.{releasing}
@@ -27,7 +27,7 @@ abbrev pub IsLater : Written → Type 0
 IsLater w = (is_two_unnumbered w.packet w.number ≡ false) × (is_connect w ≡ false)
 
 -- the connection with this many handled, and later packets written
-pub record Grown (κ after : Connection) (n : ℕ) : Type 0 where
+pub record Grown (κ after : ClientConnection) (n : ℕ) : Type 0 where
   pub name : after.name ≡ κ.name
   pub taken : after.taken ≡ κ.taken
   pub handled : after.handled ≡ n
@@ -36,11 +36,11 @@ pub record Grown (κ after : Connection) (n : ℕ) : Type 0 where
   pub later : Each IsLater more
 
 -- nothing is written
-same_written : (κ : Connection) (keeper : Keeper) → Grown κ (counted_side keeper κ).connection (suc κ.handled)
+same_written : (κ : ClientConnection) (keeper : Keeper) → Grown κ (counted_side keeper κ).connection (suc κ.handled)
 same_written κ keeper = record { name = refl; taken = refl; handled = refl; more = []; written = sym (append-nil κ.written); later = tt }
 
 -- one packet is written
-one_written : (κ : Connection) (side : Side) (w : Written) → side.connection.name ≡ κ.name → side.connection.taken ≡ κ.taken → side.connection.handled ≡ suc κ.handled
+one_written : (κ : ClientConnection) (side : Side) (w : Written) → side.connection.name ≡ κ.name → side.connection.taken ≡ κ.taken → side.connection.handled ≡ suc κ.handled
     → side.connection.written ≡ κ.written → IsLater w → Grown κ (writing (w ∷ []) side).connection (suc κ.handled)
 one_written κ side w name taken handled written later =
     record { name = name; taken = taken; handled = handled; more = w ∷ []; written = λ i. written i ++ w ∷ []; later = (later, tt) }
@@ -70,13 +70,13 @@ resent_later keeper =
     (each_append IsLater (map (λ id. plain (packets.Pubrel id)) keeper.releases) (sent_again keeper.own) (releases_later keeper.releases) (again_later keeper.own)) (first_later keeper.own)
 
 -- after a CONNACK 0
-confirmed_grows : (κ : Connection) (keeper : Keeper) (present : Bool) → Grown κ (confirmed present (counted_side keeper κ)).connection (suc κ.handled)
+confirmed_grows : (κ : ClientConnection) (keeper : Keeper) (present : Bool) → Grown κ (confirmed present (counted_side keeper κ)).connection (suc κ.handled)
 confirmed_grows κ keeper present =
     let kept = if not present && keeper.was_served then discarded keeper else keeper in
     record { name = refl; taken = refl; handled = refl; more = resent kept; written = refl; later = resent_later kept }
 
 -- after a PUBLISH
-publish_grows : (κ : Connection) (keeper : Keeper) (d : Delivery) (p : Publication) → Grown κ (takes_in d p (counted_side keeper κ)).connection (suc κ.handled)
+publish_grows : (κ : ClientConnection) (keeper : Keeper) (d : Delivery) (p : Publication) → Grown κ (takes_in d p (counted_side keeper κ)).connection (suc κ.handled)
 publish_grows κ keeper deliveries.AtMostOnce p = same_written κ keeper
 publish_grows κ keeper (deliveries.AtLeastOnce dup id) p = one_written κ (counted_side keeper κ) (plain (packets.Puback id)) refl refl refl refl (refl, refl)
 publish_grows κ keeper (deliveries.ExactlyOnce dup id) p = by (has_id id keeper.received)
@@ -89,7 +89,7 @@ publish_grows κ keeper (deliveries.ExactlyOnce dup id) p = by (has_id id keeper
     by false = record { name = refl; taken = refl; handled = refl; more = plain (packets.Pubrec id) ∷ []; written = refl; later = ((refl, refl), tt) }
 
 -- after a PUBREC
-pubrec_grows : (κ : Connection) (keeper : Keeper) (i : ℕ) → Grown κ (releasing i (counted_side keeper κ)).connection (suc κ.handled)
+pubrec_grows : (κ : ClientConnection) (keeper : Keeper) (i : ℕ) → Grown κ (releasing i (counted_side keeper κ)).connection (suc κ.handled)
 pubrec_grows κ keeper i = by (is_sent_with i keeper.own) (has_id i keeper.releases)
   where
     by : (b r : Bool) → Grown κ (if b then writing (plain (packets.Pubrel i) ∷ [])
@@ -99,18 +99,18 @@ pubrec_grows κ keeper i = by (is_sent_with i keeper.own) (has_id i keeper.relea
     by false true = one_written κ (counted_side keeper κ) (plain (packets.Pubrel i)) refl refl refl refl (refl, refl)
     by false false = same_written κ keeper
 
-online_grows : (κ : Connection) (keeper : Keeper) (packet : Packet) → Grown κ (handled_online packet (counted_side keeper κ)).connection (suc κ.handled)
+online_grows : (κ : ClientConnection) (keeper : Keeper) (packet : Packet) → Grown κ (handled_online packet (counted_side keeper κ)).connection (suc κ.handled)
 online_grows κ keeper (packets.Publish p) = publish_grows κ keeper p.delivery (publication_of p)
 online_grows κ keeper (packets.Pubrec i) = pubrec_grows κ keeper i
 online_grows κ keeper (packets.Pubrel i) = one_written κ (counted_side keeper κ) (plain (packets.Pubcomp i)) refl refl refl refl (refl, refl)
 online_grows κ keeper _ = same_written κ keeper
 
-first_grows : (κ : Connection) (keeper : Keeper) (packet : Packet) → Grown κ (handled_first packet (counted_side keeper κ)).connection (suc κ.handled)
+first_grows : (κ : ClientConnection) (keeper : Keeper) (packet : Packet) → Grown κ (handled_first packet (counted_side keeper κ)).connection (suc κ.handled)
 first_grows κ keeper (packets.Connack (connacks.Accepted present)) = confirmed_grows κ keeper present
 first_grows κ keeper (packets.Connack (connacks.Refused code)) = same_written κ keeper
 first_grows κ keeper _ = same_written κ keeper
 
-pub handled_grows : (κ : Connection) (keeper : Keeper) (packet : Packet) → Grown κ (handled packet (record { keeper = keeper; connection = κ })).connection (suc κ.handled)
+pub handled_grows : (κ : ClientConnection) (keeper : Keeper) (packet : Packet) → Grown κ (handled packet (record { keeper = keeper; connection = κ })).connection (suc κ.handled)
 handled_grows κ keeper packet = by keeper.is_online
   where
     by : (b : Bool) → Grown κ (if b then handled_online packet (counted_side keeper κ) else handled_first packet (counted_side keeper κ)).connection (suc κ.handled)

@@ -7,7 +7,7 @@ use Rattle.exactly_once.specs.Handshake.{Forward, Backward, Link, Handshake, Run
 use Rattle.exactly_once.specs.Handshake.Advances.{hears, hears_alone, sender_leaves, receiver_leaves, parts}
 use Rattle.exactly_once.specs.Handshake.Run.{stays, goes_on}
 use Rattle.exactly_once.proofs.Exact.{run_then}
-use Rattle.exactly_once.specs.Sides.{Connection}
+use Rattle.exactly_once.specs.Sides.{ClientConnection}
 use Rattle.exactly_once.specs.Inside.Projections.{forward_of_own, backward_of_own, to_come, to_be_taken, is_current, link_of_own, GoesTo}
 
 -- the link, by whether the receiver is on the sender's last connection, and whether the sender is
@@ -18,21 +18,21 @@ link_by false true f b = Link.Behind b
 link_by false false f b = Link.Behind []
 
 -- whether the current connection is the last confirmed one
-abbrev pub current_last : Option ConnectionName → Option Connection → Bool
+abbrev pub current_last : Option ConnectionName → Option ClientConnection → Bool
 current_last current (Some κ) = is_current current κ.name
 current_last current None = false
 
 -- what is not taken yet of what was written on it
-abbrev pub forward_last : Option Connection → List (Forward ℕ)
+abbrev pub forward_last : Option ClientConnection → List (Forward ℕ)
 forward_last (Some κ) = forward_of_own (to_be_taken κ)
 forward_last None = []
 
 -- the answers on it that are not handled yet
-abbrev pub backward_last : Limits → Past → Option Connection → List Backward
+abbrev pub backward_last : Limits → Past → Option ClientConnection → List Backward
 backward_last limits past (Some κ) = backward_of_own (to_come limits past κ)
 backward_last limits past None = []
 
-pub link_is : (limits : Limits) (past : Past) (current : Option ConnectionName) (online : Bool) (last : Option Connection)
+pub link_is : (limits : Limits) (past : Past) (current : Option ConnectionName) (online : Bool) (last : Option ClientConnection)
     → link_of_own limits past current online last ≡ link_by (current_last current last) online (forward_last last) (backward_last limits past last)
 link_is limits past current online None = by online
   where

@@ -13,7 +13,7 @@ use Rattle.broker_base.specs.broker_spec.Place.{Past, Limits}
 use Rattle.exactly_once.specs.HandshakeInvariant.{IsGood}
 use Rattle.exactly_once.specs.Sends.{put_to}
 use Rattle.client_base.specs.Keeper.{Written, Keeper}
-use Rattle.exactly_once.specs.Sides.{Connection}
+use Rattle.exactly_once.specs.Sides.{ClientConnection}
 use Rattle.client_base.specs.Written.{plain, writing}
 use Rattle.client_base.specs.Handled.{not_subscribes, not_unsubscribes, lost, handled_online}
 use Rattle.client_base.specs.Handshakes.{at_puback, takes_in}
@@ -31,14 +31,14 @@ abbrev pub IsQuiet : Packet → Type 0
 IsQuiet packet = (rest : List Packet) → backward_of_own (packet ∷ rest) ≡ backward_of_own rest
 
 -- what all events of this page are given
-pub record Comes (limits : Limits) (past : Past) (keeper : Keeper) (κ : Connection) (packet : Packet) : Type 0 where
+pub record Comes (limits : Limits) (past : Past) (keeper : Keeper) (κ : ClientConnection) (packet : Packet) : Type 0 where
   pub shape : ConnectionInShape limits past keeper.client κ
   pub on : keeper.is_online ≡ true
   pub confirmed : κ.confirmed ≡ true
   pub next : slice_get (put_to limits past κ.name) κ.handled ≡ Some packet
 
 -- it changes no publication, and nothing of the handshake is written
-quiet : (limits : Limits) (past : Past) (keeper later : Keeper) (κ : Connection) (others : List Connection) (ws more : List Written) (accepted : List Publication) (packet : Packet)
+quiet : (limits : Limits) (past : Past) (keeper later : Keeper) (κ : ClientConnection) (others : List ClientConnection) (ws more : List Written) (accepted : List Publication) (packet : Packet)
     → Comes limits past keeper κ packet → keeper.client ≡ later.client → keeper.is_online ≡ later.is_online → ws ≡ κ.written ++ more → items_of_own keeper.own ≡ items_of_own later.own
     → forward_of_own more ≡ [] → IsQuiet packet
     → GoesTo (as_publisher limits (story_by past (κ ∷ others) keeper)) (as_publisher limits (story_by past (after_by κ ws (suc κ.handled) κ.confirmed accepted ∷ others) later))
@@ -46,7 +46,7 @@ quiet limits past keeper later κ others ws more accepted packet c client online
     quiet_first limits past keeper later κ others ws more accepted packet c.shape client online c.confirmed written items none c.next q
 
 -- the client leaves
-leaves : (limits : Limits) (past : Past) (keeper : Keeper) (κ : Connection) (others : List Connection) (packet : Packet) → Comes limits past keeper κ packet → IsQuiet packet
+leaves : (limits : Limits) (past : Past) (keeper : Keeper) (κ : ClientConnection) (others : List ClientConnection) (packet : Packet) → Comes limits past keeper κ packet → IsQuiet packet
     → GoesTo (as_publisher limits (story_by past (κ ∷ others) keeper))
     (as_publisher limits (story_by past (after_by κ κ.written (suc κ.handled) κ.confirmed κ.accepted ∷ others) (lost keeper)))
 leaves limits past keeper κ others packet c q =
@@ -54,7 +54,7 @@ leaves limits past keeper κ others packet c q =
     (ap backward_of_own (dropped_next κ.handled (put_to limits past κ.name) packet c.next) ∙ q _)
 
 -- a PUBLISH
-takes_publish : (limits : Limits) (past : Past) (keeper : Keeper) (κ : Connection) (others : List Connection) (packet : Packet) (d : Delivery) (p : Publication)
+takes_publish : (limits : Limits) (past : Past) (keeper : Keeper) (κ : ClientConnection) (others : List ClientConnection) (packet : Packet) (d : Delivery) (p : Publication)
     → Comes limits past keeper κ packet → IsQuiet packet
     → GoesTo (as_publisher limits (story_by past (κ ∷ others) keeper)) (as_publisher limits (with_side (story_by past (κ ∷ others) keeper) others (takes_in d p (counted_side keeper κ))))
 takes_publish limits past keeper κ others packet deliveries.AtMostOnce p c q =
@@ -74,7 +74,7 @@ takes_publish limits past keeper κ others packet (deliveries.ExactlyOnce dup id
         quiet limits past keeper (record keeper { received = id ∷ keeper.received }) κ others (κ.written ++ plain (packets.Pubrec id) ∷ []) (plain (packets.Pubrec id) ∷ [])
         (κ.accepted ++ p ∷ []) packet c refl refl refl refl refl q
 
-pub handles_online : (limits : Limits) (past : Past) (keeper : Keeper) (κ : Connection) (others : List Connection) (packet : Packet) → Comes limits past keeper κ packet
+pub handles_online : (limits : Limits) (past : Past) (keeper : Keeper) (κ : ClientConnection) (others : List ClientConnection) (packet : Packet) → Comes limits past keeper κ packet
     → IsGood (as_publisher limits (story_by past (κ ∷ others) keeper))
     → GoesTo (as_publisher limits (story_by past (κ ∷ others) keeper)) (as_publisher limits (with_side (story_by past (κ ∷ others) keeper) others (handled_online packet (counted_side keeper κ))))
 handles_online limits past keeper κ others (packets.Publish p) c good = takes_publish limits past keeper κ others (packets.Publish p) p.delivery (publication_of p) c (λ rest. refl)

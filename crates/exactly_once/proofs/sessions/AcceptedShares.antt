@@ -6,7 +6,7 @@ use Rattle.client_base.specs.session_base.declared.publication.Publication.{Publ
 use Rattle.broker_base.specs.broker_spec.Place.{Client, Place, Past, Limits}
 use Rattle.client_base.specs.Keeper.{Written, new_keeper}
 use Rattle.client_base.specs.Written.{writes_first}
-use Rattle.exactly_once.specs.Sides.{Connection}
+use Rattle.exactly_once.specs.Sides.{ClientConnection}
 use Rattle.exactly_once.specs.StoryCommands.{counted_at}
 use Rattle.exactly_once.specs.Acceptance.{two_entries, accepted_on}
 use Rattle.exactly_once.specs.Carried.{is_this}
@@ -17,14 +17,14 @@ use Rattle.exactly_once.proofs.sessions.Openings.{opened_same}
 use Rattle.exactly_once.proofs.sessions.EachPlaced.{IsFresh}
 
 -- what it accepted on one connection
-abbrev pub share : Past → Client → ℕ → Connection → List Publication
+abbrev pub share : Past → Client → ℕ → ClientConnection → List Publication
 share past c start κ = if is_this start (opened_in past c κ.name) then κ.accepted else []
 
 -- what it accepted on these, as a story of a client and its connections
-abbrev pub Accepts : Limits → Client → Past → List Connection → ℕ → Type 0
+abbrev pub Accepts : Limits → Client → Past → List ClientConnection → ℕ → Type 0
 Accepts limits c past connections start = AcceptedInSession limits (with_connections past (new_keeper c) connections) start
 
-pub accepts_same : (limits : Limits) (c : Client) (past later : Past) (connections after : List Connection) (start : ℕ) → entries_in limits later c start ≡ entries_in limits past c start
+pub accepts_same : (limits : Limits) (c : Client) (past later : Past) (connections after : List ClientConnection) (start : ℕ) → entries_in limits later c start ≡ entries_in limits past c start
     → accepted_in later c start after ≡ accepted_in past c start connections → Accepts limits c past connections start → Accepts limits c later after start
 accepts_same limits c past later connections after start entries accepted a =
     record { prefix = a.prefix; others = a.others; is = ap two_entries entries ∙ a.is; accepted = accepted ∙ a.accepted; rest = a.rest }
@@ -36,11 +36,11 @@ pub share_nothing : (b : Bool) (accepted : List Publication) → accepted ≡ []
 share_nothing true accepted e = e
 share_nothing false accepted e = refl
 
-pub none_in : (past : Past) (c : Client) (start : ℕ) (connections : List Connection) → Each (λ (κ : Connection). share past c start κ ≡ []) connections → accepted_in past c start connections ≡ []
+pub none_in : (past : Past) (c : Client) (start : ℕ) (connections : List ClientConnection) → Each (λ (κ : ClientConnection). share past c start κ ≡ []) connections → accepted_in past c start connections ≡ []
 none_in past c start [] h = refl
 none_in past c start (κ ∷ connections) h = ap₂ (λ a b. a ++ b) (none_in past c start connections h.1) h.0
 
-pub none_on : (flags : List Bool) (connections : List Connection) → Each (λ (κ : Connection). κ.accepted ≡ []) connections → accepted_on (kept_of flags connections) ≡ []
+pub none_on : (flags : List Bool) (connections : List ClientConnection) → Each (λ (κ : ClientConnection). κ.accepted ≡ []) connections → accepted_on (kept_of flags connections) ≡ []
 none_on [] [] h = refl
 none_on [] (κ ∷ connections) h = ap₂ (λ a b. a ++ b) (none_on [] connections h.1) h.0
 none_on (true ∷ flags) [] h = refl
@@ -50,21 +50,21 @@ none_on (false ∷ flags) (κ ∷ connections) h = none_on flags connections h.1
 
 -- ---- a place
 
-share_fresh : (place : Place) (past : Past) (c : Client) (start : ℕ) (κ : Connection) → IsFresh place c κ → share (place ∷ past) c start κ ≡ share past c start κ
+share_fresh : (place : Place) (past : Past) (c : Client) (start : ℕ) (κ : ClientConnection) → IsFresh place c κ → share (place ∷ past) c start κ ≡ share past c start κ
 share_fresh place past c start κ (inl e) = ap (λ o. if is_this start o then κ.accepted else []) (opened_same place past c κ.name e)
 share_fresh place past c start κ (inr e) = share_nothing (is_this start (opened_in (place ∷ past) c κ.name)) κ.accepted e ∙ sym (share_nothing (is_this start (opened_in past c κ.name)) κ.accepted e)
 
-pub accepted_placed : (place : Place) (past : Past) (c : Client) (start : ℕ) (connections : List Connection) → Each (IsFresh place c) connections
+pub accepted_placed : (place : Place) (past : Past) (c : Client) (start : ℕ) (connections : List ClientConnection) → Each (IsFresh place c) connections
     → accepted_in (place ∷ past) c start connections ≡ accepted_in past c start connections
 accepted_placed place past c start [] h = refl
 accepted_placed place past c start (κ ∷ connections) h = ap₂ (λ a b. a ++ b) (accepted_placed place past c start connections h.1) (share_fresh place past c start κ h.0)
 
-pub accepted_counted : (past : Past) (c : Client) (start i : ℕ) (connections : List Connection) → accepted_in past c start (counted_at i connections) ≡ accepted_in past c start connections
+pub accepted_counted : (past : Past) (c : Client) (start i : ℕ) (connections : List ClientConnection) → accepted_in past c start (counted_at i connections) ≡ accepted_in past c start connections
 accepted_counted past c start i [] = refl
 accepted_counted past c start zero (κ ∷ connections) = refl
 accepted_counted past c start (suc i) (κ ∷ connections) = ap (λ l. l ++ share past c start κ) (accepted_counted past c start i connections)
 
-pub kept_counted : (flags : List Bool) (i : ℕ) (connections : List Connection) → accepted_on (kept_of flags (counted_at i connections)) ≡ accepted_on (kept_of flags connections)
+pub kept_counted : (flags : List Bool) (i : ℕ) (connections : List ClientConnection) → accepted_on (kept_of flags (counted_at i connections)) ≡ accepted_on (kept_of flags connections)
 kept_counted [] i [] = refl
 kept_counted [] zero (κ ∷ connections) = refl
 kept_counted [] (suc i) (κ ∷ connections) = ap (λ l. l ++ κ.accepted) (kept_counted [] i connections)
@@ -78,17 +78,17 @@ kept_counted (false ∷ flags) (suc i) (κ ∷ connections) = kept_counted flags
 -- ---- the first connection
 
 -- of another session, whatever it accepts
-pub accepted_head : (past : Past) (c : Client) (start : ℕ) (κ κ' : Connection) (others : List Connection) → κ'.name ≡ κ.name → is_this start (opened_in past c κ.name) ≡ false
+pub accepted_head : (past : Past) (c : Client) (start : ℕ) (κ κ' : ClientConnection) (others : List ClientConnection) → κ'.name ≡ κ.name → is_this start (opened_in past c κ.name) ≡ false
     → accepted_in past c start (κ' ∷ others) ≡ accepted_in past c start (κ ∷ others)
 accepted_head past c start κ κ' others name e =
     ap (λ l. accepted_in past c start others ++ l)
     (ap (λ b. if b then κ'.accepted else []) (ap (λ x. is_this start (opened_in past c x)) name ∙ e) ∙ sym (ap (λ b. if b then κ.accepted else []) e))
 
-pub accepted_written : (past : Past) (c : Client) (start : ℕ) (more : List Written) (connections : List Connection) → accepted_in past c start (writes_first more connections) ≡ accepted_in past c start connections
+pub accepted_written : (past : Past) (c : Client) (start : ℕ) (more : List Written) (connections : List ClientConnection) → accepted_in past c start (writes_first more connections) ≡ accepted_in past c start connections
 accepted_written past c start more [] = refl
 accepted_written past c start more (κ ∷ connections) = refl
 
 -- of which nothing was accepted
-pub accepted_new : (past : Past) (c : Client) (start : ℕ) (κ : Connection) (connections : List Connection) → κ.accepted ≡ [] → accepted_in past c start (κ ∷ connections) ≡ accepted_in past c start connections
+pub accepted_new : (past : Past) (c : Client) (start : ℕ) (κ : ClientConnection) (connections : List ClientConnection) → κ.accepted ≡ [] → accepted_in past c start (κ ∷ connections) ≡ accepted_in past c start connections
 accepted_new past c start κ connections e =
     ap (λ l. accepted_in past c start connections ++ l) (share_nothing (is_this start (opened_in past c κ.name)) κ.accepted e) ∙ append-nil (accepted_in past c start connections)

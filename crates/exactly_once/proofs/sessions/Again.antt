@@ -16,7 +16,7 @@ use Rattle.broker_base.specs.broker_spec.declared.command.Command.{Command}
 use Rattle.broker_base.specs.broker_spec.declared.command.Command.TheVariants as commands
 use Rattle.client_base.specs.Keeper.{Keeper, ids_in_use}
 use Rattle.client_base.specs.Called.{opens}
-use Rattle.exactly_once.specs.Sides.{Connection}
+use Rattle.exactly_once.specs.Sides.{ClientConnection}
 use Rattle.exactly_once.specs.Sends.{sends_to, put_to}
 use Rattle.exactly_once.specs.StoryCommands.{command_of}
 use Rattle.exactly_once.specs.StoryTrace.{StoryTrace, unserved}
@@ -59,7 +59,7 @@ again_there past c x none before =
     (ap₂ (λ a b. a && b) (ap (opens_on x) (opened x c) ∙ same_name_self x) (ap₂ (λ a b. a && b) (begins_there past c x none) before))
 
 -- the connections that are kept: of none that is left out nothing was taken
-pub all_gone : (connections : List Connection) → AreGone (flags_of connections) connections
+pub all_gone : (connections : List ClientConnection) → AreGone (flags_of connections) connections
 all_gone [] = tt
 all_gone (κ ∷ connections) = by κ.taken refl (all_gone connections)
   where
@@ -68,7 +68,7 @@ all_gone (κ ∷ connections) = by κ.taken refl (all_gone connections)
     by (suc n) e h = (omega (arith, e), h)
 
 -- the Connect of the newest connection is taken and accepted, and no session is there
-pub begins_awaiting : (limits : Limits) (list : List Command) (c : Client) (keeper : Keeper) (κ : Connection) (others : List Connection) → session_of (past_of limits list) c ≡ None
+pub begins_awaiting : (limits : Limits) (list : List Command) (c : Client) (keeper : Keeper) (κ : ClientConnection) (others : List ClientConnection) → session_of (past_of limits list) c ≡ None
     → has_begun (past_of limits list) c ≡ true → mark_of limits (past_of limits list) (commands.Connect κ.name c false) ≡ Mark.Accepted → IsDistinct (ids_in_use (unserved c [] []))
     → AreUntouched limits (past_of limits list) c (κ ∷ others) → NamesApart (κ ∷ others) → κ.taken ≡ 0
     → keeper.client ≡ c → keeper.is_online ≡ false → keeper.was_served ≡ true → keeper.requests ≡ []
@@ -77,7 +77,7 @@ begins_awaiting limits list c keeper κ others none before mark apart fresh name
     let past = past_of limits list in
     let u : IsUntouched limits past c κ = fresh.0 new in
     let told = told_so limits past c κ.name none u.unsent in
-    let next : slice_get κ.written κ.taken ≡ Some (opens c) = ap (λ (z : Connection). slice_get z.written z.taken) u.is in
+    let next : slice_get κ.written κ.taken ≡ Some (opens c) = ap (λ (z : ClientConnection). slice_get z.written z.taken) u.is in
     let command : command_of κ.name κ.taken (opens c).packet ≡ commands.Connect κ.name c false = ap (λ n. command_of κ.name n (opens c).packet) new in
     let place : place_of limits past (command_of κ.name κ.taken (opens c).packet) ≡ accepted_at κ.name c =
     ap (place_of limits past) command ∙ ap (λ m. let p : Place = record { command = commands.Connect κ.name c false; mark = m } in p) mark in
@@ -91,8 +91,8 @@ begins_awaiting limits list c keeper κ others none before mark apart fresh name
         served = served;
         unasked = unasked;
         again = again_there past c κ.name none before;
-        unconfirmed = ap (λ (z : Connection). z.confirmed) u.is;
-        unhandled = ap (λ (z : Connection). z.handled) u.is;
+        unconfirmed = ap (λ (z : ClientConnection). z.confirmed) u.is;
+        unhandled = ap (λ (z : ClientConnection). z.handled) u.is;
         more = told.0;
         first = told.1;
         head = tt;

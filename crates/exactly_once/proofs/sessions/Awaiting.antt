@@ -11,7 +11,7 @@ use Rattle.broker_base.specs.broker_spec.Commands.{place_of}
 use Rattle.client_base.specs.Keeper.{Written, Keeper, ids_in_use, next_number, Own, all_own}
 use Rattle.client_base.specs.Handled.{handled, lost}
 use Rattle.client_base.specs.Written.{plain, writes_first, publishes}
-use Rattle.exactly_once.specs.Sides.{Connection, Side}
+use Rattle.exactly_once.specs.Sides.{ClientConnection, Side}
 use Rattle.exactly_once.specs.Sends.{sends_to, put_to}
 use Rattle.exactly_once.specs.Story.{Story, StoryStep, with_side}
 use Rattle.exactly_once.specs.StoryCommands.{command_of, counted_at, any_named, is_packet_of, names_client}
@@ -30,7 +30,7 @@ use Rattle.client_base.specs.OrderLaws.{AreNumbered}
 use Rattle.client_base.proofs.NumbersStay.{AreAllNumbered, joined_numbers}
 
 -- what goes with a client that awaits the CONNACK of its newest connection
-pub record Awaits (limits : Limits) (c : Client) (flags : List Bool) (past : Past) (keeper : Keeper) (κ : Connection) (others : List Connection) : Type 0 where
+pub record Awaits (limits : Limits) (c : Client) (flags : List Bool) (past : Past) (keeper : Keeper) (κ : ClientConnection) (others : List ClientConnection) : Type 0 where
   pub client : keeper.client ≡ c
   pub offline : keeper.is_online ≡ false
   pub served : keeper.was_served ≡ true
@@ -46,8 +46,8 @@ pub record Awaits (limits : Limits) (c : Client) (flags : List Bool) (past : Pas
   pub told : (earlier : List Own) → AreNumbered 0 earlier → StoryTrace limits c (with_connections past (waiting c earlier [] keeper.is_open) (kept_of flags (κ ∷ others)))
 
 pub record HasAwaiting (limits : Limits) (c : Client) (flags : List Bool) (s : Story) : Type 0 where
-  pub newest : Connection
-  pub others : List Connection
+  pub newest : ClientConnection
+  pub others : List ClientConnection
   pub are : s.connections ≡ newest ∷ others
   pub awaits : Awaits limits c flags s.past s.keeper newest others
 
@@ -60,7 +60,7 @@ unfolding put_to
 first_more limits place past x more e = ap (λ xs. xs ++ sends_to x (answers_at limits place past)) e
 
 -- a place, with the story after it
-placed : (limits : Limits) (c : Client) (flags : List Bool) (past : Past) (keeper : Keeper) (κ κ' : Connection) (others later : List Connection) (place : Place) → (a : Awaits limits c flags past keeper κ others)
+placed : (limits : Limits) (c : Client) (flags : List Bool) (past : Past) (keeper : Keeper) (κ κ' : ClientConnection) (others later : List ClientConnection) (place : Place) → (a : Awaits limits c flags past keeper κ others)
     → κ'.name ≡ κ.name → κ'.confirmed ≡ κ.confirmed → κ'.handled ≡ κ.handled → AreGone flags (κ' ∷ later)
     → ((earlier : List Own) → AreNumbered 0 earlier → StoryTrace limits c (with_connections (place ∷ past) (waiting c earlier [] keeper.is_open) (kept_of flags (κ' ∷ later)))) → Awaits limits c flags (place ∷ past) keeper κ' later
 placed limits c flags past keeper κ κ' others later place a name confirmed handled gone told =
@@ -80,18 +80,18 @@ placed limits c flags past keeper κ κ' others later place a name confirmed han
     }
 
 -- a packet of one that is kept, or of one that is left out
-told_taken : (limits : Limits) (c : Client) (flags : List Bool) (past : Past) (keeper : Keeper) (connections : List Connection) (i : ℕ) (μ : Connection) (w : Written) → keeper.client ≡ c
+told_taken : (limits : Limits) (c : Client) (flags : List Bool) (past : Past) (keeper : Keeper) (connections : List ClientConnection) (i : ℕ) (μ : ClientConnection) (w : Written) → keeper.client ≡ c
     → slice_get μ.written μ.taken ≡ Some w → StoryTrace limits c (with_connections past keeper (kept_of flags connections)) → IsKept flags connections i μ ⊎ IsLeft flags connections i μ
     → StoryTrace limits c (with_connections (place_of limits past (command_of μ.name μ.taken w.packet) ∷ past) keeper (kept_of flags (counted_at i connections)))
 told_taken limits c flags past keeper connections i μ w client next told (inl k) =
-    subst (λ (l : List Connection). StoryTrace limits c (with_connections (place_of limits past (command_of μ.name μ.taken w.packet) ∷ past) keeper l)) (sym k.counted) (goes_on told (takes k.j μ w k.stands next))
+    subst (λ (l : List ClientConnection). StoryTrace limits c (with_connections (place_of limits past (command_of μ.name μ.taken w.packet) ∷ past) keeper l)) (sym k.counted) (goes_on told (takes k.j μ w k.stands next))
 told_taken limits c flags past keeper connections i μ w client next told (inr l) =
-    subst (λ (l : List Connection). StoryTrace limits c (with_connections (place_of limits past (command_of μ.name μ.taken w.packet) ∷ past) keeper l)) (sym l.counted)
+    subst (λ (l : List ClientConnection). StoryTrace limits c (with_connections (place_of limits past (command_of μ.name μ.taken w.packet) ∷ past) keeper l)) (sym l.counted)
     (goes_on told
     (others_take (command_of μ.name μ.taken w.packet) (later_other past keeper.client μ.name μ.taken w.packet l.taken)
     (later_named μ.name μ.taken w.packet (kept_of flags connections) l.taken l.none)))
 
-taken_next : (limits : Limits) (c : Client) (flags : List Bool) (past : Past) (keeper : Keeper) (κ : Connection) (others : List Connection) (i : ℕ) (μ : Connection) (w : Written) → NamesApart (κ ∷ others)
+taken_next : (limits : Limits) (c : Client) (flags : List Bool) (past : Past) (keeper : Keeper) (κ : ClientConnection) (others : List ClientConnection) (i : ℕ) (μ : ClientConnection) (w : Written) → NamesApart (κ ∷ others)
     → (a : Awaits limits c flags past keeper κ others) → slice_get (κ ∷ others) i ≡ Some μ → slice_get μ.written μ.taken ≡ Some w
     → HasAwaiting limits c flags (with_connections (place_of limits past (command_of μ.name μ.taken w.packet) ∷ past) keeper (counted_at i (κ ∷ others)))
 taken_next limits c flags past keeper κ others zero μ w apart a stands next =
@@ -115,13 +115,13 @@ taken_next limits c flags past keeper κ others (suc i) μ w apart a stands next
 
 -- ---- the CONNACK
 
-first_is : (limits : Limits) (past : Past) (κ : Connection) (more : List Packet) (packet : Packet) → put_to limits past κ.name ≡ session_lost ∷ more → κ.handled ≡ 0
+first_is : (limits : Limits) (past : Past) (κ : ClientConnection) (more : List Packet) (packet : Packet) → put_to limits past κ.name ≡ session_lost ∷ more → κ.handled ≡ 0
     → slice_get (put_to limits past κ.name) κ.handled ≡ Some packet → session_lost ≡ packet
 first_is limits past κ more packet first unhandled next =
     let e : Some session_lost ≡ Some packet = sym (ap₂ slice_get first unhandled) ∙ next in cc
 
 -- what a packet does to a new client, it does to the client
-heard_same : (limits : Limits) (c : Client) (flags : List Bool) (past : Past) (keeper : Keeper) (κ : Connection) (others : List Connection) (a : Awaits limits c flags past keeper κ others) (packet : Packet) → keeper.is_open ≡ true
+heard_same : (limits : Limits) (c : Client) (flags : List Bool) (past : Past) (keeper : Keeper) (κ : ClientConnection) (others : List ClientConnection) (a : Awaits limits c flags past keeper κ others) (packet : Packet) → keeper.is_open ≡ true
     → slice_get (put_to limits past κ.name) κ.handled ≡ Some packet
     → handled packet (let side : Side = record { keeper = waiting c (all_own keeper) [] true; connection = κ } in side) ≡ handled packet (let side : Side = record { keeper = keeper; connection = κ } in side)
 heard_same limits c flags past keeper κ others a packet opened next =
@@ -133,7 +133,7 @@ heard_same limits c flags past keeper κ others a packet opened next =
     is : session_lost ≡ packet
     is = first_is limits past κ a.more packet a.first a.unhandled next
 
-settled : (limits : Limits) (c : Client) (flags : List Bool) (past : Past) (keeper : Keeper) (κ : Connection) (others : List Connection) (a : Awaits limits c flags past keeper κ others) (packet : Packet) → AreNumbered 0 (all_own keeper) → keeper.is_open ≡ true
+settled : (limits : Limits) (c : Client) (flags : List Bool) (past : Past) (keeper : Keeper) (κ : ClientConnection) (others : List ClientConnection) (a : Awaits limits c flags past keeper κ others) (packet : Packet) → AreNumbered 0 (all_own keeper) → keeper.is_open ≡ true
     → slice_get (put_to limits past κ.name) κ.handled ≡ Some packet
     → HasBeside limits c flags (with_side (with_connections past keeper (κ ∷ others)) others (handled packet (let side : Side = record { keeper = keeper; connection = κ } in side)))
 settled limits c flags past keeper κ others a packet numbers opened next = subst P (heard_same limits c flags past keeper κ others a packet opened next) heard
@@ -150,7 +150,7 @@ settled limits c flags past keeper κ others a packet numbers opened next = subs
 -- ---- the events
 
 -- with the same connections, which do not change
-abbrev pub kept_awaiting : (limits : Limits) (c : Client) (flags : List Bool) (past : Past) (keeper : Keeper) (later : Keeper) (κ : Connection) (others : List Connection)
+abbrev pub kept_awaiting : (limits : Limits) (c : Client) (flags : List Bool) (past : Past) (keeper : Keeper) (later : Keeper) (κ : ClientConnection) (others : List ClientConnection)
     → (a : Awaits limits c flags past keeper κ others) → later.client ≡ keeper.client → later.is_online ≡ false → later.was_served ≡ keeper.was_served → later.requests ≡ []
     → ((earlier : List Own) → AreNumbered 0 earlier → StoryTrace limits c (with_connections past (waiting c earlier [] later.is_open) (kept_of flags (κ ∷ others)))) → Awaits limits c flags past later κ others
 kept_awaiting limits c flags past keeper later κ others a client offline served unasked told =
@@ -169,7 +169,7 @@ kept_awaiting limits c flags past keeper later κ others a client offline served
       told = told;
     }
 
-written_none : (κ : Connection) (others : List Connection) → writes_first [] (κ ∷ others) ≡ κ ∷ others
+written_none : (κ : ClientConnection) (others : List ClientConnection) → writes_first [] (κ ∷ others) ≡ κ ∷ others
 written_none κ others = ap (λ (ws : List Written). record κ { written = ws } ∷ others) (append-nil κ.written)
 
 not_both : (b : Bool) → b ≡ false → b ≡ true → ⊥
@@ -180,7 +180,7 @@ pub record IsSettled (limits : Limits) (c : Client) (flags : List Bool) (s t : S
   pub beside : HasBeside limits c flags t
   pub moved : t.keeper.earlier ≡ all_own s.keeper
 
-moves : (keeper : Keeper) (κ : Connection) → keeper.is_online ≡ false → keeper.was_served ≡ true → (handled session_lost (let side : Side = record { keeper = keeper; connection = κ } in side)).keeper.earlier ≡ all_own keeper
+moves : (keeper : Keeper) (κ : ClientConnection) → keeper.is_online ≡ false → keeper.was_served ≡ true → (handled session_lost (let side : Side = record { keeper = keeper; connection = κ } in side)).keeper.earlier ≡ all_own keeper
 moves keeper κ offline served = rw (offline, served) refl
 
 -- a client that awaits that CONNACK continues awaiting it, or takes it in; as long as it is in step
@@ -188,8 +188,8 @@ moves keeper κ offline served = rw (offline, served) refl
 pub awaiting_goes : (limits : Limits) (c : Client) (flags : List Bool) (s t : Story) → NamesApart s.connections → HasAwaiting limits c flags s → (h : StoryStep limits s t) → AreAllNumbered s.keeper → IsInStep t
     → HasAwaiting limits c (flags_after flags h) t ⊎ IsSettled limits c (flags_after flags h) s t
 awaiting_goes limits c flags s t apart b (takes i κ w stands next) numbers step =
-    inl (subst (λ (l : List Connection). HasAwaiting limits c flags (with_connections (place_of limits s.past (command_of κ.name κ.taken w.packet) ∷ s.past) s.keeper (counted_at i l))) (sym b.are)
-    (taken_next limits c flags s.past s.keeper b.newest b.others i κ w (subst NamesApart b.are apart) b.awaits (sym (ap (λ (l : List Connection). slice_get l i) b.are) ∙ stands) next))
+    inl (subst (λ (l : List ClientConnection). HasAwaiting limits c flags (with_connections (place_of limits s.past (command_of κ.name κ.taken w.packet) ∷ s.past) s.keeper (counted_at i l))) (sym b.are)
+    (taken_next limits c flags s.past s.keeper b.newest b.others i κ w (subst NamesApart b.are apart) b.awaits (sym (ap (λ (l : List ClientConnection). slice_get l i) b.are) ∙ stands) next))
 awaiting_goes limits c flags s t apart b (others_take command other none) numbers step =
     inl (record {
       newest = b.newest;
@@ -204,7 +204,7 @@ awaiting_goes limits c flags s t apart b (receives κ others packet are opened n
     let both : b.newest ∷ b.others ≡ κ ∷ others = sym b.are ∙ are in
     let one : b.newest ≡ κ = cc in
     let rest : b.others ≡ others = cc in
-    let a = subst (λ (z : Connection). Awaits limits c flags s.past s.keeper z others) one (subst (λ (l : List Connection). Awaits limits c flags s.past s.keeper b.newest l) rest b.awaits) in
+    let a = subst (λ (z : ClientConnection). Awaits limits c flags s.past s.keeper z others) one (subst (λ (l : List ClientConnection). Awaits limits c flags s.past s.keeper b.newest l) rest b.awaits) in
     inr (record {
       beside = settled limits c flags s.past s.keeper κ others a packet (joined_numbers s.keeper.earlier s.keeper.own numbers.0 numbers.1) opened next;
       moved = ap (λ p. (handled p (let side : Side = record { keeper = s.keeper; connection = κ } in side)).keeper.earlier) (sym (first_is limits s.past κ a.more packet a.first a.unhandled next))

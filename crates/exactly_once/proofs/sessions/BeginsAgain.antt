@@ -16,7 +16,7 @@ use Rattle.broker_base.specs.broker_spec.declared.command.Command.TheVariants as
 use Rattle.broker_base.proofs.ConnectionsOfSessions.{same_turned}
 use Rattle.client_base.specs.Keeper.{Keeper}
 use Rattle.client_base.specs.Called.{opens}
-use Rattle.exactly_once.specs.Sides.{Connection}
+use Rattle.exactly_once.specs.Sides.{ClientConnection}
 use Rattle.exactly_once.specs.Story.{Story}
 use Rattle.exactly_once.specs.StoryCommands.{any_named, command_of}
 use Rattle.exactly_once.specs.StoryTrace.{StoryTrace}
@@ -42,12 +42,12 @@ use Rattle.exactly_once.proofs.sessions.Awaiting.{HasAwaiting}
 -- ---- the story of the session
 
 -- of a client that was never served: what it published goes with it
-begins_unserved : (limits : Limits) (list : List Command) (c : Client) (keeper : Keeper) (κ : Connection) (others : List Connection) → session_of (past_of limits list) c ≡ None
+begins_unserved : (limits : Limits) (list : List Command) (c : Client) (keeper : Keeper) (κ : ClientConnection) (others : List ClientConnection) → session_of (past_of limits list) c ≡ None
     → mark_of limits (past_of limits list) (commands.Connect κ.name c false) ≡ Mark.Accepted → AreUntouched limits (past_of limits list) c (κ ∷ others) → NamesApart (κ ∷ others) → κ.taken ≡ 0 → IsUnserved c keeper
     → StoryTrace limits c (with_connections (accepted_at κ.name c ∷ past_of limits list) keeper (record κ { taken = suc κ.taken } ∷ kept_of (flags_of others) others))
 begins_unserved limits list c keeper κ others none mark fresh names new u =
     let past = past_of limits list in
-    let next : slice_get κ.written κ.taken ≡ Some (opens c) = ap (λ (z : Connection). slice_get z.written z.taken) (fresh.0 new).is in
+    let next : slice_get κ.written κ.taken ≡ Some (opens c) = ap (λ (z : ClientConnection). slice_get z.written z.taken) (fresh.0 new).is in
     let command : command_of κ.name κ.taken (opens c).packet ≡ commands.Connect κ.name c false = ap (λ n. command_of κ.name n (opens c).packet) new in
     let place : place_of limits past (command_of κ.name κ.taken (opens c).packet) ≡ accepted_at κ.name c =
     ap (place_of limits past) command ∙ ap (λ m. let p : Place = record { command = commands.Connect κ.name c false; mark = m } in p) mark in
@@ -56,7 +56,7 @@ begins_unserved limits list c keeper κ others none mark fresh names new u =
     (goes_on (opens_again limits list c [] keeper.own κ others keeper.is_open none tt u.unsent u.apart fresh names new) (takes 0 κ (opens c) refl next)))
 
 -- the client is offline, since the newest connection is not confirmed
-offline : (b : Bool) (κ : Connection) (keeper : Keeper) → keeper.is_online ≡ b → κ.confirmed ≡ false → (keeper.is_open ≡ true → κ.confirmed ≡ keeper.is_online) → (keeper.is_online ≡ true → keeper.is_open ≡ true)
+offline : (b : Bool) (κ : ClientConnection) (keeper : Keeper) → keeper.is_online ≡ b → κ.confirmed ≡ false → (keeper.is_open ≡ true → κ.confirmed ≡ keeper.is_online) → (keeper.is_online ≡ true → keeper.is_open ≡ true)
     → keeper.is_online ≡ false
 offline false κ keeper e unconfirmed held opened = e
 offline true κ keeper e unconfirmed held opened = absurd (both_ways κ.confirmed unconfirmed (held (opened e) ∙ e))
@@ -73,7 +73,7 @@ pub anew_stands : (limits : Limits) (c : Client) (flags : List Bool) (s : Story)
 anew_stands limits c flags s (inl a) = inl a
 anew_stands limits c flags s (inr u) = inr u.beside
 
-pub stands_anew : (limits : Limits) (list : List Command) (past : Past) (c : Client) (keeper : Keeper) (κ : Connection) (others : List Connection) → past ≡ past_of limits list → session_of past c ≡ None
+pub stands_anew : (limits : Limits) (list : List Command) (past : Past) (c : Client) (keeper : Keeper) (κ : ClientConnection) (others : List ClientConnection) → past ≡ past_of limits list → session_of past c ≡ None
     → has_begun past c ≡ true → mark_of limits past (commands.Connect κ.name c false) ≡ Mark.Accepted → HasConnections limits c past (κ ∷ others) → κ.taken ≡ 0 → HasKeeper c past keeper (κ ∷ others)
     → StandsAnew limits c (true ∷ flags_of others) (with_connections (accepted_at κ.name c ∷ past) keeper (record κ { taken = suc κ.taken } ∷ others))
 stands_anew limits list past c keeper κ others is none begun mark h new k = subst Q (sym is) at none begun mark h.untouched
@@ -83,7 +83,7 @@ stands_anew limits list past c keeper κ others is none begun mark h new k = sub
         → StandsAnew limits c (true ∷ flags_of others) (with_connections (accepted_at κ.name c ∷ p) keeper (record κ { taken = suc κ.taken } ∷ others))
 
     off : keeper.is_online ≡ false
-    off = offline keeper.is_online κ keeper refl (ap (λ (z : Connection). z.confirmed) (h.untouched.0 new).is) k.held.0 k.held.1
+    off = offline keeper.is_online κ keeper refl (ap (λ (z : ClientConnection). z.confirmed) (h.untouched.0 new).is) k.held.0 k.held.1
 
     at : Q (past_of limits list)
     at none begun mark fresh = by keeper.was_served refl
@@ -94,12 +94,12 @@ stands_anew limits list past c keeper κ others is none begun mark h new k = sub
 
 -- ---- what was accepted
 
-nothing_new : (limits : Limits) (past : Past) (c : Client) (connections : List Connection) → AreUntouched limits past c connections → accepted_on (kept_of (flags_of connections) connections) ≡ []
+nothing_new : (limits : Limits) (past : Past) (c : Client) (connections : List ClientConnection) → AreUntouched limits past c connections → accepted_on (kept_of (flags_of connections) connections) ≡ []
 nothing_new limits past c [] h = refl
 nothing_new limits past c (κ ∷ connections) h = by κ.taken refl (nothing_new limits past c connections h.1)
   where
     by : (n : ℕ) → κ.taken ≡ n → accepted_on (kept_of (flags_of connections) connections) ≡ [] → accepted_on (kept_of (is_zero n ∷ flags_of connections) (κ ∷ connections)) ≡ []
-    by zero e ih = ap₂ (λ a b. a ++ b) ih (ap (λ (z : Connection). z.accepted) (h.0 e).is)
+    by zero e ih = ap₂ (λ a b. a ++ b) ih (ap (λ (z : ClientConnection). z.accepted) (h.0 e).is)
     by (suc n) e ih = ih
 
 older_only : (past : Past) (c : Client) (x : ConnectionName) → is_this (length past) (opened_in past c x) ≡ false
@@ -112,8 +112,8 @@ older_only past c x = by (opened_in past c x) refl
     by None e = refl
     by (Some m) e = less m (length past) (opened_below past c x m e)
 
-shares_older : (past : Past) (c : Client) (x : ConnectionName) (others : List Connection) → any_named (same_connection x) others ≡ false
-    → Each (λ (μ : Connection). share (accepted_at x c ∷ past) c (length past) μ ≡ []) others
+shares_older : (past : Past) (c : Client) (x : ConnectionName) (others : List ClientConnection) → any_named (same_connection x) others ≡ false
+    → Each (λ (μ : ClientConnection). share (accepted_at x c ∷ past) c (length past) μ ≡ []) others
 shares_older past c x [] none = tt
 shares_older past c x (μ ∷ others) none =
     let two = or_none (same_connection x μ.name) (any_named (same_connection x) others) none in
@@ -122,7 +122,7 @@ shares_older past c x (μ ∷ others) none =
       shares_older past c x others two.1,
     )
 
-pub lasts_anew : (limits : Limits) (past : Past) (c : Client) (κ : Connection) (others : List Connection) → session_of past c ≡ None → HasConnections limits c past (κ ∷ others)
+pub lasts_anew : (limits : Limits) (past : Past) (c : Client) (κ : ClientConnection) (others : List ClientConnection) → session_of past c ≡ None → HasConnections limits c past (κ ∷ others)
     → Each (IsFresh (accepted_at κ.name c) c) (κ ∷ others) → ((start : ℕ) → Accepts limits c past (κ ∷ others) start)
     → Lasts limits c (true ∷ flags_of others) (accepted_at κ.name c ∷ past) (record κ { taken = suc κ.taken } ∷ others)
 lasts_anew limits past c κ others none h fresh all =

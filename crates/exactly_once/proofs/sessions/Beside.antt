@@ -12,7 +12,7 @@ use Rattle.broker_base.proofs.ConnectionsOfSessions.{same_turned}
 use Rattle.client_base.specs.Keeper.{Written, Keeper}
 use Rattle.client_base.specs.Called.{written_for}
 use Rattle.client_base.specs.Written.{plain, writes_first}
-use Rattle.exactly_once.specs.Sides.{Connection}
+use Rattle.exactly_once.specs.Sides.{ClientConnection}
 use Rattle.exactly_once.specs.Story.{Story, StoryStep, with_side}
 use Rattle.exactly_once.specs.StoryCommands.{command_of, counted_at, names_client, any_named, is_packet_of}
 use Rattle.exactly_once.specs.StoryTrace.{StoryTrace}
@@ -25,7 +25,7 @@ use Rattle.exactly_once.specs.Sends.{put_to}
 -- ---- connections that are left out
 
 -- those that are kept: false leaves one out, and after the flags all are kept
-abbrev pub kept_of : List Bool → List Connection → List Connection
+abbrev pub kept_of : List Bool → List ClientConnection → List ClientConnection
 kept_of [] connections = connections
 kept_of (true ∷ flags) (κ ∷ connections) = κ ∷ kept_of flags connections
 kept_of (false ∷ flags) (κ ∷ connections) = kept_of flags connections
@@ -37,7 +37,7 @@ IsHeadKept (false ∷ flags) = ⊥
 IsHeadKept _ = Unit {0}
 
 -- the Connect of one that is left out was taken
-abbrev pub AreGone : List Bool → List Connection → Type 0
+abbrev pub AreGone : List Bool → List ClientConnection → Type 0
 AreGone [] connections = Unit {0}
 AreGone (true ∷ flags) (κ ∷ connections) = AreGone flags connections
 AreGone (false ∷ flags) (κ ∷ connections) = (1 ≤ κ.taken) × AreGone flags connections
@@ -59,7 +59,7 @@ flags_after flags _ = flags
 
 -- ---- what is kept
 
-pub none_kept : (test : ConnectionName → Bool) (flags : List Bool) (connections : List Connection) → any_named test connections ≡ false → any_named test (kept_of flags connections) ≡ false
+pub none_kept : (test : ConnectionName → Bool) (flags : List Bool) (connections : List ClientConnection) → any_named test connections ≡ false → any_named test (kept_of flags connections) ≡ false
 none_kept test [] connections e = e
 none_kept test (true ∷ flags) (κ ∷ connections) e =
     let h = or_none (test κ.name) (any_named test connections) e in ap₂ (λ a b. a || b) h.0 (none_kept test flags connections h.1)
@@ -68,19 +68,19 @@ none_kept test (false ∷ flags) (κ ∷ connections) e =
 none_kept test (true ∷ flags) [] e = refl
 none_kept test (false ∷ flags) [] e = refl
 
-pub kept_writes : (more : List Written) (flags : List Bool) (connections : List Connection) → IsHeadKept flags → kept_of flags (writes_first more connections) ≡ writes_first more (kept_of flags connections)
+pub kept_writes : (more : List Written) (flags : List Bool) (connections : List ClientConnection) → IsHeadKept flags → kept_of flags (writes_first more connections) ≡ writes_first more (kept_of flags connections)
 kept_writes more [] connections h = refl
 kept_writes more (true ∷ flags) (κ ∷ connections) h = refl
 kept_writes more (true ∷ flags) [] h = refl
 kept_writes more (false ∷ flags) connections h = absurd h
 
-gone_writes : (more : List Written) (flags : List Bool) (connections : List Connection) → IsHeadKept flags → AreGone flags connections → AreGone flags (writes_first more connections)
+gone_writes : (more : List Written) (flags : List Bool) (connections : List ClientConnection) → IsHeadKept flags → AreGone flags connections → AreGone flags (writes_first more connections)
 gone_writes more [] connections h g = tt
 gone_writes more (true ∷ flags) (κ ∷ connections) h g = g
 gone_writes more (true ∷ flags) [] h g = tt
 gone_writes more (false ∷ flags) connections h g = absurd h
 
-pub gone_counted : (i : ℕ) (flags : List Bool) (connections : List Connection) → AreGone flags connections → AreGone flags (counted_at i connections)
+pub gone_counted : (i : ℕ) (flags : List Bool) (connections : List ClientConnection) → AreGone flags connections → AreGone flags (counted_at i connections)
 gone_counted i [] connections g = tt
 gone_counted i (true ∷ flags) [] g = tt
 gone_counted i (false ∷ flags) [] g = tt
@@ -92,25 +92,25 @@ gone_counted (suc i) (false ∷ flags) (κ ∷ connections) g = (g.0, gone_count
 -- ---- a packet is taken
 
 -- of one that is kept
-pub record IsKept (flags : List Bool) (connections : List Connection) (i : ℕ) (κ : Connection) : Type 0 where
+pub record IsKept (flags : List Bool) (connections : List ClientConnection) (i : ℕ) (κ : ClientConnection) : Type 0 where
   pub j : ℕ
   pub stands : slice_get (kept_of flags connections) j ≡ Some κ
   pub counted : kept_of flags (counted_at i connections) ≡ counted_at j (kept_of flags connections)
 
 -- of one that is left out
-pub record IsLeft (flags : List Bool) (connections : List Connection) (i : ℕ) (κ : Connection) : Type 0 where
+pub record IsLeft (flags : List Bool) (connections : List ClientConnection) (i : ℕ) (κ : ClientConnection) : Type 0 where
   pub taken : 1 ≤ κ.taken
   pub none : any_named (same_connection κ.name) (kept_of flags connections) ≡ false
   pub counted : kept_of flags (counted_at i connections) ≡ kept_of flags connections
 
-pub other_name : (x : ConnectionName) (connections : List Connection) (i : ℕ) (κ : Connection) → any_named (same_connection x) connections ≡ false → slice_get connections i ≡ Some κ → same_connection κ.name x ≡ false
+pub other_name : (x : ConnectionName) (connections : List ClientConnection) (i : ℕ) (κ : ClientConnection) → any_named (same_connection x) connections ≡ false → slice_get connections i ≡ Some κ → same_connection κ.name x ≡ false
 other_name x [] i κ e at = absurd (cc)
 other_name x (μ ∷ connections) zero κ e at =
     let same : μ ≡ κ = cc in
-    same_turned κ.name x ∙ ap (λ (z : Connection). same_connection x z.name) (sym same) ∙ (or_none (same_connection x μ.name) (any_named (same_connection x) connections) e).0
+    same_turned κ.name x ∙ ap (λ (z : ClientConnection). same_connection x z.name) (sym same) ∙ (or_none (same_connection x μ.name) (any_named (same_connection x) connections) e).0
 other_name x (μ ∷ connections) (suc i) κ e at = other_name x connections i κ (or_none (same_connection x μ.name) (any_named (same_connection x) connections) e).1 at
 
-pub find : (flags : List Bool) (connections : List Connection) (i : ℕ) (κ : Connection) → NamesApart connections → AreGone flags connections → slice_get connections i ≡ Some κ
+pub find : (flags : List Bool) (connections : List ClientConnection) (i : ℕ) (κ : ClientConnection) → NamesApart connections → AreGone flags connections → slice_get connections i ≡ Some κ
     → IsKept flags connections i κ ⊎ IsLeft flags connections i κ
 find [] connections i κ apart gone at = inl (record { j = i; stands = at; counted = refl })
 find (true ∷ flags) [] i κ apart gone at = absurd (cc)
@@ -135,32 +135,32 @@ pub later_other : (past : Past) (c : Client) (x : ConnectionName) (n : ℕ) (pac
 later_other past c x zero packet less h = omega (arith, less)
 later_other past c x (suc n) packet less h = h
 
-pub later_named : (x : ConnectionName) (n : ℕ) (packet : Packet) (connections : List Connection) → 1 ≤ n → any_named (same_connection x) connections ≡ false
+pub later_named : (x : ConnectionName) (n : ℕ) (packet : Packet) (connections : List ClientConnection) → 1 ≤ n → any_named (same_connection x) connections ≡ false
     → any_named (is_packet_of (command_of x n packet)) connections ≡ false
 later_named x zero packet connections less e = absurd (omega (arith, less))
 later_named x (suc n) packet connections less e = e
 
 -- ---- the events
 
-abbrev pub with_connections : Past → Keeper → List Connection → Story
+abbrev pub with_connections : Past → Keeper → List ClientConnection → Story
 with_connections past keeper connections = record { past = past; connections = connections; keeper = keeper }
 
-goes_taken : (limits : Limits) (c : Client) (flags : List Bool) (s : Story) (b : HasBeside limits c flags s) (i : ℕ) (κ : Connection) (w : Written) → slice_get κ.written κ.taken ≡ Some w
+goes_taken : (limits : Limits) (c : Client) (flags : List Bool) (s : Story) (b : HasBeside limits c flags s) (i : ℕ) (κ : ClientConnection) (w : Written) → slice_get κ.written κ.taken ≡ Some w
     → IsKept flags s.connections i κ ⊎ IsLeft flags s.connections i κ
     → StoryTrace limits c (with_connections (place_of limits s.past (command_of κ.name κ.taken w.packet) ∷ s.past) s.keeper (kept_of flags (counted_at i s.connections)))
 goes_taken limits c flags s b i κ w next (inl k) =
-    subst (λ (l : List Connection). StoryTrace limits c (with_connections (place_of limits s.past (command_of κ.name κ.taken w.packet) ∷ s.past) s.keeper l)) (sym k.counted)
+    subst (λ (l : List ClientConnection). StoryTrace limits c (with_connections (place_of limits s.past (command_of κ.name κ.taken w.packet) ∷ s.past) s.keeper l)) (sym k.counted)
     (goes_on b.told (takes k.j κ w k.stands next))
 goes_taken limits c flags s b i κ w next (inr l) =
-    subst (λ (l : List Connection). StoryTrace limits c (with_connections (place_of limits s.past (command_of κ.name κ.taken w.packet) ∷ s.past) s.keeper l)) (sym l.counted)
+    subst (λ (l : List ClientConnection). StoryTrace limits c (with_connections (place_of limits s.past (command_of κ.name κ.taken w.packet) ∷ s.past) s.keeper l)) (sym l.counted)
     (goes_on b.told (others_take (command_of κ.name κ.taken w.packet) (later_other s.past s.keeper.client κ.name κ.taken w.packet l.taken) (later_named κ.name κ.taken w.packet (kept_of flags s.connections) l.taken l.none)))
 
-goes_written : (limits : Limits) (c : Client) (past : Past) (keeper : Keeper) (flags : List Bool) (more : List Written) (connections : List Connection) → IsHeadKept flags
+goes_written : (limits : Limits) (c : Client) (past : Past) (keeper : Keeper) (flags : List Bool) (more : List Written) (connections : List ClientConnection) → IsHeadKept flags
     → StoryTrace limits c (with_connections past keeper (writes_first more (kept_of flags connections))) → StoryTrace limits c (with_connections past keeper (kept_of flags (writes_first more connections)))
-goes_written limits c past keeper flags more connections h = subst (λ (l : List Connection). StoryTrace limits c (with_connections past keeper l)) (sym (kept_writes more flags connections h))
+goes_written limits c past keeper flags more connections h = subst (λ (l : List ClientConnection). StoryTrace limits c (with_connections past keeper l)) (sym (kept_writes more flags connections h))
 
 -- a packet is handled on the newest one
-pub goes_received : (limits : Limits) (c : Client) (s : Story) (flags : List Bool) (κ : Connection) (others : List Connection) (packet : Packet) → IsHeadKept flags → AreGone flags s.connections
+pub goes_received : (limits : Limits) (c : Client) (s : Story) (flags : List Bool) (κ : ClientConnection) (others : List ClientConnection) (packet : Packet) → IsHeadKept flags → AreGone flags s.connections
     → StoryTrace limits c (beside flags s) → s.connections ≡ κ ∷ others → s.keeper.is_open ≡ true → slice_get (put_to limits s.past κ.name) κ.handled ≡ Some packet
     → HasBeside limits c flags (with_side s others (handled packet (record { keeper = s.keeper; connection = κ })))
 goes_received limits c s [] κ others packet h gone told are opened next = record { head = tt; gone = tt; told = goes_on told (receives κ others packet are opened next) }
@@ -173,12 +173,12 @@ goes_received limits c s (true ∷ flags) κ others packet h gone told are opene
 goes_received limits c s (false ∷ flags) κ others packet h gone told are opened next = absurd h
 
 -- a DISCONNECT is written, or not
-kept_either : (more : List Written) (flags : List Bool) (connections : List Connection) → IsHeadKept flags → (b : Bool)
+kept_either : (more : List Written) (flags : List Bool) (connections : List ClientConnection) → IsHeadKept flags → (b : Bool)
     → kept_of flags (if b then writes_first more connections else connections) ≡ (if b then writes_first more (kept_of flags connections) else kept_of flags connections)
 kept_either more flags connections h true = kept_writes more flags connections h
 kept_either more flags connections h false = refl
 
-gone_either : (more : List Written) (flags : List Bool) (connections : List Connection) → IsHeadKept flags → AreGone flags connections → (b : Bool)
+gone_either : (more : List Written) (flags : List Bool) (connections : List ClientConnection) → IsHeadKept flags → AreGone flags connections → (b : Bool)
     → AreGone flags (if b then writes_first more connections else connections)
 gone_either more flags connections h g true = gone_writes more flags connections h g
 gone_either more flags connections h g false = g
@@ -205,7 +205,7 @@ goes_beside limits c flags s t apart b disconnects =
     record {
       head = b.head;
       gone = gone_either (plain packets.Disconnect ∷ []) flags s.connections b.head b.gone s.keeper.is_online;
-      told = subst (λ (l : List Connection). StoryTrace limits c (with_connections s.past (lost s.keeper) l)) (sym (kept_either (plain packets.Disconnect ∷ []) flags s.connections b.head s.keeper.is_online))
+      told = subst (λ (l : List ClientConnection). StoryTrace limits c (with_connections s.past (lost s.keeper) l)) (sym (kept_either (plain packets.Disconnect ∷ []) flags s.connections b.head s.keeper.is_online))
           (goes_on b.told disconnects);
     }
 goes_beside limits c flags s t apart b (publishes_one p needs) =

@@ -21,7 +21,7 @@ use Rattle.client_base.specs.Keeper.{Written}
 use Rattle.client_base.specs.Called.{new_connection, written_for}
 use Rattle.client_base.specs.Written.{plain, writes_first}
 use Rattle.client_base.specs.Handled.{handled}
-use Rattle.exactly_once.specs.Sides.{Connection}
+use Rattle.exactly_once.specs.Sides.{ClientConnection}
 use Rattle.exactly_once.specs.Story.{Story, StoryStep}
 use Rattle.exactly_once.specs.StoryCommands.{any_named, counted_at, count_of}
 use Rattle.exactly_once.specs.Story.StoryStep.{takes, others_take, receives, opens_anew, loses, disconnects, publishes_one, subscribes, unsubscribes}
@@ -43,7 +43,7 @@ use Rattle.exactly_once.proofs.sessions.EachPlaced.{IsOwnCommand}
 -- ---- a packet that was written
 
 -- two lists of connections with its own
-pub both_carry : (past : Past) (c : Client) (i j : ℕ) (connections kept : List Connection) (κ : Connection) (w : Written) (command : Command) → IsOwnCommand c κ w.packet command → NamesApart connections → NamesApart kept
+pub both_carry : (past : Past) (c : Client) (i j : ℕ) (connections kept : List ClientConnection) (κ : ClientConnection) (w : Written) (command : Command) → IsOwnCommand c κ w.packet command → NamesApart connections → NamesApart kept
     → slice_get connections i ≡ Some κ → slice_get kept j ≡ Some κ → slice_get κ.written κ.taken ≡ Some w → count_of κ.name past ≡ κ.taken
     → carries (counted_at i connections) command past ≡ carries (counted_at j kept) command past
 both_carry past c i j connections kept κ w command (inl k) apart apart' stands stands' next counted = ap (λ d. carries (counted_at i connections) d past) k.1 ∙ sym (ap (λ d. carries (counted_at j kept) d past) k.1)
@@ -64,7 +64,7 @@ none_more true = refl
 none_more false = refl
 
 -- says nothing but what it is
-says_by : (c : Client) (ps : List Publication) (past : Past) (connections : List Connection) (x : ConnectionName) (packet : Packet) (number : Option ℕ)
+says_by : (c : Client) (ps : List Publication) (past : Past) (connections : List ClientConnection) (x : ConnectionName) (packet : Packet) (number : Option ℕ)
     → number_at (count_of x past) (connection_named x connections) ≡ number → IsOf ps packet number → Says c ps connections (at_packet x packet Mark.NoPart) past
 says_by c ps past connections x (packets.Publish q) number carried of =
     record {
@@ -80,20 +80,20 @@ says_by c ps past connections x (packets.Publish q) number carried of =
     publish_is p y e = cc
 says_by c ps past connections x packet number carried of = says_nothing c ps connections (at_packet x packet Mark.NoPart) past refl
 
-pub nobodys_says : (limits : Limits) (past : Past) (c : Client) (ps : List Publication) (i : ℕ) (connections : List Connection) (κ : Connection) (w : Written) → NamesApart connections → NobodyElse past c connections
+pub nobodys_says : (limits : Limits) (past : Past) (c : Client) (ps : List Publication) (i : ℕ) (connections : List ClientConnection) (κ : ClientConnection) (w : Written) → NamesApart connections → NobodyElse past c connections
     → slice_get connections i ≡ Some κ → slice_get κ.written κ.taken ≡ Some w → count_of κ.name past ≡ κ.taken → (current_connection past c ≡ Some κ.name → ⊥) → IsOf ps w.packet w.number
     → Says c ps (counted_at i connections) (place_of limits past (commands.Packet κ.name w.packet)) past
 nobodys_says limits past c ps i connections κ w apart nobody stands next counted not of =
     subst (λ (p : Place). Says c ps (counted_at i connections) p past) (sym (nobodys_mark limits past c connections κ.name w.packet nobody (is_named i connections κ stands) not))
     (says_by c ps past (counted_at i connections) κ.name w.packet w.number (carries_it past i connections κ w Mark.NoPart apart stands next counted) of)
 
-pub nobodys_new : (limits : Limits) (past : Past) (c : Client) (i : ℕ) (connections : List Connection) (κ : Connection) (packet : Packet) → NobodyElse past c connections → slice_get connections i ≡ Some κ
+pub nobodys_new : (limits : Limits) (past : Past) (c : Client) (i : ℕ) (connections : List ClientConnection) (κ : ClientConnection) (packet : Packet) → NobodyElse past c connections → slice_get connections i ≡ Some κ
     → (current_connection past c ≡ Some κ.name → ⊥) → is_new (commands.Packet κ.name packet) (mark_of limits past (commands.Packet κ.name packet)) ≡ false
 nobodys_new limits past c i connections κ packet nobody stands not =
     ap (λ (p : Place). is_new p.command p.mark) (nobodys_mark limits past c connections κ.name packet nobody (is_named i connections κ stands) not) ∙ nobody_new κ.name packet
 
 -- one that is left out has no client, if the current one is kept
-pub left_not_current : (x : ConnectionName) (current : Option ConnectionName) (kept : List Connection) → LastIsCurrent current kept → any_named (same_connection x) kept ≡ false → current ≡ Some x → ⊥
+pub left_not_current : (x : ConnectionName) (current : Option ConnectionName) (kept : List ClientConnection) → LastIsCurrent current kept → any_named (same_connection x) kept ≡ false → current ≡ Some x → ⊥
 left_not_current x None kept last none e = cc
 left_not_current x (Some y) kept last none e =
     let same : y ≡ x = cc in
@@ -101,25 +101,25 @@ left_not_current x (Some y) kept last none e =
 
 -- ---- what is kept
 
-pub kept_each : (P : Connection → Type 0) (flags : List Bool) (connections : List Connection) → Each P connections → Each P (kept_of flags connections)
+pub kept_each : (P : ClientConnection → Type 0) (flags : List Bool) (connections : List ClientConnection) → Each P connections → Each P (kept_of flags connections)
 kept_each P [] connections h = h
 kept_each P (true ∷ flags) [] h = tt
 kept_each P (false ∷ flags) [] h = tt
 kept_each P (true ∷ flags) (κ ∷ connections) h = (h.0, kept_each P flags connections h.1)
 kept_each P (false ∷ flags) (κ ∷ connections) h = kept_each P flags connections h.1
 
-kept_taken : (past : Past) (flags : List Bool) (connections : List Connection) (i : ℕ) (κ : Connection) → IsKept flags connections i κ ⊎ IsLeft flags connections i κ
+kept_taken : (past : Past) (flags : List Bool) (connections : List ClientConnection) (i : ℕ) (κ : ClientConnection) → IsKept flags connections i κ ⊎ IsLeft flags connections i κ
     → SameNumbers (kept_of flags connections) (kept_of flags (counted_at i connections)) past
-kept_taken past flags connections i κ (inl k) = subst (λ (l : List Connection). SameNumbers (kept_of flags connections) l past) (sym k.counted) (same_counted past k.j (kept_of flags connections))
-kept_taken past flags connections i κ (inr l) = subst (λ (z : List Connection). SameNumbers (kept_of flags connections) z past) (sym l.counted) (same_itself past (kept_of flags connections))
+kept_taken past flags connections i κ (inl k) = subst (λ (l : List ClientConnection). SameNumbers (kept_of flags connections) l past) (sym k.counted) (same_counted past k.j (kept_of flags connections))
+kept_taken past flags connections i κ (inr l) = subst (λ (z : List ClientConnection). SameNumbers (kept_of flags connections) z past) (sym l.counted) (same_itself past (kept_of flags connections))
 
-kept_written : (past : Past) (flags : List Bool) (connections : List Connection) (more : List Written) → IsHeadKept flags → AreWithin past connections
+kept_written : (past : Past) (flags : List Bool) (connections : List ClientConnection) (more : List Written) → IsHeadKept flags → AreWithin past connections
     → SameNumbers (kept_of flags connections) (kept_of flags (writes_first more connections)) past
 kept_written past flags connections more head within =
-    subst (λ (l : List Connection). SameNumbers (kept_of flags connections) l past) (sym (kept_writes more flags connections head))
-    (first_written past (kept_of flags connections) more (kept_each (λ (κ : Connection). count_of κ.name past ≤ length κ.written) flags connections within))
+    subst (λ (l : List ClientConnection). SameNumbers (kept_of flags connections) l past) (sym (kept_writes more flags connections head))
+    (first_written past (kept_of flags connections) more (kept_each (λ (κ : ClientConnection). count_of κ.name past ≤ length κ.written) flags connections within))
 
-kept_handled : (past : Past) (flags : List Bool) (κ after : Connection) (others : List Connection) (more : List Written) → IsHeadKept flags → after.name ≡ κ.name → after.written ≡ κ.written ++ more
+kept_handled : (past : Past) (flags : List Bool) (κ after : ClientConnection) (others : List ClientConnection) (more : List Written) → IsHeadKept flags → after.name ≡ κ.name → after.written ≡ κ.written ++ more
     → count_of κ.name past ≤ length κ.written → SameNumbers (kept_of flags (κ ∷ others)) (kept_of flags (after ∷ others)) past
 kept_handled past [] κ after others more head name written within = same_written past κ after others more name written within
 kept_handled past (true ∷ flags) κ after others more head name written within = same_written past κ after (kept_of flags others) more name written within
@@ -134,7 +134,7 @@ kept_numbers limits flags s t head gone apart within (receives κ others packet 
     let mine = subst (AreWithin s.past) are within in
     let after = (handled packet (record { keeper = s.keeper; connection = κ })).connection in
     let grown = handled_grows κ s.keeper packet in
-    subst (λ (cs : List Connection). SameNumbers (kept_of flags cs) (kept_of flags (after ∷ others)) s.past) (sym are) (kept_handled s.past flags κ after others grown.more head grown.name grown.written mine.0)
+    subst (λ (cs : List ClientConnection). SameNumbers (kept_of flags cs) (kept_of flags (after ∷ others)) s.past) (sym are) (kept_handled s.past flags κ after others grown.more head grown.name grown.written mine.0)
 kept_numbers limits flags s t head gone apart within (opens_anew x fresh none uncounted) = same_opened s.past (new_connection s.keeper.client x) (kept_of flags s.connections) uncounted
 kept_numbers limits flags s t head gone apart within loses = same_itself s.past (kept_of flags s.connections)
 kept_numbers limits flags s t head gone apart within disconnects = by s.keeper.is_online

@@ -12,7 +12,7 @@ use Rattle.broker_base.specs.broker_spec.NobodyLaws.{IsSteady}
 use Rattle.broker_base.specs.broker_spec.Commands.{place_of}
 use Rattle.broker_base.specs.broker_spec.declared.command.Command.TheVariants as commands
 use Rattle.client_base.specs.Keeper.{Keeper}
-use Rattle.exactly_once.specs.Sides.{Connection}
+use Rattle.exactly_once.specs.Sides.{ClientConnection}
 use Rattle.exactly_once.specs.Sends.{put_to}
 use Rattle.exactly_once.specs.Story.{Story}
 use Rattle.exactly_once.specs.StoryTrace.StoryTrace.{goes_on}
@@ -68,7 +68,7 @@ lasts_expelled limits c flags s life none l =
 
 -- ---- if one was there
 
-accepts_expelled : (limits : Limits) (past : Past) (c : Client) (connections : List Connection) (start : ℕ) → Accepts limits c past connections start
+accepts_expelled : (limits : Limits) (past : Past) (c : Client) (connections : List ClientConnection) (start : ℕ) → Accepts limits c past connections start
     → Accepts limits c (place_of limits past (commands.Expel c) ∷ past) connections start
 accepts_expelled limits past c connections start =
     let place = place_of limits past (commands.Expel c) in
@@ -80,7 +80,7 @@ pub data IsOver (limits : Limits) (c : Client) (t : Story) : Type 0 where
   lingers : Lingers limits c t → IsOver limits c t
   parts : Parts limits c t.past t.connections → IsOver limits c t
 
-pub expelled_there : (limits : Limits) → IsSteady limits → (c : Client) (flags : List Bool) (past : Past) (keeper : Keeper) (connections : List Connection) (n : ℕ) → session_start past c ≡ Some n
+pub expelled_there : (limits : Limits) → IsSteady limits → (c : Client) (flags : List Bool) (past : Past) (keeper : Keeper) (connections : List ClientConnection) (n : ℕ) → session_start past c ≡ Some n
     → IsLife limits c (with_connections past keeper connections) → Stands limits c flags (with_connections past keeper connections) → Lasts limits c flags past connections
     → AreWelcome past c connections → IsOver limits c (with_connections (place_of limits past (commands.Expel c) ∷ past) keeper connections)
 expelled_there limits steady c flags past keeper [] n e life stands l step =

@@ -9,7 +9,7 @@ use Rattle.broker_base.specs.broker_spec.Place.{Client, Place, Past, Limits, sam
 use Rattle.broker_base.specs.broker_spec.Past.{accepts, begins, begins_session, is_beginning, session_of, session_start}
 use Rattle.broker_base.specs.broker_spec.Commands.{place_of}
 use Rattle.broker_base.proofs.ClientsInOrder.{same_self}
-use Rattle.exactly_once.specs.Sides.{Connection}
+use Rattle.exactly_once.specs.Sides.{ClientConnection}
 use Rattle.exactly_once.specs.Story.{Story, StoryStep}
 use Rattle.exactly_once.specs.StoryCommands.{command_of, names_client}
 use Rattle.exactly_once.specs.Story.StoryStep.{takes, others_take, receives, opens_anew, loses, disconnects, publishes_one, subscribes, unsubscribes}
@@ -71,11 +71,11 @@ once_not_again (place ∷ past) c x one = by (opens_on x (accepts place.command 
     by o false f ih = ap₂ (λ p q. p || q) (none o) (ih (omega (arith, f)))
 
 -- of a client that has had one session, each connection was welcome
-pub once_in_step : (past : Past) (c : Client) (connections : List Connection) → sessions_begun past c ≤ 1 → AreWelcome past c connections
+pub once_in_step : (past : Past) (c : Client) (connections : List ClientConnection) → sessions_begun past c ≤ 1 → AreWelcome past c connections
 once_in_step past c [] one = tt
 once_in_step past c (κ ∷ others) one = all others
   where
-    all : (l : List Connection) → Each (WasWelcome past c) l
+    all : (l : List ClientConnection) → Each (WasWelcome past c) l
     all [] = tt
     all (μ ∷ l) = (λ again. absurd (both_ways (began_again past c μ.name) (once_not_again past c μ.name one) again), all l)
 

@@ -11,7 +11,7 @@ use Rattle.broker_base.specs.broker_spec.Place.{Client, Place, Past}
 use Rattle.broker_base.specs.broker_spec.Past.{begins}
 use Rattle.client_base.specs.Keeper.{Written}
 use Rattle.client_base.specs.Written.{writes_first}
-use Rattle.exactly_once.specs.Sides.{Connection}
+use Rattle.exactly_once.specs.Sides.{ClientConnection}
 use Rattle.exactly_once.specs.StoryCommands.{counted_at}
 use Rattle.exactly_once.specs.Acceptance.{accepted_on}
 use Rattle.exactly_once.specs.Carried.{is_this}
@@ -21,11 +21,11 @@ use Rattle.exactly_once.proofs.sessions.EachPlaced.{IsFresh, counted_none}
 use Rattle.exactly_once.proofs.sessions.Openings.{opened_below}
 use Rattle.exactly_once.proofs.sessions.Turns.{IsLastOf}
 
-abbrev pub IsInTurn : Past → Client → List Connection → Type 0
+abbrev pub IsInTurn : Past → Client → List ClientConnection → Type 0
 IsInTurn past c connections = accepted_on connections ≡ flat_map (λ start. accepted_in past c start connections) (starts_of past c)
 
 -- on all but the newest
-abbrev pub IsTailInTurn : Past → Client → List Connection → Type 0
+abbrev pub IsTailInTurn : Past → Client → List ClientConnection → Type 0
 IsTailInTurn past c [] = Unit {0}
 IsTailInTurn past c (κ ∷ others) = IsInTurn past c others
 
@@ -42,7 +42,7 @@ flat_map_none (n ∷ ns) = flat_map_none ns
 -- ---- a place
 
 -- in a session that begins at this place nothing was accepted before
-not_yet : (past : Past) (c : Client) (κ : Connection) → share past c (length past) κ ≡ []
+not_yet : (past : Past) (c : Client) (κ : ClientConnection) → share past c (length past) κ ≡ []
 not_yet past c κ = by (opened_in past c κ.name) refl
   where
     below : (n : ℕ) → n < length past → (n == length past) ≡ false
@@ -54,11 +54,11 @@ not_yet past c κ = by (opened_in past c κ.name) refl
         ap (λ p. if is_this (length past) p then κ.accepted else []) e
         ∙ ap (λ b. if b then κ.accepted else []) (below n (opened_below past c κ.name n e))
 
-none_yet : (past : Past) (c : Client) (connections : List Connection) → Each (λ (κ : Connection). share past c (length past) κ ≡ []) connections
+none_yet : (past : Past) (c : Client) (connections : List ClientConnection) → Each (λ (κ : ClientConnection). share past c (length past) κ ≡ []) connections
 none_yet past c [] = tt
 none_yet past c (κ ∷ connections) = (not_yet past c κ, none_yet past c connections)
 
-after_place : (place : Place) (past : Past) (c : Client) (connections : List Connection) → Each (IsFresh place c) connections
+after_place : (place : Place) (past : Past) (c : Client) (connections : List ClientConnection) → Each (IsFresh place c) connections
     → flat_map (λ start. accepted_in (place ∷ past) c start connections) (starts_of (place ∷ past) c) ≡ flat_map (λ start. accepted_in past c start connections) (starts_of past c)
 after_place place past c connections fresh = by (begins place past c)
   where
@@ -79,40 +79,40 @@ after_place place past c connections fresh = by (begins place past c)
         ∙ append-nil (flat_map was (starts_of past c))
     by false = ap (flat_map now) (append-nil (starts_of past c)) ∙ flat_map_same now was same (starts_of past c)
 
-turn_placed : (place : Place) (past : Past) (c : Client) (i : ℕ) (connections : List Connection) → Each (IsFresh place c) connections → IsInTurn past c connections
+turn_placed : (place : Place) (past : Past) (c : Client) (i : ℕ) (connections : List ClientConnection) → Each (IsFresh place c) connections → IsInTurn past c connections
     → IsInTurn (place ∷ past) c (counted_at i connections)
 turn_placed place past c i connections fresh h =
     kept_counted [] i connections ∙ h ∙ sym (after_place place past c connections fresh)
     ∙ flat_map_same (λ start. accepted_in (place ∷ past) c start connections) (λ start. accepted_in (place ∷ past) c start (counted_at i connections))
     (λ start. sym (accepted_counted (place ∷ past) c start i connections)) (starts_of (place ∷ past) c)
 
-pub tail_placed : (place : Place) (past : Past) (c : Client) (i : ℕ) (connections : List Connection) → Each (IsFresh place c) connections → IsTailInTurn past c connections
+pub tail_placed : (place : Place) (past : Past) (c : Client) (i : ℕ) (connections : List ClientConnection) → Each (IsFresh place c) connections → IsTailInTurn past c connections
     → IsTailInTurn (place ∷ past) c (counted_at i connections)
 tail_placed place past c i [] fresh h = tt
 tail_placed place past c zero (κ ∷ others) fresh h =
-    subst (λ (l : List Connection). IsInTurn (place ∷ past) c l) (counted_none others) (turn_placed place past c (length others) others fresh.1 h)
+    subst (λ (l : List ClientConnection). IsInTurn (place ∷ past) c l) (counted_none others) (turn_placed place past c (length others) others fresh.1 h)
 tail_placed place past c (suc i) (κ ∷ others) fresh h = turn_placed place past c i others fresh.1 h
 
 -- ---- the newest connection
 
-pub tail_written : (past : Past) (c : Client) (more : List Written) (connections : List Connection) → IsTailInTurn past c connections → IsTailInTurn past c (writes_first more connections)
+pub tail_written : (past : Past) (c : Client) (more : List Written) (connections : List ClientConnection) → IsTailInTurn past c connections → IsTailInTurn past c (writes_first more connections)
 tail_written past c more [] h = h
 tail_written past c more (κ ∷ others) h = h
 
-pub tail_maybe : (past : Past) (c : Client) (b : Bool) (more : List Written) (connections : List Connection) → IsTailInTurn past c connections
+pub tail_maybe : (past : Past) (c : Client) (b : Bool) (more : List Written) (connections : List ClientConnection) → IsTailInTurn past c connections
     → IsTailInTurn past c (if b then writes_first more connections else connections)
 tail_maybe past c true more connections h = tail_written past c more connections h
 tail_maybe past c false more connections h = h
 
 -- nothing was accepted on it, or it was opened in the session that began last
-abbrev pub IsOfLast : Past → Client → Connection → Type 0
+abbrev pub IsOfLast : Past → Client → ClientConnection → Type 0
 IsOfLast past c κ = (κ.accepted ≡ []) ⊎ ((n : ℕ) × (opened_in past c κ.name ≡ Some n) × IsLastOf (starts_of past c) n)
 
-abbrev pub IsHeadOfLast : Past → Client → List Connection → Type 0
+abbrev pub IsHeadOfLast : Past → Client → List ClientConnection → Type 0
 IsHeadOfLast past c [] = Unit {0}
 IsHeadOfLast past c (κ ∷ others) = IsOfLast past c κ
 
-module _ (past : Past) (c : Client) (κ : Connection) (others : List Connection) (n : ℕ) (opened : opened_in past c κ.name ≡ Some n) where
+module _ (past : Past) (c : Client) (κ : ClientConnection) (others : List ClientConnection) (n : ℕ) (opened : opened_in past c κ.name ≡ Some n) where
   abbrev whole : ℕ → List Publication
   whole start = accepted_in past c start others ++ (if is_this start (opened_in past c κ.name) then κ.accepted else [])
 
@@ -139,13 +139,13 @@ module _ (past : Past) (c : Client) (κ : Connection) (others : List Connection)
       ∙ ap₂ (λ a b. a ++ b) (sym (all_elsewhere l.before l.apart)) (sym here_all ∙ sym (append-nil (whole n)))
       ∙ sym (flat_map-append whole l.before (n ∷ [])) ∙ sym (ap (flat_map whole) l.are)
 
-head_in_turn : (past : Past) (c : Client) (κ : Connection) (others : List Connection) → IsOfLast past c κ → IsInTurn past c others → IsInTurn past c (κ ∷ others)
+head_in_turn : (past : Past) (c : Client) (κ : ClientConnection) (others : List ClientConnection) → IsOfLast past c κ → IsInTurn past c others → IsInTurn past c (κ ∷ others)
 head_in_turn past c κ others (inl nothing) h =
     ap (λ l. accepted_on others ++ l) nothing ∙ append-nil (accepted_on others) ∙ h
     ∙ flat_map_same (λ start. accepted_in past c start others) (λ start. accepted_in past c start (κ ∷ others)) (λ start. sym (accepted_new past c start κ others nothing)) (starts_of past c)
 head_in_turn past c κ others (inr (n, opened, last)) h =
     ap (λ l. l ++ κ.accepted) h ∙ at_last past c κ others n opened (starts_of past c) last
 
-pub all_in_turn : (past : Past) (c : Client) (connections : List Connection) → IsHeadOfLast past c connections → IsTailInTurn past c connections → IsInTurn past c connections
+pub all_in_turn : (past : Past) (c : Client) (connections : List ClientConnection) → IsHeadOfLast past c connections → IsTailInTurn past c connections → IsInTurn past c connections
 all_in_turn past c [] head h = sym (flat_map_none (starts_of past c))
 all_in_turn past c (κ ∷ others) head h = head_in_turn past c κ others head h

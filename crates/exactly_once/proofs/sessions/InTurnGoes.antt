@@ -7,7 +7,7 @@ use Rattle.broker_base.specs.broker_spec.declared.command.Command.TheVariants as
 use Rattle.broker_base.specs.broker_spec.Commands.{place_of}
 use Rattle.client_base.specs.Called.{written_for}
 use Rattle.client_base.specs.Written.{plain}
-use Rattle.exactly_once.specs.Sides.{Connection}
+use Rattle.exactly_once.specs.Sides.{ClientConnection}
 use Rattle.exactly_once.specs.Story.{Story, StoryStep}
 use Rattle.exactly_once.specs.StoryCommands.{command_of, names_client}
 use Rattle.exactly_once.specs.Story.StoryStep.{takes, others_take, receives, opens_anew, loses, disconnects, publishes_one, subscribes, unsubscribes}
@@ -30,7 +30,7 @@ use Rattle.exactly_once.proofs.sessions.Turns.{IsLastOf, started_last}
 -- ---- the newest connection
 
 -- while a session lasts
-pub head_lasting : (limits : Limits) (past : Past) (c : Client) (connections : List Connection) → IsHeadOpened past c connections → AreShutUnopened limits past c connections
+pub head_lasting : (limits : Limits) (past : Past) (c : Client) (connections : List ClientConnection) → IsHeadOpened past c connections → AreShutUnopened limits past c connections
     → IsHeadOfLast past c connections
 head_lasting limits past c [] head shut = tt
 head_lasting limits past c (κ ∷ others) (inl none) shut = inl (shut.0 none).nothing
@@ -40,7 +40,7 @@ head_lasting limits past c (κ ∷ others) (inr same) shut = by (session_start p
     by None e = inl (shut.0 (same ∙ e)).nothing
     by (Some n) e = inr (n, same ∙ e, started_last past c n e)
 
-head_parted : (limits : Limits) (past : Past) (c : Client) (connections : List Connection) → IsHeadUnopened past c connections → AreShutUnopened limits past c connections → IsHeadOfLast past c connections
+head_parted : (limits : Limits) (past : Past) (c : Client) (connections : List ClientConnection) → IsHeadUnopened past c connections → AreShutUnopened limits past c connections → IsHeadOfLast past c connections
 head_parted limits past c [] head shut = tt
 head_parted limits past c (κ ∷ others) none shut = inl (shut.0 none).nothing
 
@@ -64,7 +64,7 @@ pub turn_goes : (limits : Limits) (c : Client) (s t : Story) → IsLife limits c
 turn_goes limits c s t life head h (takes i κ w stands next) =
     let command = command_of κ.name κ.taken w.packet in
     let kind = life_command limits c s i κ w life stands next in
-    let untouched = each_there (λ (μ : Connection). μ.taken ≡ 0 → IsUntouched limits s.past c μ) i s.connections κ stands life.connections.untouched in
+    let untouched = each_there (λ (μ : ClientConnection). μ.taken ≡ 0 → IsUntouched limits s.past c μ) i s.connections κ stands life.connections.untouched in
     tail_placed (place_of limits s.past command) s.past c i s.connections (own_fresh limits s.past c i κ w.packet command s.connections kind untouched stands life.connections.names) h
 turn_goes limits c s t life head h (others_take command other none) =
     let place = place_of limits s.past command in

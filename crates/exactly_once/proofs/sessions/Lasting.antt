@@ -9,7 +9,7 @@ use Rattle.broker_base.specs.broker_spec.Connection.{ConnectionName}
 use Rattle.broker_base.specs.broker_spec.Place.{Client, Place, Past, Limits}
 use Rattle.broker_base.specs.broker_spec.Past.{accepts, session_of, session_start, begins}
 use Rattle.broker_base.specs.broker_spec.Times.{entries_of}
-use Rattle.exactly_once.specs.Sides.{Connection}
+use Rattle.exactly_once.specs.Sides.{ClientConnection}
 use Rattle.exactly_once.specs.StoryCommands.{counted_at}
 use Rattle.exactly_once.specs.Acceptance.{accepted_on}
 use Rattle.exactly_once.specs.Carried.{is_this}
@@ -26,7 +26,7 @@ use Rattle.exactly_once.proofs.sessions.Life.{IsShutUnopened, AreShutUnopened}
 -- ---- the rows
 
 -- the newest connection was opened in this session, or not at all
-abbrev pub IsHeadOpened : Past → Client → List Connection → Type 0
+abbrev pub IsHeadOpened : Past → Client → List ClientConnection → Type 0
 IsHeadOpened past c [] = Unit {0}
 IsHeadOpened past c (κ ∷ others) = (opened_in past c κ.name ≡ None) ⊎ (opened_in past c κ.name ≡ session_start past c)
 
@@ -35,11 +35,11 @@ after_first [] = []
 after_first (b ∷ flags) = flags
 
 -- what it accepted in this session on the others it accepted on those that are kept
-abbrev pub IsTailKept : Past → Client → ℕ → List Bool → List Connection → Type 0
+abbrev pub IsTailKept : Past → Client → ℕ → List Bool → List ClientConnection → Type 0
 IsTailKept past c start flags [] = Unit {0}
 IsTailKept past c start flags (κ ∷ others) = accepted_in past c start others ≡ accepted_on (kept_of (after_first flags) others)
 
-pub record Lasts (limits : Limits) (c : Client) (flags : List Bool) (past : Past) (connections : List Connection) : Type 0 where
+pub record Lasts (limits : Limits) (c : Client) (flags : List Bool) (past : Past) (connections : List ClientConnection) : Type 0 where
   pub head : IsHeadOpened past c connections
   pub tail : (start : ℕ) → session_start past c ≡ Some start → IsTailKept past c start flags connections
   pub unbegun : session_start past c ≡ None → has_begun past c ≡ false
@@ -54,12 +54,12 @@ unopened_yet past c x e = by (opened_in past c x) refl
     by None f = refl
     by (Some n) f = absurd (both_ways (has_begun past c) e (opened_begun past c x n f))
 
-pub nothing_yet : (limits : Limits) (past : Past) (c : Client) (connections : List Connection) → has_begun past c ≡ false → AreShutUnopened limits past c connections → Each (λ (κ : Connection). κ.accepted ≡ []) connections
-nothing_yet limits past c connections e = each_then (IsShutUnopened limits past c) (λ (κ : Connection). κ.accepted ≡ []) connections (λ κ h. (h (unopened_yet past c κ.name e)).nothing)
+pub nothing_yet : (limits : Limits) (past : Past) (c : Client) (connections : List ClientConnection) → has_begun past c ≡ false → AreShutUnopened limits past c connections → Each (λ (κ : ClientConnection). κ.accepted ≡ []) connections
+nothing_yet limits past c connections e = each_then (IsShutUnopened limits past c) (λ (κ : ClientConnection). κ.accepted ≡ []) connections (λ κ h. (h (unopened_yet past c κ.name e)).nothing)
 
 -- ---- a place
 
-head_placed : (place : Place) (past : Past) (c : Client) (connections : List Connection) → ((n : ℕ) → session_start past c ≡ Some n → session_start (place ∷ past) c ≡ Some n) → IsHeadOpened past c connections
+head_placed : (place : Place) (past : Past) (c : Client) (connections : List ClientConnection) → ((n : ℕ) → session_start past c ≡ Some n → session_start (place ∷ past) c ≡ Some n) → IsHeadOpened past c connections
     → IsHeadOpened (place ∷ past) c connections
 head_placed place past c [] keeps h = tt
 head_placed place past c (κ ∷ others) keeps h = by (opens_on κ.name (accepts place.command place.mark c)) refl
@@ -74,13 +74,13 @@ head_placed place past c (κ ∷ others) keeps h = by (opens_on κ.name (accepts
     by true e = inr (opened_here place past c κ.name e)
     by false e = two (session_start past c) refl (opened_same place past c κ.name e) h
 
-head_counted : (past : Past) (c : Client) (i : ℕ) (connections : List Connection) → IsHeadOpened past c connections → IsHeadOpened past c (counted_at i connections)
+head_counted : (past : Past) (c : Client) (i : ℕ) (connections : List ClientConnection) → IsHeadOpened past c connections → IsHeadOpened past c (counted_at i connections)
 head_counted past c i [] h = h
 head_counted past c zero (κ ∷ others) h = h
 head_counted past c (suc i) (κ ∷ others) h = h
 
 -- if the session was there
-tail_placed : (place : Place) (past : Past) (c : Client) (start i : ℕ) (flags : List Bool) (connections : List Connection) → Each (IsFresh place c) connections → IsTailKept past c start flags connections
+tail_placed : (place : Place) (past : Past) (c : Client) (start i : ℕ) (flags : List Bool) (connections : List ClientConnection) → Each (IsFresh place c) connections → IsTailKept past c start flags connections
     → IsTailKept (place ∷ past) c start flags (counted_at i connections)
 tail_placed place past c start i flags [] fresh h = tt
 tail_placed place past c start zero flags (κ ∷ others) fresh h = accepted_placed place past c start others fresh.1 ∙ h
@@ -88,14 +88,14 @@ tail_placed place past c start (suc i) flags (κ ∷ others) fresh h =
     accepted_counted (place ∷ past) c start i others ∙ accepted_placed place past c start others fresh.1 ∙ h ∙ sym (kept_counted (after_first flags) i others)
 
 -- if it begins, the first one
-nothing_kept : (past : Past) (c : Client) (start : ℕ) (flags : List Bool) (others : List Connection) → Each (λ (κ : Connection). κ.accepted ≡ []) others
+nothing_kept : (past : Past) (c : Client) (start : ℕ) (flags : List Bool) (others : List ClientConnection) → Each (λ (κ : ClientConnection). κ.accepted ≡ []) others
     → accepted_in past c start others ≡ accepted_on (kept_of flags others)
 nothing_kept past c start flags others h =
     none_in past c start others
-    (each_then (λ (μ : Connection). μ.accepted ≡ []) (λ (μ : Connection). share past c start μ ≡ []) others (λ μ e. share_nothing (is_this start (opened_in past c μ.name)) μ.accepted e) h)
+    (each_then (λ (μ : ClientConnection). μ.accepted ≡ []) (λ (μ : ClientConnection). share past c start μ ≡ []) others (λ μ e. share_nothing (is_this start (opened_in past c μ.name)) μ.accepted e) h)
     ∙ sym (none_on flags others h)
 
-tail_begins : (place : Place) (past : Past) (c : Client) (start i : ℕ) (flags : List Bool) (connections : List Connection) → Each (λ (κ : Connection). κ.accepted ≡ []) connections
+tail_begins : (place : Place) (past : Past) (c : Client) (start i : ℕ) (flags : List Bool) (connections : List ClientConnection) → Each (λ (κ : ClientConnection). κ.accepted ≡ []) connections
     → IsTailKept (place ∷ past) c start flags (counted_at i connections)
 tail_begins place past c start i flags [] h = tt
 tail_begins place past c start zero flags (κ ∷ others) h = nothing_kept (place ∷ past) c start (after_first flags) others h.1
@@ -105,7 +105,7 @@ tail_begins place past c start (suc i) flags (κ ∷ others) h =
 pub entries_over : (limits : Limits) (place : Place) (past : Past) (c : Client) (start : ℕ) → is_this start (session_start (place ∷ past) c) ≡ false → entries_in limits (place ∷ past) c start ≡ entries_in limits past c start
 entries_over limits place past c start e = ap (λ b. if b then entries_of limits (place ∷ past) c else entries_in limits past c start) e
 
-pub lasts_placed : (limits : Limits) (c : Client) (flags : List Bool) (place : Place) (past : Past) (i : ℕ) (connections : List Connection) → IsKeptSession (session_of past c) → OpensKept c place
+pub lasts_placed : (limits : Limits) (c : Client) (flags : List Bool) (place : Place) (past : Past) (i : ℕ) (connections : List ClientConnection) → IsKeptSession (session_of past c) → OpensKept c place
     → IsSpared place.command past c → Each (IsFresh place c) connections → AreShutUnopened limits past c connections → Lasts limits c flags past connections
     → Lasts limits c flags (place ∷ past) (counted_at i connections)
 lasts_placed limits c flags place past i connections kept opens spared fresh shut h =

@@ -7,7 +7,7 @@ use Rattle.broker_base.specs.broker_spec.Past.{session_start}
 use Rattle.broker_base.specs.broker_spec.NobodyLaws.{IsSteady}
 use Rattle.broker_base.specs.broker_spec.Times.{entries_of}
 use Rattle.client_base.specs.Keeper.{Keeper}
-use Rattle.exactly_once.specs.Sides.{Connection}
+use Rattle.exactly_once.specs.Sides.{ClientConnection}
 use Rattle.exactly_once.specs.Story.{Story}
 use Rattle.exactly_once.specs.StoryTrace.{StoryTrace}
 use Rattle.exactly_once.specs.Acceptance.{two_entries}
@@ -27,7 +27,7 @@ unfolding session_start
 entries_now limits [] c start e = absurd (cc)
 entries_now limits (place ∷ past) c start e = ap (λ b. if b then entries_of limits (place ∷ past) c else entries_in limits past c start) (ap (is_this start) e ∙ eq_same start)
 
-accepts_now : (limits : Limits) → IsSteady limits → (c : Client) (flags : List Bool) (past : Past) (keeper : Keeper) (connections : List Connection) (start : ℕ) → keeper.client ≡ c → IsHeadKept flags
+accepts_now : (limits : Limits) → IsSteady limits → (c : Client) (flags : List Bool) (past : Past) (keeper : Keeper) (connections : List ClientConnection) (start : ℕ) → keeper.client ≡ c → IsHeadKept flags
     → AreShutUnopened limits past c connections → Lasts limits c flags past connections → StoryTrace limits c (with_connections past keeper (kept_of flags connections)) → session_start past c ≡ Some start
     → Accepts limits c past connections start
 accepts_now limits steady c flags past keeper connections start client head shut h told e =
@@ -47,7 +47,7 @@ lasting_accepts limits steady c flags s life stands h start = by (session_start 
     now : Stands limits c flags s → session_start s.past c ≡ Some start → Accepts limits c s.past s.connections start
     now (inr b) e = accepts_now limits steady c flags s.past s.keeper s.connections start life.keeper.client b.head life.connections.shut h b.told e
     now (inl a) e =
-        subst (λ (l : List Connection). Accepts limits c s.past l start) (sym a.are)
+        subst (λ (l : List ClientConnection). Accepts limits c s.past l start) (sym a.are)
         (accepts_now limits steady c flags s.past (waiting c [] [] s.keeper.is_open) (a.newest ∷ a.others) start refl a.awaits.head (subst (AreShutUnopened limits s.past c) a.are life.connections.shut)
         (subst (Lasts limits c flags s.past) a.are h) (a.awaits.told [] tt) e)
 

@@ -9,7 +9,7 @@ use Rattle.client_base.specs.Keeper.{Written}
 use Rattle.client_base.specs.Called.{new_connection, written_for}
 use Rattle.client_base.specs.Handled.{handled}
 use Rattle.client_base.specs.Written.{plain, writes_first}
-use Rattle.exactly_once.specs.Sides.{Connection, Side}
+use Rattle.exactly_once.specs.Sides.{ClientConnection, Side}
 use Rattle.exactly_once.specs.Story.{Story, StoryStep}
 use Rattle.exactly_once.specs.StoryCommands.{command_of, names_client}
 use Rattle.exactly_once.specs.Story.StoryStep.{takes, others_take, receives, opens_anew, loses, disconnects, publishes_one, subscribes, unsubscribes}
@@ -39,13 +39,13 @@ on_none [] = refl
 on_none (true ∷ flags) = refl
 on_none (false ∷ flags) = refl
 
-on_head : (flags : List Bool) (κ : Connection) (others : List Connection) → IsHeadKept flags → accepted_on (kept_of flags (κ ∷ others)) ≡ accepted_on (kept_of (after_first flags) others) ++ κ.accepted
+on_head : (flags : List Bool) (κ : ClientConnection) (others : List ClientConnection) → IsHeadKept flags → accepted_on (kept_of flags (κ ∷ others)) ≡ accepted_on (kept_of (after_first flags) others) ++ κ.accepted
 on_head [] κ others h = refl
 on_head (true ∷ flags) κ others h = refl
 on_head (false ∷ flags) κ others h = absurd h
 
 -- what it accepted in it, it accepted on the connections that are kept
-pub all_kept : (limits : Limits) (c : Client) (flags : List Bool) (past : Past) (connections : List Connection) (start : ℕ) → IsHeadKept flags → AreShutUnopened limits past c connections
+pub all_kept : (limits : Limits) (c : Client) (flags : List Bool) (past : Past) (connections : List ClientConnection) (start : ℕ) → IsHeadKept flags → AreShutUnopened limits past c connections
     → Lasts limits c flags past connections → session_start past c ≡ Some start → accepted_in past c start connections ≡ accepted_on (kept_of flags connections)
 all_kept limits c flags past [] start head shut h e = sym (on_none flags)
 all_kept limits c flags past (κ ∷ others) start head shut h e = ap₂ (λ a b. a ++ b) (h.tail start e) (by h.head) ∙ sym (on_head flags κ others head)
@@ -56,12 +56,12 @@ all_kept limits c flags past (κ ∷ others) start head shut h e = ap₂ (λ a b
 
 -- ---- the first connection
 
-head_elsewhere : (past : Past) (c : Client) (start : ℕ) (κ : Connection) (others : List Connection) → IsHeadOpened past c (κ ∷ others) → is_this start (session_start past c) ≡ false
+head_elsewhere : (past : Past) (c : Client) (start : ℕ) (κ : ClientConnection) (others : List ClientConnection) → IsHeadOpened past c (κ ∷ others) → is_this start (session_start past c) ≡ false
     → is_this start (opened_in past c κ.name) ≡ false
 head_elsewhere past c start κ others (inl none) e = ap (is_this start) none
 head_elsewhere past c start κ others (inr same) e = ap (is_this start) same ∙ e
 
-pub lasts_head : (limits : Limits) (c : Client) (flags : List Bool) (past : Past) (κ κ' : Connection) (others : List Connection) → κ'.name ≡ κ.name → Lasts limits c flags past (κ ∷ others)
+pub lasts_head : (limits : Limits) (c : Client) (flags : List Bool) (past : Past) (κ κ' : ClientConnection) (others : List ClientConnection) → κ'.name ≡ κ.name → Lasts limits c flags past (κ ∷ others)
     → Lasts limits c flags past (κ' ∷ others)
 lasts_head limits c flags past κ κ' others name h =
     record {
@@ -71,17 +71,17 @@ lasts_head limits c flags past κ κ' others name h =
       elsewhere = λ start e. accepts_same limits c past past (κ ∷ others) (κ' ∷ others) start refl (accepted_head past c start κ κ' others name (head_elsewhere past c start κ others h.head e)) (h.elsewhere start e);
     }
 
-pub lasts_written : (limits : Limits) (c : Client) (flags : List Bool) (past : Past) (more : List Written) (connections : List Connection) → Lasts limits c flags past connections
+pub lasts_written : (limits : Limits) (c : Client) (flags : List Bool) (past : Past) (more : List Written) (connections : List ClientConnection) → Lasts limits c flags past connections
     → Lasts limits c flags past (writes_first more connections)
 lasts_written limits c flags past more [] h = h
 lasts_written limits c flags past more (κ ∷ others) h = lasts_head limits c flags past κ (record κ { written = κ.written ++ more }) others refl h
 
-lasts_maybe : (limits : Limits) (c : Client) (flags : List Bool) (past : Past) (b : Bool) (more : List Written) (connections : List Connection) → Lasts limits c flags past connections
+lasts_maybe : (limits : Limits) (c : Client) (flags : List Bool) (past : Past) (b : Bool) (more : List Written) (connections : List ClientConnection) → Lasts limits c flags past connections
     → Lasts limits c flags past (if b then writes_first more connections else connections)
 lasts_maybe limits c flags past true more connections h = lasts_written limits c flags past more connections h
 lasts_maybe limits c flags past false more connections h = h
 
-lasts_opened : (limits : Limits) (c : Client) (flags : List Bool) (past : Past) (κ : Connection) (connections : List Connection) → IsHeadKept flags → AreShutUnopened limits past c connections
+lasts_opened : (limits : Limits) (c : Client) (flags : List Bool) (past : Past) (κ : ClientConnection) (connections : List ClientConnection) → IsHeadKept flags → AreShutUnopened limits past c connections
     → opened_in past c κ.name ≡ None → κ.accepted ≡ [] → Lasts limits c flags past connections → Lasts limits c (true ∷ flags) past (κ ∷ connections)
 lasts_opened limits c flags past κ connections head shut none nothing h =
     record {
@@ -94,7 +94,7 @@ lasts_opened limits c flags past κ connections head shut none nothing h =
 -- ---- the events
 
 -- a place that opens none of the client's
-pub all_fresh : (place : Place) (c : Client) (connections : List Connection) → accepts place.command place.mark c ≡ None → Each (IsFresh place c) connections
+pub all_fresh : (place : Place) (c : Client) (connections : List ClientConnection) → accepts place.command place.mark c ≡ None → Each (IsFresh place c) connections
 all_fresh place c [] none = tt
 all_fresh place c (κ ∷ connections) none = (inl (ap (opens_on κ.name) none), all_fresh place c connections none)
 
@@ -119,7 +119,7 @@ pub lasts_goes : (limits : Limits) (c : Client) (flags : List Bool) (s t : Story
 lasts_goes limits c flags s t life head l (takes i κ w stands next) =
     let command = command_of κ.name κ.taken w.packet in
     let kind = life_command limits c s i κ w life stands next in
-    let untouched = each_there (λ (μ : Connection). μ.taken ≡ 0 → IsUntouched limits s.past c μ) i s.connections κ stands life.connections.untouched in
+    let untouched = each_there (λ (μ : ClientConnection). μ.taken ≡ 0 → IsUntouched limits s.past c μ) i s.connections κ stands life.connections.untouched in
     lasts_placed limits c flags (place_of limits s.past command) s.past i s.connections life.session (own_opens limits s.past c κ w.packet command kind) (own_spares s.past c κ w.packet command kind)
     (own_fresh limits s.past c i κ w.packet command s.connections kind untouched stands life.connections.names) life.connections.shut l
 lasts_goes limits c flags s t life head l (others_take command other none) =

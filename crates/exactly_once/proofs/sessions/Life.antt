@@ -9,7 +9,7 @@ use Rattle.broker_base.specs.broker_spec.Past.{session_of}
 use Rattle.broker_base.specs.broker_spec.Commands.{past_of}
 use Rattle.broker_base.specs.broker_spec.declared.command.Command.{Command}
 use Rattle.client_base.specs.Keeper.{Keeper, ids_in_use}
-use Rattle.exactly_once.specs.Sides.{Connection}
+use Rattle.exactly_once.specs.Sides.{ClientConnection}
 use Rattle.exactly_once.specs.Sends.{put_to}
 use Rattle.exactly_once.specs.Story.{Story}
 use Rattle.exactly_once.specs.StoryCommands.{count_of}
@@ -35,24 +35,24 @@ NoneWelcome = Each (λ packet. is_welcome packet ≡ false)
 -- ---- connections
 
 -- one whose Connect was not accepted is sent no CONNACK 0, so nothing is accepted on it
-pub record IsShut (limits : Limits) (past : Past) (κ : Connection) : Type 0 where
+pub record IsShut (limits : Limits) (past : Past) (κ : ClientConnection) : Type 0 where
   pub unconfirmed : κ.confirmed ≡ false
   pub nothing : κ.accepted ≡ []
   pub unwelcome : NoneWelcome (put_to limits past κ.name)
 
-abbrev pub IsShutUnopened : Limits → Past → Client → Connection → Type 0
+abbrev pub IsShutUnopened : Limits → Past → Client → ClientConnection → Type 0
 IsShutUnopened limits past c κ = opened_in past c κ.name ≡ None → IsShut limits past κ
 
-abbrev pub AreShutUnopened : Limits → Past → Client → List Connection → Type 0
+abbrev pub AreShutUnopened : Limits → Past → Client → List ClientConnection → Type 0
 AreShutUnopened limits past c = Each (IsShutUnopened limits past c)
 
 -- as many of its packets are in the list as were taken of those that it wrote
-pub record IsCounted (past : Past) (κ : Connection) : Type 0 where
+pub record IsCounted (past : Past) (κ : ClientConnection) : Type 0 where
   pub counted : count_of κ.name past ≡ κ.taken
   pub within : κ.taken ≤ length κ.written
 
 -- the first one is open if the client holds one, and confirmed if it is online
-abbrev pub IsHeld : Keeper → List Connection → Type 0
+abbrev pub IsHeld : Keeper → List ClientConnection → Type 0
 IsHeld keeper [] = (keeper.is_open ≡ false) × (keeper.is_online ≡ false)
 IsHeld keeper (κ ∷ connections) = (keeper.is_open ≡ true → κ.confirmed ≡ keeper.is_online) × (keeper.is_online ≡ true → keeper.is_open ≡ true)
 
@@ -65,7 +65,7 @@ pub record IsUnserved (c : Client) (keeper : Keeper) : Type 0 where
   pub apart : IsDistinct (ids_in_use (unserved c [] keeper.own))
 
 -- of its connections
-pub record HasConnections (limits : Limits) (c : Client) (past : Past) (connections : List Connection) : Type 0 where
+pub record HasConnections (limits : Limits) (c : Client) (past : Past) (connections : List ClientConnection) : Type 0 where
   pub names : NamesApart connections
   pub untouched : AreUntouched limits past c connections
   pub shut : AreShutUnopened limits past c connections
@@ -73,11 +73,11 @@ pub record HasConnections (limits : Limits) (c : Client) (past : Past) (connecti
   pub counted : Each (IsCounted past) connections
 
 -- of the client itself
-pub record HasKeeper (c : Client) (past : Past) (keeper : Keeper) (connections : List Connection) : Type 0 where
+pub record HasKeeper (c : Client) (past : Past) (keeper : Keeper) (connections : List ClientConnection) : Type 0 where
   pub client : keeper.client ≡ c
   pub held : IsHeld keeper connections
   pub unserved : keeper.was_served ≡ false → IsUnserved c keeper
-  pub silent : keeper.was_served ≡ false → Each (λ (κ : Connection). κ.written ≡ opens c ∷ []) connections
+  pub silent : keeper.was_served ≡ false → Each (λ (κ : ClientConnection). κ.written ≡ opens c ∷ []) connections
   pub numbers : AreAllNumbered keeper
   pub unasked : keeper.is_online ≡ false → keeper.requests ≡ []
   pub begun : keeper.was_served ≡ true → has_begun past c ≡ true

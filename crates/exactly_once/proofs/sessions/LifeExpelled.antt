@@ -5,13 +5,13 @@ use Rattle.broker_base.specs.broker_spec.Past.{ends_any, newest_session, current
 use Rattle.broker_base.specs.broker_spec.Commands.{place_of}
 use Rattle.broker_base.specs.broker_spec.declared.command.Command.TheVariants as commands
 use Rattle.broker_base.proofs.ClientsInOrder.{same_self}
-use Rattle.exactly_once.specs.Sides.{Connection}
+use Rattle.exactly_once.specs.Sides.{ClientConnection}
 use Rattle.exactly_once.specs.Story.{Story}
 use Rattle.exactly_once.specs.StoryCommands.{any_named, is_packet_of}
 use Rattle.exactly_once.proofs.sessions.Life.{IsLife}
 use Rattle.exactly_once.proofs.sessions.LifePlaces.{one_more, keeper_stays, other_connections}
 
-pub none_expelled : (connections : List Connection) (c : Client) → any_named (is_packet_of (commands.Expel c)) connections ≡ false
+pub none_expelled : (connections : List ClientConnection) (c : Client) → any_named (is_packet_of (commands.Expel c)) connections ≡ false
 none_expelled [] c = refl
 none_expelled (κ ∷ connections) c = none_expelled connections c
 

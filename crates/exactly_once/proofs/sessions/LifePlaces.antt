@@ -10,7 +10,7 @@ use Rattle.broker_base.specs.broker_spec.Commands.{place_of, past_from, past_of}
 use Rattle.broker_base.specs.broker_spec.declared.command.Command.{Command}
 use Rattle.broker_base.specs.broker_spec.declared.command.Command.TheVariants as commands
 use Rattle.client_base.specs.Keeper.{Written, Keeper}
-use Rattle.exactly_once.specs.Sides.{Connection}
+use Rattle.exactly_once.specs.Sides.{ClientConnection}
 use Rattle.exactly_once.specs.Story.{Story}
 use Rattle.exactly_once.specs.StoryCommands.{any_named, counted_at, command_of, is_packet_of, names_client}
 use Rattle.exactly_once.specs.InStep.{has_begun}
@@ -38,17 +38,17 @@ one_more limits past list command is = ap (λ p. place_of limits p command ∷ p
 
 -- ---- the client
 
-held_counted : (keeper : Keeper) (i : ℕ) (connections : List Connection) → IsHeld keeper connections → IsHeld keeper (counted_at i connections)
+held_counted : (keeper : Keeper) (i : ℕ) (connections : List ClientConnection) → IsHeld keeper connections → IsHeld keeper (counted_at i connections)
 held_counted keeper i [] h = h
 held_counted keeper zero (κ ∷ connections) h = h
 held_counted keeper (suc i) (κ ∷ connections) h = h
 
-silent_counted : (c : Client) (i : ℕ) (connections : List Connection) → Each (λ (κ : Connection). κ.written ≡ opens c ∷ []) connections → Each (λ (κ : Connection). κ.written ≡ opens c ∷ []) (counted_at i connections)
+silent_counted : (c : Client) (i : ℕ) (connections : List ClientConnection) → Each (λ (κ : ClientConnection). κ.written ≡ opens c ∷ []) connections → Each (λ (κ : ClientConnection). κ.written ≡ opens c ∷ []) (counted_at i connections)
 silent_counted c i [] h = tt
 silent_counted c zero (κ ∷ connections) h = (h.0, h.1)
 silent_counted c (suc i) (κ ∷ connections) h = (h.0, silent_counted c i connections h.1)
 
-pub keeper_placed : (c : Client) (place : Place) (past : Past) (keeper : Keeper) (i : ℕ) (connections : List Connection) → HasKeeper c past keeper connections → HasKeeper c (place ∷ past) keeper (counted_at i connections)
+pub keeper_placed : (c : Client) (place : Place) (past : Past) (keeper : Keeper) (i : ℕ) (connections : List ClientConnection) → HasKeeper c past keeper connections → HasKeeper c (place ∷ past) keeper (counted_at i connections)
 keeper_placed c place past keeper i connections k =
     record {
       client = k.client;
@@ -63,26 +63,26 @@ keeper_placed c place past keeper i connections k =
 -- ---- a packet that it wrote
 
 -- which client it names
-pub own_opens : (limits : Limits) (past : Past) (c : Client) (κ : Connection) (packet : Packet) (command : Command) → IsOwnCommand c κ packet command → OpensKept c (place_of limits past command)
+pub own_opens : (limits : Limits) (past : Past) (c : Client) (κ : ClientConnection) (packet : Packet) (command : Command) → IsOwnCommand c κ packet command → OpensKept c (place_of limits past command)
 own_opens limits past c κ packet command (inl k) =
     subst (λ (d : Command). OpensKept c (place_of limits past d)) (sym k.1) (kept_connect κ.name c c (mark_of limits past (commands.Connect κ.name c false)))
 own_opens limits past c κ packet command (inr k) = subst (λ (d : Command). OpensKept c (place_of limits past d)) (sym k.1) (λ opened e. cc)
 
-pub own_spares : (past : Past) (c : Client) (κ : Connection) (packet : Packet) (command : Command) → IsOwnCommand c κ packet command → IsSpared command past c
+pub own_spares : (past : Past) (c : Client) (κ : ClientConnection) (packet : Packet) (command : Command) → IsOwnCommand c κ packet command → IsSpared command past c
 own_spares past c κ packet command (inl k) = inl (ap (λ d. expels d c) k.1)
 own_spares past c κ packet command (inr k) = inl (ap (λ d. expels d c) k.1)
 
-own_alone_opens : (limits : Limits) (past : Past) (c : Client) (connections : List Connection) (κ : Connection) (packet : Packet) (command : Command) → IsOwnCommand c κ packet command
+own_alone_opens : (limits : Limits) (past : Past) (c : Client) (connections : List ClientConnection) (κ : ClientConnection) (packet : Packet) (command : Command) → IsOwnCommand c κ packet command
     → OpensOwn c connections (place_of limits past command)
 own_alone_opens limits past c connections κ packet command (inl k) =
     subst (λ (d : Command). OpensOwn c connections (place_of limits past d)) (sym k.1) (own_connect κ.name c connections false (mark_of limits past (commands.Connect κ.name c false)))
 own_alone_opens limits past c connections κ packet command (inr k) = subst (λ (d : Command). OpensOwn c connections (place_of limits past d)) (sym k.1) (λ d opened e named. cc)
 
-own_connections : (limits : Limits) (past : Past) (c : Client) (i : ℕ) (κ : Connection) (w : Written) (command : Command) (connections : List Connection) → IsOwnCommand c κ w.packet command → slice_get κ.written κ.taken ≡ Some w
+own_connections : (limits : Limits) (past : Past) (c : Client) (i : ℕ) (κ : ClientConnection) (w : Written) (command : Command) (connections : List ClientConnection) → IsOwnCommand c κ w.packet command → slice_get κ.written κ.taken ≡ Some w
     → slice_get connections i ≡ Some κ → HasConnections limits c past connections → HasConnections limits c (place_of limits past command ∷ past) (counted_at i connections)
 own_connections limits past c i κ w command connections kind next at h =
     let packet = w.packet in
-    let untouched = each_there (λ (μ : Connection). μ.taken ≡ 0 → IsUntouched limits past c μ) i connections κ at h.untouched in
+    let untouched = each_there (λ (μ : ClientConnection). μ.taken ≡ 0 → IsUntouched limits past c μ) i connections κ at h.untouched in
     record {
       names = counted_apart i connections h.names;
       untouched = own_untouched limits past c i κ packet command connections kind at h.names h.untouched;
@@ -93,12 +93,12 @@ own_connections limits past c i κ w command connections kind next at h =
     }
 
 -- its kind
-pub life_command : (limits : Limits) (c : Client) (s : Story) (i : ℕ) (κ : Connection) (w : Written) → IsLife limits c s → slice_get s.connections i ≡ Some κ → slice_get κ.written κ.taken ≡ Some w
+pub life_command : (limits : Limits) (c : Client) (s : Story) (i : ℕ) (κ : ClientConnection) (w : Written) → IsLife limits c s → slice_get s.connections i ≡ Some κ → slice_get κ.written κ.taken ≡ Some w
     → IsOwnCommand c κ w.packet (command_of κ.name κ.taken w.packet)
 life_command limits c s i κ w life at next =
-    own_command limits s.past c κ w (each_there (λ (μ : Connection). μ.taken ≡ 0 → IsUntouched limits s.past c μ) i s.connections κ at life.connections.untouched) next
+    own_command limits s.past c κ w (each_there (λ (μ : ClientConnection). μ.taken ≡ 0 → IsUntouched limits s.past c μ) i s.connections κ at life.connections.untouched) next
 
-pub life_taken : (limits : Limits) (c : Client) (s : Story) (i : ℕ) (κ : Connection) (w : Written) → IsLife limits c s → slice_get s.connections i ≡ Some κ → slice_get κ.written κ.taken ≡ Some w
+pub life_taken : (limits : Limits) (c : Client) (s : Story) (i : ℕ) (κ : ClientConnection) (w : Written) → IsLife limits c s → slice_get s.connections i ≡ Some κ → slice_get κ.written κ.taken ≡ Some w
     → IsLife limits c (record { past = place_of limits s.past (command_of κ.name κ.taken w.packet) ∷ s.past; connections = counted_at i s.connections; keeper = s.keeper })
 life_taken limits c s i κ w life at next =
     let command = command_of κ.name κ.taken w.packet in
@@ -113,17 +113,17 @@ life_taken limits c s i κ w life at next =
 
 -- ---- a command of none of its connections
 
-pub keeper_stays : (c : Client) (place : Place) (past : Past) (keeper : Keeper) (connections : List Connection) → HasKeeper c past keeper connections → HasKeeper c (place ∷ past) keeper connections
+pub keeper_stays : (c : Client) (place : Place) (past : Past) (keeper : Keeper) (connections : List ClientConnection) → HasKeeper c past keeper connections → HasKeeper c (place ∷ past) keeper connections
 keeper_stays c place past keeper connections k =
     record { client = k.client; held = k.held; unserved = k.unserved; silent = k.silent; numbers = k.numbers; unasked = k.unasked; begun = λ e. or_right (begins place past c) (has_begun past c) (k.begun e) }
 
-pub other_connections : (limits : Limits) (past : Past) (c : Client) (command : Command) (connections : List Connection) → any_named (is_packet_of command) connections ≡ false → HasConnections limits c past connections
+pub other_connections : (limits : Limits) (past : Past) (c : Client) (command : Command) (connections : List ClientConnection) → any_named (is_packet_of command) connections ≡ false → HasConnections limits c past connections
     → HasConnections limits c (place_of limits past command ∷ past) connections
 other_connections limits past c command connections none h =
     let place = place_of limits past command in
     record {
       names = h.names;
-      untouched = each_other (λ (μ : Connection). μ.taken ≡ 0 → IsUntouched limits past c μ) (λ (μ : Connection). μ.taken ≡ 0 → IsUntouched limits (place ∷ past) c μ) (is_packet_of command) connections none
+      untouched = each_other (λ (μ : ClientConnection). μ.taken ≡ 0 → IsUntouched limits past c μ) (λ (μ : ClientConnection). μ.taken ≡ 0 → IsUntouched limits (place ∷ past) c μ) (is_packet_of command) connections none
           (λ μ other g new. untouched_other limits place past c μ other (g new)) h.untouched;
       shut = each_other (IsShutUnopened limits past c) (IsShutUnopened limits (place ∷ past) c) (is_packet_of command) connections none (λ μ other g. shut_other limits place past c μ other g) h.shut;
       nobody = nobody_placed place past c connections (other_opens c connections command place.mark none) h.nobody;

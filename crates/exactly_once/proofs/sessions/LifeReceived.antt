@@ -7,7 +7,7 @@ use Rattle.broker_base.specs.broker_spec.Connection.{same_connection}
 use Rattle.broker_base.specs.broker_spec.Place.{Client, Past, Limits}
 use Rattle.client_base.specs.Keeper.{Keeper, Written}
 use Rattle.client_base.specs.Handled.{handled}
-use Rattle.exactly_once.specs.Sides.{Connection, Side}
+use Rattle.exactly_once.specs.Sides.{ClientConnection, Side}
 use Rattle.exactly_once.specs.Sends.{put_to}
 use Rattle.exactly_once.specs.StoryCommands.{any_named, count_of}
 use Rattle.exactly_once.specs.InStep.{has_begun, opened_in}
@@ -24,15 +24,15 @@ use Rattle.client_base.proofs.NumbersStay.{handled_numbers}
 use Rattle.exactly_once.proofs.publishing.Grown.{handled_grows}
 use Rattle.std.proofs.lemmas.List.{length-append}
 
-held_settled : (side : Side) (others : List Connection) → IsSettled side → IsHeld side.keeper (side.connection ∷ others)
+held_settled : (side : Side) (others : List ClientConnection) → IsSettled side → IsHeld side.keeper (side.connection ∷ others)
 held_settled side others (inl h) = (λ e. h.2 ∙ sym h.1, λ e. h.0)
 held_settled side others (inr h) = (λ e. absurd (both_ways side.keeper.is_open h.0 e), λ e. absurd (both_ways side.keeper.is_online h.1 e))
 
 -- it was sent, so a packet of the connection was taken
-was_taken : (limits : Limits) (past : Past) (c : Client) (κ : Connection) (packet : Packet) → (κ.taken ≡ 0 → IsUntouched limits past c κ) → slice_get (put_to limits past κ.name) κ.handled ≡ Some packet → κ.taken ≡ 0 → ⊥
+was_taken : (limits : Limits) (past : Past) (c : Client) (κ : ClientConnection) (packet : Packet) → (κ.taken ≡ 0 → IsUntouched limits past c κ) → slice_get (put_to limits past κ.name) κ.handled ≡ Some packet → κ.taken ≡ 0 → ⊥
 was_taken limits past c κ packet h next new = let e : slice_get [] κ.handled ≡ Some packet = sym (ap (λ (l : List Packet). slice_get l κ.handled) (h new).unsent) ∙ next in cc
 
-shut_handled : (limits : Limits) (past : Past) (c : Client) (keeper : Keeper) (κ : Connection) (packet : Packet) → keeper.is_open ≡ true → (keeper.is_open ≡ true → κ.confirmed ≡ keeper.is_online)
+shut_handled : (limits : Limits) (past : Past) (c : Client) (keeper : Keeper) (κ : ClientConnection) (packet : Packet) → keeper.is_open ≡ true → (keeper.is_open ≡ true → κ.confirmed ≡ keeper.is_online)
     → slice_get (put_to limits past κ.name) κ.handled ≡ Some packet → IsShutUnopened limits past c κ → IsShutUnopened limits past c (handled packet (let side : Side = record { keeper = keeper; connection = κ } in side)).connection
 shut_handled limits past c keeper κ packet opened held next h e =
     let side : Side = record { keeper = keeper; connection = κ } in
@@ -41,7 +41,7 @@ shut_handled limits past c keeper κ packet opened held next h e =
     subst (λ (z : Side). IsShut limits past z.connection) (sym (unwelcome_ends packet side (sym (held opened) ∙ s.unconfirmed) unwelcome))
     (record { unconfirmed = s.unconfirmed; nothing = s.nothing; unwelcome = s.unwelcome })
 
-begun_handled : (limits : Limits) (past : Past) (c : Client) (keeper : Keeper) (κ : Connection) (packet : Packet) → slice_get (put_to limits past κ.name) κ.handled ≡ Some packet → IsShutUnopened limits past c κ
+begun_handled : (limits : Limits) (past : Past) (c : Client) (keeper : Keeper) (κ : ClientConnection) (packet : Packet) → slice_get (put_to limits past κ.name) κ.handled ≡ Some packet → IsShutUnopened limits past c κ
     → (keeper.was_served ≡ true → has_begun past c ≡ true) → (handled packet (let side : Side = record { keeper = keeper; connection = κ } in side)).keeper.was_served ≡ true → has_begun past c ≡ true
 begun_handled limits past c keeper κ packet next h begun e = by (served_handled packet (record { keeper = keeper; connection = κ }) e)
   where
@@ -54,7 +54,7 @@ begun_handled limits past c keeper κ packet next h begun e = by (served_handled
     by (inl f) = begun f
     by (inr w) = two (opened_in past c κ.name) refl w
 
-counted_handled : (past : Past) (keeper : Keeper) (κ : Connection) (packet : Packet) → IsCounted past κ → IsCounted past (handled packet (let side : Side = record { keeper = keeper; connection = κ } in side)).connection
+counted_handled : (past : Past) (keeper : Keeper) (κ : ClientConnection) (packet : Packet) → IsCounted past κ → IsCounted past (handled packet (let side : Side = record { keeper = keeper; connection = κ } in side)).connection
 counted_handled past keeper κ packet h =
     let grown = handled_grows κ keeper packet in
     record {
@@ -62,7 +62,7 @@ counted_handled past keeper κ packet h =
       within = let w = h.within in let l = length-append κ.written grown.more in let m = ap (λ (ws : List Written). length ws) grown.written in let t = grown.taken in omega (arith, w, l, m, t);
     }
 
-pub life_received : (limits : Limits) (c : Client) (past : Past) (keeper : Keeper) (κ : Connection) (others : List Connection) (packet : Packet) → keeper.is_open ≡ true
+pub life_received : (limits : Limits) (c : Client) (past : Past) (keeper : Keeper) (κ : ClientConnection) (others : List ClientConnection) (packet : Packet) → keeper.is_open ≡ true
     → slice_get (put_to limits past κ.name) κ.handled ≡ Some packet → HasConnections limits c past (κ ∷ others) → HasKeeper c past keeper (κ ∷ others) → (side : Side) → side ≡ record { keeper = keeper; connection = κ }
     → HasConnections limits c past ((handled packet side).connection ∷ others) × HasKeeper c past (handled packet side).keeper ((handled packet side).connection ∷ others)
 life_received limits c past keeper κ others packet opened next h k side is = subst P (sym is) (connections, client)

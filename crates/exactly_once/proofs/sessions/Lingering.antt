@@ -10,7 +10,7 @@ use Rattle.broker_base.specs.broker_spec.Past.{accepts, session_of, begins}
 use Rattle.broker_base.specs.broker_spec.NobodyLaws.{IsSteady}
 use Rattle.broker_base.specs.broker_spec.Answers.{answers_at}
 use Rattle.client_base.specs.Keeper.{Keeper}
-use Rattle.exactly_once.specs.Sides.{Connection}
+use Rattle.exactly_once.specs.Sides.{ClientConnection}
 use Rattle.exactly_once.specs.Sends.{sends_to, put_to}
 use Rattle.exactly_once.specs.Story.{Story, StoryStep}
 use Rattle.exactly_once.specs.StoryCommands.{counted_at}
@@ -30,7 +30,7 @@ use Rattle.exactly_once.proofs.sessions.Turns.{starts_stay}
 use Rattle.exactly_once.proofs.sessions.Parted.{entries_parted}
 
 -- the life at the Expel, with what the client did since
-pub record IsFrozen (limits : Limits) (c : Client) (flags : List Bool) (earlier : Past) (keeper : Keeper) (newest : Connection) (before : List Connection) : Type 0 where
+pub record IsFrozen (limits : Limits) (c : Client) (flags : List Bool) (earlier : Past) (keeper : Keeper) (newest : ClientConnection) (before : List ClientConnection) : Type 0 where
   pub life : IsLife limits c (with_connections earlier keeper (newest ∷ before))
   pub stands : Stands limits c flags (with_connections earlier keeper (newest ∷ before))
   pub lasts : Lasts limits c flags earlier (newest ∷ before)
@@ -38,7 +38,7 @@ pub record IsFrozen (limits : Limits) (c : Client) (flags : List Bool) (earlier 
 
 -- what came in the list since: nothing for the newest connection, of which this many packets are
 -- taken by now
-pub record IsSince (limits : Limits) (c : Client) (past earlier : Past) (x : ConnectionName) (count : ℕ) (others before : List Connection) : Type 0 where
+pub record IsSince (limits : Limits) (c : Client) (past earlier : Past) (x : ConnectionName) (count : ℕ) (others before : List ClientConnection) : Type 0 where
   pub none : session_of past c ≡ None
   pub begun : has_begun past c ≡ true
   pub some : 1 ≤ count
@@ -51,10 +51,10 @@ pub record IsSince (limits : Limits) (c : Client) (past earlier : Past) (x : Con
 pub record Lingers (limits : Limits) (c : Client) (s : Story) : Type 0 where
   pub flags : List Bool
   pub earlier : Past
-  pub newest : Connection
+  pub newest : ClientConnection
   pub count : ℕ
-  pub others : List Connection
-  pub before : List Connection
+  pub others : List ClientConnection
+  pub before : List ClientConnection
   pub are : s.connections ≡ record newest { taken = count } ∷ others
   pub frozen : IsFrozen limits c flags earlier s.keeper newest before
   pub since : IsSince limits c s.past earlier newest.name count others before
@@ -69,17 +69,17 @@ lingers_accepts limits steady c s l start =
 
 -- ---- the client continues
 
-pub frozen_goes : (limits : Limits) (c : Client) (flags : List Bool) (earlier : Past) (keeper later : Keeper) (newest after : Connection) (before connections : List Connection)
+pub frozen_goes : (limits : Limits) (c : Client) (flags : List Bool) (earlier : Past) (keeper later : Keeper) (newest after : ClientConnection) (before connections : List ClientConnection)
     → IsFrozen limits c flags earlier keeper newest before → (h : StoryStep limits (with_connections earlier keeper (newest ∷ before)) (with_connections earlier later connections)) → flags_after flags h ≡ flags
     → connections ≡ after ∷ before → IsFrozen limits c flags earlier later after before
 frozen_goes limits c flags earlier keeper later newest after before connections f h same are =
     let s = with_connections earlier keeper (newest ∷ before) in
     let t = with_connections earlier later connections in
     let life = life_goes limits c s t f.life h in
-    let step : IsInStep t = subst (λ (l : List Connection). AreWelcome earlier later.client l) (sym are) (subst (λ (d : Client). Each (WasWelcome earlier d) before) (sym life.keeper.client) f.step) in
+    let step : IsInStep t = subst (λ (l : List ClientConnection). AreWelcome earlier later.client l) (sym are) (subst (λ (d : Client). Each (WasWelcome earlier d) before) (sym life.keeper.client) f.step) in
     record {
-      life = subst (λ (l : List Connection). IsLife limits c (with_connections earlier later l)) are life;
-      stands = subst (λ (l : List Connection). Stands limits c flags (with_connections earlier later l)) are
+      life = subst (λ (l : List ClientConnection). IsLife limits c (with_connections earlier later l)) are life;
+      stands = subst (λ (l : List ClientConnection). Stands limits c flags (with_connections earlier later l)) are
           (subst (λ (fs : List Bool). Stands limits c fs t) same (stands_goes limits c flags s t f.life f.stands h step));
       lasts = subst (Lasts limits c flags earlier) are
           (subst (λ (fs : List Bool). Lasts limits c fs earlier connections) same (lasts_goes limits c flags s t f.life (stands_head limits c flags s f.stands) f.lasts h));
@@ -88,7 +88,7 @@ frozen_goes limits c flags earlier keeper later newest after before connections 
 
 -- ---- a place that opens none of the client's connections
 
-rest_placed : (limits : Limits) (c : Client) (place : Place) (past earlier : Past) (x : ConnectionName) (count : ℕ) (others before : List Connection) → accepts place.command place.mark c ≡ None
+rest_placed : (limits : Limits) (c : Client) (place : Place) (past earlier : Past) (x : ConnectionName) (count : ℕ) (others before : List ClientConnection) → accepts place.command place.mark c ≡ None
     → sends_to x (answers_at limits place past) ≡ [] → IsSince limits c past earlier x count others before → IsSince limits c (place ∷ past) earlier x count others before
 rest_placed limits c place past earlier x count others before closed silent i =
     let none = none_opens place past c closed i.none in
@@ -104,17 +104,17 @@ rest_placed limits c place past earlier x count others before closed silent i =
     }
 
 -- one more packet is taken of the newest one, or of another
-since_counted : (limits : Limits) (c : Client) (past earlier : Past) (x : ConnectionName) (count : ℕ) (others before : List Connection) → IsSince limits c past earlier x count others before
+since_counted : (limits : Limits) (c : Client) (past earlier : Past) (x : ConnectionName) (count : ℕ) (others before : List ClientConnection) → IsSince limits c past earlier x count others before
     → IsSince limits c past earlier x (suc count) others before
 since_counted limits c past earlier x count others before i =
     record { none = i.none; begun = i.begun; some = let h = i.some in omega (arith, h); put = i.put; opened = i.opened; starts = i.starts; entries = i.entries; rest = i.rest }
 
-rest_counted : (limits : Limits) (c : Client) (past earlier : Past) (x : ConnectionName) (count j : ℕ) (others before : List Connection) → IsSince limits c past earlier x count others before
+rest_counted : (limits : Limits) (c : Client) (past earlier : Past) (x : ConnectionName) (count j : ℕ) (others before : List ClientConnection) → IsSince limits c past earlier x count others before
     → IsSince limits c past earlier x count (counted_at j others) before
 rest_counted limits c past earlier x count j others before i =
     record { none = i.none; begun = i.begun; some = i.some; put = i.put; opened = i.opened; starts = i.starts; entries = i.entries; rest = λ start. accepted_counted past c start j others ∙ i.rest start }
 
-pub lingers_placed : (limits : Limits) (c : Client) (place : Place) (past : Past) (keeper : Keeper) (i : ℕ) (connections : List Connection) → accepts place.command place.mark c ≡ None
+pub lingers_placed : (limits : Limits) (c : Client) (place : Place) (past : Past) (keeper : Keeper) (i : ℕ) (connections : List ClientConnection) → accepts place.command place.mark c ≡ None
     → (l : Lingers limits c (with_connections past keeper connections)) → sends_to l.newest.name (answers_at limits place past) ≡ [] → Lingers limits c (with_connections (place ∷ past) keeper (counted_at i connections))
 lingers_placed limits c place past keeper i connections closed l silent = by i
   where

@@ -12,7 +12,7 @@ use Rattle.client_base.specs.Keeper.{Written, Keeper}
 use Rattle.client_base.specs.Called.{new_connection, written_for}
 use Rattle.client_base.specs.Handled.{handled, lost}
 use Rattle.client_base.specs.Written.{plain, writes_first}
-use Rattle.exactly_once.specs.Sides.{Connection, Side}
+use Rattle.exactly_once.specs.Sides.{ClientConnection, Side}
 use Rattle.exactly_once.specs.Sends.{put_to}
 use Rattle.exactly_once.specs.Story.{Story, StoryStep, with_side}
 use Rattle.exactly_once.specs.StoryCommands.{command_of, counted_at, names_client, is_packet_of}
@@ -51,10 +51,10 @@ with_written limits c s later more l f =
     }
 
 -- it handles a packet there
-with_handled : (limits : Limits) (c : Client) (s : Story) (κ : Connection) (others : List Connection) (packet : Packet) → s.connections ≡ κ ∷ others → s.keeper.is_open ≡ true
+with_handled : (limits : Limits) (c : Client) (s : Story) (κ : ClientConnection) (others : List ClientConnection) (packet : Packet) → s.connections ≡ κ ∷ others → s.keeper.is_open ≡ true
     → slice_get (put_to limits s.past κ.name) κ.handled ≡ Some packet → (l : Lingers limits c s) → Lingers limits c (with_side s others (handled packet (record { keeper = s.keeper; connection = κ })))
 with_handled limits c s κ others packet are opened next l =
-    subst (λ (z : Connection). Lingers limits c (with_side s others (handled packet (side_of z)))) (sym one)
+    subst (λ (z : ClientConnection). Lingers limits c (with_side s others (handled packet (side_of z)))) (sym one)
     (subst (λ (z : Side). Lingers limits c (with_side s others z)) (sym counted)
     (record {
       flags = l.flags;
@@ -69,7 +69,7 @@ with_handled limits c s κ others packet are opened next l =
       since = subst (λ x. IsSince limits c s.past l.earlier x l.count l.others l.before) (sym (stays_handled packet before).name) l.since;
     }))
   where
-    side_of : Connection → Side
+    side_of : ClientConnection → Side
     side_of z = record { keeper = s.keeper; connection = z }
 
     before : Side
@@ -88,7 +88,7 @@ with_handled limits c s κ others packet are opened next l =
     counted = handled_counted l.count packet before
 
     here : slice_get (put_to limits l.earlier l.newest.name) l.newest.handled ≡ Some packet
-    here = ap (λ put. slice_get put l.newest.handled) (sym l.since.put) ∙ ap (λ (z : Connection). slice_get (put_to limits s.past z.name) z.handled) (sym one) ∙ next
+    here = ap (λ put. slice_get put l.newest.handled) (sym l.since.put) ∙ ap (λ (z : ClientConnection). slice_get (put_to limits s.past z.name) z.handled) (sym one) ∙ next
 
 -- ---- the events
 

@@ -15,7 +15,7 @@ use Rattle.broker_base.specs.broker_spec.Commands.{place_of}
 use Rattle.broker_base.specs.broker_spec.declared.command.Command.{Command}
 use Rattle.broker_base.specs.broker_spec.declared.command.Command.TheVariants as commands
 use Rattle.client_base.specs.Keeper.{Written}
-use Rattle.exactly_once.specs.Sides.{Connection}
+use Rattle.exactly_once.specs.Sides.{ClientConnection}
 use Rattle.exactly_once.specs.Sends.{sends_to}
 use Rattle.exactly_once.specs.Story.{Story}
 use Rattle.exactly_once.specs.StoryCommands.{any_named, command_of, counted_at, is_packet_of}
@@ -40,7 +40,7 @@ use Rattle.exactly_once.proofs.sessions.Lingering.{Lingers, lingers_placed}
 
 -- ---- nothing is sent to its newest connection
 
-nobody_there : (past : Past) (c : Client) (x : ConnectionName) (connections : List Connection) → session_of past c ≡ None → NobodyElse past c connections → any_named (same_connection x) connections ≡ true
+nobody_there : (past : Past) (c : Client) (x : ConnectionName) (connections : List ClientConnection) → session_of past c ≡ None → NobodyElse past c connections → any_named (same_connection x) connections ≡ true
     → (d : Client) → current_connection past d ≡ Some x → ⊥
 nobody_there past c x connections none nobody named d current =
     let same = same_is d c (nobody d x current named) in
@@ -52,7 +52,7 @@ nothing_answered limits past x y (packets.Publish p) = refl
 nothing_answered limits past x y (packets.Subscribe q) = refl
 nothing_answered limits past x y _ = refl
 
-head_named : (x : ConnectionName) (connections : List Connection) (newest : Connection) (count : ℕ) (others : List Connection) → newest.name ≡ x → connections ≡ record newest { taken = count } ∷ others
+head_named : (x : ConnectionName) (connections : List ClientConnection) (newest : ClientConnection) (count : ℕ) (others : List ClientConnection) → newest.name ≡ x → connections ≡ record newest { taken = count } ∷ others
     → any_named (same_connection x) connections ≡ true
 head_named x connections newest count others name are =
     ap (any_named (same_connection x)) are ∙ ap (λ b. b || any_named (same_connection x) others) (ap (same_connection x) name ∙ same_itself x)
@@ -60,31 +60,31 @@ head_named x connections newest count others name are =
 -- ---- a packet that the client wrote
 
 -- an own Connect is not the newest connection's, of which a packet was taken
-first_taken : (i : ℕ) (connections : List Connection) (κ newest : Connection) (count : ℕ) (others : List Connection) → NamesApart connections → slice_get connections i ≡ Some κ
+first_taken : (i : ℕ) (connections : List ClientConnection) (κ newest : ClientConnection) (count : ℕ) (others : List ClientConnection) → NamesApart connections → slice_get connections i ≡ Some κ
     → connections ≡ record newest { taken = count } ∷ others → 1 ≤ count → κ.taken ≡ 0 → κ.name ≡ newest.name → ⊥
 first_taken i connections κ newest count others names at are some new name =
-    by i (subst NamesApart are names) (subst (λ (cs : List Connection). slice_get cs i ≡ Some κ) are at)
+    by i (subst NamesApart are names) (subst (λ (cs : List ClientConnection). slice_get cs i ≡ Some κ) are at)
   where
     by : (i : ℕ) → NamesApart (record newest { taken = count } ∷ others) → slice_get (record newest { taken = count } ∷ others) i ≡ Some κ → ⊥
     by zero names at =
         let same : record newest { taken = count } ≡ κ = cc in
-        let e : count ≡ κ.taken = ap (λ (z : Connection). z.taken) same in
+        let e : count ≡ κ.taken = ap (λ (z : ClientConnection). z.taken) same in
         omega (arith, some, new, e)
     by (suc j) names at =
         both_ways (same_connection κ.name newest.name) (other_name newest.name others j κ names.0 at) (ap (same_connection κ.name) (sym name) ∙ same_itself κ.name)
 
 -- nor is an older one's accepted, if the client is in step
-after_newest : (limits : Limits) (c : Client) (past : Past) (i : ℕ) (κ newest : Connection) (count : ℕ) (others : List Connection) → session_of past c ≡ None → has_begun past c ≡ true
+after_newest : (limits : Limits) (c : Client) (past : Past) (i : ℕ) (κ newest : ClientConnection) (count : ℕ) (others : List ClientConnection) → session_of past c ≡ None → has_begun past c ≡ true
     → slice_get (record newest { taken = count } ∷ others) i ≡ Some κ → 1 ≤ count → κ.taken ≡ 0 → κ.confirmed ≡ false
     → AreWelcome (accepted_at κ.name c ∷ past) c (counted_at i (record newest { taken = count } ∷ others)) → ⊥
 after_newest limits c past zero κ newest count others none begun at some new unconfirmed step =
     let same : record newest { taken = count } ≡ κ = cc in
-    let e : count ≡ κ.taken = ap (λ (z : Connection). z.taken) same in
+    let e : count ≡ κ.taken = ap (λ (z : ClientConnection). z.taken) same in
     omega (arith, some, new, e)
 after_newest limits c past (suc j) κ newest count others none begun at some new unconfirmed step =
     none_older past c j κ (record newest { taken = count }) others none begun at unconfirmed step
 
-pub lingers_takes : (limits : Limits) (c : Client) (s : Story) (i : ℕ) (κ : Connection) (w : Written) → IsLife limits c s → (l : Lingers limits c s) → slice_get s.connections i ≡ Some κ → slice_get κ.written κ.taken ≡ Some w
+pub lingers_takes : (limits : Limits) (c : Client) (s : Story) (i : ℕ) (κ : ClientConnection) (w : Written) → IsLife limits c s → (l : Lingers limits c s) → slice_get s.connections i ≡ Some κ → slice_get κ.written κ.taken ≡ Some w
     → AreWelcome (place_of limits s.past (command_of κ.name κ.taken w.packet) ∷ s.past) c (counted_at i s.connections)
     → Lingers limits c (with_connections (place_of limits s.past (command_of κ.name κ.taken w.packet) ∷ s.past) s.keeper (counted_at i s.connections))
 lingers_takes limits c s i κ w life l stands next step = by (life_command limits c s i κ w life stands next)
@@ -96,7 +96,7 @@ lingers_takes limits c s i κ w life l stands next step = by (life_command limit
     x = l.newest.name
 
     untouched : κ.taken ≡ 0 → IsUntouched limits s.past c κ
-    untouched = each_there (λ (μ : Connection). μ.taken ≡ 0 → IsUntouched limits s.past c μ) i s.connections κ stands life.connections.untouched
+    untouched = each_there (λ (μ : ClientConnection). μ.taken ≡ 0 → IsUntouched limits s.past c μ) i s.connections κ stands life.connections.untouched
 
     named : any_named (same_connection x) s.connections ≡ true
     named = head_named x s.connections l.newest l.count l.others refl l.are
@@ -122,10 +122,10 @@ lingers_takes limits c s i κ w life l stands next step = by (life_command limit
 
     older : κ.taken ≡ 0 → place_of limits s.past command ≡ accepted_at κ.name c → ⊥
     older new at =
-        after_newest limits c s.past i κ l.newest l.count l.others l.since.none l.since.begun (subst (λ (cs : List Connection). slice_get cs i ≡ Some κ) l.are stands) l.since.some new
-        (ap (λ (z : Connection). z.confirmed) (untouched new).is)
+        after_newest limits c s.past i κ l.newest l.count l.others l.since.none l.since.begun (subst (λ (cs : List ClientConnection). slice_get cs i ≡ Some κ) l.are stands) l.since.some new
+        (ap (λ (z : ClientConnection). z.confirmed) (untouched new).is)
         (subst (λ (q : Place). AreWelcome (q ∷ s.past) c (counted_at i (record l.newest { taken = l.count } ∷ l.others))) at
-        (subst (λ (cs : List Connection). AreWelcome (place_of limits s.past command ∷ s.past) c (counted_at i cs)) l.are step))
+        (subst (λ (cs : List ClientConnection). AreWelcome (place_of limits s.past command ∷ s.past) c (counted_at i cs)) l.are step))
 
     by : IsOwnCommand c κ w.packet command → Goal
     by (inr k) = stays (inr k) (ap (λ d. accepts d (mark_of limits s.past d) c) k.1)
@@ -142,13 +142,13 @@ pub lingers_other : (limits : Limits) (c : Client) (s : Story) (command : Comman
 lingers_other limits c s command life l closed other =
     let named = head_named l.newest.name s.connections l.newest l.count l.others refl l.are in
     let place = place_of limits s.past command in
-    subst (λ (cs : List Connection). Lingers limits c (with_connections (place ∷ s.past) s.keeper cs)) (counted_none s.connections)
+    subst (λ (cs : List ClientConnection). Lingers limits c (with_connections (place ∷ s.past) s.keeper cs)) (counted_none s.connections)
     (lingers_placed limits c place s.past s.keeper (length s.connections) s.connections closed l
     (place_to_nobody limits place s.past l.newest.name other (nobody_there s.past c l.newest.name s.connections l.since.none life.connections.nobody named)))
 
 pub lingers_expelled : (limits : Limits) (c : Client) (s : Story) → IsLife limits c s → Lingers limits c s → Lingers limits c (record s { past = place_of limits s.past (commands.Expel c) ∷ s.past })
 lingers_expelled limits c s life l = lingers_other limits c s (commands.Expel c) life l refl refl
 
-pub none_of_head : (test : ConnectionName → Bool) (connections : List Connection) (newest : Connection) (count : ℕ) (others : List Connection) → connections ≡ record newest { taken = count } ∷ others
+pub none_of_head : (test : ConnectionName → Bool) (connections : List ClientConnection) (newest : ClientConnection) (count : ℕ) (others : List ClientConnection) → connections ≡ record newest { taken = count } ∷ others
     → any_named test connections ≡ false → test newest.name ≡ false
 none_of_head test connections newest count others are none = (or_none (test newest.name) (any_named test others) (sym (ap (any_named test) are) ∙ none)).0

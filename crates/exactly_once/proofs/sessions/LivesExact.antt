@@ -7,7 +7,7 @@ use Rattle.broker_base.specs.broker_spec.NobodyLaws.{IsSteady}
 use Rattle.broker_base.specs.broker_spec.Commands.{place_of}
 use Rattle.broker_base.specs.broker_spec.declared.command.Command.TheVariants as commands
 use Rattle.client_base.specs.Keeper.{all_own}
-use Rattle.exactly_once.specs.Sides.{Connection}
+use Rattle.exactly_once.specs.Sides.{ClientConnection}
 use Rattle.exactly_once.specs.Story.{Story, StoryStep, no_story}
 use Rattle.exactly_once.specs.StoryCommands.{counted_at, command_of}
 use Rattle.exactly_once.specs.Story.StoryStep.{takes, others_take, receives, opens_anew, loses, disconnects, publishes_one, subscribes, unsubscribes}
@@ -127,7 +127,7 @@ lasting_says limits steady c flags s t life n olds is carried (takes i κ w stan
     let ps = publications_of (all_own s.keeper) in
     subst (λ (d : Client). Says d ps (counted_at i s.connections) (place_of limits s.past (command_of κ.name κ.taken w.packet)) s.past) (sym life.keeper.client)
     (says_lasting limits c flags s i κ w ps olds life (stands_sound limits steady c flags s life (stands_numbered limits c flags s n)) is stands next
-    (each_at (IsOfOwn ps) κ.taken κ.written w next (each_there (λ (μ : Connection). Each (IsOfOwn ps) μ.written) i s.connections κ stands carried.written)))
+    (each_at (IsOfOwn ps) κ.taken κ.written w next (each_there (λ (μ : ClientConnection). Each (IsOfOwn ps) μ.written) i s.connections κ stands carried.written)))
 lasting_says limits steady c flags s t life n olds is carried (others_take command other none) = tt
 lasting_says limits steady c flags s t life n olds is carried (receives κ others packet are opened next) = tt
 lasting_says limits steady c flags s t life n olds is carried (opens_anew x fresh none uncounted) = tt

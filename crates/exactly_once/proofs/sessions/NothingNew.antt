@@ -10,7 +10,7 @@ use Rattle.broker_base.specs.broker_spec.Received.{is_new}
 use Rattle.broker_base.specs.broker_spec.declared.command.Command.{Command}
 use Rattle.broker_base.specs.broker_spec.declared.command.Command.TheVariants as commands
 use Rattle.client_base.specs.Called.{opens}
-use Rattle.exactly_once.specs.Sides.{Connection}
+use Rattle.exactly_once.specs.Sides.{ClientConnection}
 use Rattle.exactly_once.specs.StoryCommands.{any_named, count_of, is_packet_of}
 use Rattle.exactly_once.specs.Carried.{carries, connection_named, number_of, number_at, more_by, new_numbers}
 use Rattle.exactly_once.specs.InStep.{has_begun, sessions_begun}
@@ -22,14 +22,14 @@ use Rattle.exactly_once.proofs.sessions.CarriedAlike.{none_more}
 
 -- ---- nothing was taken
 
-abbrev AreUncounted : Past → List Connection → Type 0
-AreUncounted past = Each (λ (κ : Connection). count_of κ.name past ≡ 0)
+abbrev AreUncounted : Past → List ClientConnection → Type 0
+AreUncounted past = Each (λ (κ : ClientConnection). count_of κ.name past ≡ 0)
 
 uncounted_here : (b : Bool) (n : ℕ) → (if b then suc n else n) ≡ 0 → (b ≡ false) × (n ≡ 0)
 uncounted_here true n e = absurd (omega (arith, e))
 uncounted_here false n e = (refl, e)
 
-none_here : (command : Command) (mark : Mark) (past : Past) (connections : List Connection) → AreUncounted (record { command = command; mark = mark } ∷ past) connections
+none_here : (command : Command) (mark : Mark) (past : Past) (connections : List ClientConnection) → AreUncounted (record { command = command; mark = mark } ∷ past) connections
     → (any_named (is_packet_of command) connections ≡ false) × AreUncounted past connections
 none_here command mark past [] h = (refl, tt)
 none_here command mark past (κ ∷ connections) h =
@@ -37,14 +37,14 @@ none_here command mark past (κ ∷ connections) h =
     let rest = none_here command mark past connections h.1 in
     (ap₂ (λ a b. a || b) two.0 rest.0, (two.1, rest.1))
 
-uncounted_nothing : (past : Past) (connections : List Connection) → AreUncounted past connections → new_numbers connections past ≡ []
+uncounted_nothing : (past : Past) (connections : List ClientConnection) → AreUncounted past connections → new_numbers connections past ≡ []
 uncounted_nothing [] connections h = refl
 uncounted_nothing (place ∷ past) connections h =
     let two = none_here place.command place.mark past connections h in
     ap₂ (λ xs o. xs ++ more_by (is_new place.command place.mark) o) (uncounted_nothing past connections two.1) (none_carried connections place.command past two.0)
     ∙ none_more (is_new place.command place.mark)
 
-kept_uncounted : (limits : Limits) (past : Past) (c : Client) (connections : List Connection) → AreUntouched limits past c connections → AreUncounted past (kept_of (flags_of connections) connections)
+kept_uncounted : (limits : Limits) (past : Past) (c : Client) (connections : List ClientConnection) → AreUntouched limits past c connections → AreUncounted past (kept_of (flags_of connections) connections)
 kept_uncounted limits past c [] h = tt
 kept_uncounted limits past c (κ ∷ connections) h = by κ.taken refl (kept_uncounted limits past c connections h.1)
   where
@@ -53,14 +53,14 @@ kept_uncounted limits past c (κ ∷ connections) h = by κ.taken refl (kept_unc
     by (suc n) e ih = ih
 
 -- if a session begins again its story has nothing new
-pub nothing_new_yet : (limits : Limits) (past : Past) (c : Client) (κ : Connection) (others : List Connection) → AreUntouched limits past c (κ ∷ others) → κ.taken ≡ 0
+pub nothing_new_yet : (limits : Limits) (past : Past) (c : Client) (κ : ClientConnection) (others : List ClientConnection) → AreUntouched limits past c (κ ∷ others) → κ.taken ≡ 0
     → new_numbers (kept_of (true ∷ flags_of others) (record κ { taken = suc κ.taken } ∷ others)) (accepted_at κ.name c ∷ past) ≡ []
 nothing_new_yet limits past c κ others fresh new =
     ap (λ xs. xs ++ []) (uncounted_nothing past (record κ { taken = suc κ.taken } ∷ kept_of (flags_of others) others) ((fresh.0 new).uncounted, kept_uncounted limits past c others fresh.1))
 
 -- ---- only CONNECTs were written
 
-silent_number : (c : Client) (connections : List Connection) → Each (λ (κ : Connection). κ.written ≡ opens c ∷ []) connections → (x : ConnectionName) (j : ℕ) → number_at j (connection_named x connections) ≡ None
+silent_number : (c : Client) (connections : List ClientConnection) → Each (λ (κ : ClientConnection). κ.written ≡ opens c ∷ []) connections → (x : ConnectionName) (j : ℕ) → number_at j (connection_named x connections) ≡ None
 silent_number c [] h x j = refl
 silent_number c (κ ∷ connections) h x j = by (same_connection x κ.name) (silent_number c connections h.1 x j)
   where
@@ -72,7 +72,7 @@ silent_number c (κ ∷ connections) h x j = by (same_connection x κ.name) (sil
     by true ih = ap (λ ws. number_of (slice_get ws j)) h.0 ∙ of j
     by false ih = ih
 
-silent_carries : (c : Client) (connections : List Connection) → Each (λ (κ : Connection). κ.written ≡ opens c ∷ []) connections → (command : Command) (past : Past) → carries connections command past ≡ None
+silent_carries : (c : Client) (connections : List ClientConnection) → Each (λ (κ : ClientConnection). κ.written ≡ opens c ∷ []) connections → (command : Command) (past : Past) → carries connections command past ≡ None
 silent_carries c connections h (commands.Packet x (packets.Publish p)) past = silent_number c connections h x (count_of x past)
 silent_carries c connections h (commands.Packet x _) past = refl
 silent_carries c connections h (commands.Connect x d clean) past = refl
@@ -80,7 +80,7 @@ silent_carries c connections h (commands.Lost x) past = refl
 silent_carries c connections h (commands.Start ballot) past = refl
 silent_carries c connections h (commands.Expel d) past = refl
 
-pub silent_nothing : (c : Client) (connections : List Connection) → Each (λ (κ : Connection). κ.written ≡ opens c ∷ []) connections → (past : Past) → new_numbers connections past ≡ []
+pub silent_nothing : (c : Client) (connections : List ClientConnection) → Each (λ (κ : ClientConnection). κ.written ≡ opens c ∷ []) connections → (past : Past) → new_numbers connections past ≡ []
 silent_nothing c connections h [] = refl
 silent_nothing c connections h (place ∷ past) =
     ap₂ (λ xs o. xs ++ more_by (is_new place.command place.mark) o) (silent_nothing c connections h past) (silent_carries c connections h place.command past) ∙ none_more (is_new place.command place.mark)

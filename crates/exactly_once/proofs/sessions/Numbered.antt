@@ -8,7 +8,7 @@ use Rattle.broker_base.specs.broker_spec.NobodyLaws.{IsSteady}
 use Rattle.client_base.specs.Keeper.{Own, Keeper, all_own, next_number}
 use Rattle.client_base.specs.OrderLaws.{AreNumbered}
 use Rattle.std.proofs.lemmas.List.{append-nil}
-use Rattle.exactly_once.specs.Sides.{Connection}
+use Rattle.exactly_once.specs.Sides.{ClientConnection}
 use Rattle.exactly_once.specs.Story.{Story}
 use Rattle.exactly_once.specs.StoryTrace.{StoryTrace}
 use Rattle.exactly_once.specs.Carried.{new_numbers, published}
@@ -27,13 +27,13 @@ use Rattle.exactly_once.proofs.sessions.LastingGoes.{Stands}
 
 -- the numbers of those that are new rise, and each was given; while one session began they are a
 -- prefix of what was published
-pub record RisesSoFar (c : Client) (past : Past) (keeper : Keeper) (connections : List Connection) : Type 0 where
+pub record RisesSoFar (c : Client) (past : Past) (keeper : Keeper) (connections : List ClientConnection) : Type 0 where
   pub rising : IsRising (new_numbers connections past)
   pub below : Each (λ n. n < next_number keeper) (new_numbers connections past)
   pub first : sessions_begun past c ≤ 1 → IsPrefixOf (new_numbers connections past) (published (all_own keeper))
 
 -- those of earlier sessions, each below this number, are before those of the story of this session
-pub record HasOlds (c : Client) (flags : List Bool) (past : Past) (connections : List Connection) (bound : ℕ) : Type 0 where
+pub record HasOlds (c : Client) (flags : List Bool) (past : Past) (connections : List ClientConnection) (bound : ℕ) : Type 0 where
   pub olds : List ℕ
   pub is : new_numbers connections past ≡ olds ++ new_numbers (kept_of flags connections) past
   pub rising : IsRising olds
@@ -51,7 +51,7 @@ stands_numbered limits c flags s (awaits a o again) = inl a
 -- ---- they rise
 
 -- what is new in the story of the session
-in_order : (limits : Limits) → IsSteady limits → (c : Client) (past : Past) (keeper : Keeper) (kept : List Connection) → StoryTrace limits c (with_connections past keeper kept)
+in_order : (limits : Limits) → IsSteady limits → (c : Client) (past : Past) (keeper : Keeper) (kept : List ClientConnection) → StoryTrace limits c (with_connections past keeper kept)
     → IsPrefixOf (new_numbers kept past) (published keeper.own)
 in_order limits steady c past keeper kept told = numbers_in_order limits (with_connections past keeper kept) (told_stories_are_sound limits steady c (with_connections past keeper kept) told).publisher
 
@@ -99,7 +99,7 @@ awaits_rises limits steady c flags s a o again =
   where
     none : new_numbers (kept_of flags s.connections) s.past ≡ []
     none =
-        ap (λ (l : List Connection). new_numbers (kept_of flags l) s.past) a.are
+        ap (λ (l : List ClientConnection). new_numbers (kept_of flags l) s.past) a.are
         ∙ none_before (new_numbers (kept_of flags (a.newest ∷ a.others)) s.past) (in_order limits steady c s.past (waiting c [] [] s.keeper.is_open) (kept_of flags (a.newest ∷ a.others)) (a.awaits.told [] tt))
 
     all : new_numbers s.connections s.past ≡ o.olds

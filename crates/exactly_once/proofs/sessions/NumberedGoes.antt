@@ -16,7 +16,7 @@ use Rattle.broker_base.specs.broker_spec.declared.command.Command.{Command}
 use Rattle.std.specs.Prelude.{slice_get}
 use Rattle.exactly_once.proofs.keeping.StoryTrace.{told_stories_are_sound}
 use Rattle.exactly_once.specs.Sends.{put_to}
-use Rattle.exactly_once.specs.Sides.{Connection}
+use Rattle.exactly_once.specs.Sides.{ClientConnection}
 use Rattle.exactly_once.specs.Story.{Story, StoryStep}
 use Rattle.exactly_once.specs.StoryCommands.{command_of, count_of, is_packet_of}
 use Rattle.exactly_once.specs.Story.StoryStep.{takes, others_take, receives, opens_anew, loses, disconnects, publishes_one, subscribes, unsubscribes}
@@ -39,11 +39,11 @@ use Rattle.exactly_once.proofs.sessions.Numbered.Numbered.{lasts, awaits}
 
 -- ---- which are new
 
-pub counted_all_within : (past : Past) (connections : List Connection) → Each (IsCounted past) connections → AreWithin past connections
+pub counted_all_within : (past : Past) (connections : List ClientConnection) → Each (IsCounted past) connections → AreWithin past connections
 counted_all_within past connections h =
-    each_then (IsCounted past) (λ (κ : Connection). count_of κ.name past ≤ length κ.written) connections (λ κ g. let a = g.counted in let b = g.within in omega (arith, a, b)) h
+    each_then (IsCounted past) (λ (κ : ClientConnection). count_of κ.name past ≤ length κ.written) connections (λ κ g. let a = g.counted in let b = g.within in omega (arith, a, b)) h
 
-placed : (new : Bool) (command : Command) (past : Past) (l l' k k' : List Connection) (olds : List ℕ) → new_numbers l' past ≡ new_numbers l past → new_numbers k' past ≡ new_numbers k past
+placed : (new : Bool) (command : Command) (past : Past) (l l' k k' : List ClientConnection) (olds : List ℕ) → new_numbers l' past ≡ new_numbers l past → new_numbers k' past ≡ new_numbers k past
     → more_by new (carries l' command past) ≡ more_by new (carries k' command past) → new_numbers l past ≡ olds ++ new_numbers k past
     → new_numbers l' past ++ more_by new (carries l' command past) ≡ olds ++ (new_numbers k' past ++ more_by new (carries k' command past))
 placed new command past l l' k k' olds e f more is =
@@ -105,7 +105,7 @@ olds_goes limits c flags s t bound later life sound less h o =
     }
 
 -- what was published before stays so, since the session lasts
-keeping : (flags : List Bool) (limits : Limits) (past : Past) (keeper : Keeper) (κ : Connection) (others : List Connection) (packet : Packet) (n : ℕ) → IsHeadKept flags
+keeping : (flags : List Bool) (limits : Limits) (past : Past) (keeper : Keeper) (κ : ClientConnection) (others : List ClientConnection) (packet : Packet) (n : ℕ) → IsHeadKept flags
     → HeldInShape limits past keeper (kept_of flags (κ ∷ others)) → keeper.is_open ≡ true → keeper.is_online ≡ false → keeper.was_served ≡ true → slice_get (put_to limits past κ.name) n ≡ Some packet
     → (packet ≡ packets.Connack (connacks.Accepted false)) → ⊥
 keeping [] limits past keeper κ others packet n head held opened off served next = packet_at (λ (p : Packet). (p ≡ packets.Connack (connacks.Accepted false)) → ⊥) (put_to limits past κ.name) n packet (held.2 opened off served) next
@@ -118,7 +118,7 @@ beside_earlier limits c flags s t head held (takes i κ w stands next) = refl
 beside_earlier limits c flags s t head held (others_take command other none) = refl
 beside_earlier limits c flags s t head held (receives κ others packet are opened next) =
     handled_earlier packet (record { keeper = s.keeper; connection = κ })
-    (λ off served. keeping flags limits s.past s.keeper κ others packet κ.handled head (subst (λ (l : List Connection). HeldInShape limits s.past s.keeper (kept_of flags l)) are held) opened off served next)
+    (λ off served. keeping flags limits s.past s.keeper κ others packet κ.handled head (subst (λ (l : List ClientConnection). HeldInShape limits s.past s.keeper (kept_of flags l)) are held) opened off served next)
 beside_earlier limits c flags s t head held (opens_anew x fresh none uncounted) = refl
 beside_earlier limits c flags s t head held loses = refl
 beside_earlier limits c flags s t head held disconnects = refl

@@ -16,7 +16,7 @@ use Rattle.broker_base.specs.broker_spec.declared.command.Command.{Command}
 use Rattle.broker_base.proofs.QuietPasts.{no_connection}
 use Rattle.client_base.specs.session_base.declared.publication.Publication.{Publication}
 use Rattle.client_base.specs.Keeper.{Written, all_own, next_number}
-use Rattle.exactly_once.specs.Sides.{Connection}
+use Rattle.exactly_once.specs.Sides.{ClientConnection}
 use Rattle.exactly_once.specs.Story.{Story, StoryStep}
 use Rattle.exactly_once.specs.StoryCommands.{command_of, counted_at}
 use Rattle.exactly_once.specs.Story.StoryStep.{takes, others_take, receives, opens_anew, loses, disconnects, publishes_one, subscribes, unsubscribes}
@@ -48,7 +48,7 @@ use Rattle.exactly_once.proofs.sessions.NumberedGoes.{counted_all_within, one_be
 nobody_current : (past : Past) (c : Client) (x : ConnectionName) → session_of past c ≡ None → current_connection past c ≡ Some x → ⊥
 nobody_current past c x none e = let f : None ≡ Some x = sym (no_connection past c none) ∙ e in cc
 
-takes_nothing : (limits : Limits) (c : Client) (s : Story) (i : ℕ) (κ : Connection) (w : Written) → IsLife limits c s → session_of s.past c ≡ None → slice_get s.connections i ≡ Some κ → (command : Command)
+takes_nothing : (limits : Limits) (c : Client) (s : Story) (i : ℕ) (κ : ClientConnection) (w : Written) → IsLife limits c s → session_of s.past c ≡ None → slice_get s.connections i ≡ Some κ → (command : Command)
     → IsOwnCommand c κ w.packet command → more_by (is_new command (mark_of limits s.past command)) (carries (counted_at i s.connections) command s.past) ≡ []
 takes_nothing limits c s i κ w life none stands command (inl k) =
     ap (λ d. more_by (is_new d (mark_of limits s.past d)) (carries (counted_at i s.connections) d s.past)) k.1
@@ -117,7 +117,7 @@ says_over limits c s t life none carried (takes i κ w stands next) =
     by (inr k) =
         subst (λ (d : Command). Says c ps (counted_at i s.connections) (place_of limits s.past d) s.past) (sym k.1)
         (nobodys_says limits s.past c ps i s.connections κ w life.connections.names life.connections.nobody stands next (each_there (IsCounted s.past) i s.connections κ stands life.connections.counted).counted
-        (nobody_current s.past c κ.name none) (each_at (IsOfOwn ps) κ.taken κ.written w next (each_there (λ (μ : Connection). Each (IsOfOwn ps) μ.written) i s.connections κ stands carried.written)))
+        (nobody_current s.past c κ.name none) (each_at (IsOfOwn ps) κ.taken κ.written w next (each_there (λ (μ : ClientConnection). Each (IsOfOwn ps) μ.written) i s.connections κ stands carried.written)))
 says_over limits c s t life none carried (others_take command other unnamed) = tt
 says_over limits c s t life none carried (receives κ others packet are opened next) = tt
 says_over limits c s t life none carried (opens_anew x fresh unsent uncounted) = tt

@@ -12,7 +12,7 @@ use Rattle.broker_base.specs.broker_spec.Commands.{place_of}
 use Rattle.broker_base.specs.broker_spec.declared.command.Command.{Command}
 use Rattle.broker_base.specs.broker_spec.declared.command.Command.TheVariants as commands
 use Rattle.broker_base.specs.broker_spec.Connection.{ConnectionName}
-use Rattle.exactly_once.specs.Sides.{Connection}
+use Rattle.exactly_once.specs.Sides.{ClientConnection}
 use Rattle.exactly_once.specs.StoryCommands.{counted_at}
 use Rattle.exactly_once.specs.Carried.{is_this}
 use Rattle.exactly_once.specs.InStep.{has_begun, WasWelcome, AreWelcome, opens_on, opened_in, entries_in}
@@ -24,11 +24,11 @@ use Rattle.exactly_once.proofs.sessions.Lasting.{entries_over}
 use Rattle.exactly_once.proofs.sessions.LastingGoes.{all_fresh}
 
 -- nothing was accepted on the newest connection's Connect
-abbrev pub IsHeadUnopened : Past → Client → List Connection → Type 0
+abbrev pub IsHeadUnopened : Past → Client → List ClientConnection → Type 0
 IsHeadUnopened past c [] = Unit {0}
 IsHeadUnopened past c (κ ∷ others) = opened_in past c κ.name ≡ None
 
-pub record Parts (limits : Limits) (c : Client) (past : Past) (connections : List Connection) : Type 0 where
+pub record Parts (limits : Limits) (c : Client) (past : Past) (connections : List ClientConnection) : Type 0 where
   pub none : session_of past c ≡ None
   pub begun : has_begun past c ≡ true
   pub head : IsHeadUnopened past c connections
@@ -39,13 +39,13 @@ pub record Parts (limits : Limits) (c : Client) (past : Past) (connections : Lis
 pub entries_parted : (limits : Limits) (place : Place) (past : Past) (c : Client) (start : ℕ) → session_of (place ∷ past) c ≡ None → entries_in limits (place ∷ past) c start ≡ entries_in limits past c start
 entries_parted limits place past c start none = entries_over limits place past c start (ap (is_this start) (no_start (place ∷ past) c none))
 
-head_placed : (place : Place) (past : Past) (c : Client) (i : ℕ) (connections : List Connection) → accepts place.command place.mark c ≡ None → IsHeadUnopened past c connections
+head_placed : (place : Place) (past : Past) (c : Client) (i : ℕ) (connections : List ClientConnection) → accepts place.command place.mark c ≡ None → IsHeadUnopened past c connections
     → IsHeadUnopened (place ∷ past) c (counted_at i connections)
 head_placed place past c i [] closed h = h
 head_placed place past c zero (κ ∷ others) closed h = opened_same place past c κ.name (ap (opens_on κ.name) closed) ∙ h
 head_placed place past c (suc i) (κ ∷ others) closed h = opened_same place past c κ.name (ap (opens_on κ.name) closed) ∙ h
 
-pub parts_placed : (limits : Limits) (c : Client) (place : Place) (past : Past) (i : ℕ) (connections : List Connection) → accepts place.command place.mark c ≡ None → Parts limits c past connections
+pub parts_placed : (limits : Limits) (c : Client) (place : Place) (past : Past) (i : ℕ) (connections : List ClientConnection) → accepts place.command place.mark c ≡ None → Parts limits c past connections
     → Parts limits c (place ∷ past) (counted_at i connections)
 parts_placed limits c place past i connections closed p =
     let none = none_opens place past c closed p.none in
@@ -64,13 +64,13 @@ pub accepted_or_not : (x : ConnectionName) (d c : Client) (clean : Bool) (mark :
 accepted_or_not x d c clean Mark.Accepted = inl refl
 accepted_or_not x d c clean _ = inr refl
 
-welcome_at : (P : Connection → Type 0) (j : ℕ) (κ : Connection) (others : List Connection) → slice_get others j ≡ Some κ → Each P (counted_at j others) → P (record κ { taken = suc κ.taken })
+welcome_at : (P : ClientConnection → Type 0) (j : ℕ) (κ : ClientConnection) (others : List ClientConnection) → slice_get others j ≡ Some κ → Each P (counted_at j others) → P (record κ { taken = suc κ.taken })
 welcome_at P j κ [] at h = absurd (cc)
-welcome_at P zero κ (μ ∷ others) at h = let same : μ ≡ κ = cc in subst (λ (z : Connection). P (record z { taken = suc z.taken })) same h.0
+welcome_at P zero κ (μ ∷ others) at h = let same : μ ≡ κ = cc in subst (λ (z : ClientConnection). P (record z { taken = suc z.taken })) same h.0
 welcome_at P (suc j) κ (μ ∷ others) at h = welcome_at P j κ others at h.1
 
 -- in step, no Connect of an older connection begins a session again
-pub none_older : (past : Past) (c : Client) (j : ℕ) (κ μ : Connection) (others : List Connection) → session_of past c ≡ None → has_begun past c ≡ true → slice_get others j ≡ Some κ → κ.confirmed ≡ false
+pub none_older : (past : Past) (c : Client) (j : ℕ) (κ μ : ClientConnection) (others : List ClientConnection) → session_of past c ≡ None → has_begun past c ≡ true → slice_get others j ≡ Some κ → κ.confirmed ≡ false
     → AreWelcome (accepted_at κ.name c ∷ past) c (counted_at (suc j) (μ ∷ others)) → ⊥
 none_older past c j κ μ others none begun at unconfirmed step =
     both_ways κ.confirmed unconfirmed (welcome_at (WasWelcome (accepted_at κ.name c ∷ past) c) j κ others at step (again_there past c κ.name none begun))

@@ -14,7 +14,7 @@ use Rattle.client_base.specs.Keeper.{Written, Keeper}
 use Rattle.client_base.specs.Called.{new_connection, written_for}
 use Rattle.client_base.specs.Handled.{handled}
 use Rattle.client_base.specs.Written.{plain, writes_first}
-use Rattle.exactly_once.specs.Sides.{Connection, Side}
+use Rattle.exactly_once.specs.Sides.{ClientConnection, Side}
 use Rattle.exactly_once.specs.Story.{Story, StoryStep}
 use Rattle.exactly_once.specs.StoryCommands.{command_of, counted_at, names_client}
 use Rattle.exactly_once.specs.Story.StoryStep.{takes, others_take, receives, opens_anew, loses, disconnects, publishes_one, subscribes, unsubscribes}
@@ -45,7 +45,7 @@ pub record Begins (limits : Limits) (c : Client) (t : Story) : Type 0 where
   pub nothing : new_numbers (kept_of flags t.connections) t.past ≡ []
   pub again : sessions_begun t.past c ≤ 1 → ⊥
 
-begins_first : (limits : Limits) (c : Client) (list : List Command) (past : Past) (keeper : Keeper) (κ : Connection) (others : List Connection) (place : Place) → past ≡ past_of limits list → place ≡ accepted_at κ.name c
+begins_first : (limits : Limits) (c : Client) (list : List Command) (past : Past) (keeper : Keeper) (κ : ClientConnection) (others : List ClientConnection) (place : Place) → past ≡ past_of limits list → place ≡ accepted_at κ.name c
     → mark_of limits past (commands.Connect κ.name c false) ≡ Mark.Accepted → κ.taken ≡ 0 → HasConnections limits c past (κ ∷ others) → HasKeeper c past keeper (κ ∷ others) → Each (IsFresh place c) (κ ∷ others)
     → Parts limits c past (κ ∷ others) → Begins limits c (with_connections (place ∷ past) keeper (record κ { taken = suc κ.taken } ∷ others))
 begins_first limits c list past keeper κ others place is at mark new h k fresh p =
@@ -58,7 +58,7 @@ begins_first limits c list past keeper κ others place is at mark new h k fresh 
       lasts = lasts_anew limits past c κ others p.none h (subst (λ (q : Place). Each (IsFresh q c) (κ ∷ others)) at fresh) p.all;
     })
 
-parted_takes : (limits : Limits) (c : Client) (s : Story) (i : ℕ) (κ : Connection) (w : Written) (connections : List Connection) → IsLife limits c (record s { connections = connections })
+parted_takes : (limits : Limits) (c : Client) (s : Story) (i : ℕ) (κ : ClientConnection) (w : Written) (connections : List ClientConnection) → IsLife limits c (record s { connections = connections })
     → Parts limits c s.past connections → slice_get connections i ≡ Some κ → slice_get κ.written κ.taken ≡ Some w
     → AreWelcome (place_of limits s.past (command_of κ.name κ.taken w.packet) ∷ s.past) c (counted_at i connections)
     → Parts limits c (place_of limits s.past (command_of κ.name κ.taken w.packet) ∷ s.past) (counted_at i connections)
@@ -69,7 +69,7 @@ parted_takes limits c s i κ w connections life p stands next step = by (life_co
     command = command_of κ.name κ.taken w.packet
 
     untouched : κ.taken ≡ 0 → IsUntouched limits s.past c κ
-    untouched = each_there (λ (μ : Connection). μ.taken ≡ 0 → IsUntouched limits s.past c μ) i connections κ stands life.connections.untouched
+    untouched = each_there (λ (μ : ClientConnection). μ.taken ≡ 0 → IsUntouched limits s.past c μ) i connections κ stands life.connections.untouched
 
     Goal : Type 0
     Goal = Parts limits c (place_of limits s.past command ∷ s.past) (counted_at i connections) ⊎ Begins limits c (with_connections (place_of limits s.past command ∷ s.past) s.keeper (counted_at i connections))
@@ -80,19 +80,19 @@ parted_takes limits c s i κ w connections life p stands next step = by (life_co
     begin : IsOwnCommand c κ w.packet command → κ.taken ≡ 0 → place_of limits s.past command ≡ accepted_at κ.name c → mark_of limits s.past (commands.Connect κ.name c false) ≡ Mark.Accepted → Goal
     begin kind new at mark = where_it_is i connections life p stands step
       where
-        where_it_is : (j : ℕ) (l : List Connection) → IsLife limits c (record s { connections = l }) → Parts limits c s.past l → slice_get l j ≡ Some κ
+        where_it_is : (j : ℕ) (l : List ClientConnection) → IsLife limits c (record s { connections = l }) → Parts limits c s.past l → slice_get l j ≡ Some κ
             → AreWelcome (place_of limits s.past command ∷ s.past) c (counted_at j l)
             → Parts limits c (place_of limits s.past command ∷ s.past) (counted_at j l) ⊎ Begins limits c (with_connections (place_of limits s.past command ∷ s.past) s.keeper (counted_at j l))
         where_it_is j [] life p stands step = absurd (cc)
         where_it_is (suc j) (μ ∷ others) life p stands step =
-            absurd (none_older s.past c j κ μ others p.none p.begun stands (ap (λ (z : Connection). z.confirmed) (untouched new).is)
+            absurd (none_older s.past c j κ μ others p.none p.begun stands (ap (λ (z : ClientConnection). z.confirmed) (untouched new).is)
             (subst (λ (q : Place). AreWelcome (q ∷ s.past) c (counted_at (suc j) (μ ∷ others))) at step))
         where_it_is zero (μ ∷ others) life p stands step =
             let same : κ ≡ μ = cc in
             let fresh = own_fresh limits s.past c 0 κ w.packet command (μ ∷ others) kind untouched stands life.connections.names in
             inr (begins_first limits c life.list s.past s.keeper μ others (place_of limits s.past command) life.past_is
-            (at ∙ ap (λ (z : Connection). accepted_at z.name c) same) (subst (λ (z : Connection). mark_of limits s.past (commands.Connect z.name c false) ≡ Mark.Accepted) same mark)
-            (subst (λ (z : Connection). z.taken ≡ 0) same new) life.connections life.keeper fresh p)
+            (at ∙ ap (λ (z : ClientConnection). accepted_at z.name c) same) (subst (λ (z : ClientConnection). mark_of limits s.past (commands.Connect z.name c false) ≡ Mark.Accepted) same mark)
+            (subst (λ (z : ClientConnection). z.taken ≡ 0) same new) life.connections life.keeper fresh p)
 
     by : IsOwnCommand c κ w.packet command → Goal
     by (inr k) = stays (ap (λ d. accepts d (mark_of limits s.past d) c) k.1)
@@ -104,7 +104,7 @@ parted_takes limits c s i κ w connections life p stands next step = by (life_co
 
 -- ---- the first connection
 
-parts_head : (limits : Limits) (c : Client) (past : Past) (κ κ' : Connection) (others : List Connection) → κ'.name ≡ κ.name → Parts limits c past (κ ∷ others) → Parts limits c past (κ' ∷ others)
+parts_head : (limits : Limits) (c : Client) (past : Past) (κ κ' : ClientConnection) (others : List ClientConnection) → κ'.name ≡ κ.name → Parts limits c past (κ ∷ others) → Parts limits c past (κ' ∷ others)
 parts_head limits c past κ κ' others name p =
     record {
       none = p.none;
@@ -113,11 +113,11 @@ parts_head limits c past κ κ' others name p =
       all = λ start. accepts_same limits c past past (κ ∷ others) (κ' ∷ others) start refl (accepted_head past c start κ κ' others name (ap (is_this start) p.head)) (p.all start);
     }
 
-parts_written : (limits : Limits) (c : Client) (past : Past) (more : List Written) (connections : List Connection) → Parts limits c past connections → Parts limits c past (writes_first more connections)
+parts_written : (limits : Limits) (c : Client) (past : Past) (more : List Written) (connections : List ClientConnection) → Parts limits c past connections → Parts limits c past (writes_first more connections)
 parts_written limits c past more [] p = p
 parts_written limits c past more (κ ∷ others) p = parts_head limits c past κ (record κ { written = κ.written ++ more }) others refl p
 
-parts_maybe : (limits : Limits) (c : Client) (past : Past) (b : Bool) (more : List Written) (connections : List Connection) → Parts limits c past connections
+parts_maybe : (limits : Limits) (c : Client) (past : Past) (b : Bool) (more : List Written) (connections : List ClientConnection) → Parts limits c past connections
     → Parts limits c past (if b then writes_first more connections else connections)
 parts_maybe limits c past true more connections p = parts_written limits c past more connections p
 parts_maybe limits c past false more connections p = p

@@ -10,7 +10,7 @@ use Rattle.broker_base.specs.broker_spec.Place.{Client, Mark, Place, Past, Limit
 use Rattle.broker_base.specs.broker_spec.Past.{accepts, session_start}
 use Rattle.broker_base.specs.broker_spec.Answers.{answers_at}
 use Rattle.broker_base.proofs.ConnectionNames.{same_itself}
-use Rattle.exactly_once.specs.Sides.{Connection}
+use Rattle.exactly_once.specs.Sides.{ClientConnection}
 use Rattle.exactly_once.specs.Sends.{sends_to, put_to}
 use Rattle.exactly_once.specs.StoryCommands.{count_of, is_packet_of}
 use Rattle.exactly_once.specs.InStep.{opens_on, opened_in}
@@ -27,7 +27,7 @@ use Rattle.exactly_once.proofs.sessions.Life.{is_welcome, NoneWelcome, IsShut, I
 
 -- ---- if the command is none of its packets
 
-pub untouched_other : (limits : Limits) (place : Place) (past : Past) (c : Client) (κ : Connection) → is_packet_of place.command κ.name ≡ false → IsUntouched limits past c κ → IsUntouched limits (place ∷ past) c κ
+pub untouched_other : (limits : Limits) (place : Place) (past : Past) (c : Client) (κ : ClientConnection) → is_packet_of place.command κ.name ≡ false → IsUntouched limits past c κ → IsUntouched limits (place ∷ past) c κ
 untouched_other limits place past c κ other u =
     record {
       is = u.is;
@@ -58,7 +58,7 @@ more_unwelcome limits place past x h g =
     subst NoneWelcome (sym (put_more limits place past x)) (each_append (λ packet. is_welcome packet ≡ false) (put_to limits past x) (sends_to x (answers_at limits place past)) h g)
 
 -- it opens none, and sends no CONNACK 0
-pub shut_still : (limits : Limits) (place : Place) (past : Past) (c : Client) (κ : Connection) → opens_on κ.name (accepts place.command place.mark c) ≡ false → is_connect_of place.command κ.name ≡ false
+pub shut_still : (limits : Limits) (place : Place) (past : Past) (c : Client) (κ : ClientConnection) → opens_on κ.name (accepts place.command place.mark c) ≡ false → is_connect_of place.command κ.name ≡ false
     → IsShutUnopened limits past c κ → IsShutUnopened limits (place ∷ past) c κ
 shut_still limits place past c κ none other h e =
     let s = h (sym (opened_same place past c κ.name none) ∙ e) in
@@ -68,20 +68,20 @@ shut_still limits place past c κ none other h e =
       unwelcome = more_unwelcome limits place past κ.name s.unwelcome (none_welcome (sends_to κ.name (answers_at limits place past)) (place_no_connack limits place past κ.name other));
     }
 
-pub shut_other : (limits : Limits) (place : Place) (past : Past) (c : Client) (κ : Connection) → is_packet_of place.command κ.name ≡ false → IsShutUnopened limits past c κ → IsShutUnopened limits (place ∷ past) c κ
+pub shut_other : (limits : Limits) (place : Place) (past : Past) (c : Client) (κ : ClientConnection) → is_packet_of place.command κ.name ≡ false → IsShutUnopened limits past c κ → IsShutUnopened limits (place ∷ past) c κ
 shut_other limits place past c κ other =
     shut_still limits place past c κ (opens_packet place.command place.mark c κ.name other) (not_its_connect place.command κ.name other)
 
 -- ---- its own Connect
 
-pub shut_connect : (limits : Limits) (past : Past) (c : Client) (κ : Connection) (n : ℕ) (mark : Mark) → IsUntouched limits past c κ → IsShutUnopened limits (at_connect κ.name c false mark ∷ past) c (record κ { taken = n })
+pub shut_connect : (limits : Limits) (past : Past) (c : Client) (κ : ClientConnection) (n : ℕ) (mark : Mark) → IsUntouched limits past c κ → IsShutUnopened limits (at_connect κ.name c false mark ∷ past) c (record κ { taken = n })
 shut_connect limits past c κ n mark u e = by mark e
   where
     shut : (m : Mark) → NoneWelcome (sends_to κ.name (answers_at limits (at_connect κ.name c false m) past)) → IsShut limits (at_connect κ.name c false m ∷ past) (record κ { taken = n })
     shut m h =
         record {
-          unconfirmed = ap (λ (z : Connection). z.confirmed) u.is;
-          nothing = ap (λ (z : Connection). z.accepted) u.is;
+          unconfirmed = ap (λ (z : ClientConnection). z.confirmed) u.is;
+          nothing = ap (λ (z : ClientConnection). z.accepted) u.is;
           unwelcome = more_unwelcome limits (at_connect κ.name c false m) past κ.name (subst NoneWelcome (sym u.unsent) tt) h;
         }
 

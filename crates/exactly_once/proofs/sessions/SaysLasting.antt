@@ -14,7 +14,7 @@ use Rattle.broker_base.specs.broker_spec.NobodyLaws.{IsSteady}
 use Rattle.broker_base.specs.broker_spec.declared.command.Command.{Command}
 use Rattle.client_base.specs.session_base.declared.publication.Publication.{Publication}
 use Rattle.client_base.specs.Keeper.{Written, Keeper}
-use Rattle.exactly_once.specs.Sides.{Connection}
+use Rattle.exactly_once.specs.Sides.{ClientConnection}
 use Rattle.exactly_once.specs.Story.{Story}
 use Rattle.exactly_once.specs.StoryCommands.{count_of, counted_at, command_of}
 use Rattle.exactly_once.specs.Carried.{carries, more_by, new_numbers}
@@ -58,18 +58,18 @@ stands_sound limits steady c flags s life (inl a) =
       client = refl;
       head = a.awaits.head;
       gone = subst (AreGone flags) (sym a.are) a.awaits.gone;
-      sound = subst (λ (l : List Connection). IsSoundStory limits (with_connections s.past keeper (kept_of flags l))) (sym a.are)
+      sound = subst (λ (l : List ClientConnection). IsSoundStory limits (with_connections s.past keeper (kept_of flags l))) (sym a.are)
           (told_stories_are_sound limits steady c (with_connections s.past keeper (kept_of flags (a.newest ∷ a.others))) (a.awaits.told [] tt));
     }
 
-kept_apart : (flags : List Bool) (connections : List Connection) → NamesApart connections → NamesApart (kept_of flags connections)
+kept_apart : (flags : List Bool) (connections : List ClientConnection) → NamesApart connections → NamesApart (kept_of flags connections)
 kept_apart [] connections h = h
 kept_apart (true ∷ flags) [] h = tt
 kept_apart (false ∷ flags) [] h = tt
 kept_apart (true ∷ flags) (κ ∷ connections) h = (none_kept (same_connection κ.name) flags connections h.0, kept_apart flags connections h.1)
 kept_apart (false ∷ flags) (κ ∷ connections) h = kept_apart flags connections h.1
 
-not_current : (limits : Limits) (c : Client) (flags : List Bool) (s : Story) (i : ℕ) (κ : Connection) → HasSound limits c flags s → IsLeft flags s.connections i κ → current_connection s.past c ≡ Some κ.name → ⊥
+not_current : (limits : Limits) (c : Client) (flags : List Bool) (s : Story) (i : ℕ) (κ : ClientConnection) → HasSound limits c flags s → IsLeft flags s.connections i κ → current_connection s.past c ≡ Some κ.name → ⊥
 not_current limits c flags s i κ h l =
     left_not_current κ.name (current_connection s.past c) (kept_of flags s.connections)
     (subst (λ (d : Client). LastIsCurrent (current_connection s.past d) (kept_of flags s.connections)) h.client h.sound.shape.last_is_current) l.none
@@ -81,7 +81,7 @@ more_none false None e = refl
 
 -- ---- what is new
 
-pub takes_alike : (limits : Limits) (c : Client) (flags : List Bool) (s : Story) (i : ℕ) (κ : Connection) (w : Written) → IsLife limits c s → HasSound limits c flags s → slice_get s.connections i ≡ Some κ
+pub takes_alike : (limits : Limits) (c : Client) (flags : List Bool) (s : Story) (i : ℕ) (κ : ClientConnection) (w : Written) → IsLife limits c s → HasSound limits c flags s → slice_get s.connections i ≡ Some κ
     → slice_get κ.written κ.taken ≡ Some w → (command : Command) → IsOwnCommand c κ w.packet command
     → more_by (is_new command (mark_of limits s.past command)) (carries (counted_at i s.connections) command s.past)
     ≡ more_by (is_new command (mark_of limits s.past command)) (carries (kept_of flags (counted_at i s.connections)) command s.past)
@@ -98,7 +98,7 @@ takes_alike limits c flags s i κ w life h stands next command kind = by (find f
         ap (more_by new)
         (both_carry s.past c i k.j s.connections (kept_of flags s.connections) κ w command kind life.connections.names (kept_apart flags s.connections life.connections.names) stands k.stands next
         (each_there (IsCounted s.past) i s.connections κ stands life.connections.counted).counted
-        ∙ ap (λ (l : List Connection). carries l command s.past) (sym k.counted))
+        ∙ ap (λ (l : List ClientConnection). carries l command s.past) (sym k.counted))
     by (inr l) (inl k) = absurd (let a = l.taken in let b = k.0 in omega (arith, a, b))
     by (inr l) (inr k) =
         let old : new ≡ false =
@@ -107,7 +107,7 @@ takes_alike limits c flags s i κ w life h stands next command kind = by (find f
 
 -- ---- what the place says
 
-pub says_lasting : (limits : Limits) (c : Client) (flags : List Bool) (s : Story) (i : ℕ) (κ : Connection) (w : Written) (ps : List Publication) (olds : List ℕ) → IsLife limits c s → HasSound limits c flags s
+pub says_lasting : (limits : Limits) (c : Client) (flags : List Bool) (s : Story) (i : ℕ) (κ : ClientConnection) (w : Written) (ps : List Publication) (olds : List ℕ) → IsLife limits c s → HasSound limits c flags s
     → new_numbers s.connections s.past ≡ olds ++ new_numbers (kept_of flags s.connections) s.past → slice_get s.connections i ≡ Some κ → slice_get κ.written κ.taken ≡ Some w → IsOf ps w.packet w.number
     → Says c ps (counted_at i s.connections) (place_of limits s.past (command_of κ.name κ.taken w.packet)) s.past
 says_lasting limits c flags s i κ w ps olds life h is stands next of = by (find flags s.connections i κ life.connections.names h.gone stands) (life_command limits c s i κ w life stands next)
@@ -115,7 +115,7 @@ says_lasting limits c flags s i κ w ps olds life h is stands next of = by (find
     command : Command
     command = command_of κ.name κ.taken w.packet
 
-    kept : List Connection
+    kept : List ClientConnection
     kept = kept_of flags s.connections
 
     counted : count_of κ.name s.past ≡ κ.taken

@@ -10,7 +10,7 @@ use Rattle.broker_base.specs.broker_spec.declared.command.Command.TheVariants as
 use Rattle.client_base.specs.Keeper.{Written}
 use Rattle.client_base.specs.Called.{written_for}
 use Rattle.client_base.specs.Written.{plain, writes_first}
-use Rattle.exactly_once.specs.Sides.{Connection, Side}
+use Rattle.exactly_once.specs.Sides.{ClientConnection, Side}
 use Rattle.exactly_once.specs.Story.{Story, StoryStep}
 use Rattle.exactly_once.specs.StoryCommands.{command_of, counted_at}
 use Rattle.exactly_once.specs.Story.StoryStep.{takes, others_take, receives, opens_anew, loses, disconnects, publishes_one, subscribes, unsubscribes}
@@ -26,32 +26,32 @@ pub began_stays : (place : Place) (past : Past) (c : Client) (x : ConnectionName
 began_stays place past c x e = or_there (opens_on x (accepts place.command place.mark c) && (begins place past c && has_begun past c)) (began_again past c x) e
 
 -- one place earlier
-below_all : (place : Place) (past : Past) (c : Client) (connections : List Connection) → Each (WasWelcome (place ∷ past) c) connections → Each (WasWelcome past c) connections
+below_all : (place : Place) (past : Past) (c : Client) (connections : List ClientConnection) → Each (WasWelcome (place ∷ past) c) connections → Each (WasWelcome past c) connections
 below_all place past c [] h = tt
 below_all place past c (κ ∷ connections) h = (λ e. h.0 (began_stays place past c κ.name e), below_all place past c connections h.1)
 
-pub below_welcome : (place : Place) (past : Past) (c : Client) (connections : List Connection) → AreWelcome (place ∷ past) c connections → AreWelcome past c connections
+pub below_welcome : (place : Place) (past : Past) (c : Client) (connections : List ClientConnection) → AreWelcome (place ∷ past) c connections → AreWelcome past c connections
 below_welcome place past c [] h = tt
 below_welcome place past c (κ ∷ connections) h = below_all place past c connections h
 
 -- one packet fewer is taken
-fewer_all : (past : Past) (c : Client) (i : ℕ) (connections : List Connection) → Each (WasWelcome past c) (counted_at i connections) → Each (WasWelcome past c) connections
+fewer_all : (past : Past) (c : Client) (i : ℕ) (connections : List ClientConnection) → Each (WasWelcome past c) (counted_at i connections) → Each (WasWelcome past c) connections
 fewer_all past c i [] h = tt
 fewer_all past c zero (κ ∷ connections) h = (h.0, h.1)
 fewer_all past c (suc i) (κ ∷ connections) h = (h.0, fewer_all past c i connections h.1)
 
-fewer_welcome : (past : Past) (c : Client) (i : ℕ) (connections : List Connection) → AreWelcome past c (counted_at i connections) → AreWelcome past c connections
+fewer_welcome : (past : Past) (c : Client) (i : ℕ) (connections : List ClientConnection) → AreWelcome past c (counted_at i connections) → AreWelcome past c connections
 fewer_welcome past c i [] h = tt
 fewer_welcome past c zero (κ ∷ connections) h = h
 fewer_welcome past c (suc i) (κ ∷ connections) h = fewer_all past c i connections h
 
 -- less is written
-unwritten_welcome : (past : Past) (c : Client) (more : List Written) (connections : List Connection) → AreWelcome past c (writes_first more connections) → AreWelcome past c connections
+unwritten_welcome : (past : Past) (c : Client) (more : List Written) (connections : List ClientConnection) → AreWelcome past c (writes_first more connections) → AreWelcome past c connections
 unwritten_welcome past c more [] h = tt
 unwritten_welcome past c more (κ ∷ connections) h = h
 
 -- a connection fewer is opened
-unopened_welcome : (past : Past) (c : Client) (connections : List Connection) → Each (WasWelcome past c) connections → AreWelcome past c connections
+unopened_welcome : (past : Past) (c : Client) (connections : List ClientConnection) → Each (WasWelcome past c) connections → AreWelcome past c connections
 unopened_welcome past c [] h = tt
 unopened_welcome past c (κ ∷ connections) h = h.1
 

@@ -11,7 +11,7 @@ use Rattle.client_base.specs.session_base.Publication.{publication_of}
 use Rattle.client_base.specs.lists.Lists.{has_id}
 use Rattle.broker_base.specs.broker_spec.Place.{Limits}
 use Rattle.exactly_once.specs.Handshake.{Forward, Link, Handshake, taking, accepting}
-use Rattle.exactly_once.specs.Sides.{Connection, Side}
+use Rattle.exactly_once.specs.Sides.{ClientConnection, Side}
 use Rattle.client_base.specs.Written.{plain, writing}
 use Rattle.client_base.specs.Handshakes.{takes_in}
 use Rattle.exactly_once.specs.Story.{Story, with_side}
@@ -43,7 +43,7 @@ anew h t id p l e like = by (h.received id) e
     by false e = record { items = like.items; accepted = like.accepted; received = like.received; link = like.link }
 
 -- a PUBLISH of QoS 2 is taken
-next_two : (limits : Limits) (s : Story) (κ : Connection) (others : List Connection) (p : Publish) (dup : Bool) (id : ℕ) → IsNext limits s κ others (packets.Publish p)
+next_two : (limits : Limits) (s : Story) (κ : ClientConnection) (others : List ClientConnection) (p : Publish) (dup : Bool) (id : ℕ) → IsNext limits s κ others (packets.Publish p)
     → p.delivery ≡ deliveries.ExactlyOnce dup id
     → GoesTo (as_subscriber limits s) (as_subscriber limits (with_side s others (takes_in (deliveries.ExactlyOnce dup id) (publication_of p) (counted s.keeper κ))))
 next_two limits s κ others p dup id i e = by (cases_Bool (has_id id s.keeper.received))
@@ -70,7 +70,7 @@ next_two limits s κ others p dup id i e = by (cases_Bool (has_id id s.keeper.re
         (λ l t like. anew (as_subscriber limits s) t id (publication_of p) l h like))
 
 -- a PUBLISH, by its QoS
-pub next_publish : (limits : Limits) (s : Story) (κ : Connection) (others : List Connection) (p : Publish) → IsNext limits s κ others (packets.Publish p)
+pub next_publish : (limits : Limits) (s : Story) (κ : ClientConnection) (others : List ClientConnection) (p : Publish) → IsNext limits s κ others (packets.Publish p)
     → GoesTo (as_subscriber limits s) (as_subscriber limits (with_side s others (takes_in p.delivery (publication_of p) (counted s.keeper κ))))
 next_publish limits s κ others p i = by p.delivery refl
   where

@@ -8,7 +8,7 @@ use Rattle.broker_base.specs.broker_spec.Times.{at_puback, at_pubcomp, window_at
 use Rattle.exactly_once.specs.Handshake.{Backward, heard, reply, with_items}
 use Rattle.exactly_once.specs.Handshake.Run.{stays}
 use Rattle.client_base.specs.Keeper.{Written}
-use Rattle.exactly_once.specs.Sides.{Connection}
+use Rattle.exactly_once.specs.Sides.{ClientConnection}
 use Rattle.exactly_once.specs.Story.{Story}
 use Rattle.exactly_once.specs.StoryCommands.{counted_at}
 use Rattle.exactly_once.specs.Inside.Projections.{GoesTo}
@@ -26,7 +26,7 @@ use Rattle.exactly_once.proofs.subscribing.places.Answered.{items_puback}
 use Rattle.exactly_once.proofs.subscribing.Answers.{at_own, answered, none_started, started_sends, entries_answered, answers_on, own_if}
 
 -- a PUBACK
-pub own_puback : (limits : Limits) (s : Story) (i : ℕ) (κ : Connection) (w : Written) (id : ℕ) → IsOwn limits s i κ w → w.packet ≡ packets.Puback id
+pub own_puback : (limits : Limits) (s : Story) (i : ℕ) (κ : ClientConnection) (w : Written) (id : ℕ) → IsOwn limits s i κ w → w.packet ≡ packets.Puback id
     → GoesTo (as_subscriber limits s) (as_subscriber limits (placed s (at_own s κ.name (packets.Puback id)) (counted_at i s.connections)))
 own_puback limits s i κ w id o e =
     let place = at_own s κ.name (packets.Puback id) in
@@ -44,7 +44,7 @@ own_puback limits s i κ w id o e =
     ∙ ap₂ link_as (sym (grown_none v)) (own_left limits s i κ w o ∙ ap (λ (z : Packet). backward_one z (left_behind current (counted_at i s.connections))) e))
 
 -- the sender receives the answer
-pub own_hears : (limits : Limits) (s : Story) (i : ℕ) (κ : Connection) (w : Written) (packet : Packet) (m : Backward) → IsOwn limits s i κ w → w.packet ≡ packet → ((b : List Backward) → backward_one packet b ≡ m ∷ b)
+pub own_hears : (limits : Limits) (s : Story) (i : ℕ) (κ : ClientConnection) (w : Written) (packet : Packet) (m : Backward) → IsOwn limits s i κ w → w.packet ≡ packet → ((b : List Backward) → backward_one packet b ≡ m ∷ b)
     → GoesOn limits s (at_own s κ.name packet) (answered s limits κ.name packet) [] (reply m) → heard m (items_of (entries_of limits s.past s.keeper.client)) ≡ items_of (answered s limits κ.name packet)
     → GoesTo (as_subscriber limits s) (as_subscriber limits (placed s (at_own s κ.name packet) (counted_at i s.connections)))
 own_hears limits s i κ w packet m o e first g items =
@@ -60,7 +60,7 @@ own_hears limits s i κ w packet m o e first g items =
     items refl (λ j. refl) refl
 
 -- a PUBCOMP
-pub own_pubcomp : (limits : Limits) (s : Story) (i : ℕ) (κ : Connection) (w : Written) (id : ℕ) → IsOwn limits s i κ w → w.packet ≡ packets.Pubcomp id
+pub own_pubcomp : (limits : Limits) (s : Story) (i : ℕ) (κ : ClientConnection) (w : Written) (id : ℕ) → IsOwn limits s i κ w → w.packet ≡ packets.Pubcomp id
     → GoesTo (as_subscriber limits s) (as_subscriber limits (placed s (at_own s κ.name (packets.Pubcomp id)) (counted_at i s.connections)))
 own_pubcomp limits s i κ w id o e =
     let place = at_own s κ.name (packets.Pubcomp id) in

@@ -15,7 +15,7 @@ use Rattle.broker_base.specs.broker_spec.Answers.{answers_at}
 use Rattle.client_base.proofs.of_lists.OfEach.{each_then}
 use Rattle.exactly_once.specs.Sends.{sends_to, put_to}
 use Rattle.client_base.specs.Keeper.{Written}
-use Rattle.exactly_once.specs.Sides.{Connection, Side}
+use Rattle.exactly_once.specs.Sides.{ClientConnection, Side}
 use Rattle.client_base.specs.Handled.{handled_online, handled_first, handled}
 use Rattle.client_base.specs.Handshakes.{releasing}
 use Rattle.client_base.specs.Handshakes.{takes_in}
@@ -28,11 +28,11 @@ use Rattle.exactly_once.specs.Inside.Shape.{HasShape}
 use Rattle.exactly_once.specs.Inside.ConnectionShape.{ConnectionInShape}
 
 -- no more is handled than given
-abbrev pub IsGiven : Limits → Past → Connection → Type 0
+abbrev pub IsGiven : Limits → Past → ClientConnection → Type 0
 IsGiven limits past κ = κ.handled ≤ length (put_to limits past κ.name)
 
 -- one place more gives no less
-more_given : (limits : Limits) (place : Place) (past : Past) (κ : Connection) → IsGiven limits past κ → IsGiven limits (place ∷ past) κ
+more_given : (limits : Limits) (place : Place) (past : Past) (κ : ClientConnection) → IsGiven limits past κ → IsGiven limits (place ∷ past) κ
 unfolding put_to
 more_given limits place past κ h = let l = longer (put_to limits past κ.name) (sends_to κ.name (answers_at limits place past)) in omega (arith, h, l)
   where
@@ -41,14 +41,14 @@ more_given limits place past κ h = let l = longer (put_to limits past κ.name) 
     longer (x ∷ xs) ys = let l = longer xs ys in omega (arith, l)
 
 -- one packet more taken
-given_counted : (limits : Limits) (past : Past) (i : ℕ) (connections : List Connection) → Each (IsGiven limits past) connections → Each (IsGiven limits past) (counted_at i connections)
+given_counted : (limits : Limits) (past : Past) (i : ℕ) (connections : List ClientConnection) → Each (IsGiven limits past) connections → Each (IsGiven limits past) (counted_at i connections)
 given_counted limits past zero [] h = tt
 given_counted limits past (suc i) [] h = tt
 given_counted limits past zero (κ ∷ others) h = (h.0, h.1)
 given_counted limits past (suc i) (κ ∷ others) h = (h.0, given_counted limits past i others h.1)
 
 -- more written
-given_writes : (limits : Limits) (past : Past) (more : List Written) (connections : List Connection) → Each (IsGiven limits past) connections → Each (IsGiven limits past) (writes_first more connections)
+given_writes : (limits : Limits) (past : Past) (more : List Written) (connections : List ClientConnection) → Each (IsGiven limits past) connections → Each (IsGiven limits past) (writes_first more connections)
 given_writes limits past more [] h = tt
 given_writes limits past more (κ ∷ others) h = (h.0, h.1)
 

@@ -15,7 +15,7 @@ use Rattle.broker_base.specs.broker_spec.declared.command.Command.TheVariants as
 use Rattle.broker_base.proofs.ClientsInOrder.{same_is}
 use Rattle.broker_base.proofs.QuietPasts.{no_connection}
 use Rattle.client_base.specs.Keeper.{Written}
-use Rattle.exactly_once.specs.Sides.{Connection, Side}
+use Rattle.exactly_once.specs.Sides.{ClientConnection, Side}
 use Rattle.client_base.specs.Written.{plain}
 use Rattle.client_base.specs.Handled.{handled}
 use Rattle.exactly_once.specs.Story.{Story, StoryStep}
@@ -50,23 +50,23 @@ not_opened limits past c (commands.Connect x d clean) other = not_accepted x d c
     by (inr e) = e
 
 -- the first connection with its name and what is taken of it, and the others as they were
-newest_first : (current : Option ConnectionName) (κ κ' : Connection) (others : List Connection) → κ'.name ≡ κ.name → κ'.taken ≡ κ.taken → NewestIsServed current (κ ∷ others) → NewestIsServed current (κ' ∷ others)
+newest_first : (current : Option ConnectionName) (κ κ' : ClientConnection) (others : List ClientConnection) → κ'.name ≡ κ.name → κ'.taken ≡ κ.taken → NewestIsServed current (κ ∷ others) → NewestIsServed current (κ' ∷ others)
 newest_first None κ κ' others n t h = tt
 newest_first (Some x) κ κ' others n t h = λ l e. h (subst (λ (k : ℕ). 1 ≤ k) t l) (ap (same_connection x) (sym n) ∙ e)
 
 -- more is written
-newest_writes : (current : Option ConnectionName) (more : List Written) (connections : List Connection) → NewestIsServed current connections → NewestIsServed current (writes_first more connections)
+newest_writes : (current : Option ConnectionName) (more : List Written) (connections : List ClientConnection) → NewestIsServed current connections → NewestIsServed current (writes_first more connections)
 newest_writes None more connections h = tt
 newest_writes (Some x) more [] h = h
 newest_writes (Some x) more (κ ∷ others) h = h
 
 -- a new connection
-newest_new : (current : Option ConnectionName) (κ : Connection) (connections : List Connection) → κ.taken ≡ 0 → NewestIsServed current (κ ∷ connections)
+newest_new : (current : Option ConnectionName) (κ : ClientConnection) (connections : List ClientConnection) → κ.taken ≡ 0 → NewestIsServed current (κ ∷ connections)
 newest_new None κ connections t = tt
 newest_new (Some x) κ connections t = λ l e. absurd (omega (arith, l, t))
 
 -- a CONNECT of the client
-newest_connect : (limits : Limits) (s : Story) (i : ℕ) (κ : Connection) → HasShape limits s → slice_get s.connections i ≡ Some κ → κ.taken ≡ 0 → κ.confirmed ≡ false
+newest_connect : (limits : Limits) (s : Story) (i : ℕ) (κ : ClientConnection) → HasShape limits s → slice_get s.connections i ≡ Some κ → κ.taken ≡ 0 → κ.confirmed ≡ false
     → NewestIsServed (current_connection (at_connect κ.name s.keeper.client false (connect_mark limits s.past s.keeper.client (owner_of s.past κ.name)) ∷ s.past) s.keeper.client) (counted_at i s.connections)
 newest_connect limits s i κ shape at taken unconfirmed = by (owner_of s.past κ.name) refl
   where
@@ -102,7 +102,7 @@ newest_connect limits s i κ shape at taken unconfirmed = by (owner_of s.past κ
     by None e = room (is_some (session_of s.past s.keeper.client)) (nat_lt (length (clients s.past)) limits.sessions) refl
 
 -- the next written packet is taken
-newest_taken : (limits : Limits) (s : Story) → HasShape limits s → (i : ℕ) (κ : Connection) (w : Written) → slice_get s.connections i ≡ Some κ → slice_get κ.written κ.taken ≡ Some w
+newest_taken : (limits : Limits) (s : Story) → HasShape limits s → (i : ℕ) (κ : ClientConnection) (w : Written) → slice_get s.connections i ≡ Some κ → slice_get κ.written κ.taken ≡ Some w
     → NewestIsServed (current_connection (place_of limits s.past (command_of κ.name κ.taken w.packet) ∷ s.past) s.keeper.client) (counted_at i s.connections)
 newest_taken limits s shape i κ w at next = by κ.taken refl
   where

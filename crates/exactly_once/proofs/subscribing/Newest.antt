@@ -8,7 +8,7 @@ use Rattle.broker_base.specs.broker_spec.Place.{Client, Place, Past}
 use Rattle.broker_base.specs.broker_spec.Past.{accepts, ends_any, current_connection}
 use Rattle.client_base.specs.lists.Lists.{Each}
 use Rattle.client_base.proofs.of_lists.Tests.{or_none}
-use Rattle.exactly_once.specs.Sides.{Connection}
+use Rattle.exactly_once.specs.Sides.{ClientConnection}
 use Rattle.exactly_once.specs.StoryCommands.{any_named, counted_at}
 use Rattle.exactly_once.specs.Inside.Shape.{NamesApart, NewestIsServed}
 use Rattle.exactly_once.proofs.Takes.{same_name_self}
@@ -27,42 +27,42 @@ stays_or_none place past c e = by (cases_Bool (ends_any place c (current_connect
     by (inr f) = inl (current_same place past c e f)
 
 -- so the row stays
-pub newest_stays : (before behind : Option ConnectionName) (connections : List Connection) → NewestIsServed before connections → (behind ≡ before) ⊎ (behind ≡ None) → NewestIsServed behind connections
+pub newest_stays : (before behind : Option ConnectionName) (connections : List ClientConnection) → NewestIsServed before connections → (behind ≡ before) ⊎ (behind ≡ None) → NewestIsServed behind connections
 newest_stays before behind connections h (inl e) = subst (λ (o : Option ConnectionName). NewestIsServed o connections) (sym e) h
 newest_stays before behind connections h (inr e) = subst (λ (o : Option ConnectionName). NewestIsServed o connections) (sym e) tt
 
 -- if those of this name are unconfirmed
-abbrev pub Unconfirmed : ConnectionName → List Connection → Type 0
-Unconfirmed x connections = Each (λ (other : Connection). same_connection x other.name ≡ true → other.confirmed ≡ false) connections
+abbrev pub Unconfirmed : ConnectionName → List ClientConnection → Type 0
+Unconfirmed x connections = Each (λ (other : ClientConnection). same_connection x other.name ≡ true → other.confirmed ≡ false) connections
 
 -- taking a packet confirms none
-unconfirmed_counted : (x : ConnectionName) (connections : List Connection) (i : ℕ) → Unconfirmed x connections → Unconfirmed x (counted_at i connections)
+unconfirmed_counted : (x : ConnectionName) (connections : List ClientConnection) (i : ℕ) → Unconfirmed x connections → Unconfirmed x (counted_at i connections)
 unconfirmed_counted x [] zero h = tt
 unconfirmed_counted x [] (suc i) h = tt
 unconfirmed_counted x (κ ∷ others) zero h = (h.0, h.1)
 unconfirmed_counted x (κ ∷ others) (suc i) h = (h.0, unconfirmed_counted x others i h.1)
 
 -- a packet after the CONNECT is taken
-pub newest_counted : (current : Option ConnectionName) (connections : List Connection) (i n : ℕ) (κ : Connection) → slice_get connections i ≡ Some κ → κ.taken ≡ suc n
+pub newest_counted : (current : Option ConnectionName) (connections : List ClientConnection) (i n : ℕ) (κ : ClientConnection) → slice_get connections i ≡ Some κ → κ.taken ≡ suc n
     → NewestIsServed current connections → NewestIsServed current (counted_at i connections)
 newest_counted None connections i n κ at t h = tt
 newest_counted (Some x) [] i n κ at t h = absurd (cc)
-newest_counted (Some x) (first ∷ others) zero n κ at t h = λ l e. h (let f : first ≡ κ = cc in let g : first.taken ≡ suc n = ap (λ (z : Connection). z.taken) f ∙ t in omega (arith, g)) e
+newest_counted (Some x) (first ∷ others) zero n κ at t h = λ l e. h (let f : first ≡ κ = cc in let g : first.taken ≡ suc n = ap (λ (z : ClientConnection). z.taken) f ∙ t in omega (arith, g)) e
 newest_counted (Some x) (first ∷ others) (suc i) n κ at t h = λ l e. unconfirmed_counted x others i (h l e)
 
 -- none of those has the name
-none_has : (x : ConnectionName) (connections : List Connection) → any_named (same_connection x) connections ≡ false → Unconfirmed x connections
+none_has : (x : ConnectionName) (connections : List ClientConnection) → any_named (same_connection x) connections ≡ false → Unconfirmed x connections
 none_has x [] h = tt
 none_has x (κ ∷ others) h =
     let g = or_none (same_connection x κ.name) (any_named (same_connection x) others) h in
     (λ e. absurd (both_ways (same_connection x κ.name) g.0 e), none_has x others g.1)
 
 -- the one that has it is unconfirmed
-one_has : (connections : List Connection) (i : ℕ) (κ : Connection) → NamesApart connections → slice_get connections i ≡ Some κ → κ.confirmed ≡ false → Unconfirmed κ.name (counted_at i connections)
+one_has : (connections : List ClientConnection) (i : ℕ) (κ : ClientConnection) → NamesApart connections → slice_get connections i ≡ Some κ → κ.confirmed ≡ false → Unconfirmed κ.name (counted_at i connections)
 one_has [] i κ a at u = absurd (cc)
 one_has (first ∷ others) zero κ a at u =
     let f : first ≡ κ = cc in
-    (λ e. ap (λ (z : Connection). z.confirmed) f ∙ u, none_has κ.name others (subst (λ (z : Connection). any_named (same_connection z.name) others ≡ false) f a.0))
+    (λ e. ap (λ (z : ClientConnection). z.confirmed) f ∙ u, none_has κ.name others (subst (λ (z : ClientConnection). any_named (same_connection z.name) others ≡ false) f a.0))
 one_has (first ∷ others) (suc i) κ a at u = (
   λ e. absurd (both_ways (any_named (same_connection first.name) others) a.0
       (named_at (same_connection first.name) others i κ at (ap (λ (z : ConnectionName). same_connection first.name z) (same_name κ.name first.name e) ∙ same_name_self first.name))),
@@ -70,9 +70,9 @@ one_has (first ∷ others) (suc i) κ a at u = (
 )
 
 -- the CONNECT of an unconfirmed connection is accepted
-pub newest_opened : (connections : List Connection) (i : ℕ) (κ : Connection) → NamesApart connections → slice_get connections i ≡ Some κ → κ.confirmed ≡ false
+pub newest_opened : (connections : List ClientConnection) (i : ℕ) (κ : ClientConnection) → NamesApart connections → slice_get connections i ≡ Some κ → κ.confirmed ≡ false
     → NewestIsServed (Some κ.name) (counted_at i connections)
 newest_opened [] i κ a at u = absurd (cc)
 newest_opened (first ∷ others) zero κ a at u =
-    λ l e. let f : first ≡ κ = cc in absurd (both_ways (same_connection κ.name κ.name) (ap (λ (z : Connection). same_connection κ.name z.name) (sym f) ∙ e) (same_name_self κ.name))
+    λ l e. let f : first ≡ κ = cc in absurd (both_ways (same_connection κ.name κ.name) (ap (λ (z : ClientConnection). same_connection κ.name z.name) (sym f) ∙ e) (same_name_self κ.name))
 newest_opened (first ∷ others) (suc i) κ a at u = λ l e. one_has others i κ a.1 at u

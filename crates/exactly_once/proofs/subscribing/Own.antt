@@ -19,7 +19,7 @@ use Rattle.broker_base.specs.broker_spec.declared.command.Command.TheVariants as
 use Rattle.exactly_once.specs.Handshake.{Backward}
 use Rattle.exactly_once.specs.Sends.{sends_to}
 use Rattle.client_base.specs.Keeper.{Written}
-use Rattle.exactly_once.specs.Sides.{Connection}
+use Rattle.exactly_once.specs.Sides.{ClientConnection}
 use Rattle.exactly_once.specs.Story.{Story}
 use Rattle.exactly_once.specs.StoryCommands.{any_named, counted_at}
 use Rattle.exactly_once.specs.Inside.Projections.{GoesTo}
@@ -38,7 +38,7 @@ use Rattle.exactly_once.proofs.subscribing.places.Over.{entries_over}
 use Rattle.exactly_once.proofs.subscribing.places.Quiet.{current_over}
 
 -- the next packet of the connection on which the client is served
-pub record IsOwn (limits : Limits) (s : Story) (i : ℕ) (κ : Connection) (w : Written) : Type 0 where
+pub record IsOwn (limits : Limits) (s : Story) (i : ℕ) (κ : ClientConnection) (w : Written) : Type 0 where
   pub n : ℕ
   pub shape : HasShape limits s
   pub steady : IsSteady limits
@@ -48,14 +48,14 @@ pub record IsOwn (limits : Limits) (s : Story) (i : ℕ) (κ : Connection) (w : 
   pub current : current_connection s.past s.keeper.client ≡ Some κ.name
 
 -- what comes back on it, before and after
-pub own_left : (limits : Limits) (s : Story) (i : ℕ) (κ : Connection) (w : Written) → IsOwn limits s i κ w
+pub own_left : (limits : Limits) (s : Story) (i : ℕ) (κ : ClientConnection) (w : Written) → IsOwn limits s i κ w
     → left_behind (current_connection s.past s.keeper.client) s.connections ≡ backward_one w.packet (left_behind (current_connection s.past s.keeper.client) (counted_at i s.connections))
 own_left limits s i κ w o =
     let p = left_own κ.name s.connections i κ o.shape.names_apart o.at (same_name_self κ.name) in
     ap (λ c. left_behind c s.connections) o.current ∙ p.0 ∙ comes_back κ w o.next ∙ ap (backward_one w.packet) (sym (ap (λ c. left_behind c (counted_at i s.connections)) o.current ∙ p.1))
 
 -- a plain place
-pub own_plain : (limits : Limits) (s : Story) (i : ℕ) (κ : Connection) (w : Written) (place : Place) → IsOwn limits s i κ w → IsPlain limits s place → ((b : List Backward) → backward_one w.packet b ≡ b)
+pub own_plain : (limits : Limits) (s : Story) (i : ℕ) (κ : ClientConnection) (w : Written) (place : Place) → IsOwn limits s i κ w → IsPlain limits s place → ((b : List Backward) → backward_one w.packet b ≡ b)
     → GoesTo (as_subscriber limits s) (as_subscriber limits (placed s place (counted_at i s.connections)))
 own_plain limits s i κ w place o p none =
     let current = current_connection s.past s.keeper.client in
@@ -72,7 +72,7 @@ stays_on y packet mark (Some x) e = by (same_connection y x) (is_leaving mark) e
     by false b e = refl
 
 -- one that does neither, with the copies that it makes
-packet_plain : (limits : Limits) (s : Story) (i : ℕ) (κ : Connection) (w : Written) (packet : Packet) (mark : Mark) → IsOwn limits s i κ w → is_leaving mark ≡ false
+packet_plain : (limits : Limits) (s : Story) (i : ℕ) (κ : ClientConnection) (w : Written) (packet : Packet) (mark : Mark) → IsOwn limits s i κ w → is_leaving mark ≡ false
     → answered_by (commands.Packet κ.name packet) mark (length s.past) s.keeper.client (entries_of limits s.past s.keeper.client) ≡ entries_of limits s.past s.keeper.client
     → ((x : ConnectionName) → any_named (same_connection x) s.connections ≡ true
     → forward_of (sends_to x (answers_at limits (at_packet κ.name packet mark) s.past)) ≡ forward_of (sends_to x (deliveries_to limits (at_packet κ.name packet mark) s.past s.keeper.client)))
@@ -87,7 +87,7 @@ packet_plain limits s i κ w packet mark o leaving answers sends =
     }
 
 -- one that ends the connection
-pub own_parts : (limits : Limits) (s : Story) (i : ℕ) (κ : Connection) (w : Written) (packet : Packet) (mark : Mark) → IsOwn limits s i κ w → is_leaving mark ≡ true
+pub own_parts : (limits : Limits) (s : Story) (i : ℕ) (κ : ClientConnection) (w : Written) (packet : Packet) (mark : Mark) → IsOwn limits s i κ w → is_leaving mark ≡ true
     → answered_by (commands.Packet κ.name packet) mark (length s.past) s.keeper.client (entries_of limits s.past s.keeper.client) ≡ entries_of limits s.past s.keeper.client
     → copies_at (at_packet κ.name packet mark) s.past s.keeper.client ≡ [] → SendsNone limits (at_packet κ.name packet mark) s.past s.connections
     → GoesTo (as_subscriber limits s) (as_subscriber limits (placed s (at_packet κ.name packet mark) (counted_at i s.connections)))
@@ -98,7 +98,7 @@ own_parts limits s i κ w packet mark o leaving answers copies sends =
     (view_counted limits (place ∷ s.past) None s.keeper s.connections i o.n κ o.at o.taken) (accepted_counted i s.connections)
 
 -- a PUBLISH, by what happens to it
-pub own_publish : (limits : Limits) (s : Story) (i : ℕ) (κ : Connection) (w : Written) (p : Publish) → IsOwn limits s i κ w → w.packet ≡ packets.Publish p
+pub own_publish : (limits : Limits) (s : Story) (i : ℕ) (κ : ClientConnection) (w : Written) (p : Publish) → IsOwn limits s i κ w → w.packet ≡ packets.Publish p
     → GoesTo (as_subscriber limits s) (as_subscriber limits (placed s (at_packet κ.name (packets.Publish p) (packet_mark limits s.past s.keeper.client (packets.Publish p))) (counted_at i s.connections)))
 own_publish limits s i κ w p o e =
     by (is_repeat s.past s.keeper.client p.delivery) (is_refused limits s.past (publication_of p)) (λ x h. publish_sends limits s.past κ.name x p s.keeper.client s.keeper.client (none_else limits s o.shape x h))
@@ -122,7 +122,7 @@ own_publish limits s i κ w p o e =
     by false false sends = own_plain limits s i κ w (at_packet κ.name (packets.Publish p) (Mark.Taken c)) o (packet_plain limits s i κ w (packets.Publish p) (Mark.Taken c) o refl refl sends) none
 
 -- any other that is neither an answer nor the end
-pub own_other : (limits : Limits) (s : Story) (i : ℕ) (κ : Connection) (w : Written) (packet : Packet) (mark : Mark) → IsOwn limits s i κ w → w.packet ≡ packet → is_leaving mark ≡ false
+pub own_other : (limits : Limits) (s : Story) (i : ℕ) (κ : ClientConnection) (w : Written) (packet : Packet) (mark : Mark) → IsOwn limits s i κ w → w.packet ≡ packet → is_leaving mark ≡ false
     → answered_by (commands.Packet κ.name packet) mark (length s.past) s.keeper.client (entries_of limits s.past s.keeper.client) ≡ entries_of limits s.past s.keeper.client
     → ((x : ConnectionName) → any_named (same_connection x) s.connections ≡ true
     → forward_of (sends_to x (answers_at limits (at_packet κ.name packet mark) s.past)) ≡ forward_of (sends_to x (deliveries_to limits (at_packet κ.name packet mark) s.past s.keeper.client)))

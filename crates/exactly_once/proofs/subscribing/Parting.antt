@@ -12,7 +12,7 @@ use Rattle.exactly_once.specs.Handshake.{Backward, Link, Handshake, with_items}
 use Rattle.exactly_once.specs.Handshake.Advances.{sender_leaves, parts}
 use Rattle.exactly_once.specs.Handshake.Run.{stays, goes_on}
 use Rattle.exactly_once.specs.Sends.{sends_to}
-use Rattle.exactly_once.specs.Sides.{Connection}
+use Rattle.exactly_once.specs.Sides.{ClientConnection}
 use Rattle.client_base.specs.Keeper.{Keeper}
 use Rattle.exactly_once.specs.Story.{Story}
 use Rattle.exactly_once.specs.StoryCommands.{any_named}
@@ -26,16 +26,16 @@ use Rattle.exactly_once.proofs.subscribing.Views.{View, seen, view, link_as, lin
 use Rattle.exactly_once.proofs.subscribing.Placed.{placed}
 
 -- a client without a connection has nothing in transit on an earlier one
-pub nothing_behind : (connections : List Connection) → left_behind None connections ≡ []
+pub nothing_behind : (connections : List ClientConnection) → left_behind None connections ≡ []
 nothing_behind [] = refl
 nothing_behind (κ ∷ others) = refl
 
 -- nothing of the handshake is sent to the client
-abbrev pub SendsNone : Limits → Place → Past → List Connection → Type 0
+abbrev pub SendsNone : Limits → Place → Past → List ClientConnection → Type 0
 SendsNone limits place past connections = (x : ConnectionName) → any_named (same_connection x) connections ≡ true → forward_of (sends_to x (answers_at limits place past)) ≡ []
 
 -- its connection is current no more
-pub view_parted : (limits : Limits) (place : Place) (past : Past) (c : Client) (current other : Option ConnectionName) (keeper : Keeper) (connections : List Connection)
+pub view_parted : (limits : Limits) (place : Place) (past : Past) (c : Client) (current other : Option ConnectionName) (keeper : Keeper) (connections : List ClientConnection)
     → Each (ConnectionInShape limits past c) connections → SendsNone limits place past connections
     → ((x : ConnectionName) → any_named (same_connection x) connections ≡ true → is_current other x ≡ false)
     → view limits (place ∷ past) other keeper connections ≡ parted (view limits past current keeper connections)
@@ -63,7 +63,7 @@ parts_view h t (Some (f, true)) b e i a r l =
 parts_view h t (Some (f, false)) b e i a r l = record { between = h; run = stays; like = record { items = i; accepted = a; received = r; link = e ∙ sym l } }
 
 -- such a place
-pub place_parts : (limits : Limits) (s : Story) (place : Place) (connections : List Connection) → HasShape limits s
+pub place_parts : (limits : Limits) (s : Story) (place : Place) (connections : List ClientConnection) → HasShape limits s
     → current_connection (place ∷ s.past) s.keeper.client ≡ None
     → entries_of limits (place ∷ s.past) s.keeper.client ≡ entries_of limits s.past s.keeper.client
     → SendsNone limits place s.past s.connections

@@ -9,7 +9,7 @@ use Rattle.broker_base.specs.broker_spec.Entries.{Entry}
 use Rattle.broker_base.specs.broker_spec.Times.{started, window_at, entries_of}
 use Rattle.broker_base.proofs.SoundEntries.{Sound}
 use Rattle.exactly_once.specs.Handshake.{Forward, Backward, Handshake, Run, publishing}
-use Rattle.exactly_once.specs.Sides.{Connection}
+use Rattle.exactly_once.specs.Sides.{ClientConnection}
 use Rattle.exactly_once.specs.Story.{Story}
 use Rattle.exactly_once.specs.Acceptance.{accepted_on}
 use Rattle.exactly_once.specs.Inside.Projections.{GoesTo}
@@ -29,7 +29,7 @@ pub record GoesOn (limits : Limits) (s : Story) (place : Place) (es : List Entry
       (more ++ map publishing (rows_at (window_at limits (place ∷ s.past)) (current_connection s.past s.keeper.client) (es ++ map (Entry.Waits (length s.past)) ps)))
 
 -- the story with the place, and with these connections
-abbrev pub placed : Story → Place → List Connection → Story
+abbrev pub placed : Story → Place → List ClientConnection → Story
 placed s place connections = record { past = place ∷ s.past; connections = connections; keeper = s.keeper }
 
 -- more, and then more
@@ -39,7 +39,7 @@ grown_twice more rest (Some (f, true)) = ap (λ l. Some (l, true)) (sym (append_
 grown_twice more rest (Some (f, false)) = refl
 
 -- after what is received, the place adds and starts
-pub place_goes : (limits : Limits) (s : Story) (place : Place) (connections : List Connection) (es : List Entry) (ps : List Publication) (more : List (Forward Publication)) (k : Handshake Publication)
+pub place_goes : (limits : Limits) (s : Story) (place : Place) (connections : List ClientConnection) (es : List Entry) (ps : List Publication) (more : List (Forward Publication)) (k : Handshake Publication)
     → HasShape limits s → GoesOn limits s place es ps more
     → view limits (place ∷ s.past) (current_connection s.past s.keeper.client) s.keeper connections ≡ view limits (place ∷ s.past) (current_connection s.past s.keeper.client) s.keeper s.connections
     → accepted_on connections ≡ accepted_on s.connections

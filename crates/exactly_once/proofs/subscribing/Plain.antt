@@ -16,7 +16,7 @@ use Rattle.broker_base.proofs.QuietPasts.{no_connection, entries_next, entries_n
 use Rattle.exactly_once.specs.Handshake.{publishing}
 use Rattle.exactly_once.specs.Handshake.Run.{stays}
 use Rattle.exactly_once.specs.Sends.{sends_to}
-use Rattle.exactly_once.specs.Sides.{Connection}
+use Rattle.exactly_once.specs.Sides.{ClientConnection}
 use Rattle.exactly_once.specs.Story.{Story}
 use Rattle.exactly_once.specs.StoryCommands.{any_named}
 use Rattle.exactly_once.specs.Acceptance.{accepted_on}
@@ -93,7 +93,7 @@ grown_none (Some (f, true)) = ap (λ l. Some (l, true)) (append-nil f)
 grown_none (Some (f, false)) = refl
 
 -- such a place is a run of the handshake
-pub plain_goes : (limits : Limits) (s : Story) (place : Place) (connections : List Connection) → HasShape limits s → IsPlain limits s place
+pub plain_goes : (limits : Limits) (s : Story) (place : Place) (connections : List ClientConnection) → HasShape limits s → IsPlain limits s place
     → view limits (place ∷ s.past) (current_connection s.past s.keeper.client) s.keeper connections ≡ view limits (place ∷ s.past) (current_connection s.past s.keeper.client) s.keeper s.connections
     → accepted_on connections ≡ accepted_on s.connections
     → left_behind (current_connection s.past s.keeper.client) connections ≡ left_behind (current_connection s.past s.keeper.client) s.connections

@@ -21,7 +21,7 @@ use Rattle.exactly_once.specs.Handshake.{Forward, Backward, publishing}
 use Rattle.exactly_once.specs.HandshakeInvariant.{IsGood}
 use Rattle.exactly_once.specs.Sends.{sends_to}
 use Rattle.client_base.specs.Keeper.{Written}
-use Rattle.exactly_once.specs.Sides.{Connection}
+use Rattle.exactly_once.specs.Sides.{ClientConnection}
 use Rattle.exactly_once.specs.Story.{Story}
 use Rattle.exactly_once.specs.StoryCommands.{counted_at}
 use Rattle.exactly_once.specs.Inside.Projections.{is_current, GoesTo}
@@ -79,7 +79,7 @@ pubrec_has limits s y id e sent =
     ∙ has_after id (released_below n (map (at_pubrec n id) es)) (released_at n (map (at_pubrec n id) es)) (now_released n id es sent)
 
 -- a PUBREC
-pub own_pubrec : (limits : Limits) (s : Story) (i : ℕ) (κ : Connection) (w : Written) (id : ℕ) → IsOwn limits s i κ w → IsGood (as_subscriber limits s) → w.packet ≡ packets.Pubrec id
+pub own_pubrec : (limits : Limits) (s : Story) (i : ℕ) (κ : ClientConnection) (w : Written) (id : ℕ) → IsOwn limits s i κ w → IsGood (as_subscriber limits s) → w.packet ≡ packets.Pubrec id
     → GoesTo (as_subscriber limits s) (as_subscriber limits (placed s (at_own s κ.name (packets.Pubrec id)) (counted_at i s.connections)))
 own_pubrec limits s i κ w id o good e =
     let current = current_connection s.past s.keeper.client in

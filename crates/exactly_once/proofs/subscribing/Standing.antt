@@ -7,7 +7,7 @@ use Rattle.broker_base.specs.broker_spec.Place.{Client, Past, Limits}
 use Rattle.client_base.specs.lists.Lists.{Each}
 use Rattle.exactly_once.specs.Handshake.{Forward, Backward, Link}
 use Rattle.client_base.specs.Keeper.{Written, Keeper}
-use Rattle.exactly_once.specs.Sides.{Connection}
+use Rattle.exactly_once.specs.Sides.{ClientConnection}
 use Rattle.client_base.specs.Called.{opens}
 use Rattle.exactly_once.specs.Inside.Projections.{to_come, to_be_taken}
 use Rattle.exactly_once.specs.Inside.AsSubscriber.{forward_of, backward_of, held, if_taken, left_behind, link_to}
@@ -26,13 +26,13 @@ only_connect c (suc zero) = refl
 only_connect c (suc (suc n)) = refl
 
 -- an unconfirmed connection has no answers
-pub unconfirmed_none : (limits : Limits) (past : Past) (c : Client) (κ : Connection) → ConnectionInShape limits past c κ → κ.confirmed ≡ false → backward_of (to_be_taken κ) ≡ []
+pub unconfirmed_none : (limits : Limits) (past : Past) (c : Client) (κ : ClientConnection) → ConnectionInShape limits past c κ → κ.confirmed ≡ false → backward_of (to_be_taken κ) ≡ []
 unconfirmed_none limits past c κ g e =
     ap (λ ws. backward_of (drop κ.taken ws)) (g.written ∙ ap (λ (more : List Written). opens c ∷ more) (g.silent e)) ∙ only_connect c κ.taken
 
 -- nothing comes if only unconfirmed connections have the name
-pub nothing_left : (limits : Limits) (past : Past) (c : Client) (x : ConnectionName) (connections : List Connection) → Each (ConnectionInShape limits past c) connections
-    → Each (λ (other : Connection). same_connection x other.name ≡ true → other.confirmed ≡ false) connections
+pub nothing_left : (limits : Limits) (past : Past) (c : Client) (x : ConnectionName) (connections : List ClientConnection) → Each (ConnectionInShape limits past c) connections
+    → Each (λ (other : ClientConnection). same_connection x other.name ≡ true → other.confirmed ≡ false) connections
     → left_behind (Some x) connections ≡ []
 nothing_left limits past c x [] g h = refl
 nothing_left limits past c x (κ ∷ connections) g h = by (same_connection x κ.name) h.0 (nothing_left limits past c x connections g.1 h.1)
@@ -42,20 +42,20 @@ nothing_left limits past c x (κ ∷ connections) g h = by (same_connection x κ
     by false e ih = ih
 
 -- by whether the client's connection is the current one
-stands_by : (limits : Limits) (past : Past) (c : Client) (κ : Connection) (others : List Connection) (current : Option ConnectionName) → Each (ConnectionInShape limits past c) others → 1 ≤ κ.taken
+stands_by : (limits : Limits) (past : Past) (c : Client) (κ : ClientConnection) (others : List ClientConnection) (current : Option ConnectionName) → Each (ConnectionInShape limits past c) others → 1 ≤ κ.taken
     → NewestIsServed current (κ ∷ others)
     → Stands (link_to limits past current (κ ∷ others) (Some κ)) (left_behind current (κ ∷ others))
 stands_by limits past c κ others None g t n = inr (inr (forward_of (to_come limits past κ), refl, refl))
 stands_by limits past c κ others (Some x) g t n = by (same_connection x κ.name) (n t)
   where
-    by : (b : Bool) → (b ≡ false → Each (λ (other : Connection). same_connection x other.name ≡ true → other.confirmed ≡ false) others)
+    by : (b : Bool) → (b ≡ false → Each (λ (other : ClientConnection). same_connection x other.name ≡ true → other.confirmed ≡ false) others)
         → Stands (if b then Link.Joined (forward_of (to_come limits past κ)) (backward_of (to_be_taken κ)) else Link.Ahead (forward_of (to_come limits past κ)))
         (if b then backward_of (to_be_taken κ) else left_behind (Some x) others)
     by true h = inr (inl (forward_of (to_come limits past κ), refl))
     by false h = inr (inr (forward_of (to_come limits past κ), refl, nothing_left limits past c x others g (h refl)))
 
 -- of every story in shape
-pub stands : (limits : Limits) (past : Past) (c : Client) (keeper : Keeper) (connections : List Connection) (current : Option ConnectionName)
+pub stands : (limits : Limits) (past : Past) (c : Client) (keeper : Keeper) (connections : List ClientConnection) (current : Option ConnectionName)
     → Each (ConnectionInShape limits past c) connections → NewestIsServed current connections
     → Stands (link_to limits past current connections (held keeper connections)) (left_behind current connections)
 stands limits past c keeper [] current g n = inl refl

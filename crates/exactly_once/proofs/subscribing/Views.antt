@@ -8,7 +8,7 @@ use Rattle.broker_base.specs.broker_spec.Answers.{answers_at}
 use Rattle.client_base.specs.lists.Lists.{Each}
 use Rattle.exactly_once.specs.Handshake.{Forward, Backward, Link, publishing}
 use Rattle.exactly_once.specs.Sends.{sends_to, put_to}
-use Rattle.exactly_once.specs.Sides.{Connection}
+use Rattle.exactly_once.specs.Sides.{ClientConnection}
 use Rattle.client_base.specs.Keeper.{Keeper}
 use Rattle.exactly_once.specs.StoryCommands.{any_named}
 use Rattle.exactly_once.specs.Inside.Projections.{to_come, to_be_taken, is_current}
@@ -23,12 +23,12 @@ abbrev pub View : Type 0
 View = Option (List (Forward Publication) × Bool)
 
 -- by how much of it is taken
-abbrev pub seen : Limits → Past → Option ConnectionName → Connection → ℕ → View
+abbrev pub seen : Limits → Past → Option ConnectionName → ClientConnection → ℕ → View
 seen limits past current κ zero = None
 seen limits past current κ (suc n) = Some (forward_of (to_come limits past κ), is_current current κ.name)
 
 -- the client's connection
-abbrev pub view : Limits → Past → Option ConnectionName → Keeper → List Connection → View
+abbrev pub view : Limits → Past → Option ConnectionName → Keeper → List ClientConnection → View
 view limits past current keeper (κ ∷ others) = if keeper.is_open then seen limits past current κ κ.taken else None
 view limits past current keeper [] = None
 
@@ -39,7 +39,7 @@ link_as (Some (f, true)) b = Link.Joined f b
 link_as (Some (f, false)) b = Link.Ahead f
 
 -- by whether it is the current one
-as_by : (limits : Limits) (past : Past) (current : Option ConnectionName) (κ : Connection) (others : List Connection)
+as_by : (limits : Limits) (past : Past) (current : Option ConnectionName) (κ : ClientConnection) (others : List ClientConnection)
     → link_to limits past current (κ ∷ others) (Some κ) ≡ link_as (Some (forward_of (to_come limits past κ), is_current current κ.name)) (left_behind current (κ ∷ others))
 as_by limits past None κ others = refl
 as_by limits past (Some x) κ others = by (same_connection x κ.name)
@@ -51,7 +51,7 @@ as_by limits past (Some x) κ others = by (same_connection x κ.name)
     by false = refl
 
 -- the link of every story
-pub link_is : (limits : Limits) (past : Past) (current : Option ConnectionName) (keeper : Keeper) (connections : List Connection)
+pub link_is : (limits : Limits) (past : Past) (current : Option ConnectionName) (keeper : Keeper) (connections : List ClientConnection)
     → link_to limits past current connections (held keeper connections) ≡ link_as (view limits past current keeper connections) (left_behind current connections)
 link_is limits past current keeper [] = refl
 link_is limits past current keeper (κ ∷ others) = by keeper.is_open κ.taken
@@ -70,7 +70,7 @@ unfolding put_to
 put_more limits place past x = refl
 
 -- what a place sends comes after
-pub comes_after : (limits : Limits) (place : Place) (past : Past) (κ : Connection) → κ.handled ≤ length (put_to limits past κ.name)
+pub comes_after : (limits : Limits) (place : Place) (past : Past) (κ : ClientConnection) → κ.handled ≤ length (put_to limits past κ.name)
     → forward_of (to_come limits (place ∷ past) κ) ≡ forward_of (to_come limits past κ) ++ forward_of (sends_to κ.name (answers_at limits place past))
 comes_after limits place past κ h =
     ap (λ ps. forward_of (drop κ.handled ps)) (put_more limits place past κ.name)
@@ -111,17 +111,17 @@ link_grown rows (Some (f, true)) b = sym (sent_joined rows f b)
 link_grown rows (Some (f, false)) b = sym (sent_ahead rows f)
 
 -- what each connection of the client is sent at a place: this, if it is current
-abbrev pub SendsAt : Limits → Place → Past → Option ConnectionName → List Connection → List (Forward Publication) → Type 0
+abbrev pub SendsAt : Limits → Place → Past → Option ConnectionName → List ClientConnection → List (Forward Publication) → Type 0
 SendsAt limits place past current connections more =
     (x : ConnectionName) → any_named (same_connection x) connections ≡ true
     → forward_of (sends_to x (answers_at limits place past)) ≡ (if is_current current x then more else [])
 
 -- the first is named
-first_named : (κ : Connection) (others : List Connection) → any_named (same_connection κ.name) (κ ∷ others) ≡ true
+first_named : (κ : ClientConnection) (others : List ClientConnection) → any_named (same_connection κ.name) (κ ∷ others) ≡ true
 first_named κ others = ap (λ b. b || any_named (same_connection κ.name) others) (same_name_self κ.name)
 
 -- the view after a place that leaves the current connection
-pub view_grown : (limits : Limits) (place : Place) (past : Past) (c : Client) (current : Option ConnectionName) (keeper : Keeper) (connections : List Connection) (more : List (Forward Publication))
+pub view_grown : (limits : Limits) (place : Place) (past : Past) (c : Client) (current : Option ConnectionName) (keeper : Keeper) (connections : List ClientConnection) (more : List (Forward Publication))
     → Each (ConnectionInShape limits past c) connections → SendsAt limits place past current connections more
     → view limits (place ∷ past) current keeper connections ≡ grown more (view limits past current keeper connections)
 view_grown limits place past c current keeper [] more g sends = refl

@@ -14,7 +14,7 @@ use Rattle.exactly_once.specs.Handshake.Run.{stays}
 use Rattle.client_base.specs.Keeper.{Own, Written, Keeper, ids_in_use, next_number}
 use Rattle.client_base.specs.declared.request.Request.{Request}
 use Rattle.client_base.specs.declared.request.Request.TheVariants as requests
-use Rattle.exactly_once.specs.Sides.{Connection}
+use Rattle.exactly_once.specs.Sides.{ClientConnection}
 use Rattle.client_base.specs.Written.{plain, publishes, writes}
 use Rattle.exactly_once.specs.Story.{Story}
 use Rattle.client_base.specs.Called.{adds_own, written_for}
@@ -27,7 +27,7 @@ use Rattle.exactly_once.proofs.subscribing.Written.{taken_same}
 use Rattle.exactly_once.proofs.subscribing.events.Leaving.{left_writes, accepted_writes}
 
 -- the link stays
-link_writes : (limits : Limits) (past : Past) (c : Client) (current : Option ConnectionName) (more : List Written) (keeper : Keeper) (connections : List Connection)
+link_writes : (limits : Limits) (past : Past) (c : Client) (current : Option ConnectionName) (more : List Written) (keeper : Keeper) (connections : List ClientConnection)
     → Each (ConnectionInShape limits past c) connections → backward_of more ≡ []
     → link_to limits past current (writes_first more connections) (held keeper (writes_first more connections)) ≡ link_to limits past current connections (held keeper connections)
 link_writes limits past c current more keeper [] g e = refl

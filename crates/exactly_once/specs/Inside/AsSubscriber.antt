@@ -15,7 +15,7 @@ use Rattle.broker_base.specs.broker_spec.Times.{entries_of}
 use Rattle.exactly_once.specs.Items.{Item}
 use Rattle.exactly_once.specs.Handshake.{Forward, Backward, Link, Handshake}
 use Rattle.client_base.specs.Keeper.{Written, Keeper}
-use Rattle.exactly_once.specs.Sides.{Connection}
+use Rattle.exactly_once.specs.Sides.{ClientConnection}
 use Rattle.exactly_once.specs.Story.{Story}
 use Rattle.exactly_once.specs.Carried.{is_two}
 use Rattle.exactly_once.specs.Acceptance.{accepted_on}
@@ -60,25 +60,25 @@ backward_of (w ∷ more) = by w.packet (backward_of more)
 backward_of [] = []
 
 -- the connection, if the list has its Connect
-abbrev pub if_taken : ℕ → Connection → Option Connection
+abbrev pub if_taken : ℕ → ClientConnection → Option ClientConnection
 if_taken zero κ = None
 if_taken (suc n) κ = Some κ
 
 -- the connection that the client holds, if the list has its Connect
-abbrev pub held : Keeper → List Connection → Option Connection
+abbrev pub held : Keeper → List ClientConnection → Option ClientConnection
 held keeper (κ ∷ connections) = if keeper.is_open then if_taken κ.taken κ else None
 held keeper [] = None
 
 -- what may still come to the broker on its connection
-abbrev pub left_behind : Option ConnectionName → List Connection → List Backward
+abbrev pub left_behind : Option ConnectionName → List ClientConnection → List Backward
 left_behind (Some x) (κ ∷ connections) =
     if same_connection x κ.name then backward_of (to_be_taken κ)
     else left_behind (Some x) connections
 left_behind _ _ = []
 
 -- what is in transit: both ways if the client's connection is current, otherwise one way
-abbrev pub link_to : Limits → Past → Option ConnectionName → List Connection → Option Connection →
-    Link Publication
+abbrev pub link_to : Limits → Past → Option ConnectionName → List ClientConnection →
+    Option ClientConnection → Link Publication
 link_to limits past current connections (Some κ) =
     if is_current current κ.name
     then Link.Joined (forward_of (to_come limits past κ)) (backward_of (to_be_taken κ))

@@ -7,7 +7,7 @@ use Rattle.broker_base.specs.broker_spec.Place.{Client, Past, Limits}
 use Rattle.broker_base.specs.broker_spec.Received.{is_exactly_once}
 use Rattle.exactly_once.specs.Sends.{put_to}
 use Rattle.client_base.specs.Keeper.{Written}
-use Rattle.exactly_once.specs.Sides.{Connection}
+use Rattle.exactly_once.specs.Sides.{ClientConnection}
 use Rattle.exactly_once.specs.StoryCommands.{count_of}
 use Rattle.client_base.specs.Called.{opens}
 use Rattle.exactly_once.specs.Inside.Projections.{backward_of_own}
@@ -42,7 +42,7 @@ is_two_unnumbered _ _ = false
 
 -- the counts, the order and the first packets of one connection are as they have to be
 pub record ConnectionInShape (limits : Limits) (past : Past) (c : Client)
-    (κ : Connection) : Type 0 where
+    (κ : ClientConnection) : Type 0 where
   pub more : List Written
   pub written : κ.written ≡ opens c ∷ more
   pub one_connect : Each (λ w. is_connect w ≡ false) more

@@ -14,18 +14,18 @@ use Rattle.exactly_once.specs.Items.{Item}
 use Rattle.exactly_once.specs.Handshake.{Forward, Backward, Link, Handshake, Run}
 use Rattle.exactly_once.specs.Sends.{put_to}
 use Rattle.client_base.specs.Keeper.{Own, Written}
-use Rattle.exactly_once.specs.Sides.{Connection}
+use Rattle.exactly_once.specs.Sides.{ClientConnection}
 use Rattle.exactly_once.specs.Story.{Story}
 use Rattle.exactly_once.specs.Carried.{is_two, new_numbers}
 
 -- ---- what is in transit on a connection, and whether the broker has it as current
 
 -- on a connection: what the client did not handle yet, and what is not taken yet
-abbrev pub to_come : Limits → Past → Connection → List Packet
+abbrev pub to_come : Limits → Past → ClientConnection → List Packet
 to_come limits past κ = drop κ.handled (put_to limits past κ.name)
 
 -- what the client wrote on a connection and the list does not have yet
-abbrev pub to_be_taken : Connection → List Written
+abbrev pub to_be_taken : ClientConnection → List Written
 to_be_taken κ = drop κ.taken κ.written
 
 -- whether this connection is the current one of its client
@@ -73,12 +73,13 @@ backward_of_own (_ ∷ more) = backward_of_own more
 backward_of_own [] = []
 
 -- the last connection on which a CONNACK 0 came
-abbrev pub last_confirmed : List Connection → Option Connection
+abbrev pub last_confirmed : List ClientConnection → Option ClientConnection
 last_confirmed (κ ∷ connections) = if κ.confirmed then Some κ else last_confirmed connections
 last_confirmed [] = None
 
 -- what is in transit, by the last connection on which a CONNACK 0 came
-abbrev pub link_of_own : Limits → Past → Option ConnectionName → Bool → Option Connection → Link ℕ
+abbrev pub link_of_own : Limits → Past → Option ConnectionName → Bool → Option ClientConnection →
+    Link ℕ
 link_of_own limits past current online (Some κ) =
     if is_current current κ.name
     then (if online

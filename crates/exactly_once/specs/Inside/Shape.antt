@@ -11,7 +11,7 @@ use Rattle.exactly_once.specs.Items.{has_released}
 use Rattle.exactly_once.specs.HandshakeInvariant.{IsGood}
 use Rattle.exactly_once.specs.Sends.{put_to}
 use Rattle.client_base.specs.Keeper.{Own, Keeper, ids_in_use}
-use Rattle.exactly_once.specs.Sides.{Connection}
+use Rattle.exactly_once.specs.Sides.{ClientConnection}
 use Rattle.exactly_once.specs.Story.{Story}
 use Rattle.exactly_once.specs.StoryCommands.{any_named}
 use Rattle.exactly_once.specs.Carried.{is_two}
@@ -48,29 +48,29 @@ pub record OwnInShape (keeper : Keeper) : Type 0 where
 -- ---- all of them
 
 -- no two connections have the same name
-abbrev pub NamesApart : List Connection → Type 0
+abbrev pub NamesApart : List ClientConnection → Type 0
 NamesApart (κ ∷ connections) =
     (any_named (same_connection κ.name) connections ≡ false) × NamesApart connections
 NamesApart [] = Unit {0}
 
 -- a connection that was confirmed, and is not the last one, is not current
-abbrev pub LastIsCurrent : Option ConnectionName → List Connection → Type 0
+abbrev pub LastIsCurrent : Option ConnectionName → List ClientConnection → Type 0
 LastIsCurrent None connections = Unit {0}
 LastIsCurrent (Some x) connections =
     (any_named (same_connection x) connections ≡ true)
-    × Each (λ (κ : Connection). same_connection x κ.name ≡ true → κ.confirmed ≡ true →
+    × Each (λ (κ : ClientConnection). same_connection x κ.name ≡ true → κ.confirmed ≡ true →
     last_confirmed connections ≡ Some κ) connections
 
 -- if the newest one's Connect is taken, no other confirmed one is current
-abbrev pub NewestIsServed : Option ConnectionName → List Connection → Type 0
+abbrev pub NewestIsServed : Option ConnectionName → List ClientConnection → Type 0
 NewestIsServed (Some x) (κ ∷ connections) =
     1 ≤ κ.taken → same_connection x κ.name ≡ false →
-    Each (λ (other : Connection). same_connection x other.name ≡ true →
+    Each (λ (other : ClientConnection). same_connection x other.name ≡ true →
     other.confirmed ≡ false) connections
 NewestIsServed _ _ = Unit {0}
 
 -- the first one is open if the client holds one
-abbrev pub HeldInShape : Limits → Past → Keeper → List Connection → Type 0
+abbrev pub HeldInShape : Limits → Past → Keeper → List ClientConnection → Type 0
 HeldInShape limits past keeper [] = keeper.is_open ≡ false
 HeldInShape limits past keeper (κ ∷ connections) =
     (keeper.is_open ≡ true → κ.confirmed ≡ keeper.is_online)
@@ -89,9 +89,9 @@ abbrev pub IsWelcomed : Limits → Past → Client → ConnectionName → Type 0
 IsWelcomed limits past c x = Each (IsMeant c past) (put_to limits past x)
 
 -- each packet that is sent to one of these connections is meant for the client
-abbrev pub AreWelcomed : Limits → Past → Client → List Connection → Type 0
+abbrev pub AreWelcomed : Limits → Past → Client → List ClientConnection → Type 0
 AreWelcomed limits past c connections =
-    Each (λ (κ : Connection). IsWelcomed limits past c κ.name) connections
+    Each (λ (κ : ClientConnection). IsWelcomed limits past c κ.name) connections
 
 -- all that a story keeps besides the two handshakes
 pub record HasShape (limits : Limits) (s : Story) : Type 0 where

@@ -19,7 +19,7 @@ use Rattle.broker_base.specs.broker_spec.declared.command.Command.TheVariants as
 use Rattle.broker_base.proofs.ClientsInOrder.{same_is}
 use Rattle.broker_base.proofs.ConnectionsOfSessions.{same_turned}
 use Rattle.client_base.proofs.of_lists.Tests.{or_none}
-use Rattle.exactly_once.specs.Sides.{Connection}
+use Rattle.exactly_once.specs.Sides.{ClientConnection}
 use Rattle.client_base.specs.Keeper.{Keeper}
 use Rattle.exactly_once.specs.StoryCommands.{any_named, is_packet_of, count_of, names_client}
 use Rattle.exactly_once.specs.Carried.{carries, connection_named, number_at, more_by, new_numbers}
@@ -38,13 +38,13 @@ use Rattle.broker_base.specs.broker_spec.Answers.{closed}
 
 -- ---- it carries none of the client's publications
 
-unnamed : (x : ConnectionName) (connections : List Connection) → any_named (same_connection x) connections ≡ false → connection_named x connections ≡ None
+unnamed : (x : ConnectionName) (connections : List ClientConnection) → any_named (same_connection x) connections ≡ false → connection_named x connections ≡ None
 unnamed x [] e = refl
 unnamed x (κ ∷ connections) e =
     let h = or_none (same_connection x κ.name) (any_named (same_connection x) connections) e in
     ap (λ b. if b then Some κ else connection_named x connections) h.0 ∙ unnamed x connections h.1
 
-carries_none : (connections : List Connection) (command : Command) (past : Past) → any_named (is_packet_of command) connections ≡ false → carries connections command past ≡ None
+carries_none : (connections : List ClientConnection) (command : Command) (past : Past) → any_named (is_packet_of command) connections ≡ false → carries connections command past ≡ None
 carries_none connections (commands.Packet x (packets.Publish p)) past e = ap (number_at (count_of x past)) (unnamed x connections e)
 carries_none connections (commands.Packet x packet) past e = refl
 carries_none connections (commands.Connect x c clean) past e = refl
@@ -52,7 +52,7 @@ carries_none connections (commands.Lost x) past e = refl
 carries_none connections (commands.Start b) past e = refl
 carries_none connections (commands.Expel d) past e = refl
 
-number_none : (connections : List Connection) (place : Place) (past : Past) → carries connections place.command past ≡ None → new_numbers connections past ≡ new_numbers connections (place ∷ past)
+number_none : (connections : List ClientConnection) (place : Place) (past : Past) → carries connections place.command past ≡ None → new_numbers connections past ≡ new_numbers connections (place ∷ past)
 number_none connections place past e = sym (ap (λ number. new_numbers connections past ++ more_by (is_new place.command place.mark) number) e ∙ by (is_new place.command place.mark))
   where
     by : (b : Bool) → new_numbers connections past ++ more_by b None ≡ new_numbers connections past
@@ -61,11 +61,11 @@ number_none connections place past e = sym (ap (λ number. new_numbers connectio
 
 -- ---- its connection is over, or stays
 
-none_current : (last : Option Connection) → current_last None last ≡ false
+none_current : (last : Option ClientConnection) → current_last None last ≡ false
 none_current None = refl
 none_current (Some κ) = refl
 
-goes_other : (limits : Limits) (place : Place) (past : Past) (keeper : Keeper) (connections : List Connection) → HasShape limits (story_by past connections keeper)
+goes_other : (limits : Limits) (place : Place) (past : Past) (keeper : Keeper) (connections : List ClientConnection) → HasShape limits (story_by past connections keeper)
     → accepts place.command place.mark keeper.client ≡ None → IsSpared place.command past keeper.client → received_by place.command place.mark keeper.client (received_of past keeper.client) ≡ received_of past keeper.client
     → any_named (is_packet_of place.command) connections ≡ false → NoneToLast limits place past connections
     → GoesTo (as_publisher limits (story_by past connections keeper)) (as_publisher limits (story_by (place ∷ past) connections keeper))
@@ -112,17 +112,17 @@ not_same c d other = by (cases_Bool (same_client d c))
     by (inr e) = e
 
 -- the connection on which the client is, is one of its own
-mine : (o : Option ConnectionName) (connections : List Connection) → LastIsCurrent o connections → (y : ConnectionName) → o ≡ Some y → any_named (same_connection y) connections ≡ true
+mine : (o : Option ConnectionName) (connections : List ClientConnection) → LastIsCurrent o connections → (y : ConnectionName) → o ≡ Some y → any_named (same_connection y) connections ≡ true
 mine None connections lastly y e = cc
 mine (Some x) connections lastly y e = let same : x ≡ y = cc in subst (λ (z : ConnectionName). any_named (same_connection z) connections ≡ true) same lastly.0
 
-pub others_take_it : (limits : Limits) (past : Past) (keeper : Keeper) (connections : List Connection) (command : Command) → HasShape limits (story_by past connections keeper)
+pub others_take_it : (limits : Limits) (past : Past) (keeper : Keeper) (connections : List ClientConnection) (command : Command) → HasShape limits (story_by past connections keeper)
     → (names_client past keeper.client command → ⊥) → any_named (is_packet_of command) connections ≡ false
     → GoesTo (as_publisher limits (story_by past connections keeper)) (as_publisher limits (story_by (place_of limits past command ∷ past) connections keeper))
 others_take_it limits past keeper connections (commands.Packet x packet) shape other none =
     goes_other limits (place_of limits past (commands.Packet x packet)) past keeper connections shape refl (inl refl) (by (owner_of past x) refl) none
     (λ κ e. packet_none κ.name limits (place_of limits past (commands.Packet x packet)) past x packet (packet_mark_of limits past packet (owner_of past x))
-    (λ h. same_turned κ.name x ∙ each_last (λ (μ : Connection). same_connection x μ.name ≡ false) connections κ (none_named (same_connection x) connections none) e))
+    (λ h. same_turned κ.name x ∙ each_last (λ (μ : ClientConnection). same_connection x μ.name ≡ false) connections κ (none_named (same_connection x) connections none) e))
   where
     by : (o : Option Client) → owner_of past x ≡ o
         → received_by (commands.Packet x packet) (packet_mark_of limits past packet o) keeper.client (received_of past keeper.client) ≡ received_of past keeper.client

@@ -14,7 +14,7 @@ use Rattle.exactly_once.specs.Items.{Item}
 use Rattle.exactly_once.specs.Handshake.{Forward, Backward, Handshake}
 use Rattle.exactly_once.specs.Handshake.Advances.{adds}
 use Rattle.client_base.specs.Keeper.{Own, Keeper, ids_in_use, next_number}
-use Rattle.exactly_once.specs.Sides.{Connection}
+use Rattle.exactly_once.specs.Sides.{ClientConnection}
 use Rattle.client_base.specs.Written.{publishes}
 use Rattle.client_base.specs.Written.{writes_first}
 use Rattle.client_base.specs.Called.{adds_own, written_for}
@@ -64,7 +64,7 @@ runs_offline h true n = reaches_by h (h.items ++ Item.Waits n ∷ []) h.link h.l
 runs_offline h false n = subst (λ (items : List (Item ℕ)). Reaches h items h.link) (sym (append-nil h.items)) (reaches_itself h h.link refl)
 
 -- nothing is written
-writes_none : (connections : List Connection) → writes_first [] connections ≡ connections
+writes_none : (connections : List ClientConnection) → writes_first [] connections ≡ connections
 writes_none [] = refl
 writes_none (κ ∷ others) = λ i. record κ { written = append-nil κ.written i } ∷ others
 
@@ -78,7 +78,7 @@ forward_one n id p = forward_publishes false n id p []
 abbrev pub with_own : Own → Keeper → Keeper
 with_own o keeper = record keeper { own = keeper.own ++ o ∷ [] }
 
-online_one : (limits : Limits) (past : Past) (keeper : Keeper) (connections : List Connection) (p : Publication) (o : Own) → OwnInShape keeper
+online_one : (limits : Limits) (past : Past) (keeper : Keeper) (connections : List ClientConnection) (p : Publication) (o : Own) → OwnInShape keeper
     → Each (ConnectionInShape limits past keeper.client) connections → HeldInShape limits past keeper connections → keeper.is_online ≡ true
     → items_of_own (o ∷ []) ≡ (if is_two p.qos then Item.Sent (next_number keeper) (least_free (ids_in_use keeper)) ∷ [] else [])
     → GoesTo (as_publisher limits (story_by past connections keeper))
@@ -106,17 +106,17 @@ online_one limits past keeper (κ ∷ others) p o own each held on item =
     (runs_online h cur (is_two p.qos) f b keeper n refl (own.online_sent on) (first_link limits past keeper κ others (holds.confirmed on) ∙ ap (λ online. link_by cur online f b) on)))
     (ap (λ l. items_of_own keeper.own ++ l) (sym item) ∙ sym (items_more keeper.own (o ∷ []))) (ap (λ l. f ++ l) (sym (forward_one n id p))) refl
 
-offline_one : (limits : Limits) (past : Past) (keeper : Keeper) (connections : List Connection) (p : Publication) (o : Own)
+offline_one : (limits : Limits) (past : Past) (keeper : Keeper) (connections : List ClientConnection) (p : Publication) (o : Own)
     → items_of_own (o ∷ []) ≡ (if is_two p.qos then Item.Waits (next_number keeper) ∷ [] else [])
     → GoesTo (as_publisher limits (story_by past connections keeper)) (as_publisher limits (story_by past (writes_first [] connections) (with_own o keeper)))
 offline_one limits past keeper connections p o item =
     let h = as_publisher limits (story_by past connections keeper) in
     let n = next_number keeper in
-    subst (λ (later : List Connection). GoesTo h (as_publisher limits (story_by past later (with_own o keeper)))) (sym (writes_none connections))
+    subst (λ (later : List ClientConnection). GoesTo h (as_publisher limits (story_by past later (with_own o keeper)))) (sym (writes_none connections))
     (goes_of h (as_publisher limits (story_by past connections (with_own o keeper))) (h.items ++ (if is_two p.qos then Item.Waits n ∷ [] else [])) h.link (runs_offline h (is_two p.qos) n)
     (ap (λ l. items_of_own keeper.own ++ l) (sym item) ∙ sym (items_more keeper.own (o ∷ []))) refl (λ j. refl) refl)
 
-pub publishes_it : (limits : Limits) (past : Past) (keeper : Keeper) (connections : List Connection) (p : Publication) → OwnInShape keeper
+pub publishes_it : (limits : Limits) (past : Past) (keeper : Keeper) (connections : List ClientConnection) (p : Publication) → OwnInShape keeper
     → Each (ConnectionInShape limits past keeper.client) connections → HeldInShape limits past keeper connections → (is_answered p.qos ≡ false → keeper.is_online ≡ true)
     → GoesTo (as_publisher limits (story_by past connections keeper)) (as_publisher limits (story_by past (writes_first (written_for p keeper) connections) (adds_own p keeper)))
 publishes_it limits past keeper connections p own each held needs = by (cases_Bool keeper.is_online) (cases_Bool (is_answered p.qos))

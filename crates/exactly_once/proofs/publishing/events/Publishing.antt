@@ -7,7 +7,7 @@ use Rattle.broker_base.specs.broker_spec.Place.{Limits}
 use Rattle.client_base.specs.lists.Lists.{Each}
 use Rattle.exactly_once.specs.HandshakeInvariant.{IsGood}
 use Rattle.exactly_once.specs.Sends.{put_to}
-use Rattle.exactly_once.specs.Sides.{Connection}
+use Rattle.exactly_once.specs.Sides.{ClientConnection}
 use Rattle.client_base.specs.declared.request.Request.TheVariants as requests
 use Rattle.client_base.specs.Written.{plain}
 use Rattle.client_base.specs.Handled.{handled}
@@ -24,17 +24,17 @@ use Rattle.exactly_once.proofs.publishing.events.Takes.{takes_it}
 use Rattle.exactly_once.proofs.publishing.events.Others.{others_take_it}
 
 -- what a packet does on the newest connection
-receives_there : (limits : Limits) (s : Story) (connections others : List Connection) (κ : Connection) (packet : Packet) → connections ≡ κ ∷ others → HasShape limits (record s { connections = connections })
+receives_there : (limits : Limits) (s : Story) (connections others : List ClientConnection) (κ : ClientConnection) (packet : Packet) → connections ≡ κ ∷ others → HasShape limits (record s { connections = connections })
     → IsGood (as_publisher limits (record s { connections = connections })) → s.keeper.is_open ≡ true → slice_get (put_to limits s.past κ.name) κ.handled ≡ Some packet
     → GoesTo (as_publisher limits (record s { connections = connections }))
     (as_publisher limits (with_side s others (handled packet (record { keeper = s.keeper; connection = κ }))))
 receives_there limits s connections others κ packet are shape good opened next =
-    subst (λ (cs : List Connection). GoesTo (as_publisher limits (record s { connections = cs }))
+    subst (λ (cs : List ClientConnection). GoesTo (as_publisher limits (record s { connections = cs }))
     (as_publisher limits (with_side s others (handled packet (record { keeper = s.keeper; connection = κ }))))) (sym are)
     (receives_it limits s.past s.keeper κ others packet shape.own
-    (subst (λ (cs : List Connection). Each (ConnectionInShape limits s.past s.keeper.client) cs) are shape.connections)
-    (subst (λ (cs : List Connection). HeldInShape limits s.past s.keeper cs) are shape.held) opened next
-    (subst (λ (cs : List Connection). IsGood (as_publisher limits (record s { connections = cs }))) are good))
+    (subst (λ (cs : List ClientConnection). Each (ConnectionInShape limits s.past s.keeper.client) cs) are shape.connections)
+    (subst (λ (cs : List ClientConnection). HeldInShape limits s.past s.keeper cs) are shape.held) opened next
+    (subst (λ (cs : List ClientConnection). IsGood (as_publisher limits (record s { connections = cs }))) are good))
 
 pub events_publish : EventPublishes
 events_publish limits s t sound (takes i κ w stands next) = takes_it limits s.past s.keeper s.connections i κ w sound.shape stands next

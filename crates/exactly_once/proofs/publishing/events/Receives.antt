@@ -11,7 +11,7 @@ use Rattle.client_base.specs.lists.Lists.{Each}
 use Rattle.exactly_once.specs.Handshake.{Handshake}
 use Rattle.exactly_once.specs.HandshakeInvariant.{IsGood}
 use Rattle.exactly_once.specs.Sends.{put_to}
-use Rattle.exactly_once.specs.Sides.{Connection}
+use Rattle.exactly_once.specs.Sides.{ClientConnection}
 use Rattle.client_base.specs.Keeper.{Keeper}
 use Rattle.client_base.specs.Handled.{lost, handled, handled_first, handled_online}
 use Rattle.exactly_once.specs.Story.{with_side}
@@ -32,7 +32,7 @@ each_at P zero (y ∷ xs) x e h = let same : y ≡ x = cc in subst P same h.0
 each_at P (suc n) (y ∷ xs) x e h = each_at P n xs x e h.1
 
 -- any other first packet ends the connection
-ends_first : (limits : Limits) (past : Past) (keeper : Keeper) (κ : Connection) (others : List Connection) → ConnectionInShape limits past keeper.client κ → κ.confirmed ≡ false
+ends_first : (limits : Limits) (past : Past) (keeper : Keeper) (κ : ClientConnection) (others : List ClientConnection) → ConnectionInShape limits past keeper.client κ → κ.confirmed ≡ false
     → GoesTo (as_publisher limits (story_by past (κ ∷ others) keeper)) (as_publisher limits (story_by past ((counted_side keeper κ).connection ∷ others) (lost keeper)))
 ends_first limits past keeper κ others shape unconfirmed =
     let after = (counted_side keeper κ).connection in
@@ -40,7 +40,7 @@ ends_first limits past keeper κ others shape unconfirmed =
     (ap (λ b. if b then Some κ else last_confirmed others) unconfirmed ∙ sym (ap (λ b. if b then Some after else last_confirmed others) unconfirmed))
     (sym (same_numbers (κ ∷ others) (after ∷ others) past (same_written past κ after others [] refl (sym (append-nil κ.written)) (counted_within limits past keeper κ shape))))
 
-handles_first : (limits : Limits) (past : Past) (keeper : Keeper) (κ : Connection) (others : List Connection) (packet : Packet) → OwnInShape keeper
+handles_first : (limits : Limits) (past : Past) (keeper : Keeper) (κ : ClientConnection) (others : List ClientConnection) (packet : Packet) → OwnInShape keeper
     → ConnectionInShape limits past keeper.client κ → κ.confirmed ≡ false
     → (keeper.was_served ≡ true → (packet ≡ packets.Connack (connacks.Accepted false)) → ⊥) → slice_get (put_to limits past κ.name) κ.handled ≡ Some packet
     → GoesTo (as_publisher limits (story_by past (κ ∷ others) keeper)) (as_publisher limits (with_side (story_by past (κ ∷ others) keeper) others (handled_first packet (counted_side keeper κ))))
@@ -53,7 +53,7 @@ handles_first limits past keeper κ others (packets.Connack (connacks.Accepted p
 handles_first limits past keeper κ others (packets.Connack (connacks.Refused code)) own shape unconfirmed kept next = ends_first limits past keeper κ others shape unconfirmed
 handles_first limits past keeper κ others _ own shape unconfirmed kept next = ends_first limits past keeper κ others shape unconfirmed
 
-pub receives_it : (limits : Limits) (past : Past) (keeper : Keeper) (κ : Connection) (others : List Connection) (packet : Packet) → OwnInShape keeper
+pub receives_it : (limits : Limits) (past : Past) (keeper : Keeper) (κ : ClientConnection) (others : List ClientConnection) (packet : Packet) → OwnInShape keeper
     → Each (ConnectionInShape limits past keeper.client) (κ ∷ others) → HeldInShape limits past keeper (κ ∷ others) → keeper.is_open ≡ true
     → slice_get (put_to limits past κ.name) κ.handled ≡ Some packet → IsGood (as_publisher limits (story_by past (κ ∷ others) keeper))
     → GoesTo (as_publisher limits (story_by past (κ ∷ others) keeper))

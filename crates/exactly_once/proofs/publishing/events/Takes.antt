@@ -12,7 +12,7 @@ use Rattle.broker_base.specs.broker_spec.Commands.{place_of}
 use Rattle.broker_base.specs.broker_spec.declared.command.Command.{Command}
 use Rattle.broker_base.specs.broker_spec.declared.command.Command.TheVariants as commands
 use Rattle.client_base.specs.Keeper.{Written, Keeper}
-use Rattle.exactly_once.specs.Sides.{Connection}
+use Rattle.exactly_once.specs.Sides.{ClientConnection}
 use Rattle.exactly_once.specs.StoryCommands.{counted_at, command_of}
 use Rattle.exactly_once.specs.Inside.Projections.{as_publisher, GoesTo}
 use Rattle.exactly_once.specs.Inside.Shape.{HasShape}
@@ -40,7 +40,7 @@ packet_after : (x : ConnectionName) (n : ℕ) (packet : Packet) → commands.Pac
 packet_after x n (packets.Connect q) = refl
 packet_after x n _ = refl
 
-takes_later : (limits : Limits) (past : Past) (keeper : Keeper) (connections : List Connection) (i : ℕ) (κ : Connection) (n : ℕ) (w : Written) → HasShape limits (story_by past connections keeper)
+takes_later : (limits : Limits) (past : Past) (keeper : Keeper) (connections : List ClientConnection) (i : ℕ) (κ : ClientConnection) (n : ℕ) (w : Written) → HasShape limits (story_by past connections keeper)
     → slice_get connections i ≡ Some κ → slice_get κ.written κ.taken ≡ Some w → κ.taken ≡ suc n
     → GoesTo (as_publisher limits (story_by past connections keeper))
     (as_publisher limits (story_by (place_of limits past (commands.Packet κ.name w.packet) ∷ past) (counted_at i connections) keeper))
@@ -55,7 +55,7 @@ takes_later limits past keeper connections i κ n w shape stands next some = by 
         (takes_own limits past keeper connections i κ w.packet w.number (on_current limits past keeper connections i κ n w shape stands next some current))
     by (inr not) = takes_nobodys limits past keeper connections i κ w.packet shape stands not
 
-pub takes_it : (limits : Limits) (past : Past) (keeper : Keeper) (connections : List Connection) (i : ℕ) (κ : Connection) (w : Written) → HasShape limits (story_by past connections keeper)
+pub takes_it : (limits : Limits) (past : Past) (keeper : Keeper) (connections : List ClientConnection) (i : ℕ) (κ : ClientConnection) (w : Written) → HasShape limits (story_by past connections keeper)
     → slice_get connections i ≡ Some κ → slice_get κ.written κ.taken ≡ Some w
     → GoesTo (as_publisher limits (story_by past connections keeper))
     (as_publisher limits (story_by (place_of limits past (command_of κ.name κ.taken w.packet) ∷ past) (counted_at i connections) keeper))

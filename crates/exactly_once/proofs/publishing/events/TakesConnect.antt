@@ -13,7 +13,7 @@ use Rattle.broker_base.proofs.ClientsInOrder.{same_self}
 use Rattle.exactly_once.specs.Handshake.{Handshake}
 use Rattle.exactly_once.specs.Sends.{put_to}
 use Rattle.client_base.specs.Keeper.{Written, Keeper}
-use Rattle.exactly_once.specs.Sides.{Connection}
+use Rattle.exactly_once.specs.Sides.{ClientConnection}
 use Rattle.exactly_once.specs.StoryCommands.{counted_at, command_of}
 use Rattle.client_base.specs.Called.{opens}
 use Rattle.exactly_once.specs.Inside.Projections.{last_confirmed, as_publisher, GoesTo}
@@ -35,7 +35,7 @@ abbrev pub at_connect : ConnectionName → Client → Mark → Place
 at_connect x c mark = record { command = commands.Connect x c false; mark = mark }
 
 -- before its CONNECT is taken a connection is not confirmed
-pub not_yet_confirmed : (limits : Limits) (past : Past) (c : Client) (κ : Connection) → ConnectionInShape limits past c κ → κ.taken ≡ 0 → κ.confirmed ≡ false
+pub not_yet_confirmed : (limits : Limits) (past : Past) (c : Client) (κ : ClientConnection) → ConnectionInShape limits past c κ → κ.taken ≡ 0 → κ.confirmed ≡ false
 not_yet_confirmed limits past c κ shape none = by (cases_Bool κ.confirmed)
   where
     by : (κ.confirmed ≡ true) ⊎ (κ.confirmed ≡ false) → κ.confirmed ≡ false
@@ -48,7 +48,7 @@ not_yet_confirmed limits past c κ shape none = by (cases_Bool κ.confirmed)
         absurd (omega (arith, nothing, some, within))
 
 -- and it is not current
-pub not_yet_current : (limits : Limits) (past : Past) (c : Client) (κ : Connection) → ConnectionInShape limits past c κ → κ.taken ≡ 0 → current_connection past c ≡ Some κ.name → ⊥
+pub not_yet_current : (limits : Limits) (past : Past) (c : Client) (κ : ClientConnection) → ConnectionInShape limits past c κ → κ.taken ≡ 0 → current_connection past c ≡ Some κ.name → ⊥
 not_yet_current limits past c κ shape none e =
     let some = current_counted past c κ.name e in
     let counted = shape.counted in
@@ -64,11 +64,11 @@ not_its_end x (Some y) not = by (cases_Bool (same_connection x y))
     by (inr e) = e
 
 -- the last confirmed connection is another than the one that opens
-not_opened : (x : ConnectionName) (last : Option Connection) → ((μ : Connection) → last ≡ Some μ → same_connection x μ.name ≡ false) → current_last (Some x) last ≡ false
+not_opened : (x : ConnectionName) (last : Option ClientConnection) → ((μ : ClientConnection) → last ≡ Some μ → same_connection x μ.name ≡ false) → current_last (Some x) last ≡ false
 not_opened x None other = refl
 not_opened x (Some μ) other = other μ refl
 
-takes_opening : (limits : Limits) (past : Past) (keeper : Keeper) (connections : List Connection) (i : ℕ) (κ : Connection) → HasShape limits (story_by past connections keeper)
+takes_opening : (limits : Limits) (past : Past) (keeper : Keeper) (connections : List ClientConnection) (i : ℕ) (κ : ClientConnection) → HasShape limits (story_by past connections keeper)
     → slice_get connections i ≡ Some κ → κ.taken ≡ 0
     → GoesTo (as_publisher limits (story_by past connections keeper))
     (as_publisher limits (story_by (place_of limits past (commands.Connect κ.name keeper.client false) ∷ past) (counted_at i connections) keeper))
@@ -125,7 +125,7 @@ takes_opening limits past keeper connections i κ shape stands none =
     by true = accepted
     by false = full
 
-pub takes_connect : (limits : Limits) (past : Past) (keeper : Keeper) (connections : List Connection) (i : ℕ) (κ : Connection) (w : Written) → HasShape limits (story_by past connections keeper)
+pub takes_connect : (limits : Limits) (past : Past) (keeper : Keeper) (connections : List ClientConnection) (i : ℕ) (κ : ClientConnection) (w : Written) → HasShape limits (story_by past connections keeper)
     → slice_get connections i ≡ Some κ → slice_get κ.written 0 ≡ Some w → κ.taken ≡ 0
     → GoesTo (as_publisher limits (story_by past connections keeper))
     (as_publisher limits (story_by (place_of limits past (command_of κ.name 0 w.packet) ∷ past) (counted_at i connections) keeper))

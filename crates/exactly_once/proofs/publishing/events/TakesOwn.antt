@@ -14,7 +14,7 @@ use Rattle.exactly_once.specs.Handshake.Advances.{takes, takes_alone}
 use Rattle.exactly_once.specs.Handshake.Run.{stays, goes_on}
 use Rattle.exactly_once.specs.Sends.{sends_to, put_to}
 use Rattle.client_base.specs.Keeper.{Written, Keeper}
-use Rattle.exactly_once.specs.Sides.{Connection}
+use Rattle.exactly_once.specs.Sides.{ClientConnection}
 use Rattle.exactly_once.specs.StoryCommands.{counted_at}
 use Rattle.exactly_once.specs.Inside.Projections.{forward_of_own, forward_of_one, backward_of_own, to_come, to_be_taken, is_current, last_confirmed, link_of_own, as_publisher, GoesTo}
 use Rattle.exactly_once.specs.Inside.Shape.{HasShape}
@@ -31,7 +31,7 @@ use Rattle.exactly_once.proofs.publishing.AtPlaces.{come_more}
 use Rattle.exactly_once.proofs.publishing.Counted.{goes_counted}
 
 -- what is sent if the connection is the client's current one
-pub record OnCurrent (limits : Limits) (past : Past) (keeper : Keeper) (connections : List Connection) (i : ℕ) (κ : Connection) (w : Written) : Type 0 where
+pub record OnCurrent (limits : Limits) (past : Past) (keeper : Keeper) (connections : List ClientConnection) (i : ℕ) (κ : ClientConnection) (w : Written) : Type 0 where
   pub whole : HasShape limits (story_by past connections keeper)
   pub shape : ConnectionInShape limits past keeper.client κ
   pub stands : slice_get connections i ≡ Some κ
@@ -42,17 +42,17 @@ pub record OnCurrent (limits : Limits) (past : Past) (keeper : Keeper) (connecti
   pub live : session_of past keeper.client ≡ Some false
 
 -- the story's handshake after a place
-abbrev pub after_place : Limits → Past → Keeper → List Connection → ℕ → Place → Handshake ℕ
+abbrev pub after_place : Limits → Past → Keeper → List ClientConnection → ℕ → Place → Handshake ℕ
 after_place limits past keeper connections i place = as_publisher limits (story_by (place ∷ past) (counted_at i connections) keeper)
 
 -- the packet that is taken comes off the front
-pub taken_front : (κ : Connection) (w : Written) → slice_get κ.written κ.taken ≡ Some w
+pub taken_front : (κ : ClientConnection) (w : Written) → slice_get κ.written κ.taken ≡ Some w
     → forward_of_own (to_be_taken κ) ≡ forward_of_one w.packet w.number (forward_of_own (drop (suc κ.taken) κ.written))
 taken_front κ w next = ap forward_of_own (dropped_next κ.taken κ.written w next)
 
 -- ---- it is not of the handshake
 
-pub passes : (limits : Limits) (past : Past) (keeper : Keeper) (connections : List Connection) (i : ℕ) (κ : Connection) (w : Written) (mark : Mark) → OnCurrent limits past keeper connections i κ w
+pub passes : (limits : Limits) (past : Past) (keeper : Keeper) (connections : List ClientConnection) (i : ℕ) (κ : ClientConnection) (w : Written) (mark : Mark) → OnCurrent limits past keeper connections i κ w
     → is_leaving mark ≡ false → is_new (commands.Packet κ.name w.packet) mark ≡ false
     → received_by (commands.Packet κ.name w.packet) mark keeper.client (received_of past keeper.client) ≡ received_of past keeper.client
     → NoneSent κ.name (packet_answers limits (at_packet κ.name w.packet mark) past κ.name w.packet mark)
@@ -64,7 +64,7 @@ passes limits past keeper connections i κ w mark o staying old received none qu
     (λ μ e.
     let found : Some κ ≡ Some μ = sym o.last ∙ e in
     let same : κ ≡ μ = cc in
-    subst (λ (ν : Connection). NoneSent ν.name (packet_answers limits place past κ.name w.packet mark)) same none)
+    subst (λ (ν : ClientConnection). NoneSent ν.name (packet_answers limits place past κ.name w.packet mark)) same none)
     (λ a. inr (
       ap (current_last (current_connection past keeper.client)) o.last ∙ sym (ap₂ current_last (current_packet past keeper.client κ.name w.packet mark staying) o.after),
       ap forward_last o.last ∙ taken_front κ w o.next ∙ quiet (forward_of_own (drop (suc κ.taken) κ.written)) ∙ sym (ap forward_last o.after),
@@ -72,7 +72,7 @@ passes limits past keeper connections i κ w mark o staying old received none qu
 
 -- ---- it ends the connection
 
-pub ends_current : (limits : Limits) (past : Past) (keeper : Keeper) (connections : List Connection) (i : ℕ) (κ : Connection) (w : Written) (mark : Mark) → OnCurrent limits past keeper connections i κ w
+pub ends_current : (limits : Limits) (past : Past) (keeper : Keeper) (connections : List ClientConnection) (i : ℕ) (κ : ClientConnection) (w : Written) (mark : Mark) → OnCurrent limits past keeper connections i κ w
     → is_leaving mark ≡ true → is_new (commands.Packet κ.name w.packet) mark ≡ false
     → received_by (commands.Packet κ.name w.packet) mark keeper.client (received_of past keeper.client) ≡ received_of past keeper.client
     → NoneSent κ.name (packet_answers limits (at_packet κ.name w.packet mark) past κ.name w.packet mark)
@@ -84,7 +84,7 @@ ends_current limits past keeper connections i κ w mark o leaving old received n
     (λ μ e.
     let found : Some κ ≡ Some μ = sym o.last ∙ e in
     let same : κ ≡ μ = cc in
-    subst (λ (ν : Connection). NoneSent ν.name (packet_answers limits place past κ.name w.packet mark)) same none)
+    subst (λ (ν : ClientConnection). NoneSent ν.name (packet_answers limits place past κ.name w.packet mark)) same none)
     (λ a. inl (ap₂ current_last (current_ends place past keeper.client refl over) o.after))
 
 -- ---- it is of the handshake
@@ -110,7 +110,7 @@ link_taken (Forward.Publish id v) h l = by (h.received id)
     by true = refl
     by false = refl
 
-pub takes_one : (limits : Limits) (past : Past) (keeper : Keeper) (connections : List Connection) (i : ℕ) (κ : Connection) (w : Written) (mark : Mark) (m : Forward ℕ)
+pub takes_one : (limits : Limits) (past : Past) (keeper : Keeper) (connections : List ClientConnection) (i : ℕ) (κ : ClientConnection) (w : Written) (mark : Mark) (m : Forward ℕ)
     → OnCurrent limits past keeper connections i κ w → is_leaving mark ≡ false → ((f : List (Forward ℕ)) → forward_of_one w.packet w.number f ≡ m ∷ f)
     → backward_of_own (sends_to κ.name (packet_answers limits (at_packet κ.name w.packet mark) past κ.name w.packet mark)) ≡ answer m ∷ []
     → ((l : Link ℕ) → (taking m (as_publisher limits (story_by past connections keeper)) l).accepted ≡ (after_place limits past keeper connections i (at_packet κ.name w.packet mark)).accepted)

@@ -14,7 +14,7 @@ use Rattle.broker_base.specs.broker_spec.Marks.{packet_mark}
 use Rattle.broker_base.specs.broker_spec.declared.command.Command.TheVariants as commands
 use Rattle.exactly_once.specs.Handshake.{Forward}
 use Rattle.client_base.specs.Keeper.{Written, Keeper}
-use Rattle.exactly_once.specs.Sides.{Connection}
+use Rattle.exactly_once.specs.Sides.{ClientConnection}
 use Rattle.exactly_once.specs.StoryCommands.{counted_at}
 use Rattle.client_base.specs.Called.{opens}
 use Rattle.exactly_once.specs.Inside.Projections.{forward_of_one, last_confirmed, as_publisher, GoesTo}
@@ -34,7 +34,7 @@ use Rattle.exactly_once.proofs.publishing.events.TakesTwo.{takes_two}
 use Rattle.exactly_once.proofs.publishing.Elsewhere.{none_one}
 
 -- a packet that is handled, and not of the handshake
-handles : (limits : Limits) (past : Past) (keeper : Keeper) (connections : List Connection) (i : ℕ) (κ : Connection) (packet : Packet) (number : Option ℕ)
+handles : (limits : Limits) (past : Past) (keeper : Keeper) (connections : List ClientConnection) (i : ℕ) (κ : ClientConnection) (packet : Packet) (number : Option ℕ)
     → OnCurrent limits past keeper connections i κ (record { packet = packet; number = number }) → Mark.Handled keeper.client ≡ packet_mark limits past keeper.client packet
     → is_new (commands.Packet κ.name packet) (Mark.Handled keeper.client) ≡ false
     → received_by (commands.Packet κ.name packet) (Mark.Handled keeper.client) keeper.client (received_of past keeper.client) ≡ received_of past keeper.client
@@ -46,7 +46,7 @@ handles limits past keeper connections i κ packet number o marked old same othe
     (packet_none κ.name limits (at_packet κ.name packet (Mark.Handled keeper.client)) past κ.name packet (Mark.Handled keeper.client) (λ h. absurd (other h))) quiet)
 
 -- by the kind of packet
-pub takes_own : (limits : Limits) (past : Past) (keeper : Keeper) (connections : List Connection) (i : ℕ) (κ : Connection) (packet : Packet) (number : Option ℕ)
+pub takes_own : (limits : Limits) (past : Past) (keeper : Keeper) (connections : List ClientConnection) (i : ℕ) (κ : ClientConnection) (packet : Packet) (number : Option ℕ)
     → OnCurrent limits past keeper connections i κ (record { packet = packet; number = number })
     → GoesTo (as_publisher limits (story_by past connections keeper)) (after_place limits past keeper connections i (at_packet κ.name packet (packet_mark limits past keeper.client packet)))
 takes_own limits past keeper connections i κ (packets.Publish p) number o = by p.delivery number o
@@ -87,7 +87,7 @@ takes_own limits past keeper connections i κ (packets.Subscribe q) number o =
 -- ---- the event
 
 -- an unconfirmed connection has nothing to be taken after its CONNECT
-confirmed_there : (limits : Limits) (past : Past) (c : Client) (κ : Connection) (n : ℕ) (w : Written) → ConnectionInShape limits past c κ → slice_get κ.written (suc n) ≡ Some w → κ.confirmed ≡ true
+confirmed_there : (limits : Limits) (past : Past) (c : Client) (κ : ClientConnection) (n : ℕ) (w : Written) → ConnectionInShape limits past c κ → slice_get κ.written (suc n) ≡ Some w → κ.confirmed ≡ true
 confirmed_there limits past c κ n w shape next = by (cases_Bool κ.confirmed)
   where
     by : (κ.confirmed ≡ true) ⊎ (κ.confirmed ≡ false) → κ.confirmed ≡ true
@@ -97,7 +97,7 @@ confirmed_there limits past c κ n w shape next = by (cases_Bool κ.confirmed)
         cc
 
 -- what is given of the current connection
-pub on_current : (limits : Limits) (past : Past) (keeper : Keeper) (connections : List Connection) (i : ℕ) (κ : Connection) (n : ℕ) (w : Written) → HasShape limits (story_by past connections keeper)
+pub on_current : (limits : Limits) (past : Past) (keeper : Keeper) (connections : List ClientConnection) (i : ℕ) (κ : ClientConnection) (n : ℕ) (w : Written) → HasShape limits (story_by past connections keeper)
     → slice_get connections i ≡ Some κ → slice_get κ.written κ.taken ≡ Some w → κ.taken ≡ suc n → current_connection past keeper.client ≡ Some κ.name
     → OnCurrent limits past keeper connections i κ w
 on_current limits past keeper connections i κ n w shape stands next some current =
@@ -105,7 +105,7 @@ on_current limits past keeper connections i κ n w shape stands next some curren
     let confirmed = confirmed_there limits past keeper.client κ n w this (ap (slice_get κ.written) (sym some) ∙ next) in
     let lastly = subst (λ (o : Option ConnectionName). LastIsCurrent o connections) current shape.last_is_current in
     let last : last_confirmed connections ≡ Some κ =
-    each_there (λ (μ : Connection). same_connection κ.name μ.name ≡ true → μ.confirmed ≡ true → last_confirmed connections ≡ Some μ) i connections κ stands lastly.1 (same_itself κ.name) confirmed in
+    each_there (λ (μ : ClientConnection). same_connection κ.name μ.name ≡ true → μ.confirmed ≡ true → last_confirmed connections ≡ Some μ) i connections κ stands lastly.1 (same_itself κ.name) confirmed in
     record {
       whole = shape;
       shape = this;

@@ -19,7 +19,7 @@ use Rattle.broker_base.proofs.ClientsInOrder.{same_self}
 use Rattle.exactly_once.specs.Handshake.{Forward, Handshake}
 use Rattle.exactly_once.specs.Sends.{sends_to}
 use Rattle.client_base.specs.Keeper.{Written, Keeper}
-use Rattle.exactly_once.specs.Sides.{Connection}
+use Rattle.exactly_once.specs.Sides.{ClientConnection}
 use Rattle.exactly_once.specs.StoryCommands.{counted_at}
 use Rattle.exactly_once.specs.Inside.Projections.{forward_of_one, backward_of_own, as_publisher, GoesTo}
 use Rattle.exactly_once.proofs.Packets.{at_packet, copies_none}
@@ -37,7 +37,7 @@ own_send x packet = ap (λ b. if b then packet ∷ [] else []) (same_itself x)
 
 -- ---- PUBREL
 
-pub takes_pubrel : (limits : Limits) (past : Past) (keeper : Keeper) (connections : List Connection) (i : ℕ) (κ : Connection) (id : ℕ) (number : Option ℕ)
+pub takes_pubrel : (limits : Limits) (past : Past) (keeper : Keeper) (connections : List ClientConnection) (i : ℕ) (κ : ClientConnection) (id : ℕ) (number : Option ℕ)
     → OnCurrent limits past keeper connections i κ (record { packet = packets.Pubrel id; number = number })
     → GoesTo (as_publisher limits (story_by past connections keeper)) (after_place limits past keeper connections i (at_packet κ.name (packets.Pubrel id) (Mark.Handled keeper.client)))
 takes_pubrel limits past keeper connections i κ id number o =
@@ -50,7 +50,7 @@ takes_pubrel limits past keeper connections i κ id number o =
 
 -- ---- PUBLISH at QoS 0 and 1
 
-pub takes_low : (limits : Limits) (past : Past) (keeper : Keeper) (connections : List Connection) (i : ℕ) (κ : Connection) (p : Publish) (number : Option ℕ)
+pub takes_low : (limits : Limits) (past : Past) (keeper : Keeper) (connections : List ClientConnection) (i : ℕ) (κ : ClientConnection) (p : Publish) (number : Option ℕ)
     → OnCurrent limits past keeper connections i κ (record { packet = packets.Publish p; number = number }) → is_repeat past keeper.client p.delivery ≡ false
     → is_exactly_once p.delivery ≡ false → ((ids : List ℕ) → receives p.delivery ids ≡ ids) → NoneSent κ.name (acknowledged κ.name p.delivery)
     → ((f : List (Forward ℕ)) → forward_of_one (packets.Publish p) number f ≡ f)

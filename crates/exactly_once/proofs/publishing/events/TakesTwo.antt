@@ -18,7 +18,7 @@ use Rattle.broker_base.proofs.ClientsInOrder.{same_self}
 use Rattle.exactly_once.specs.Handshake.{Forward, Link, Handshake, accepting}
 use Rattle.exactly_once.specs.Sends.{sends_to}
 use Rattle.client_base.specs.Keeper.{Written, Keeper}
-use Rattle.exactly_once.specs.Sides.{Connection}
+use Rattle.exactly_once.specs.Sides.{ClientConnection}
 use Rattle.exactly_once.specs.StoryCommands.{counted_at, count_of}
 use Rattle.exactly_once.specs.Carried.{connection_named, number_at, number_of, more_by}
 use Rattle.exactly_once.specs.Inside.Projections.{backward_of_own, as_publisher, GoesTo}
@@ -38,17 +38,17 @@ use Rattle.exactly_once.proofs.publishing.events.TakesPublish.{own_send}
 use Rattle.exactly_once.proofs.publishing.events.TakesOwn.{OnCurrent, after_place, ends_current, takes_one}
 
 -- the connection of this name
-pub connection_at : (i : ℕ) (connections : List Connection) (κ : Connection) → NamesApart connections → slice_get connections i ≡ Some κ → connection_named κ.name connections ≡ Some κ
+pub connection_at : (i : ℕ) (connections : List ClientConnection) (κ : ClientConnection) → NamesApart connections → slice_get connections i ≡ Some κ → connection_named κ.name connections ≡ Some κ
 connection_at i [] κ apart e = cc
 connection_at zero (μ ∷ connections) κ apart e =
     let same : μ ≡ κ = cc in
-    ap (λ b. if b then Some μ else connection_named κ.name connections) (ap (λ (ν : Connection). same_connection κ.name ν.name) same ∙ same_itself κ.name) ∙ ap (λ ν. Some ν) same
+    ap (λ b. if b then Some μ else connection_named κ.name connections) (ap (λ (ν : ClientConnection). same_connection κ.name ν.name) same ∙ same_itself κ.name) ∙ ap (λ ν. Some ν) same
 connection_at (suc i) (μ ∷ connections) κ apart e =
-    let other = same_turned κ.name μ.name ∙ each_there (λ (ξ : Connection). same_connection μ.name ξ.name ≡ false) i connections κ e (none_named (same_connection μ.name) connections apart.0) in
+    let other = same_turned κ.name μ.name ∙ each_there (λ (ξ : ClientConnection). same_connection μ.name ξ.name ≡ false) i connections κ e (none_named (same_connection μ.name) connections apart.0) in
     ap (λ b. if b then Some μ else connection_named κ.name connections) other ∙ connection_at i connections κ apart.1 e
 
 -- the place carries the publication of the packet that is taken
-pub carries_it : (past : Past) (i : ℕ) (connections : List Connection) (κ : Connection) (w : Written) (mark : Mark) → NamesApart connections → slice_get connections i ≡ Some κ
+pub carries_it : (past : Past) (i : ℕ) (connections : List ClientConnection) (κ : ClientConnection) (w : Written) (mark : Mark) → NamesApart connections → slice_get connections i ≡ Some κ
     → slice_get κ.written κ.taken ≡ Some w → count_of κ.name past ≡ κ.taken → number_at (count_of κ.name past) (connection_named κ.name (counted_at i connections)) ≡ w.number
 carries_it past i connections κ w mark apart stands next counted =
     same_counted (at_packet κ.name packets.Pingreq mark ∷ past) i connections κ.name (count_of κ.name past) (counted_here κ.name (at_packet κ.name packets.Pingreq mark) past (same_itself κ.name))
@@ -76,7 +76,7 @@ received_again false id k h l j e = absurd (both_ways false refl e)
 abbrev pub at_two : Publish → Bool → ℕ → Publish
 at_two p dup id = record p { delivery = deliveries.ExactlyOnce dup id }
 
-pub takes_two : (limits : Limits) (past : Past) (keeper : Keeper) (connections : List Connection) (i : ℕ) (κ : Connection) (p : Publish) (dup : Bool) (id k : ℕ)
+pub takes_two : (limits : Limits) (past : Past) (keeper : Keeper) (connections : List ClientConnection) (i : ℕ) (κ : ClientConnection) (p : Publish) (dup : Bool) (id k : ℕ)
     → OnCurrent limits past keeper connections i κ (record { packet = packets.Publish (at_two p dup id); number = Some k })
     → GoesTo (as_publisher limits (story_by past connections keeper))
     (after_place limits past keeper connections i (at_packet κ.name (packets.Publish (at_two p dup id)) (packet_mark limits past keeper.client (packets.Publish (at_two p dup id)))))

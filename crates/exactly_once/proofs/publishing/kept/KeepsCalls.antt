@@ -17,7 +17,7 @@ use Rattle.exactly_once.specs.Sends.{put_to}
 use Rattle.client_base.specs.Keeper.{Own, Keeper, ids_of_own, ids_in_use, next_number}
 use Rattle.client_base.specs.declared.request.Request.{Request}
 use Rattle.client_base.specs.declared.request.Request.TheVariants as requests
-use Rattle.exactly_once.specs.Sides.{Connection}
+use Rattle.exactly_once.specs.Sides.{ClientConnection}
 use Rattle.client_base.specs.State.{id_of_request}
 use Rattle.client_base.specs.Handled.{handled}
 use Rattle.exactly_once.specs.Story.{Story, StoryStep}
@@ -111,12 +111,12 @@ asks_keeps keeper r e s =
 
 -- ---- the events
 
-receives_there : (limits : Limits) (s : Story) (connections others : List Connection) (κ : Connection) (packet : Packet) → connections ≡ κ ∷ others → HasShape limits (record s { connections = connections })
+receives_there : (limits : Limits) (s : Story) (connections others : List ClientConnection) (κ : ClientConnection) (packet : Packet) → connections ≡ κ ∷ others → HasShape limits (record s { connections = connections })
     → IsGood (as_publisher limits (record s { connections = connections })) → s.keeper.is_open ≡ true → slice_get (put_to limits s.past κ.name) κ.handled ≡ Some packet
     → OwnInShape (handled packet (record { keeper = s.keeper; connection = κ })).keeper
 receives_there limits s connections others κ packet are shape good opened next =
-    receives_keeps limits s.past s.keeper κ others packet shape.own (subst (λ (cs : List Connection). HeldInShape limits s.past s.keeper cs) are shape.held) opened next
-    (subst (λ (cs : List Connection). IsGood (as_publisher limits (record s { connections = cs }))) are good)
+    receives_keeps limits s.past s.keeper κ others packet shape.own (subst (λ (cs : List ClientConnection). HeldInShape limits s.past s.keeper cs) are shape.held) opened next
+    (subst (λ (cs : List ClientConnection). IsGood (as_publisher limits (record s { connections = cs }))) are good)
 
 pub events_keep_own : (limits : Limits) (s t : Story) → IsSoundStory limits s → StoryStep limits s t → OwnInShape t.keeper
 events_keep_own limits s t sound (takes i κ w stands next) = sound.shape.own

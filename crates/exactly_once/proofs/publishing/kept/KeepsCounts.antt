@@ -11,7 +11,7 @@ use Rattle.broker_base.specs.broker_spec.Commands.{place_of}
 use Rattle.broker_base.proofs.ConnectionsOfSessions.{same_turned}
 use Rattle.client_base.specs.lists.Lists.{Each}
 use Rattle.client_base.specs.Keeper.{Written}
-use Rattle.exactly_once.specs.Sides.{Connection}
+use Rattle.exactly_once.specs.Sides.{ClientConnection}
 use Rattle.client_base.specs.Written.{plain}
 use Rattle.client_base.specs.Handled.{handled}
 use Rattle.exactly_once.specs.Story.{Story, StoryStep}
@@ -25,20 +25,20 @@ use Rattle.exactly_once.proofs.publishing.Grown.{Grown, handled_grows}
 use Rattle.exactly_once.proofs.publishing.Last.{each_there, none_named}
 
 -- the rows of one connection
-pub record CountsOf (past : Past) (κ : Connection) : Type 0 where
+pub record CountsOf (past : Past) (κ : ClientConnection) : Type 0 where
   pub counted : count_of κ.name past ≡ κ.taken
   pub within : κ.taken ≤ length κ.written
 
 -- ---- a place
 
 -- a packet of another connection does not count
-counts_stay : (place : Place) (past : Past) (κ : Connection) → is_packet_of place.command κ.name ≡ false → CountsOf past κ → CountsOf (place ∷ past) κ
+counts_stay : (place : Place) (past : Past) (κ : ClientConnection) → is_packet_of place.command κ.name ≡ false → CountsOf past κ → CountsOf (place ∷ past) κ
 counts_stay place past κ e c = record { counted = ap (λ b. if b then suc (count_of κ.name past) else count_of κ.name past) e ∙ c.counted; within = c.within }
 
-each_stays : (place : Place) (past : Past) (connections : List Connection) → any_named (is_packet_of place.command) connections ≡ false → Each (CountsOf past) connections → Each (CountsOf (place ∷ past)) connections
+each_stays : (place : Place) (past : Past) (connections : List ClientConnection) → any_named (is_packet_of place.command) connections ≡ false → Each (CountsOf past) connections → Each (CountsOf (place ∷ past)) connections
 each_stays place past connections e rows = both connections (none_named (is_packet_of place.command) connections e) rows
   where
-    both : (cs : List Connection) → Each (λ (κ : Connection). is_packet_of place.command κ.name ≡ false) cs → Each (CountsOf past) cs → Each (CountsOf (place ∷ past)) cs
+    both : (cs : List ClientConnection) → Each (λ (κ : ClientConnection). is_packet_of place.command κ.name ≡ false) cs → Each (CountsOf past) cs → Each (CountsOf (place ∷ past)) cs
     both [] n r = tt
     both (κ ∷ cs) n r = (counts_stay place past κ n.0 r.0, both cs n.1 r.1)
 
@@ -49,22 +49,22 @@ stands_within zero (y ∷ xs) x e = omega arith
 stands_within (suc n) (y ∷ xs) x e = let within = stands_within n xs x e in omega (arith, within)
 
 -- the next packet of one of them
-takes_counts : (place : Place) (past : Past) (i : ℕ) (connections : List Connection) (κ : Connection) (w : Written) → ((y : ConnectionName) → is_packet_of place.command y ≡ same_connection κ.name y)
+takes_counts : (place : Place) (past : Past) (i : ℕ) (connections : List ClientConnection) (κ : ClientConnection) (w : Written) → ((y : ConnectionName) → is_packet_of place.command y ≡ same_connection κ.name y)
     → NamesApart connections → slice_get connections i ≡ Some κ → slice_get κ.written κ.taken ≡ Some w → Each (CountsOf past) connections → Each (CountsOf (place ∷ past)) (counted_at i connections)
 takes_counts place past i [] κ w is apart stands next rows = tt
 takes_counts place past zero (μ ∷ connections) κ w is apart stands next rows =
     let same : κ ≡ μ = cc in
-    let here : is_packet_of place.command μ.name ≡ true = is μ.name ∙ ap (λ (ν : Connection). same_connection ν.name μ.name) same ∙ same_itself μ.name in
-    let next' : slice_get μ.written μ.taken ≡ Some w = subst (λ (ν : Connection). slice_get ν.written ν.taken ≡ Some w) same next in (
+    let here : is_packet_of place.command μ.name ≡ true = is μ.name ∙ ap (λ (ν : ClientConnection). same_connection ν.name μ.name) same ∙ same_itself μ.name in
+    let next' : slice_get μ.written μ.taken ≡ Some w = subst (λ (ν : ClientConnection). slice_get ν.written ν.taken ≡ Some w) same next in (
       record {
         counted = ap (λ b. if b then suc (count_of μ.name past) else count_of μ.name past) here ∙ ap suc rows.0.counted;
         within = stands_within μ.taken μ.written w next';
       },
       each_stays place past connections
-          (ap (λ (test : ConnectionName → Bool). any_named test connections) (λ j y. (is y ∙ ap (λ (ν : Connection). same_connection ν.name y) same) j) ∙ apart.0) rows.1,
+          (ap (λ (test : ConnectionName → Bool). any_named test connections) (λ j y. (is y ∙ ap (λ (ν : ClientConnection). same_connection ν.name y) same) j) ∙ apart.0) rows.1,
     )
 takes_counts place past (suc i) (μ ∷ connections) κ w is apart stands next rows =
-    let other = each_there (λ (ν : Connection). same_connection μ.name ν.name ≡ false) i connections κ stands (none_named (same_connection μ.name) connections apart.0) in
+    let other = each_there (λ (ν : ClientConnection). same_connection μ.name ν.name ≡ false) i connections κ stands (none_named (same_connection μ.name) connections apart.0) in
     (counts_stay place past μ (is μ.name ∙ same_turned κ.name μ.name ∙ other) rows.0, takes_counts place past i connections κ w is apart.1 stands next rows.1)
 
 pub packet_of : (x y : ConnectionName) (n : ℕ) (packet : Packet) → is_packet_of (command_of x n packet) y ≡ same_connection x y
@@ -75,14 +75,14 @@ packet_of x y (suc n) _ = refl
 
 -- ---- the client
 
-counts_written : (past : Past) (more : List Written) (connections : List Connection) → Each (CountsOf past) connections → Each (CountsOf past) (writes_first more connections)
+counts_written : (past : Past) (more : List Written) (connections : List ClientConnection) → Each (CountsOf past) connections → Each (CountsOf past) (writes_first more connections)
 counts_written past more [] rows = tt
 counts_written past more (κ ∷ connections) rows =
     let longer = length-append κ.written more in
     let within = rows.0.within in
     (record { counted = rows.0.counted; within = omega (arith, longer, within) }, rows.1)
 
-counts_grown : (past : Past) (κ after : Connection) (n : ℕ) → Grown κ after n → CountsOf past κ → CountsOf past after
+counts_grown : (past : Past) (κ after : ClientConnection) (n : ℕ) → Grown κ after n → CountsOf past κ → CountsOf past after
 counts_grown past κ after n grown c =
     let longer = ap length grown.written ∙ length-append κ.written grown.more in
     let taken = grown.taken in

@@ -12,7 +12,7 @@ use Rattle.broker_base.specs.broker_spec.declared.command.Command.{Command}
 use Rattle.broker_base.specs.broker_spec.declared.command.Command.TheVariants as commands
 use Rattle.broker_base.proofs.ClientsInOrder.{same_is}
 use Rattle.client_base.specs.Keeper.{Written}
-use Rattle.exactly_once.specs.Sides.{Connection}
+use Rattle.exactly_once.specs.Sides.{ClientConnection}
 use Rattle.client_base.specs.Written.{plain}
 use Rattle.exactly_once.specs.Story.{Story, StoryStep}
 use Rattle.exactly_once.specs.StoryCommands.{any_named, counted_at, command_of, names_client}
@@ -29,21 +29,21 @@ use Rattle.exactly_once.proofs.places.Spared.{taken_spares, other_spares}
 
 -- ---- names
 
-pub counted_named : (test : ConnectionName → Bool) (i : ℕ) (connections : List Connection) → any_named test (counted_at i connections) ≡ any_named test connections
+pub counted_named : (test : ConnectionName → Bool) (i : ℕ) (connections : List ClientConnection) → any_named test (counted_at i connections) ≡ any_named test connections
 counted_named test i [] = refl
 counted_named test zero (κ ∷ connections) = refl
 counted_named test (suc i) (κ ∷ connections) = ap (λ b. test κ.name || b) (counted_named test i connections)
 
-pub counted_apart : (i : ℕ) (connections : List Connection) → NamesApart connections → NamesApart (counted_at i connections)
+pub counted_apart : (i : ℕ) (connections : List ClientConnection) → NamesApart connections → NamesApart (counted_at i connections)
 counted_apart i [] a = a
 counted_apart zero (κ ∷ connections) a = a
 counted_apart (suc i) (κ ∷ connections) a = (counted_named (same_connection κ.name) i connections ∙ a.0, counted_apart i connections a.1)
 
-written_apart : (more : List Written) (connections : List Connection) → NamesApart connections → NamesApart (writes_first more connections)
+written_apart : (more : List Written) (connections : List ClientConnection) → NamesApart connections → NamesApart (writes_first more connections)
 written_apart more [] a = a
 written_apart more (κ ∷ connections) a = a
 
-either_apart : (b : Bool) (more : List Written) (connections : List Connection) → NamesApart connections → NamesApart (if b then writes_first more connections else connections)
+either_apart : (b : Bool) (more : List Written) (connections : List ClientConnection) → NamesApart connections → NamesApart (if b then writes_first more connections else connections)
 either_apart true more connections a = written_apart more connections a
 either_apart false more connections a = a
 
@@ -84,7 +84,7 @@ kept_packet : (x : ConnectionName) (n : ℕ) (packet : Packet) (c : Client) (mar
 kept_packet x n (packets.Connect q) c mark opened e = cc
 kept_packet x n _ c mark opened e = cc
 
-kept_taken : (limits : Limits) (past : Past) (c : Client) (κ : Connection) (w : Written) (n : ℕ) (mark : Mark) → ConnectionInShape limits past c κ → slice_get κ.written n ≡ Some w
+kept_taken : (limits : Limits) (past : Past) (c : Client) (κ : ClientConnection) (w : Written) (n : ℕ) (mark : Mark) → ConnectionInShape limits past c κ → slice_get κ.written n ≡ Some w
     → OpensKept c (record { command = command_of κ.name n w.packet; mark = mark })
 kept_taken limits past c κ w zero mark shape next =
     let first : Some (opens c) ≡ Some w = sym (ap (λ ws. slice_get ws 0) shape.written) ∙ next in

@@ -13,7 +13,7 @@ use Rattle.broker_base.specs.broker_spec.declared.command.Command.{Command}
 use Rattle.broker_base.specs.broker_spec.declared.command.Command.TheVariants as commands
 use Rattle.broker_base.proofs.ClientsInOrder.{same_is, same_self}
 use Rattle.client_base.specs.Keeper.{Written}
-use Rattle.exactly_once.specs.Sides.{Connection}
+use Rattle.exactly_once.specs.Sides.{ClientConnection}
 use Rattle.client_base.specs.Written.{plain}
 use Rattle.exactly_once.specs.Story.{Story, StoryStep}
 use Rattle.exactly_once.specs.StoryCommands.{any_named, is_packet_of, count_of, counted_at, command_of}
@@ -32,11 +32,11 @@ use Rattle.exactly_once.proofs.publishing.Last.{each_there}
 -- ---- a place
 
 -- it opens one of the client's connections only for the client
-abbrev pub OpensOwn : Client → List Connection → Place → Type 0
+abbrev pub OpensOwn : Client → List ClientConnection → Place → Type 0
 OpensOwn c connections place =
     (d : Client) (opened : ConnectionName × Bool) → accepts place.command place.mark d ≡ Some opened → any_named (same_connection opened.0) connections ≡ true → same_client d c ≡ true
 
-pub nobody_placed : (place : Place) (past : Past) (c : Client) (connections : List Connection) → OpensOwn c connections place → NobodyElse past c connections → NobodyElse (place ∷ past) c connections
+pub nobody_placed : (place : Place) (past : Past) (c : Client) (connections : List ClientConnection) → OpensOwn c connections place → NobodyElse past c connections → NobodyElse (place ∷ past) c connections
 unfolding current_connection
 nobody_placed place past c connections own nobody d x current named = by (accepts place.command place.mark d) refl current
   where
@@ -48,18 +48,18 @@ nobody_placed place past c connections own nobody d x current named = by (accept
     by None e f = nobody d x (only_there (not (ends_any place d (current_connection past d))) (current_connection past d) x f).1 named
 
 -- a Connect of the client
-pub own_connect : (x : ConnectionName) (c : Client) (connections : List Connection) (clean : Bool) (mark : Mark) → OpensOwn c connections (record { command = commands.Connect x c clean; mark = mark })
+pub own_connect : (x : ConnectionName) (c : Client) (connections : List ClientConnection) (clean : Bool) (mark : Mark) → OpensOwn c connections (record { command = commands.Connect x c clean; mark = mark })
 own_connect x c connections clean Mark.Accepted d opened e named =
     let same = same_is c d (only_there (same_client c d) (Some (x, clean)) opened e).0 in
     subst (λ (k : Client). same_client k c ≡ true) same (same_self c)
 own_connect x c connections clean _ d opened e named = cc
 
-own_packet : (x : ConnectionName) (n : ℕ) (packet : Packet) (c : Client) (connections : List Connection) (mark : Mark)
+own_packet : (x : ConnectionName) (n : ℕ) (packet : Packet) (c : Client) (connections : List ClientConnection) (mark : Mark)
     → OpensOwn c connections (record { command = command_of x (suc n) packet; mark = mark })
 own_packet x n (packets.Connect q) c connections mark d opened e named = cc
 own_packet x n _ c connections mark d opened e named = cc
 
-own_taken : (limits : Limits) (past : Past) (c : Client) (connections : List Connection) (κ : Connection) (w : Written) (n : ℕ) (mark : Mark) → ConnectionInShape limits past c κ
+own_taken : (limits : Limits) (past : Past) (c : Client) (connections : List ClientConnection) (κ : ClientConnection) (w : Written) (n : ℕ) (mark : Mark) → ConnectionInShape limits past c κ
     → slice_get κ.written n ≡ Some w → OpensOwn c connections (record { command = command_of κ.name n w.packet; mark = mark })
 own_taken limits past c connections κ w zero mark shape next =
     let first : Some (opens c) ≡ Some w = sym (ap (λ ws. slice_get ws 0) shape.written) ∙ next in
@@ -68,7 +68,7 @@ own_taken limits past c connections κ w zero mark shape next =
 own_taken limits past c connections κ w (suc n) mark shape next = own_packet κ.name n w.packet c connections mark
 
 -- a command of none of them
-pub other_opens : (c : Client) (connections : List Connection) (command : Command) (mark : Mark) → any_named (is_packet_of command) connections ≡ false
+pub other_opens : (c : Client) (connections : List ClientConnection) (command : Command) (mark : Mark) → any_named (is_packet_of command) connections ≡ false
     → OpensOwn c connections (record { command = command; mark = mark })
 other_opens c connections (commands.Connect x k clean) Mark.Accepted none d opened e named =
     let found : Some (x, clean) ≡ Some opened = (only_there (same_client k d) (Some (x, clean)) opened e).1 in
@@ -83,16 +83,16 @@ other_opens c connections (commands.Expel k) mark none d opened e named = cc
 -- ---- connections
 
 -- the same names
-pub nobody_named : (past : Past) (c : Client) (connections later : List Connection) → ((test : ConnectionName → Bool) → any_named test later ≡ any_named test connections)
+pub nobody_named : (past : Past) (c : Client) (connections later : List ClientConnection) → ((test : ConnectionName → Bool) → any_named test later ≡ any_named test connections)
     → NobodyElse past c connections → NobodyElse past c later
 nobody_named past c connections later same nobody d x current named = nobody d x current (sym (same (same_connection x)) ∙ named)
 
-pub written_named : (more : List Written) (connections : List Connection) (test : ConnectionName → Bool) → any_named test (writes_first more connections) ≡ any_named test connections
+pub written_named : (more : List Written) (connections : List ClientConnection) (test : ConnectionName → Bool) → any_named test (writes_first more connections) ≡ any_named test connections
 written_named more [] test = refl
 written_named more (κ ∷ connections) test = refl
 
 -- a new one has no client
-pub nobody_opened : (past : Past) (c : Client) (connections : List Connection) (κ : Connection) → count_of κ.name past ≡ 0 → NobodyElse past c connections → NobodyElse past c (κ ∷ connections)
+pub nobody_opened : (past : Past) (c : Client) (connections : List ClientConnection) (κ : ClientConnection) → count_of κ.name past ≡ 0 → NobodyElse past c connections → NobodyElse past c (κ ∷ connections)
 nobody_opened past c connections κ none nobody d x current named = by (cases_Bool (same_connection x κ.name))
   where
     by : (same_connection x κ.name ≡ true) ⊎ (same_connection x κ.name ≡ false) → same_client d c ≡ true

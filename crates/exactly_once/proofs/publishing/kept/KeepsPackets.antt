@@ -16,7 +16,7 @@ use Rattle.exactly_once.specs.Items.{busy, has_sent}
 use Rattle.exactly_once.specs.Handshake.{Backward}
 use Rattle.exactly_once.specs.HandshakeInvariant.{IsGood}
 use Rattle.exactly_once.specs.Sends.{put_to}
-use Rattle.exactly_once.specs.Sides.{Connection}
+use Rattle.exactly_once.specs.Sides.{ClientConnection}
 use Rattle.client_base.specs.Keeper.{Keeper}
 use Rattle.client_base.specs.Written.{plain, writing}
 use Rattle.client_base.specs.Handled.{not_subscribes, not_unsubscribes, handled, handled_online, handled_first}
@@ -31,7 +31,7 @@ use Rattle.exactly_once.proofs.publishing.kept.KeepsAnswers.{puback_keeps, pubre
 
 -- ---- packets
 
-publish_keeps : (keeper : Keeper) (κ : Connection) (d : Delivery) (p : Publication) → OwnInShape keeper → OwnInShape (takes_in d p (counted_side keeper κ)).keeper
+publish_keeps : (keeper : Keeper) (κ : ClientConnection) (d : Delivery) (p : Publication) → OwnInShape keeper → OwnInShape (takes_in d p (counted_side keeper κ)).keeper
 publish_keeps keeper κ deliveries.AtMostOnce p s = s
 publish_keeps keeper κ (deliveries.AtLeastOnce dup id) p s = s
 publish_keeps keeper κ (deliveries.ExactlyOnce dup id) p s = by (has_id id keeper.received)
@@ -43,7 +43,7 @@ publish_keeps keeper κ (deliveries.ExactlyOnce dup id) p s = by (has_id id keep
     by true = s
     by false = received_keeps keeper (id ∷ keeper.received) s
 
-releasing_keeps : (keeper : Keeper) (κ : Connection) (i : ℕ) → OwnInShape keeper → has_sent i (items_of_own keeper.own) ≡ true → IsDistinct (busy (items_of_own keeper.own))
+releasing_keeps : (keeper : Keeper) (κ : ClientConnection) (i : ℕ) → OwnInShape keeper → has_sent i (items_of_own keeper.own) ≡ true → IsDistinct (busy (items_of_own keeper.own))
     → OwnInShape (releasing i (counted_side keeper κ)).keeper
 releasing_keeps keeper κ i s has apart = by (is_sent_with i keeper.own) (has_id i keeper.releases)
   where
@@ -54,7 +54,7 @@ releasing_keeps keeper κ i s has apart = by (is_sent_with i keeper.own) (has_id
     by false true = s
     by false false = s
 
-online_keeps : (keeper : Keeper) (κ : Connection) (packet : Packet) → OwnInShape keeper → ((i : ℕ) → packet ≡ packets.Pubrec i → has_sent i (items_of_own keeper.own) ≡ true)
+online_keeps : (keeper : Keeper) (κ : ClientConnection) (packet : Packet) → OwnInShape keeper → ((i : ℕ) → packet ≡ packets.Pubrec i → has_sent i (items_of_own keeper.own) ≡ true)
     → IsDistinct (busy (items_of_own keeper.own)) → OwnInShape (handled_online packet (counted_side keeper κ)).keeper
 online_keeps keeper κ (packets.Publish p) s has apart = publish_keeps keeper κ p.delivery (publication_of p) s
 online_keeps keeper κ (packets.Puback i) s has apart = puback_keeps keeper i s
@@ -66,13 +66,13 @@ online_keeps keeper κ (packets.Unsuback i) s has apart = requests_keep keeper (
 online_keeps keeper κ packets.Pingresp s has apart = s
 online_keeps keeper κ _ s has apart = lost_keeps keeper false s
 
-first_keeps : (keeper : Keeper) (κ : Connection) (packet : Packet) → OwnInShape keeper → OwnInShape (handled_first packet (counted_side keeper κ)).keeper
+first_keeps : (keeper : Keeper) (κ : ClientConnection) (packet : Packet) → OwnInShape keeper → OwnInShape (handled_first packet (counted_side keeper κ)).keeper
 first_keeps keeper κ (packets.Connack (connacks.Accepted present)) s = confirmed_keeps _ (discarded_keeps keeper (not present && keeper.was_served) s)
 first_keeps keeper κ (packets.Connack (connacks.Refused code)) s = lost_keeps keeper false s
 first_keeps keeper κ _ s = lost_keeps keeper false s
 
 -- the PUBREC that comes is of a sent item
-pubrec_due : (limits : Limits) (past : Past) (keeper : Keeper) (κ : Connection) (others : List Connection) (i : ℕ) → keeper.is_online ≡ true → κ.confirmed ≡ true
+pubrec_due : (limits : Limits) (past : Past) (keeper : Keeper) (κ : ClientConnection) (others : List ClientConnection) (i : ℕ) → keeper.is_online ≡ true → κ.confirmed ≡ true
     → slice_get (put_to limits past κ.name) κ.handled ≡ Some (packets.Pubrec i) → IsGood (as_publisher limits (story_by past (κ ∷ others) keeper)) → has_sent i (items_of_own keeper.own) ≡ true
 pubrec_due limits past keeper κ others i on conf next good =
     let h = as_publisher limits (story_by past (κ ∷ others) keeper) in
@@ -81,7 +81,7 @@ pubrec_due limits past keeper κ others i on conf next good =
     ∙ sent_among i good.old good.new (due_first h good (is_current (current_connection past keeper.client) κ.name) (Backward.Pubrec i) (forward_of_own (to_be_taken κ)) b
     (answer_link limits past keeper κ others (Backward.Pubrec i) b on conf (ap backward_of_own (dropped_next κ.handled (put_to limits past κ.name) (packets.Pubrec i) next))))
 
-pub receives_keeps : (limits : Limits) (past : Past) (keeper : Keeper) (κ : Connection) (others : List Connection) (packet : Packet) → OwnInShape keeper → HeldInShape limits past keeper (κ ∷ others)
+pub receives_keeps : (limits : Limits) (past : Past) (keeper : Keeper) (κ : ClientConnection) (others : List ClientConnection) (packet : Packet) → OwnInShape keeper → HeldInShape limits past keeper (κ ∷ others)
     → keeper.is_open ≡ true → slice_get (put_to limits past κ.name) κ.handled ≡ Some packet → IsGood (as_publisher limits (story_by past (κ ∷ others) keeper))
     → OwnInShape (handled packet (record { keeper = keeper; connection = κ })).keeper
 receives_keeps limits past keeper κ others packet s held opened next good = by (cases_Bool keeper.is_online)

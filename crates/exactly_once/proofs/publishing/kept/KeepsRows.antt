@@ -12,7 +12,7 @@ use Rattle.client_base.specs.lists.Lists.{Each}
 use Rattle.client_base.proofs.of_lists.OfEach.{each_append, each_then}
 use Rattle.exactly_once.specs.Sends.{sends_to, put_to}
 use Rattle.client_base.specs.Keeper.{Written, ids_in_use, next_number}
-use Rattle.exactly_once.specs.Sides.{Connection}
+use Rattle.exactly_once.specs.Sides.{ClientConnection}
 use Rattle.client_base.specs.Written.{plain, publishes, writes}
 use Rattle.client_base.specs.Handled.{handled}
 use Rattle.client_base.specs.session_base.Identifiers.{least_free}
@@ -26,7 +26,7 @@ use Rattle.exactly_once.proofs.publishing.AtPlaces.{put_more}
 use Rattle.exactly_once.proofs.publishing.Grown.{IsLater, Grown, handled_grows}
 
 -- the rows of one connection
-pub record RowsOf (limits : Limits) (past : Past) (κ : Connection) : Type 0 where
+pub record RowsOf (limits : Limits) (past : Past) (κ : ClientConnection) : Type 0 where
   pub handled_within : κ.handled ≤ length (put_to limits past κ.name)
   pub numbers_known : Each (λ (w : Written). is_two_unnumbered w.packet w.number ≡ false) κ.written
 
@@ -36,7 +36,7 @@ AreRows limits s = Each (RowsOf limits s.past) s.connections
 -- ---- a place
 
 -- more is put
-rows_placed : (limits : Limits) (place : Place) (past : Past) (κ : Connection) → RowsOf limits past κ → RowsOf limits (place ∷ past) κ
+rows_placed : (limits : Limits) (place : Place) (past : Past) (κ : ClientConnection) → RowsOf limits past κ → RowsOf limits (place ∷ past) κ
 rows_placed limits place past κ rows =
     let put = put_to limits past κ.name in
     let more = sends_to κ.name (answers_at limits place past) in
@@ -45,7 +45,7 @@ rows_placed limits place past κ rows =
     record { handled_within = omega (arith, longer, within); numbers_known = rows.numbers_known }
 
 -- one more is taken
-rows_counted : (limits : Limits) (past : Past) (i : ℕ) (connections : List Connection) → Each (RowsOf limits past) connections → Each (RowsOf limits past) (counted_at i connections)
+rows_counted : (limits : Limits) (past : Past) (i : ℕ) (connections : List ClientConnection) → Each (RowsOf limits past) connections → Each (RowsOf limits past) (counted_at i connections)
 rows_counted limits past i [] rows = tt
 rows_counted limits past zero (κ ∷ connections) rows = (record { handled_within = rows.0.handled_within; numbers_known = rows.0.numbers_known }, rows.1)
 rows_counted limits past (suc i) (κ ∷ connections) rows = (rows.0, rows_counted limits past i connections rows.1)
@@ -53,7 +53,7 @@ rows_counted limits past (suc i) (κ ∷ connections) rows = (rows.0, rows_count
 -- ---- the client
 
 -- more is written
-rows_grown : (limits : Limits) (past : Past) (κ after : Connection) (n : ℕ) → Grown κ after n → n ≤ length (put_to limits past κ.name) → RowsOf limits past κ → RowsOf limits past after
+rows_grown : (limits : Limits) (past : Past) (κ after : ClientConnection) (n : ℕ) → Grown κ after n → n ≤ length (put_to limits past κ.name) → RowsOf limits past κ → RowsOf limits past after
 rows_grown limits past κ after n grown within rows =
     record {
       handled_within = subst (λ (m : ℕ). m ≤ length (put_to limits past after.name)) (sym grown.handled) (subst (λ (x : ConnectionName). n ≤ length (put_to limits past x)) (sym grown.name) within);
@@ -62,7 +62,7 @@ rows_grown limits past κ after n grown within rows =
           (each_then IsLater (λ (w : Written). is_two_unnumbered w.packet w.number ≡ false) grown.more (λ w later. later.0) grown.later));
     }
 
-rows_written : (limits : Limits) (past : Past) (connections : List Connection) (more : List Written) → Each IsLater more → Each (RowsOf limits past) connections
+rows_written : (limits : Limits) (past : Past) (connections : List ClientConnection) (more : List Written) → Each IsLater more → Each (RowsOf limits past) connections
     → Each (RowsOf limits past) (writes_first more connections)
 rows_written limits past [] more later rows = tt
 rows_written limits past (κ ∷ connections) more later rows =

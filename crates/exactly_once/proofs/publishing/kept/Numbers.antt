@@ -9,18 +9,18 @@ use Rattle.broker_base.specs.broker_spec.Received.{is_new}
 use Rattle.broker_base.specs.broker_spec.declared.command.Command.{Command}
 use Rattle.broker_base.specs.broker_spec.declared.command.Command.TheVariants as commands
 use Rattle.client_base.specs.Keeper.{Written}
-use Rattle.exactly_once.specs.Sides.{Connection}
+use Rattle.exactly_once.specs.Sides.{ClientConnection}
 use Rattle.exactly_once.specs.StoryCommands.{is_packet_of, count_of, counted_at}
 use Rattle.exactly_once.specs.Carried.{carries, connection_named, number_at, number_of, more_by, new_numbers}
 use Rattle.broker_base.proofs.ConnectionNames.{same_name, same_itself}
 use Rattle.exactly_once.proofs.places.Counts.{counted_here, counted_still}
 
 -- both lists of connections give the same number to each packet of x that is taken
-abbrev pub SameNumbers : List Connection → List Connection → Past → Type 0
+abbrev pub SameNumbers : List ClientConnection → List ClientConnection → Past → Type 0
 SameNumbers connections later past =
     (x : ConnectionName) (j : ℕ) → j < count_of x past → number_at j (connection_named x later) ≡ number_at j (connection_named x connections)
 
-pub same_carries : (connections later : List Connection) (place : Place) (past : Past) → SameNumbers connections later (place ∷ past)
+pub same_carries : (connections later : List ClientConnection) (place : Place) (past : Past) → SameNumbers connections later (place ∷ past)
     → carries later place.command past ≡ carries connections place.command past
 same_carries connections later place past same = one place.command refl
   where
@@ -33,7 +33,7 @@ same_carries connections later place past same = one place.command refl
     one (commands.Start b) e = refl
     one (commands.Expel d) e = refl
 
-pub same_numbers : (connections later : List Connection) (past : Past) → SameNumbers connections later past → new_numbers later past ≡ new_numbers connections past
+pub same_numbers : (connections later : List ClientConnection) (past : Past) → SameNumbers connections later past → new_numbers later past ≡ new_numbers connections past
 same_numbers connections later [] same = refl
 same_numbers connections later (place ∷ past) same =
     ap₂ (λ xs number. xs ++ more_by (is_new place.command place.mark) number)
@@ -52,7 +52,7 @@ within_more (w ∷ ws) more zero h = refl
 within_more (w ∷ ws) more (suc j) h = within_more ws more j (omega (arith, h))
 
 -- more is written on the first one
-pub same_written : (past : Past) (κ after : Connection) (others : List Connection) (more : List Written) → after.name ≡ κ.name → after.written ≡ κ.written ++ more
+pub same_written : (past : Past) (κ after : ClientConnection) (others : List ClientConnection) (more : List Written) → after.name ≡ κ.name → after.written ≡ κ.written ++ more
     → count_of κ.name past ≤ length κ.written → SameNumbers (κ ∷ others) (after ∷ others) past
 same_written past κ after others more n w within x j less = by (cases_Bool (same_connection x κ.name))
   where
@@ -64,7 +64,7 @@ same_written past κ after others more n w within x j less = by (cases_Bool (sam
         rw (ap (same_connection x) n ∙ e, e) (ap number_of (ap (λ z. slice_get z j) w ∙ within_more κ.written more j stands))
 
 -- one more packet is taken
-pub same_counted : (past : Past) (i : ℕ) (connections : List Connection) → SameNumbers connections (counted_at i connections) past
+pub same_counted : (past : Past) (i : ℕ) (connections : List ClientConnection) → SameNumbers connections (counted_at i connections) past
 same_counted past i [] x j less = refl
 same_counted past zero (κ ∷ connections) x j less = by (same_connection x κ.name)
   where
@@ -80,7 +80,7 @@ same_counted past (suc i) (κ ∷ connections) x j less = by (same_connection x 
     by false ih = ih
 
 -- one is opened of which no packet is taken
-pub same_opened : (past : Past) (κ : Connection) (connections : List Connection) → count_of κ.name past ≡ 0 → SameNumbers connections (κ ∷ connections) past
+pub same_opened : (past : Past) (κ : ClientConnection) (connections : List ClientConnection) → count_of κ.name past ≡ 0 → SameNumbers connections (κ ∷ connections) past
 same_opened past κ connections none x j less = by (cases_Bool (same_connection x κ.name))
   where
     by : (same_connection x κ.name ≡ true) ⊎ (same_connection x κ.name ≡ false) → number_at j (connection_named x (κ ∷ connections)) ≡ number_at j (connection_named x connections)

@@ -16,7 +16,7 @@ use Rattle.exactly_once.specs.Handshake.{Backward, Link, Handshake, Run, publish
 use Rattle.exactly_once.specs.Handshake.Advances.{sender_leaves, parts, restarts}
 use Rattle.exactly_once.specs.Handshake.Run.{stays, goes_on}
 use Rattle.client_base.specs.Keeper.{Written}
-use Rattle.exactly_once.specs.Sides.{Connection}
+use Rattle.exactly_once.specs.Sides.{ClientConnection}
 use Rattle.exactly_once.specs.Story.{Story}
 use Rattle.exactly_once.specs.StoryCommands.{counted_at}
 use Rattle.exactly_once.specs.Inside.Projections.{GoesTo}
@@ -36,7 +36,7 @@ use Rattle.exactly_once.proofs.subscribing.events.Opening.{IsFresh, IsStale, IsN
 use Rattle.exactly_once.proofs.subscribing.places.Accepted.{at_accepted, accepted_current, accepted_entries, accepted_sends}
 
 -- a connection of the client whose CONNECT comes next
-pub record IsOpening (limits : Limits) (s : Story) (i : ℕ) (κ : Connection) (w : Written) : Type 0 where
+pub record IsOpening (limits : Limits) (s : Story) (i : ℕ) (κ : ClientConnection) (w : Written) : Type 0 where
   pub shape : HasShape limits s
   pub steady : IsSteady limits
   pub at : slice_get s.connections i ≡ Some κ
@@ -66,7 +66,7 @@ started_as limits s y shape =
     ∙ ap (λ (l : List Entry). started (window_at limits (at_accepted y s.keeper.client ∷ s.past)) (length s.past) (Some y) l) (sym (append-nil (entries_of limits s.past s.keeper.client))))
 
 -- of a connection that the client does not hold
-pub accepted_stale : (limits : Limits) (s : Story) (i : ℕ) (κ : Connection) (w : Written) → IsOpening limits s i κ w → IsStale s.keeper s.connections i
+pub accepted_stale : (limits : Limits) (s : Story) (i : ℕ) (κ : ClientConnection) (w : Written) → IsOpening limits s i κ w → IsStale s.keeper s.connections i
     → GoesTo (as_subscriber limits s) (as_subscriber limits (placed s (at_accepted κ.name s.keeper.client) (counted_at i s.connections)))
 accepted_stale limits s i κ w o stale =
     let c = s.keeper.client in
@@ -90,7 +90,7 @@ accepted_stale limits s i κ w o stale =
     ∙ ap (sending_all rows) (sym k.5))
 
 -- of the one that the client holds
-pub accepted_fresh : (limits : Limits) (s : Story) (i : ℕ) (κ : Connection) (w : Written) → IsOpening limits s i κ w → IsFresh s.keeper s.connections i κ
+pub accepted_fresh : (limits : Limits) (s : Story) (i : ℕ) (κ : ClientConnection) (w : Written) → IsOpening limits s i κ w → IsFresh s.keeper s.connections i κ
     → GoesTo (as_subscriber limits s) (as_subscriber limits (placed s (at_accepted κ.name s.keeper.client) (counted_at i s.connections)))
 accepted_fresh limits s i κ w o fresh =
     let c = s.keeper.client in

@@ -16,7 +16,7 @@ use Rattle.exactly_once.specs.Handshake.Advances.{takes, takes_alone}
 use Rattle.exactly_once.specs.Handshake.Run.{stays, goes_on}
 use Rattle.exactly_once.specs.Sends.{put_to}
 use Rattle.client_base.specs.Keeper.{Written, Keeper}
-use Rattle.exactly_once.specs.Sides.{Connection, Side}
+use Rattle.exactly_once.specs.Sides.{ClientConnection, Side}
 use Rattle.exactly_once.specs.Story.{Story, with_side}
 use Rattle.exactly_once.specs.Acceptance.{accepted_on}
 use Rattle.exactly_once.specs.Inside.Projections.{to_come, to_be_taken, is_current, IsLike, GoesTo}
@@ -43,7 +43,7 @@ dropped zero (y ∷ xs) x e = let h : y ≡ x = cc in ap (λ z. z ∷ xs) h
 dropped (suc n) (y ∷ xs) x e = dropped n xs x e
 
 -- what the client did not handle begins with the next packet
-pub comes_first : (limits : Limits) (past : Past) (κ : Connection) (packet : Packet) → slice_get (put_to limits past κ.name) κ.handled ≡ Some packet
+pub comes_first : (limits : Limits) (past : Past) (κ : ClientConnection) (packet : Packet) → slice_get (put_to limits past κ.name) κ.handled ≡ Some packet
     → forward_of (to_come limits past κ) ≡ forward_one packet (forward_of (drop (suc κ.handled) (put_to limits past κ.name)))
 comes_first limits past κ packet e =
     ap forward_of (dropped κ.handled (put_to limits past κ.name) packet e) ∙ forward_first packet (drop (suc κ.handled) (put_to limits past κ.name))
@@ -53,7 +53,7 @@ abbrev pub link_with : Bool → List (Forward Publication) → List Backward →
 link_with current f b = if current then Link.Joined f b else Link.Ahead f
 
 -- the side after one more handled packet: what is written, accepted and kept of it
-pub record Handles (κ : Connection) (keeper : Keeper) (side : Side) (more : List Written) (accepted : List Publication) (received : ℕ → Bool) : Type 0 where
+pub record Handles (κ : ClientConnection) (keeper : Keeper) (side : Side) (more : List Written) (accepted : List Publication) (received : ℕ → Bool) : Type 0 where
   pub client : side.keeper.client ≡ keeper.client
   pub name : side.connection.name ≡ κ.name
   pub taken : side.connection.taken ≡ κ.taken
@@ -64,23 +64,23 @@ pub record Handles (κ : Connection) (keeper : Keeper) (side : Side) (more : Lis
   pub stays_open : side.keeper.is_open ≡ true
 
 -- the connection of an open client, its Connect taken, is held
-pub held_first : (keeper : Keeper) (κ : Connection) (others : List Connection) (n : ℕ) → keeper.is_open ≡ true → κ.taken ≡ suc n → held keeper (κ ∷ others) ≡ Some κ
+pub held_first : (keeper : Keeper) (κ : ClientConnection) (others : List ClientConnection) (n : ℕ) → keeper.is_open ≡ true → κ.taken ≡ suc n → held keeper (κ ∷ others) ≡ Some κ
 held_first keeper κ others n on taken = rw (on, taken) refl
 
 -- the link after it
-pub link_after : (limits : Limits) (s : Story) (κ : Connection) (others : List Connection) (n : ℕ) (side : Side) (more : List Written) (accepted : List Publication) (received : ℕ → Bool)
+pub link_after : (limits : Limits) (s : Story) (κ : ClientConnection) (others : List ClientConnection) (n : ℕ) (side : Side) (more : List Written) (accepted : List Publication) (received : ℕ → Bool)
     → ConnectionInShape limits s.past s.keeper.client κ → κ.taken ≡ suc n → Handles κ s.keeper side more accepted received
     → (as_subscriber limits (with_side s others side)).link
     ≡ link_with (is_current (current_connection s.past s.keeper.client) κ.name) (forward_of (drop (suc κ.handled) (put_to limits s.past κ.name))) (backward_of (to_be_taken κ) ++ backward_of more)
 link_after limits s κ others n side more accepted received g taken h =
     let κ' = side.connection in
-    ap₂ (λ (c : Client) (o : Option Connection). link_to limits s.past (current_connection s.past c) (κ' ∷ others) o) h.client (held_first side.keeper κ' others n h.stays_open (h.taken ∙ taken))
+    ap₂ (λ (c : Client) (o : Option ClientConnection). link_to limits s.past (current_connection s.past c) (κ' ∷ others) o) h.client (held_first side.keeper κ' others n h.stays_open (h.taken ∙ taken))
     ∙ ap₂ (λ x (k : ℕ). link_with (is_current (current_connection s.past s.keeper.client) x) (forward_of (drop k (put_to limits s.past x))) (backward_of (to_be_taken κ'))) h.name h.handled
     ∙ ap (link_with (is_current (current_connection s.past s.keeper.client) κ.name) (forward_of (drop (suc κ.handled) (put_to limits s.past κ.name))))
     (ap₂ (λ (k : ℕ) (ws : List Written). backward_of (drop k ws)) h.taken h.written ∙ taken_after κ.taken κ.written more g.within)
 
 -- all fields but the link
-like_after : (limits : Limits) (s : Story) (κ : Connection) (others : List Connection) (side : Side) (more : List Written) (accepted : List Publication) (received : ℕ → Bool) (l : Link Publication)
+like_after : (limits : Limits) (s : Story) (κ : ClientConnection) (others : List ClientConnection) (side : Side) (more : List Written) (accepted : List Publication) (received : ℕ → Bool) (l : Link Publication)
     → Handles κ s.keeper side more accepted received → s.connections ≡ κ ∷ others → l ≡ (as_subscriber limits (with_side s others side)).link
     → IsLike (record { items = (as_subscriber limits s).items; accepted = (as_subscriber limits s).accepted ++ accepted; received = received; link = l }) (as_subscriber limits (with_side s others side))
 like_after limits s κ others side more accepted received l h e link =
@@ -96,14 +96,14 @@ like_after limits s κ others side more accepted received l h e link =
     append_all (x ∷ xs) ys zs = ap (λ l. x ∷ l) (append_all xs ys zs)
 
 -- the link before it
-link_before : (limits : Limits) (s : Story) (κ : Connection) (others : List Connection) (n : ℕ) → s.connections ≡ κ ∷ others → s.keeper.is_open ≡ true → κ.taken ≡ suc n
+link_before : (limits : Limits) (s : Story) (κ : ClientConnection) (others : List ClientConnection) (n : ℕ) → s.connections ≡ κ ∷ others → s.keeper.is_open ≡ true → κ.taken ≡ suc n
     → (as_subscriber limits s).link ≡ link_with (is_current (current_connection s.past s.keeper.client) κ.name) (forward_of (to_come limits s.past κ)) (backward_of (to_be_taken κ))
 link_before limits s κ others n e on taken =
     ap (λ ks. link_to limits s.past (current_connection s.past s.keeper.client) ks (held s.keeper ks)) e
     ∙ ap (link_to limits s.past (current_connection s.past s.keeper.client) (κ ∷ others)) (held_first s.keeper κ others n on taken)
 
 -- a packet that is not of the handshake
-pub handles_other : (limits : Limits) (s : Story) (κ : Connection) (others : List Connection) (n : ℕ) (packet : Packet) (side : Side) (more : List Written)
+pub handles_other : (limits : Limits) (s : Story) (κ : ClientConnection) (others : List ClientConnection) (n : ℕ) (packet : Packet) (side : Side) (more : List Written)
     → ConnectionInShape limits s.past s.keeper.client κ → s.connections ≡ κ ∷ others → s.keeper.is_open ≡ true → κ.taken ≡ suc n
     → slice_get (put_to limits s.past κ.name) κ.handled ≡ Some packet
     → ((f : List (Forward Publication)) → forward_one packet f ≡ f) → backward_of more ≡ [] → Handles κ s.keeper side more [] (λ id. has_id id s.keeper.received)
@@ -127,7 +127,7 @@ takes_on h t m true f b e like = record { between = taking m h (Link.Joined f (b
 takes_on h t m false f b e like = record { between = taking m h (Link.Ahead f); run = goes_on stays (takes_alone m f e); like = like }
 
 -- a packet that is of the handshake
-pub handles_one : (limits : Limits) (s : Story) (κ : Connection) (others : List Connection) (n : ℕ) (packet : Packet) (side : Side) (more : List Written) (m : Forward Publication) (accepted : List Publication) (received : ℕ → Bool)
+pub handles_one : (limits : Limits) (s : Story) (κ : ClientConnection) (others : List ClientConnection) (n : ℕ) (packet : Packet) (side : Side) (more : List Written) (m : Forward Publication) (accepted : List Publication) (received : ℕ → Bool)
     → ConnectionInShape limits s.past s.keeper.client κ → s.connections ≡ κ ∷ others → s.keeper.is_open ≡ true → κ.taken ≡ suc n
     → slice_get (put_to limits s.past κ.name) κ.handled ≡ Some packet
     → ((f : List (Forward Publication)) → forward_one packet f ≡ m ∷ f) → backward_of more ≡ answer m ∷ [] → Handles κ s.keeper side more accepted received

@@ -10,7 +10,7 @@ use Rattle.broker_base.specs.broker_spec.Past.{current_connection}
 use Rattle.broker_base.specs.broker_spec.Times.{entries_of}
 use Rattle.exactly_once.specs.Handshake.{Link}
 use Rattle.client_base.specs.Keeper.{Written, Keeper}
-use Rattle.exactly_once.specs.Sides.{Connection}
+use Rattle.exactly_once.specs.Sides.{ClientConnection}
 use Rattle.client_base.specs.Written.{plain}
 use Rattle.client_base.specs.Handled.{lost}
 use Rattle.exactly_once.specs.Story.{Story}
@@ -27,7 +27,7 @@ use Rattle.exactly_once.proofs.subscribing.Standing.{stands}
 use Rattle.exactly_once.proofs.subscribing.Gone.{gone}
 
 -- what a client keeps of its connections stays, and it holds none
-pub leaves : (limits : Limits) (s : Story) → HasShape limits s → (connections : List Connection) (keeper : Keeper) → keeper.client ≡ s.keeper.client → keeper.received ≡ s.keeper.received
+pub leaves : (limits : Limits) (s : Story) → HasShape limits s → (connections : List ClientConnection) (keeper : Keeper) → keeper.client ≡ s.keeper.client → keeper.received ≡ s.keeper.received
     → held keeper connections ≡ None → accepted_on connections ≡ accepted_on s.connections
     → left_behind (current_connection s.past s.keeper.client) connections ≡ left_behind (current_connection s.past s.keeper.client) s.connections
     → GoesTo (as_subscriber limits s) (as_subscriber limits (record { past = s.past; connections = connections; keeper = keeper }))
@@ -40,12 +40,12 @@ leaves limits s shape connections keeper same received none accepted left =
     ∙ ap (link_to limits s.past current connections) none ∙ ap Link.Behind left)
 
 -- a client that lost its connection holds none
-lost_none : (keeper : Keeper) (connections : List Connection) → held (lost keeper) connections ≡ None
+lost_none : (keeper : Keeper) (connections : List ClientConnection) → held (lost keeper) connections ≡ None
 lost_none keeper [] = refl
 lost_none keeper (κ ∷ others) = refl
 
 -- more that is no answer, on the first connection
-pub left_writes : (limits : Limits) (past : Past) (c : Client) (current : Option ConnectionName) (more : List Written) (connections : List Connection) → Each (ConnectionInShape limits past c) connections
+pub left_writes : (limits : Limits) (past : Past) (c : Client) (current : Option ConnectionName) (more : List Written) (connections : List ClientConnection) → Each (ConnectionInShape limits past c) connections
     → backward_of more ≡ [] → left_behind current (writes_first more connections) ≡ left_behind current connections
 left_writes limits past c None more [] g e = refl
 left_writes limits past c None more (κ ∷ others) g e = refl
@@ -54,7 +54,7 @@ left_writes limits past c (Some x) more (κ ∷ others) g e =
     ap (λ b. if same_connection x κ.name then b else left_behind (Some x) others) (taken_same κ.taken κ.written more g.0.within e)
 
 -- it accepts nothing by writing
-pub accepted_writes : (more : List Written) (connections : List Connection) → accepted_on (writes_first more connections) ≡ accepted_on connections
+pub accepted_writes : (more : List Written) (connections : List ClientConnection) → accepted_on (writes_first more connections) ≡ accepted_on connections
 accepted_writes more [] = refl
 accepted_writes more (κ ∷ others) = refl
 
@@ -96,7 +96,7 @@ same_name x y e = by (cases_Bool (x.ballot == y.ballot)) (cases_Bool (x.count ==
     by (inl a) (inr b) = absurd (both_ways ((x.ballot == y.ballot) && (x.count == y.count)) (rw (a, b) refl) e)
 
 -- a new connection has another name than the current one
-pub left_new : (current : Option ConnectionName) (c : Client) (x : ConnectionName) (connections : List Connection) → LastIsCurrent current connections → any_named (same_connection x) connections ≡ false
+pub left_new : (current : Option ConnectionName) (c : Client) (x : ConnectionName) (connections : List ClientConnection) → LastIsCurrent current connections → any_named (same_connection x) connections ≡ false
     → left_behind current (new_connection c x ∷ connections) ≡ left_behind current connections
 left_new None c x [] l fresh = refl
 left_new None c x (κ ∷ others) l fresh = refl

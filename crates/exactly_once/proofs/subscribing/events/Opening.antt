@@ -12,7 +12,7 @@ use Rattle.broker_base.proofs.ConnectionsOfSessions.{same_turned}
 use Rattle.client_base.specs.lists.Lists.{Each}
 use Rattle.exactly_once.specs.Sends.{sends_to, put_to}
 use Rattle.client_base.specs.Keeper.{Written, Keeper}
-use Rattle.exactly_once.specs.Sides.{Connection}
+use Rattle.exactly_once.specs.Sides.{ClientConnection}
 use Rattle.exactly_once.specs.StoryCommands.{any_named, counted_at}
 use Rattle.client_base.specs.Called.{opens}
 use Rattle.exactly_once.specs.Inside.Projections.{to_come, is_current}
@@ -24,17 +24,17 @@ use Rattle.exactly_once.proofs.subscribing.Counted.{named_at, left_own}
 use Rattle.exactly_once.proofs.subscribing.Views.{seen, view, parted, comes_after}
 
 -- it is held from now on
-pub record IsFresh (keeper : Keeper) (connections : List Connection) (i : ℕ) (κ : Connection) : Type 0 where
+pub record IsFresh (keeper : Keeper) (connections : List ClientConnection) (i : ℕ) (κ : ClientConnection) : Type 0 where
   pub before : (limits : Limits) (past : Past) (current : Option ConnectionName) → view limits past current keeper connections ≡ None
   pub behind : (limits : Limits) (past : Past) (current : Option ConnectionName)
       → view limits past current keeper (counted_at i connections) ≡ Some (forward_of (to_come limits past κ), is_current current κ.name)
 
 -- or the client does not hold it
-abbrev pub IsStale : Keeper → List Connection → ℕ → Type 0
+abbrev pub IsStale : Keeper → List ClientConnection → ℕ → Type 0
 IsStale keeper connections i = (limits : Limits) (past : Past) (current : Option ConnectionName) → view limits past current keeper (counted_at i connections) ≡ view limits past current keeper connections
 
 -- one of both
-pub fresh_or_stale : (keeper : Keeper) (connections : List Connection) (i : ℕ) (κ : Connection) → slice_get connections i ≡ Some κ → κ.taken ≡ 0 → IsFresh keeper connections i κ ⊎ IsStale keeper connections i
+pub fresh_or_stale : (keeper : Keeper) (connections : List ClientConnection) (i : ℕ) (κ : ClientConnection) → slice_get connections i ≡ Some κ → κ.taken ≡ 0 → IsFresh keeper connections i κ ⊎ IsStale keeper connections i
 fresh_or_stale keeper [] i κ e t = absurd (cc)
 fresh_or_stale keeper (first ∷ others) (suc i) κ e t = inr (λ limits past current. refl)
 fresh_or_stale keeper (first ∷ others) zero κ e t = by (cases_Bool keeper.is_open)
@@ -43,7 +43,7 @@ fresh_or_stale keeper (first ∷ others) zero κ e t = by (cases_Bool keeper.is_
     same = cc
 
     none : first.taken ≡ 0
-    none = ap (λ (z : Connection). z.taken) same ∙ t
+    none = ap (λ (z : ClientConnection). z.taken) same ∙ t
 
     by : (keeper.is_open ≡ true) ⊎ (keeper.is_open ≡ false) → IsFresh keeper (first ∷ others) zero κ ⊎ IsStale keeper (first ∷ others) zero
     by (inr f) =
@@ -53,18 +53,18 @@ fresh_or_stale keeper (first ∷ others) zero κ e t = by (cases_Bool keeper.is_
         inl (record {
           before = λ limits past current. ap₂ (λ (b : Bool) (n : ℕ). if b then seen limits past current first n else None) f none;
           behind = λ limits past current.
-              ap (λ b. if b then seen limits past current first (suc first.taken) else None) f ∙ ap (λ (z : Connection). seen limits past current z (suc zero)) same;
+              ap (λ b. if b then seen limits past current first (suc first.taken) else None) f ∙ ap (λ (z : ClientConnection). seen limits past current z (suc zero)) same;
         })
 
 -- a connection whose CONNECT is not taken: it is unconfirmed, and nothing came on it
-pub record IsNew (limits : Limits) (past : Past) (c : Client) (κ : Connection) (w : Written) : Type 0 where
+pub record IsNew (limits : Limits) (past : Past) (c : Client) (κ : ClientConnection) (w : Written) : Type 0 where
   pub written : κ.written ≡ opens c ∷ []
   pub put : put_to limits past κ.name ≡ []
   pub unconfirmed : κ.confirmed ≡ false
   pub first : w ≡ opens c
 
 -- by its shape
-pub is_new_one : (limits : Limits) (past : Past) (c : Client) (κ : Connection) (w : Written) → ConnectionInShape limits past c κ → κ.taken ≡ 0 → slice_get κ.written κ.taken ≡ Some w → IsNew limits past c κ w
+pub is_new_one : (limits : Limits) (past : Past) (c : Client) (κ : ClientConnection) (w : Written) → ConnectionInShape limits past c κ → κ.taken ≡ 0 → slice_get κ.written κ.taken ≡ Some w → IsNew limits past c κ w
 is_new_one limits past c κ w g t next = record { written = written; put = put; unconfirmed = unconfirmed; first = first }
   where
     put : put_to limits past κ.name ≡ []
@@ -88,7 +88,7 @@ is_new_one limits past c κ w g t next = record { written = written; put = put; 
     first = let e : Some (opens c) ≡ Some w = ap₂ (λ (ws : List Written) (n : ℕ). slice_get ws n) (sym written) (sym t) ∙ next in let f : opens c ≡ w = cc in sym f
 
 -- what comes on it is what the place sends
-pub new_comes : (limits : Limits) (place : Place) (past : Past) (c : Client) (κ : Connection) (w : Written) → ConnectionInShape limits past c κ → IsNew limits past c κ w
+pub new_comes : (limits : Limits) (place : Place) (past : Past) (c : Client) (κ : ClientConnection) (w : Written) → ConnectionInShape limits past c κ → IsNew limits past c κ w
     → forward_of (to_come limits (place ∷ past) κ) ≡ forward_of (sends_to κ.name (answers_at limits place past))
 new_comes limits place past c κ w g new =
     comes_after limits place past κ g.handled_within ∙ ap (λ l. forward_of (drop κ.handled l) ++ forward_of (sends_to κ.name (answers_at limits place past))) new.put
@@ -99,13 +99,13 @@ new_comes limits place past c κ w g new =
     drops (suc n) = refl
 
 -- nothing comes back on it
-pub new_left : (limits : Limits) (past : Past) (c : Client) (connections : List Connection) (i : ℕ) (κ : Connection) (w : Written) → NamesApart connections → slice_get connections i ≡ Some κ → κ.taken ≡ 0
+pub new_left : (limits : Limits) (past : Past) (c : Client) (connections : List ClientConnection) (i : ℕ) (κ : ClientConnection) (w : Written) → NamesApart connections → slice_get connections i ≡ Some κ → κ.taken ≡ 0
     → IsNew limits past c κ w → left_behind (Some κ.name) (counted_at i connections) ≡ []
 new_left limits past c connections i κ w apart at t new =
     (left_own κ.name connections i κ apart at (same_name_self κ.name)).1 ∙ ap₂ (λ (n : ℕ) (ws : List Written). backward_of (drop (suc n) ws)) t new.written
 
 -- a connection that another takes over from is current no more
-pub view_stale : (limits : Limits) (place : Place) (past : Past) (c : Client) (current : Option ConnectionName) (keeper : Keeper) (connections : List Connection) (i : ℕ) (κ : Connection)
+pub view_stale : (limits : Limits) (place : Place) (past : Past) (c : Client) (current : Option ConnectionName) (keeper : Keeper) (connections : List ClientConnection) (i : ℕ) (κ : ClientConnection)
     → Each (ConnectionInShape limits past c) connections → NamesApart connections → slice_get connections i ≡ Some κ → κ.taken ≡ 0
     → ((x : ConnectionName) → same_connection x κ.name ≡ false → sends_to x (answers_at limits place past) ≡ [])
     → view limits (place ∷ past) (Some κ.name) keeper connections ≡ parted (view limits past current keeper connections)
@@ -113,7 +113,7 @@ view_stale limits place past c current keeper [] i κ g apart at t sends = refl
 view_stale limits place past c current keeper (first ∷ others) i κ g apart at t sends = by keeper.is_open first.taken (not_this i at)
   where
     not_this : (i : ℕ) → slice_get (first ∷ others) i ≡ Some κ → (n : ℕ) → first.taken ≡ suc n → same_connection first.name κ.name ≡ false
-    not_this zero at n s = let f : first ≡ κ = cc in let z : first.taken ≡ 0 = ap (λ (z : Connection). z.taken) f ∙ t in absurd (omega (arith, z, s))
+    not_this zero at n s = let f : first ≡ κ = cc in let z : first.taken ≡ 0 = ap (λ (z : ClientConnection). z.taken) f ∙ t in absurd (omega (arith, z, s))
     not_this (suc i) at n s = two (cases_Bool (same_connection first.name κ.name))
       where
         two : (same_connection first.name κ.name ≡ true) ⊎ (same_connection first.name κ.name ≡ false) → same_connection first.name κ.name ≡ false

@@ -11,7 +11,7 @@ use Rattle.broker_base.specs.broker_spec.Times.{entries_of}
 use Rattle.broker_base.specs.broker_spec.NobodyLaws.{IsSteady}
 use Rattle.broker_base.proofs.ClientsInOrder.{same_is}
 use Rattle.broker_base.proofs.ConnectionsOfSessions.{same_turned}
-use Rattle.exactly_once.specs.Sides.{Connection}
+use Rattle.exactly_once.specs.Sides.{ClientConnection}
 use Rattle.exactly_once.specs.Story.{Story}
 use Rattle.exactly_once.specs.StoryCommands.{any_named}
 use Rattle.exactly_once.specs.Inside.Shape.{LastIsCurrent, HasShape}
@@ -26,7 +26,7 @@ use Rattle.exactly_once.proofs.subscribing.places.Owners.{owner_is}
 -- ---- names
 
 -- a name among the client's is not this one
-pub named_not : (y x : ConnectionName) (connections : List Connection) → any_named (λ z. same_connection y z) connections ≡ false → any_named (same_connection x) connections ≡ true → same_connection y x ≡ false
+pub named_not : (y x : ConnectionName) (connections : List ClientConnection) → any_named (λ z. same_connection y z) connections ≡ false → any_named (same_connection x) connections ≡ true → same_connection y x ≡ false
 named_not y x connections fresh h = by (cases_Bool (same_connection y x))
   where
     by : (same_connection y x ≡ true) ⊎ (same_connection y x ≡ false) → same_connection y x ≡ false
@@ -34,7 +34,7 @@ named_not y x connections fresh h = by (cases_Bool (same_connection y x))
     by (inl e) = absurd (both_ways (any_named (same_connection x) connections) (subst (λ (z : ConnectionName). any_named (same_connection z) connections ≡ false) (same_name y x e) fresh) h)
 
 -- the current connection is among them
-pub current_named : (current : Option ConnectionName) (connections : List Connection) (x : ConnectionName) → LastIsCurrent current connections → current ≡ Some x → any_named (same_connection x) connections ≡ true
+pub current_named : (current : Option ConnectionName) (connections : List ClientConnection) (x : ConnectionName) → LastIsCurrent current connections → current ≡ Some x → any_named (same_connection x) connections ≡ true
 current_named None connections x l e = absurd (cc)
 current_named (Some y) connections x l e = let f : y ≡ x = cc in subst (λ (z : ConnectionName). any_named (same_connection z) connections ≡ true) f l.0
 

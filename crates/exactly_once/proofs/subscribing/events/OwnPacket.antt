@@ -16,7 +16,7 @@ use Rattle.broker_base.specs.broker_spec.NobodyLaws.{IsSteady}
 use Rattle.broker_base.proofs.ClientsInOrder.{same_is, IsNamed}
 use Rattle.exactly_once.specs.HandshakeInvariant.{IsGood}
 use Rattle.client_base.specs.Keeper.{Written}
-use Rattle.exactly_once.specs.Sides.{Connection}
+use Rattle.exactly_once.specs.Sides.{ClientConnection}
 use Rattle.exactly_once.specs.Story.{Story}
 use Rattle.exactly_once.specs.StoryCommands.{any_named, counted_at}
 use Rattle.exactly_once.specs.Inside.Projections.{GoesTo}
@@ -38,7 +38,7 @@ use Rattle.exactly_once.proofs.subscribing.places.Owners.{owner_is, served_named
 use Rattle.exactly_once.proofs.subscribing.places.Publishes.{skips, granted_sends}
 
 -- one of the current connection, by its kind
-own_packet : (limits : Limits) (s : Story) (i : ℕ) (κ : Connection) (w : Written) (packet : Packet) → IsOwn limits s i κ w → IsGood (as_subscriber limits s) → w.packet ≡ packet
+own_packet : (limits : Limits) (s : Story) (i : ℕ) (κ : ClientConnection) (w : Written) (packet : Packet) → IsOwn limits s i κ w → IsGood (as_subscriber limits s) → w.packet ≡ packet
     → GoesTo (as_subscriber limits s) (as_subscriber limits (placed s (at_packet κ.name packet (packet_mark limits s.past s.keeper.client packet)) (counted_at i s.connections)))
 own_packet limits s i κ w (packets.Publish p) o good e = own_publish limits s i κ w p o e
 own_packet limits s i κ w (packets.Puback id) o good e = own_puback limits s i κ w id o e
@@ -78,7 +78,7 @@ not_nobodys past c x e n =
     none_found (λ d. any_connection (same_connection x) (current_connection past d)) (clients past) c n (served_named past c x e) (ap (any_connection (same_connection x)) e ∙ same_name_self x)
 
 -- one of a connection that is not current
-nobodys_packet : (limits : Limits) (s : Story) (i n : ℕ) (κ : Connection) (packet : Packet) → HasShape limits s → IsSteady limits → slice_get s.connections i ≡ Some κ → κ.taken ≡ suc n → owner_of s.past κ.name ≡ None
+nobodys_packet : (limits : Limits) (s : Story) (i n : ℕ) (κ : ClientConnection) (packet : Packet) → HasShape limits s → IsSteady limits → slice_get s.connections i ≡ Some κ → κ.taken ≡ suc n → owner_of s.past κ.name ≡ None
     → GoesTo (as_subscriber limits s) (as_subscriber limits (placed s (at_packet κ.name packet Mark.NoPart) (counted_at i s.connections)))
 nobodys_packet limits s i n κ packet shape steady at taken none =
     let current = current_connection s.past s.keeper.client in
@@ -102,7 +102,7 @@ nobodys_packet limits s i n κ packet shape steady at taken none =
         by (inr f) = left_other x s.connections i κ at f
 
 -- a packet of one of the client's connections
-pub takes_packet : (limits : Limits) (s : Story) (i n : ℕ) (κ : Connection) (w : Written) → HasShape limits s → IsSteady limits → IsGood (as_subscriber limits s)
+pub takes_packet : (limits : Limits) (s : Story) (i n : ℕ) (κ : ClientConnection) (w : Written) → HasShape limits s → IsSteady limits → IsGood (as_subscriber limits s)
     → slice_get s.connections i ≡ Some κ → slice_get κ.written κ.taken ≡ Some w → κ.taken ≡ suc n
     → GoesTo (as_subscriber limits s) (as_subscriber limits (placed s (at_packet κ.name w.packet (packet_mark_of limits s.past w.packet (owner_of s.past κ.name))) (counted_at i s.connections)))
 takes_packet limits s i n κ w shape steady good at next taken = by (owner_of s.past κ.name) refl

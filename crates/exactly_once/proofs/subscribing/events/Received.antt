@@ -10,7 +10,7 @@ use Rattle.client_base.specs.lists.Lists.{has_id, Each}
 use Rattle.broker_base.specs.broker_spec.Place.{Limits}
 use Rattle.broker_base.specs.broker_spec.Past.{current_connection}
 use Rattle.exactly_once.specs.Sends.{put_to}
-use Rattle.exactly_once.specs.Sides.{Connection, Side}
+use Rattle.exactly_once.specs.Sides.{ClientConnection, Side}
 use Rattle.client_base.specs.Keeper.{Keeper}
 use Rattle.client_base.specs.Written.{plain, writing, resent, sent_all}
 use Rattle.client_base.specs.Handled.{not_subscribes, not_unsubscribes, discarded, confirmed, lost, handled_online, handled_first, handled}
@@ -29,7 +29,7 @@ use Rattle.exactly_once.proofs.subscribing.events.Receiving.{IsNext, counted, ne
 use Rattle.exactly_once.proofs.subscribing.Accepting.{next_publish}
 
 -- the client leaves
-next_lost : (limits : Limits) (s : Story) (κ : Connection) (others : List Connection) → HasShape limits s → s.connections ≡ κ ∷ others
+next_lost : (limits : Limits) (s : Story) (κ : ClientConnection) (others : List ClientConnection) → HasShape limits s → s.connections ≡ κ ∷ others
     → GoesTo (as_subscriber limits s) (as_subscriber limits (with_side s others (counted (lost s.keeper) κ)))
 next_lost limits s κ others shape e =
     leaves limits s shape (record κ { handled = suc κ.handled } ∷ others) (lost s.keeper) refl refl refl (ap accepted_on (sym e))
@@ -40,7 +40,7 @@ next_lost limits s κ others shape e =
     counts_left (Some x) = refl
 
 -- a PUBREC, by what the client has of it
-next_pubrec : (limits : Limits) (s : Story) (κ : Connection) (others : List Connection) (id : ℕ) → IsNext limits s κ others (packets.Pubrec id)
+next_pubrec : (limits : Limits) (s : Story) (κ : ClientConnection) (others : List ClientConnection) (id : ℕ) → IsNext limits s κ others (packets.Pubrec id)
     → GoesTo (as_subscriber limits s) (as_subscriber limits (with_side s others (releasing id (counted s.keeper κ))))
 next_pubrec limits s κ others id i = by (is_sent_with id s.keeper.own) (has_id id s.keeper.releases)
   where
@@ -56,7 +56,7 @@ next_pubrec limits s κ others id i = by (is_sent_with id s.keeper.own) (has_id 
     by false false = next_quiet limits s κ others (packets.Pubrec id) i s.keeper.own s.keeper.releases s.keeper.requests (λ f. refl)
 
 -- on a confirmed connection
-next_online : (limits : Limits) (s : Story) (κ : Connection) (others : List Connection) (packet : Packet) → HasShape limits s → IsNext limits s κ others packet
+next_online : (limits : Limits) (s : Story) (κ : ClientConnection) (others : List ClientConnection) (packet : Packet) → HasShape limits s → IsNext limits s κ others packet
     → GoesTo (as_subscriber limits s) (as_subscriber limits (with_side s others (handled_online packet (counted s.keeper κ))))
 next_online limits s κ others (packets.Publish p) shape i = next_publish limits s κ others p i
 next_online limits s κ others (packets.Puback id) shape i = next_quiet limits s κ others (packets.Puback id) i (map (at_puback id) s.keeper.own) s.keeper.releases s.keeper.requests (λ f. refl)
@@ -72,7 +72,7 @@ next_online limits s κ others packets.Pingresp shape i = next_quiet limits s κ
 next_online limits s κ others _ shape i = next_lost limits s κ others shape i.first
 
 -- a CONNACK 0, which takes nothing away
-next_confirmed : (limits : Limits) (s : Story) (κ : Connection) (others : List Connection) (present : Bool) → IsNext limits s κ others (packets.Connack (connacks.Accepted present))
+next_confirmed : (limits : Limits) (s : Story) (κ : ClientConnection) (others : List ClientConnection) (present : Bool) → IsNext limits s κ others (packets.Connack (connacks.Accepted present))
     → (not present && s.keeper.was_served) ≡ false
     → GoesTo (as_subscriber limits s) (as_subscriber limits (with_side s others (confirmed present (counted s.keeper κ))))
 next_confirmed limits s κ others present i e = by (not present && s.keeper.was_served) e
@@ -97,7 +97,7 @@ each_at P (y ∷ xs) zero x h e = let f : y ≡ x = cc in subst P f h.0
 each_at P (y ∷ xs) (suc n) x h e = each_at P xs n x h.1 e
 
 -- the session of a client that was served is there
-present_still : (limits : Limits) (s : Story) (κ : Connection) (others : List Connection) (present : Bool) → HasShape limits s → IsNext limits s κ others (packets.Connack (connacks.Accepted present))
+present_still : (limits : Limits) (s : Story) (κ : ClientConnection) (others : List ClientConnection) (present : Bool) → HasShape limits s → IsNext limits s κ others (packets.Connack (connacks.Accepted present))
     → s.keeper.is_online ≡ false → (not present && s.keeper.was_served) ≡ false
 present_still limits s κ others true shape i off = refl
 present_still limits s κ others false shape i off = by (cases_Bool s.keeper.was_served)
@@ -109,7 +109,7 @@ present_still limits s κ others false shape i off = by (cases_Bool s.keeper.was
         ((subst (HeldInShape limits s.past s.keeper) i.first shape.held).2 i.is_open off e) i.next refl)
 
 -- the first packet
-next_first : (limits : Limits) (s : Story) (κ : Connection) (others : List Connection) (packet : Packet) → HasShape limits s → IsNext limits s κ others packet → s.keeper.is_online ≡ false
+next_first : (limits : Limits) (s : Story) (κ : ClientConnection) (others : List ClientConnection) (packet : Packet) → HasShape limits s → IsNext limits s κ others packet → s.keeper.is_online ≡ false
     → GoesTo (as_subscriber limits s) (as_subscriber limits (with_side s others (handled_first packet (counted s.keeper κ))))
 next_first limits s κ others (packets.Connack (connacks.Accepted present)) shape i off = next_confirmed limits s κ others present i (present_still limits s κ others present shape i off)
 next_first limits s κ others _ shape i off = next_lost limits s κ others shape i.first
@@ -120,7 +120,7 @@ first_taken zero put n packet g e = absurd (let f : slice_get [] n ≡ Some pack
 first_taken (suc m) put n packet g e = (m, refl)
 
 -- the client receives a packet
-pub goes_received : (limits : Limits) (s : Story) → HasShape limits s → (κ : Connection) (others : List Connection) (packet : Packet) → s.connections ≡ κ ∷ others → s.keeper.is_open ≡ true
+pub goes_received : (limits : Limits) (s : Story) → HasShape limits s → (κ : ClientConnection) (others : List ClientConnection) (packet : Packet) → s.connections ≡ κ ∷ others → s.keeper.is_open ≡ true
     → slice_get (put_to limits s.past κ.name) κ.handled ≡ Some packet
     → GoesTo (as_subscriber limits s) (as_subscriber limits (with_side s others (handled packet (record { keeper = s.keeper; connection = κ }))))
 goes_received limits s shape κ others packet e on next =

@@ -11,7 +11,7 @@ use Rattle.exactly_once.specs.Handshake.{Forward}
 use Rattle.exactly_once.specs.Sends.{put_to}
 use Rattle.client_base.specs.Keeper.{Own, Written, Keeper}
 use Rattle.client_base.specs.declared.request.Request.{Request}
-use Rattle.exactly_once.specs.Sides.{Connection, Side}
+use Rattle.exactly_once.specs.Sides.{ClientConnection, Side}
 use Rattle.client_base.specs.Written.{plain, writing}
 use Rattle.client_base.specs.session_base.Identifiers.{without_id}
 use Rattle.exactly_once.specs.Story.{Story, with_side}
@@ -22,11 +22,11 @@ use Rattle.exactly_once.proofs.subscribing.events.Handling.{forward_one, handles
 use Rattle.client_base.proofs.of_session_base.KeptIdentifiers.{has_without}
 
 -- one packet more handled
-abbrev pub counted : Keeper → Connection → Side
+abbrev pub counted : Keeper → ClientConnection → Side
 counted keeper κ = record { keeper = keeper; connection = record κ { handled = suc κ.handled } }
 
 -- what all these events have: the first connection is open, its Connect is taken, and this is its next packet
-pub record IsNext (limits : Limits) (s : Story) (κ : Connection) (others : List Connection) (packet : Packet) : Type 0 where
+pub record IsNext (limits : Limits) (s : Story) (κ : ClientConnection) (others : List ClientConnection) (packet : Packet) : Type 0 where
   pub n : ℕ
   pub shape : ConnectionInShape limits s.past s.keeper.client κ
   pub first : s.connections ≡ κ ∷ others
@@ -35,7 +35,7 @@ pub record IsNext (limits : Limits) (s : Story) (κ : Connection) (others : List
   pub next : slice_get (put_to limits s.past κ.name) κ.handled ≡ Some packet
 
 -- what is not of the handshake: own publications and requests change, and something is written that is no answer
-pub next_other : (limits : Limits) (s : Story) (κ : Connection) (others : List Connection) (packet : Packet) → IsNext limits s κ others packet
+pub next_other : (limits : Limits) (s : Story) (κ : ClientConnection) (others : List ClientConnection) (packet : Packet) → IsNext limits s κ others packet
     → (own : List Own) (releases : List ℕ) (requests : List Request) (more : List Written)
     → ((f : List (Forward Publication)) → forward_one packet f ≡ f) → backward_of more ≡ []
     → GoesTo (as_subscriber limits s) (as_subscriber limits (with_side s others (writing more (counted (record s.keeper { own = own; releases = releases; requests = requests }) κ))))
@@ -44,7 +44,7 @@ next_other limits s κ others packet i own releases requests more none quiet =
     (record { client = refl; name = refl; taken = refl; handled = refl; written = refl; accepted_is = sym (append-nil κ.accepted); received_is = λ id. refl; stays_open = i.is_open })
 
 -- and nothing is written
-pub next_quiet : (limits : Limits) (s : Story) (κ : Connection) (others : List Connection) (packet : Packet) → IsNext limits s κ others packet
+pub next_quiet : (limits : Limits) (s : Story) (κ : ClientConnection) (others : List ClientConnection) (packet : Packet) → IsNext limits s κ others packet
     → (own : List Own) (releases : List ℕ) (requests : List Request)
     → ((f : List (Forward Publication)) → forward_one packet f ≡ f)
     → GoesTo (as_subscriber limits s) (as_subscriber limits (with_side s others (counted (record s.keeper { own = own; releases = releases; requests = requests }) κ)))
@@ -59,7 +59,7 @@ has_kept : (j id : ℕ) (ids : List ℕ) → (not (j == id) && has_id j ids) ≡
 has_kept j id ids = sym (has_without j id ids)
 
 -- a PUBREL is taken
-pub next_pubrel : (limits : Limits) (s : Story) (κ : Connection) (others : List Connection) (id : ℕ) → IsNext limits s κ others (packets.Pubrel id)
+pub next_pubrel : (limits : Limits) (s : Story) (κ : ClientConnection) (others : List ClientConnection) (id : ℕ) → IsNext limits s κ others (packets.Pubrel id)
     → GoesTo (as_subscriber limits s)
     (as_subscriber limits (with_side s others (writing (plain (packets.Pubcomp id) ∷ []) (counted (record s.keeper { received = without_id id s.keeper.received }) κ))))
 next_pubrel limits s κ others id i =

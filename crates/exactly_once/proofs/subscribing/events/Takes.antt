@@ -7,7 +7,7 @@ use Rattle.broker_base.specs.broker_spec.NobodyLaws.{IsSteady}
 use Rattle.broker_base.specs.broker_spec.declared.command.Command.{Command}
 use Rattle.exactly_once.specs.HandshakeInvariant.{IsGood}
 use Rattle.client_base.specs.Keeper.{Written}
-use Rattle.exactly_once.specs.Sides.{Connection}
+use Rattle.exactly_once.specs.Sides.{ClientConnection}
 use Rattle.exactly_once.specs.Story.{Story}
 use Rattle.exactly_once.specs.StoryCommands.{command_of, counted_at}
 use Rattle.exactly_once.specs.Inside.Projections.{GoesTo}
@@ -21,7 +21,7 @@ use Rattle.exactly_once.proofs.subscribing.events.Opening.{is_new_one}
 use Rattle.exactly_once.proofs.subscribing.events.TakesConnect.{takes_connect}
 
 -- its next packet is taken
-pub goes_taken : (limits : Limits) (s : Story) → HasShape limits s → IsSteady limits → IsGood (as_subscriber limits s) → (i : ℕ) (κ : Connection) (w : Written)
+pub goes_taken : (limits : Limits) (s : Story) → HasShape limits s → IsSteady limits → IsGood (as_subscriber limits s) → (i : ℕ) (κ : ClientConnection) (w : Written)
     → slice_get s.connections i ≡ Some κ → slice_get κ.written κ.taken ≡ Some w
     → GoesTo (as_subscriber limits s) (as_subscriber limits (placed s (place_of limits s.past (command_of κ.name κ.taken w.packet)) (counted_at i s.connections)))
 goes_taken limits s shape steady good i κ w at next = by κ.taken refl

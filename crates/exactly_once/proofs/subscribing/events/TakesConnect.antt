@@ -17,7 +17,7 @@ use Rattle.exactly_once.specs.Handshake.Advances.{parts_ahead}
 use Rattle.exactly_once.specs.Handshake.Run.{stays, goes_on}
 use Rattle.exactly_once.specs.Sends.{sends_to}
 use Rattle.client_base.specs.Keeper.{Written}
-use Rattle.exactly_once.specs.Sides.{Connection}
+use Rattle.exactly_once.specs.Sides.{ClientConnection}
 use Rattle.exactly_once.specs.Story.{Story}
 use Rattle.exactly_once.specs.StoryCommands.{counted_at, count_of}
 use Rattle.exactly_once.specs.Inside.Projections.{GoesTo}
@@ -49,7 +49,7 @@ full_ends y c None e = refl
 full_ends y c (Some x) e = absurd (cc)
 
 -- refused so, on a connection that the client does not hold
-full_stale : (limits : Limits) (s : Story) (i : ℕ) (κ : Connection) (w : Written) → IsOpening limits s i κ w → IsStale s.keeper s.connections i → current_connection s.past s.keeper.client ≡ None
+full_stale : (limits : Limits) (s : Story) (i : ℕ) (κ : ClientConnection) (w : Written) → IsOpening limits s i κ w → IsStale s.keeper s.connections i → current_connection s.past s.keeper.client ≡ None
     → GoesTo (as_subscriber limits s) (as_subscriber limits (placed s (at_full κ.name s.keeper.client) (counted_at i s.connections)))
 full_stale limits s i κ w o stale none =
     let place = at_full κ.name s.keeper.client in
@@ -66,7 +66,7 @@ full_stale limits s i κ w o stale none =
     (ap (λ z. left_behind z (counted_at i s.connections)) none ∙ nothing_behind (counted_at i s.connections) ∙ sym (ap (λ z. left_behind z s.connections) none ∙ nothing_behind s.connections))
 
 -- and on the one that it holds
-full_fresh : (limits : Limits) (s : Story) (i : ℕ) (κ : Connection) (w : Written) → IsOpening limits s i κ w → IsFresh s.keeper s.connections i κ → session_of s.past s.keeper.client ≡ None
+full_fresh : (limits : Limits) (s : Story) (i : ℕ) (κ : ClientConnection) (w : Written) → IsOpening limits s i κ w → IsFresh s.keeper s.connections i κ → session_of s.past s.keeper.client ≡ None
     → current_connection s.past s.keeper.client ≡ None
     → GoesTo (as_subscriber limits s) (as_subscriber limits (placed s (at_full κ.name s.keeper.client) (counted_at i s.connections)))
 full_fresh limits s i κ w o fresh session none =
@@ -89,7 +89,7 @@ full_fresh limits s i κ w o fresh session none =
     }
 
 -- by what happens to it
-pub takes_connect : (limits : Limits) (s : Story) (i : ℕ) (κ : Connection) (w : Written) → IsOpening limits s i κ w
+pub takes_connect : (limits : Limits) (s : Story) (i : ℕ) (κ : ClientConnection) (w : Written) → IsOpening limits s i κ w
     → GoesTo (as_subscriber limits s)
     (as_subscriber limits (placed s (at_connect κ.name s.keeper.client false (connect_mark limits s.past s.keeper.client (owner_of s.past κ.name))) (counted_at i s.connections)))
 takes_connect limits s i κ w o = by (owner_of s.past κ.name) refl (fresh_or_stale s.keeper s.connections i κ o.at o.taken)
