@@ -1,5 +1,4 @@
 use super::replicas::config;
-use super::stories::first_false;
 use master::{Activation, AssignError, Master};
 use std::alloc::Global;
 
@@ -32,33 +31,39 @@ fn is_given(master: &mut Master, alloc: Global, members: &[u8], primary: u8, bal
     }
 }
 
-// Ballots, whether each is activated, and which is active after that.
-const ACTIVATED: &[(u64, (bool, u64))] = &[
-    (2, (false, 1)),
-    (3, (true, 3)),
-    (3, (true, 3)),
-    (1, (false, 3)),
+// What a row shows; a ballot, whether it is activated, and which ballot is active after that.
+const ACTIVATED: &[(&str, u64, (bool, u64))] = &[
+    ("ballot 2 is superseded", 2, (false, 1)),
+    ("ballot 3 becomes active", 3, (true, 3)),
+    ("ballot 3 stays active", 3, (true, 3)),
+    ("ballot 1 does not come back", 1, (false, 3)),
 ];
 
-// Says whether ballots are activated in turn as these rows say.
-fn activates_all(master: &mut Master, rows: &[(u64, (bool, u64))]) -> bool {
-    for (ballot, wanted) in rows {
+// Returns the first row that is not so of ballots that are activated in turn; that node 2 is the
+// sole member then, if it is not.
+fn other_activation(master: &mut Master) -> Option<&'static str> {
+    for (words, ballot, wanted) in ACTIVATED {
         let activated = master.activate(*ballot) == Activation::Activated;
         if (activated, master.active().0) != *wanted {
-            return false;
+            return Some(*words);
         }
     }
-    true
+    if master.active().1 == [2].as_slice() {
+        None
+    } else {
+        Some("node 2 is the sole member of ballot 3")
+    }
 }
 
-// Finds the first step that goes otherwise: ballots 2 and 3 are given, and ballot 2 is superseded.
-fn supersedes(master: &mut Master, alloc: Global) -> Option<usize> {
-    first_false(&[
-        is_given(master, alloc, &[1, 2], 1, 2),
-        is_given(master, alloc, &[2], 2, 3),
-        activates_all(master, ACTIVATED),
-        master.active().1 == [2].as_slice(),
-    ])
+// Returns the first step that is not so: ballots 2 and 3 are given, and ballot 2 is superseded.
+fn supersedes(master: &mut Master, alloc: Global) -> Option<&'static str> {
+    if !is_given(master, alloc, &[1, 2], 1, 2) {
+        Some("ballot 2 is given")
+    } else if !is_given(master, alloc, &[2], 2, 3) {
+        Some("ballot 3 is given")
+    } else {
+        other_activation(master)
+    }
 }
 
 // What a master is to do.
@@ -68,16 +73,16 @@ enum Task {
     RefusesAll,
 }
 
-// Finds the first step at which a master that opens does otherwise; step 0 if it does not open.
-fn first_fault(alloc: Global, task: Task) -> Option<usize> {
+// Returns the first step that is not so of a fresh master, in words.
+fn first_fault(alloc: Global, task: Task) -> Option<&'static str> {
     match opened(alloc) {
         Some(mut master) => fault_of(&mut master, alloc, task),
-        None => Some(0),
+        None => Some("a master opens"),
     }
 }
 
-// Finds the first step at which this master does otherwise.
-fn fault_of(master: &mut Master, alloc: Global, task: Task) -> Option<usize> {
+// Returns the first step that is not so of this master, in words.
+fn fault_of(master: &mut Master, alloc: Global, task: Task) -> Option<&'static str> {
     match task {
         Task::Supersedes => supersedes(master, alloc),
         Task::RefusesAll => refuses_bad_members(master, alloc),
@@ -90,21 +95,27 @@ fn a_superseded_ballot_never_comes_back(rt: HostRuntime) {
     assert_eq!(rt; first_fault(rt.alloc(), Task::Supersedes), None);
 }
 
-const BAD: &[(&[u8], u8)] = &[(&[2, 1], 1), (&[], 1), (&[1], 2), (&[1, 16], 1)];
+// What a row shows; members and a primary.
+const BAD: &[(&str, &[u8], u8)] = &[
+    ("members that fall are refused", &[2, 1], 1),
+    ("no members are refused", &[], 1),
+    ("a primary that is no member is refused", &[1], 2),
+    ("member 16 is refused", &[1, 16], 1),
+];
 
-// Finds the first row that is not refused for its members; the row after the last one if ballot 2
-// is not given after them.
-fn refuses_bad_members(master: &mut Master, alloc: Global) -> Option<usize> {
-    for (row, (members, primary)) in BAD.iter().enumerate() {
+// Returns the first row that is not refused for its members; that ballot 2 is given after them, if
+// it is not.
+fn refuses_bad_members(master: &mut Master, alloc: Global) -> Option<&'static str> {
+    for (words, members, primary) in BAD {
         match assigned(master, alloc, members, *primary) {
             Some(Err(AssignError::BadMembers)) => {}
-            _ => return Some(row),
+            _ => return Some(*words),
         }
     }
     if is_given(master, alloc, &[1, 2], 2, 2) {
         None
     } else {
-        Some(BAD.len())
+        Some("ballot 2 is given after them")
     }
 }
 

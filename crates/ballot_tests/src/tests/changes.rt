@@ -2,20 +2,26 @@
 
 use super::pairs::*;
 use super::replicas::{shows, takes};
-use super::stories::{Change, first_false, first_fault_of_two};
+use super::stories::{Change, first_fault_of_two};
 use ballot::{Body, Role};
 use machine::TallyCommand;
 use std::alloc::Global;
 
-/// Finds the first step that goes otherwise: node 2, given ballot 2, fetches and installs the log.
-pub fn goes_over(pair: &mut Pair, alloc: Global) -> Option<usize> {
-    first_false(&[
-        is_assigned(pair, alloc, &[1]),
-        shows(&pair.two, 2, Role::Fetching, 0, 0),
-        hands_on(pair, &["Join", "State"]),
-        shows(&pair.two, 2, Role::Installing, 0, 0),
-        hands_on(pair, &["Install", "Installed", "Activate"]),
-    ])
+/// Returns the first step that is not so: node 2, given ballot 2, fetches and installs the log.
+pub fn goes_over(pair: &mut Pair, alloc: Global) -> Option<&'static str> {
+    if !is_assigned(pair, alloc, &[1]) {
+        Some("node 2 is given ballot 2")
+    } else if !shows(&pair.two, 2, Role::Fetching, 0, 0) {
+        Some("node 2 fetches the log")
+    } else if !hands_on(pair, &["Join", "State"]) {
+        Some("Join and State are delivered")
+    } else if !shows(&pair.two, 2, Role::Installing, 0, 0) {
+        Some("node 2 installs the log")
+    } else if !hands_on(pair, &["Install", "Installed", "Activate"]) {
+        Some("Install, Installed and Activate are delivered")
+    } else {
+        None
+    }
 }
 
 // Ballot 2 goes from the sole member 1 to the members 1 and 2: the log goes over.
@@ -36,17 +42,25 @@ fn went_over(pair: &mut Pair, alloc: Global) -> bool {
     is_assigned
 }
 
-/// Finds the first step that goes otherwise: the start of ballot 2 is added and committed.
-pub fn begins(pair: &mut Pair, alloc: Global) -> Option<usize> {
-    first_false(&[
-        went_over(pair, alloc),
-        master_says(pair, Body::Activated(2)),
-        shows(&pair.two, 2, Role::Active, 1, 0),
-        hands_on(pair, &["Append", "Held", "Commit"]),
-        shows(&pair.one, 2, Role::Backup, 1, 1),
-        shows(&pair.two, 2, Role::Active, 1, 1),
-        pair.two.losses() == 0,
-    ])
+/// Returns the first step that is not so: the start of ballot 2 is added and committed.
+pub fn begins(pair: &mut Pair, alloc: Global) -> Option<&'static str> {
+    if !went_over(pair, alloc) {
+        Some("node 2 is given ballot 2")
+    } else if !master_says(pair, Body::Activated(2)) {
+        Some("node 2 goes on after Activated")
+    } else if !shows(&pair.two, 2, Role::Active, 1, 0) {
+        Some("node 2 is active, and holds the start")
+    } else if !hands_on(pair, &["Append", "Held", "Commit"]) {
+        Some("Append, Held and Commit are delivered")
+    } else if !shows(&pair.one, 2, Role::Backup, 1, 1) {
+        Some("node 1 has committed the start")
+    } else if !shows(&pair.two, 2, Role::Active, 1, 1) {
+        Some("node 2 has committed the start")
+    } else if pair.two.losses() != 0 {
+        Some("node 2 never ran out of memory")
+    } else {
+        None
+    }
 }
 
 // A ballot with another primary becomes active and begins with its start, which is committed.
@@ -55,15 +69,21 @@ fn a_new_ballot_begins_with_its_start(rt: HostRuntime) {
     assert_eq!(rt; first_fault_of_two(rt.alloc(), &[1], Change::Begins), None);
 }
 
-/// Finds the first step that goes otherwise: node 2 is a backup after Superseded, and stays one.
-pub fn is_superseded(pair: &mut Pair, alloc: Global) -> Option<usize> {
-    first_false(&[
-        went_over(pair, alloc),
-        master_says(pair, Body::Superseded(2)),
-        master_says(pair, Body::Activated(2)),
-        hands_on(pair, &["nothing"]),
-        shows(&pair.two, 2, Role::Backup, 0, 0),
-    ])
+/// Returns the first step that is not so: node 2 is a backup after Superseded, and stays one.
+pub fn is_superseded(pair: &mut Pair, alloc: Global) -> Option<&'static str> {
+    if !went_over(pair, alloc) {
+        Some("node 2 is given ballot 2")
+    } else if !master_says(pair, Body::Superseded(2)) {
+        Some("node 2 goes on after Superseded")
+    } else if !master_says(pair, Body::Activated(2)) {
+        Some("node 2 goes on after Activated")
+    } else if !hands_on(pair, &["nothing"]) {
+        Some("nothing is sent then")
+    } else if !shows(&pair.two, 2, Role::Backup, 0, 0) {
+        Some("node 2 is a backup, and holds no place")
+    } else {
+        None
+    }
 }
 
 // A ballot that was superseded leaves its primary a backup, and does not begin any more.
@@ -75,16 +95,22 @@ fn a_superseded_ballot_does_not_begin(rt: HostRuntime) {
     );
 }
 
-/// Finds the first step that goes otherwise: the log of node 1, which appended a command that never
+/// Returns the first step that is not so: the log of node 1, which appended a command that never
 /// came to node 2, is replaced by that of ballot 2.
-pub fn is_replaced(pair: &mut Pair, alloc: Global) -> Option<usize> {
-    first_false(&[
-        takes(&mut pair.one, TallyCommand::Add(2), &mut pair.out),
-        shows(&pair.one, 1, Role::Active, 1, 0),
-        is_assigned(pair, alloc, &[1, 2]),
-        hands_on(pair, &["Join", "State", "Install"]),
-        shows(&pair.one, 2, Role::Backup, 0, 0),
-    ])
+pub fn is_replaced(pair: &mut Pair, alloc: Global) -> Option<&'static str> {
+    if !takes(&mut pair.one, TallyCommand::Add(2), &mut pair.out) {
+        Some("node 1 takes a command")
+    } else if !shows(&pair.one, 1, Role::Active, 1, 0) {
+        Some("node 1 holds it, and it is not committed")
+    } else if !is_assigned(pair, alloc, &[1, 2]) {
+        Some("node 2 is given ballot 2")
+    } else if !hands_on(pair, &["Join", "State", "Install"]) {
+        Some("Join, State and Install are delivered")
+    } else if !shows(&pair.one, 2, Role::Backup, 0, 0) {
+        Some("node 1 is a backup, and holds no place")
+    } else {
+        None
+    }
 }
 
 // The log of the old primary is longer; the log of the new ballot replaces it.
@@ -103,14 +129,18 @@ fn asks_again(pair: &mut Pair, kinds: &[&str]) -> bool {
     hands_on(pair, kinds)
 }
 
-/// Finds the first step that goes otherwise: it does so while it fetches the log, and while it
+/// Returns the first step that is not so: it does so while it fetches the log, and while it
 /// installs it.
-pub fn asks_twice(pair: &mut Pair, alloc: Global) -> Option<usize> {
-    first_false(&[
-        is_assigned(pair, alloc, &[1]),
-        asks_again(pair, &["Join", "State"]),
-        asks_again(pair, &["Install"]),
-    ])
+pub fn asks_twice(pair: &mut Pair, alloc: Global) -> Option<&'static str> {
+    if !is_assigned(pair, alloc, &[1]) {
+        Some("node 2 is given ballot 2")
+    } else if !asks_again(pair, &["Join", "State"]) {
+        Some("a tick sends Join again, which is answered")
+    } else if !asks_again(pair, &["Install"]) {
+        Some("a tick sends Install again")
+    } else {
+        None
+    }
 }
 
 // A tick of a new primary says again what it waits for.

@@ -1,7 +1,7 @@
 // Commands inside ballot 1, as worked examples with one, two and three members.
 
 use super::replicas::*;
-use super::stories::{Run, first_false, first_fault};
+use super::stories::{Run, first_fault};
 use ballot::{Body, Effect, ProposeError, Replica, Role};
 use machine::{Tally, TallyCommand};
 
@@ -25,20 +25,28 @@ const THREE: &[TallyCommand] = &[
     TallyCommand::Add(3),
 ];
 
-/// Finds the first step at which a sole member does not answer these commands at once.
+/// Returns the first step that is not so: a sole member answers these commands at once.
 pub fn answers_at_once(
     replica: &mut Replica<Tally>,
     out: &mut Vec<Effect<TallyCommand, u64>>,
-) -> Option<usize> {
-    first_false(&[
-        take(replica, THREE, out),
-        out.len() == 2,
-        gives(out, 0, 0, 2),
-        gives(out, 1, 2, 5),
-        shows(replica, 1, Role::Active, 3, 3),
-        logs(replica, THREE),
-        replica.losses() == 0,
-    ])
+) -> Option<&'static str> {
+    if !take(replica, THREE, out) {
+        Some("the three commands are taken")
+    } else if out.len() != 2 {
+        Some("two outputs leave")
+    } else if !gives(out, 0, 0, 2) {
+        Some("the first is 2, of place 0")
+    } else if !gives(out, 1, 2, 5) {
+        Some("the second is 5, of place 2")
+    } else if !shows(replica, 1, Role::Active, 3, 3) {
+        Some("three places are committed")
+    } else if !logs(replica, THREE) {
+        Some("the log has the three commands")
+    } else if replica.losses() != 0 {
+        Some("no step ran out of memory")
+    } else {
+        None
+    }
 }
 
 // A sole member gives 2, nothing at the start of a ballot, and 5.
@@ -50,27 +58,41 @@ fn a_sole_member_answers_at_once(rt: HostRuntime) {
     );
 }
 
-// Says whether the output leaves once node 2 holds the place, and whether node 2 is sent a Commit.
-fn leaves(primary: &mut Replica<Tally>, out: &mut Vec<Effect<TallyCommand, u64>>) -> bool {
+// Returns the first step that is not so: the output leaves once node 2 holds the place, and node 2
+// is sent a Commit.
+fn leaves(
+    primary: &mut Replica<Tally>,
+    out: &mut Vec<Effect<TallyCommand, u64>>,
+) -> Option<&'static str> {
     out.clear();
-    hears(primary, 2, Body::Held(1, 1), out)
-        && out.len() == 2
-        && gives(out, 0, 0, 2)
-        && commits(out, 1, (1, 2), 1)
+    if !hears(primary, 2, Body::Held(1, 1), out) {
+        Some("it goes on after Held")
+    } else if out.len() != 2 {
+        Some("Held has two effects")
+    } else if !gives(out, 0, 0, 2) {
+        Some("output 2 of place 0 leaves")
+    } else if !commits(out, 1, (1, 2), 1) {
+        Some("node 2 is sent a Commit of one place")
+    } else {
+        None
+    }
 }
 
-/// Finds the first step that goes otherwise: node 1 of two members appends a command that adds 2,
-/// and the output leaves once both hold it.
+/// Returns the first step that is not so: node 1 of two members appends a command that adds 2, and
+/// the output leaves once both hold it.
 pub fn leaves_once_held(
     primary: &mut Replica<Tally>,
     out: &mut Vec<Effect<TallyCommand, u64>>,
-) -> Option<usize> {
-    first_false(&[
-        takes(primary, TallyCommand::Add(2), out),
-        out.len() == 1,
-        appends(out, 0, (1, 2), 0, 2),
-        leaves(primary, out),
-    ])
+) -> Option<&'static str> {
+    if !takes(primary, TallyCommand::Add(2), out) {
+        Some("the command is taken")
+    } else if out.len() != 1 {
+        Some("one message is sent")
+    } else if !appends(out, 0, (1, 2), 0, 2) {
+        Some("it appends 2 at place 0 of node 2")
+    } else {
+        leaves(primary, out)
+    }
 }
 
 // What is proposed to one of two members leaves once the other holds it.
@@ -82,28 +104,44 @@ fn an_output_leaves_once_all_members_hold_it(rt: HostRuntime) {
     );
 }
 
-// Says whether a Held that comes again does nothing, and a tick says what is committed.
+// Returns the first step that is not so: a Held that comes again does nothing, and a tick says what
+// is committed.
 fn hears_nothing_new(
     primary: &mut Replica<Tally>,
     out: &mut Vec<Effect<TallyCommand, u64>>,
-) -> bool {
+) -> Option<&'static str> {
     out.clear();
-    let is_silent = hears(primary, 2, Body::Held(1, 1), out) && out.is_empty();
+    if !hears(primary, 2, Body::Held(1, 1), out) {
+        return Some("it goes on after Held again");
+    }
+    if !out.is_empty() {
+        return Some("Held has no effect the second time");
+    }
     primary.tick(out);
-    is_silent && out.len() == 1 && commits(out, 0, (1, 2), 1) && primary.losses() == 0
+    if out.len() != 1 {
+        Some("a tick sends one message")
+    } else if !commits(out, 0, (1, 2), 1) {
+        Some("it tells node 2 that one place is committed")
+    } else if primary.losses() != 0 {
+        Some("no step ran out of memory")
+    } else {
+        None
+    }
 }
 
-/// Finds the first step that goes otherwise: node 1 of two members, which appended a command that
-/// adds 2, receives Held twice.
+/// Returns the first step that is not so: node 1 of two members, which appended a command that adds
+/// 2, receives Held twice.
 pub fn hears_it_again(
     primary: &mut Replica<Tally>,
     out: &mut Vec<Effect<TallyCommand, u64>>,
-) -> Option<usize> {
-    first_false(&[
-        takes(primary, TallyCommand::Add(2), out),
-        hears(primary, 2, Body::Held(1, 1), out),
-        hears_nothing_new(primary, out),
-    ])
+) -> Option<&'static str> {
+    if !takes(primary, TallyCommand::Add(2), out) {
+        Some("the command is taken")
+    } else if !hears(primary, 2, Body::Held(1, 1), out) {
+        Some("it goes on after Held")
+    } else {
+        hears_nothing_new(primary, out)
+    }
 }
 
 // A message that comes twice changes nothing more; a tick says again what is committed.
@@ -126,20 +164,28 @@ fn is_appended(
     hears(backup, 1, body, out)
 }
 
-/// Finds the first step that goes otherwise: place 1 waits for place 0.
+/// Returns the first step that is not so: place 1 waits for place 0.
 pub fn waits_for_the_first(
     backup: &mut Replica<Tally>,
     out: &mut Vec<Effect<TallyCommand, u64>>,
-) -> Option<usize> {
-    first_false(&[
-        shows(backup, 1, Role::Backup, 0, 0),
-        is_appended(backup, 1, 3, out),
-        out.is_empty(),
-        shows(backup, 1, Role::Backup, 0, 0),
-        is_appended(backup, 0, 2, out),
-        out.len() == 1,
-        holds(out, 0, (2, 1)),
-    ])
+) -> Option<&'static str> {
+    if !shows(backup, 1, Role::Backup, 0, 0) {
+        Some("it begins as a backup")
+    } else if !is_appended(backup, 1, 3, out) {
+        Some("it goes on after place 1")
+    } else if !out.is_empty() {
+        Some("it says nothing to place 1")
+    } else if !shows(backup, 1, Role::Backup, 0, 0) {
+        Some("it holds no place")
+    } else if !is_appended(backup, 0, 2, out) {
+        Some("it goes on after place 0")
+    } else if out.len() != 1 {
+        Some("it sends one message then")
+    } else if !holds(out, 0, (2, 1)) {
+        Some("it says to node 1 that it holds one place")
+    } else {
+        None
+    }
 }
 
 #[test]
@@ -166,18 +212,23 @@ fn says_nothing(backup: &mut Replica<Tally>, out: &mut Vec<Effect<TallyCommand, 
     goes_on && out.is_empty() && shows(backup, 1, Role::Backup, 1, 1)
 }
 
-/// Finds the first step that goes otherwise: a backup that is sent a place is silent, and takes no
+/// Returns the first step that is not so: a backup that is sent a place is silent, and takes no
 /// proposal.
 pub fn is_silent(
     backup: &mut Replica<Tally>,
     out: &mut Vec<Effect<TallyCommand, u64>>,
-) -> Option<usize> {
-    first_false(&[
-        is_appended(backup, 0, 2, out),
-        says_nothing(backup, out),
-        is_not_active(backup, out),
-        backup.losses() == 0,
-    ])
+) -> Option<&'static str> {
+    if !is_appended(backup, 0, 2, out) {
+        Some("it goes on after place 0")
+    } else if !says_nothing(backup, out) {
+        Some("it commits the place, and sends nothing")
+    } else if !is_not_active(backup, out) {
+        Some("it takes no proposal")
+    } else if backup.losses() != 0 {
+        Some("no step ran out of memory")
+    } else {
+        None
+    }
 }
 
 // A backup that gets a Commit sends nothing, also at a tick, and takes no proposal.
@@ -188,32 +239,43 @@ fn a_backup_is_silent(rt: HostRuntime) {
 
 const TWO_NUMBERS: &[TallyCommand] = &[TallyCommand::Add(2), TallyCommand::Add(3)];
 
-// Says whether a tick says these four things.
+// Returns the first of the four things that a tick does not say, in words.
 fn says_four_things(
     primary: &mut Replica<Tally>,
     out: &mut Vec<Effect<TallyCommand, u64>>,
-) -> bool {
+) -> Option<&'static str> {
     out.clear();
     primary.tick(out);
-    out.len() == 4
-        && appends(out, 0, (2, 1), 1, 3)
-        && appends(out, 1, (2, 3), 0, 2)
-        && commits(out, 2, (2, 1), 0)
-        && commits(out, 3, (2, 3), 0)
+    if out.len() != 4 {
+        Some("a tick sends four messages")
+    } else if !appends(out, 0, (2, 1), 1, 3) {
+        Some("the first appends 3 at place 1 of node 1")
+    } else if !appends(out, 1, (2, 3), 0, 2) {
+        Some("the second appends 2 at place 0 of node 3")
+    } else if !commits(out, 2, (2, 1), 0) {
+        Some("the third tells node 1 that nothing is committed")
+    } else if !commits(out, 3, (2, 3), 0) {
+        Some("the fourth tells node 3 that nothing is committed")
+    } else {
+        None
+    }
 }
 
-/// Finds the first step that goes otherwise: node 2 of three members, which appended commands that
-/// add 2 and 3, sends at a tick what node 1 lacks, which holds the first one.
+/// Returns the first step that is not so: node 2 of three members, which appended commands that add
+/// 2 and 3, sends at a tick what node 1 lacks, which holds the first one.
 pub fn says_what_is_lacking(
     primary: &mut Replica<Tally>,
     out: &mut Vec<Effect<TallyCommand, u64>>,
-) -> Option<usize> {
-    first_false(&[
-        take(primary, TWO_NUMBERS, out),
-        hears(primary, 1, Body::Held(1, 1), out),
-        out.len() == 4,
-        says_four_things(primary, out),
-    ])
+) -> Option<&'static str> {
+    if !take(primary, TWO_NUMBERS, out) {
+        Some("the two commands are taken")
+    } else if !hears(primary, 1, Body::Held(1, 1), out) {
+        Some("it goes on after the Held of node 1")
+    } else if out.len() != 4 {
+        Some("it has sent each command to both others")
+    } else {
+        says_four_things(primary, out)
+    }
 }
 
 // A tick sends the place at a progress, to each member that lacks one, and what is committed to

@@ -2,7 +2,7 @@
 
 use super::pairs::*;
 use super::replicas::*;
-use super::stories::{Change, Run, first_false, first_fault, first_fault_of_two};
+use super::stories::{Change, Run, first_fault, first_fault_of_two};
 use ballot::{Body, Effect, Log, Replica, Role};
 use machine::{Tally, TallyCommand};
 use std::alloc::Global;
@@ -16,33 +16,53 @@ fn is_cut_at(replica: &Replica<Tally>, base: u64, bytes: &[u8]) -> bool {
     at == base && snapshot == bytes
 }
 
-/// Finds the first step that goes otherwise: a sole member that has added 2 and 3 cuts its log
-/// once, and then continues.
+/// Returns the first step that is not so: a sole member that has added 2 and 3 cuts its log once,
+/// and then continues.
 pub fn is_cut_once(
     replica: &mut Replica<Tally>,
     out: &mut Vec<Effect<TallyCommand, u64>>,
-) -> Option<usize> {
-    first_false(&[
-        !replica.cut(),
-        is_cut_at(replica, 0, &[]),
-        takes(replica, TallyCommand::Add(2), out),
-        takes(replica, TallyCommand::Add(3), out),
-        replica.cut(),
-        !replica.cut(),
-        is_cut_at(replica, 2, FIVE),
-        logs(replica, &[]),
-        goes_on(replica, out),
-    ])
+) -> Option<&'static str> {
+    if replica.cut() {
+        Some("there is nothing to cut at first")
+    } else if !is_cut_at(replica, 0, &[]) {
+        Some("the log begins at place 0")
+    } else if !takes(replica, TallyCommand::Add(2), out) {
+        Some("it takes a command")
+    } else if !takes(replica, TallyCommand::Add(3), out) {
+        Some("it takes another one")
+    } else if !replica.cut() {
+        Some("there is something to cut then")
+    } else if replica.cut() {
+        Some("there is nothing more to cut")
+    } else {
+        goes_on(replica, out)
+    }
 }
 
-// Says whether a member that was cut at place 2 counts its places from 0 as before.
-fn goes_on(replica: &mut Replica<Tally>, out: &mut Vec<Effect<TallyCommand, u64>>) -> bool {
+// Returns the first step that is not so: a member that was cut at place 2 has its total there, and
+// counts its places from 0 as before.
+fn goes_on(
+    replica: &mut Replica<Tally>,
+    out: &mut Vec<Effect<TallyCommand, u64>>,
+) -> Option<&'static str> {
     out.clear();
-    takes(replica, TallyCommand::Add(4), out)
-        && gives(out, 0, 2, 9)
-        && shows(replica, 1, Role::Active, 3, 3)
-        && logs(replica, &[TallyCommand::Add(4)])
-        && replica.losses() == 0
+    if !is_cut_at(replica, 2, FIVE) {
+        Some("the log begins at place 2 with the total 5")
+    } else if !logs(replica, &[]) {
+        Some("the log keeps no command")
+    } else if !takes(replica, TallyCommand::Add(4), out) {
+        Some("it takes a command after the cut")
+    } else if !gives(out, 0, 2, 9) {
+        Some("output 9 of place 2 leaves")
+    } else if !shows(replica, 1, Role::Active, 3, 3) {
+        Some("three places are committed")
+    } else if !logs(replica, &[TallyCommand::Add(4)]) {
+        Some("the log keeps that command")
+    } else if replica.losses() != 0 {
+        Some("no step ran out of memory")
+    } else {
+        None
+    }
 }
 
 #[test]
@@ -50,23 +70,32 @@ fn a_sole_member_cuts_its_log_once(rt: HostRuntime) {
     assert_eq!(rt; first_fault(rt.alloc(), 1, &[1], 1, Run::IsCut), None);
 }
 
-/// Finds the first step that goes otherwise: a node that is no member takes a log that it can read,
+/// Returns the first step that is not so: a node that is no member takes a log that it can read,
 /// and counts one whose snapshot is no total as lost, which changes nothing.
 pub fn reads_snapshots(
     replica: &mut Replica<Tally>,
     out: &mut Vec<Effect<TallyCommand, u64>>,
     alloc: Global,
-) -> Option<usize> {
-    first_false(&[
-        installs(replica, out, alloc, &FIVE[..3]),
-        shows(replica, 0, Role::Backup, 0, 0),
-        replica.losses() == 1,
-        out.is_empty(),
-        installs(replica, out, alloc, FIVE),
-        shows(replica, 2, Role::Backup, 3, 2),
-        is_cut_at(replica, 2, FIVE),
-        out.len() == 1,
-    ])
+) -> Option<&'static str> {
+    if !installs(replica, out, alloc, &FIVE[..3]) {
+        Some("it goes on after Install with three bytes")
+    } else if !shows(replica, 0, Role::Backup, 0, 0) {
+        Some("it is as it was")
+    } else if replica.losses() != 1 {
+        Some("the message counts as lost")
+    } else if !out.is_empty() {
+        Some("nothing is sent for it")
+    } else if !installs(replica, out, alloc, FIVE) {
+        Some("it goes on after Install with a total")
+    } else if !shows(replica, 2, Role::Backup, 3, 2) {
+        Some("it holds three places, two of them committed")
+    } else if !is_cut_at(replica, 2, FIVE) {
+        Some("its log begins at place 2 with the total 5")
+    } else if out.len() != 1 {
+        Some("one message is sent for it")
+    } else {
+        None
+    }
 }
 
 // Gives a replica the Install of ballot 2 with a log that has this snapshot, base 2 and one
@@ -96,23 +125,43 @@ fn a_snapshot_is_read_or_lost(rt: HostRuntime) {
     );
 }
 
-/// Finds the first step that goes otherwise: the snapshot of node 1, which has added 2 and 3 and
-/// cut its log, goes over to node 2, which adds 4.
-pub fn snapshot_goes_over(pair: &mut Pair, alloc: Global) -> Option<usize> {
-    first_false(&[
-        takes(&mut pair.one, TallyCommand::Add(2), &mut pair.out),
-        takes(&mut pair.one, TallyCommand::Add(3), &mut pair.out),
-        pair.one.cut(),
-        is_assigned(pair, alloc, &[1]),
-        hands_on(pair, &["Join", "State"]),
-        shows(&pair.two, 2, Role::Installing, 2, 2),
-        is_cut_at(&pair.two, 2, FIVE),
-        hands_on(pair, &["Install", "Installed", "Activate"]),
-        master_says(pair, Body::Activated(2)),
-        hands_on(pair, &["Append", "Held", "Commit"]),
-        shows(&pair.one, 2, Role::Backup, 3, 3),
-        shows(&pair.two, 2, Role::Active, 3, 3),
-    ])
+/// Returns the first step that is not so: the snapshot of node 1, which has added 2 and 3 and cut
+/// its log, goes over to node 2, which begins ballot 2.
+pub fn snapshot_goes_over(pair: &mut Pair, alloc: Global) -> Option<&'static str> {
+    if !takes(&mut pair.one, TallyCommand::Add(2), &mut pair.out) {
+        Some("node 1 takes a command")
+    } else if !takes(&mut pair.one, TallyCommand::Add(3), &mut pair.out) {
+        Some("node 1 takes another one")
+    } else if !pair.one.cut() {
+        Some("node 1 has something to cut")
+    } else if !is_assigned(pair, alloc, &[1]) {
+        Some("node 2 is given ballot 2")
+    } else if !hands_on(pair, &["Join", "State"]) {
+        Some("Join and State are delivered")
+    } else if !shows(&pair.two, 2, Role::Installing, 2, 2) {
+        Some("node 2 installs a log of two places")
+    } else if !is_cut_at(&pair.two, 2, FIVE) {
+        Some("that log begins at place 2 with the total 5")
+    } else {
+        begins_after(pair)
+    }
+}
+
+// Returns the first step that is not so: both nodes commit the start of ballot 2 after two places.
+fn begins_after(pair: &mut Pair) -> Option<&'static str> {
+    if !hands_on(pair, &["Install", "Installed", "Activate"]) {
+        Some("Install, Installed and Activate are delivered")
+    } else if !master_says(pair, Body::Activated(2)) {
+        Some("node 2 goes on after Activated")
+    } else if !hands_on(pair, &["Append", "Held", "Commit"]) {
+        Some("Append, Held and Commit are delivered")
+    } else if !shows(&pair.one, 2, Role::Backup, 3, 3) {
+        Some("node 1 has committed three places")
+    } else if !shows(&pair.two, 2, Role::Active, 3, 3) {
+        Some("node 2 has committed three places")
+    } else {
+        None
+    }
 }
 
 #[test]

@@ -26,30 +26,19 @@ pub enum Run {
 pub enum Fault {
     /// A node did not open.
     Unopened,
-    /// This step went otherwise. After the last step the replica shows this, and how many effects
-    /// are there.
-    Step(usize, Status, usize),
-    /// This step went otherwise; after the last step nodes 1 and 2 show this.
-    StepOfTwo(usize, Status, Status),
+    /// This step, in words. The replica showed this after it, and this many effects were there.
+    Step(&'static str, Status, usize),
+    /// This step, in words. Nodes 1 and 2 showed this after it.
+    StepOfTwo(&'static str, Status, Status),
 }
 
-/// Finds the first of these that is not so.
-pub fn first_false(steps: &[bool]) -> Option<usize> {
-    for (step, is_so) in steps.iter().enumerate() {
-        if !*is_so {
-            return Some(step);
-        }
-    }
-    None
-}
-
-// Finds the first step at which a replica does not what a run says.
+// Returns the first step of a run that is not so, in words.
 fn step_of(
     replica: &mut Replica<Tally>,
     out: &mut Vec<Effect<TallyCommand, u64>>,
     alloc: Global,
     run: Run,
-) -> Option<usize> {
+) -> Option<&'static str> {
     match run {
         Run::AnswersAtOnce => commands::answers_at_once(replica, out),
         Run::LeavesOnceHeld => commands::leaves_once_held(replica, out),
@@ -57,13 +46,19 @@ fn step_of(
         Run::WaitsForTheFirst => commands::waits_for_the_first(replica, out),
         Run::IsSilent => commands::is_silent(replica, out),
         Run::SaysWhatIsLacking => commands::says_what_is_lacking(replica, out),
-        Run::IsNoMember => first_false(&[shows(replica, 0, Role::Backup, 0, 0)]),
+        Run::IsNoMember => {
+            if shows(replica, 0, Role::Backup, 0, 0) {
+                None
+            } else {
+                Some("it is a backup of ballot 0, and holds no place")
+            }
+        }
         Run::IsCut => cutting::is_cut_once(replica, out),
         Run::ReadsSnapshots => cutting::reads_snapshots(replica, out, alloc),
     }
 }
 
-// Finds the same, with what the replica shows then.
+// Returns the same, with what the replica shows then.
 fn fault_of(
     replica: &mut Replica<Tally>,
     out: &mut Vec<Effect<TallyCommand, u64>>,
@@ -76,8 +71,8 @@ fn fault_of(
     }
 }
 
-/// Finds the first step at which a node that opens with these members and this primary goes through
-/// a run in another way.
+/// Returns the first step of a run that is not so of a node that opens with these members and this
+/// primary.
 pub fn first_fault(
     alloc: Global,
     node: u8,
@@ -103,8 +98,8 @@ pub enum Change {
     SnapshotGoesOver,
 }
 
-// Finds the first step at which two nodes do not what a change says.
-fn step_of_two(alloc: Global, pair: &mut Pair, change: Change) -> Option<usize> {
+// Returns the first step of a change that is not so, in words.
+fn step_of_two(alloc: Global, pair: &mut Pair, change: Change) -> Option<&'static str> {
     match change {
         Change::GoesOver => changes::goes_over(pair, alloc),
         Change::Begins => changes::begins(pair, alloc),
@@ -115,7 +110,7 @@ fn step_of_two(alloc: Global, pair: &mut Pair, change: Change) -> Option<usize> 
     }
 }
 
-// Finds the same, with what the two show then.
+// Returns the same, with what the two show then.
 fn fault_of_two(alloc: Global, pair: &mut Pair, change: Change) -> Option<Fault> {
     match step_of_two(alloc, pair, change) {
         Some(step) => Some(Fault::StepOfTwo(step, pair.one.status(), pair.two.status())),
@@ -123,8 +118,8 @@ fn fault_of_two(alloc: Global, pair: &mut Pair, change: Change) -> Option<Fault>
     }
 }
 
-/// Finds the first step at which two nodes that open with these members and node 1 as primary go
-/// through a change in another way.
+/// Returns the first step of a change that is not so of two nodes that open with these members and
+/// node 1 as primary.
 pub fn first_fault_of_two(alloc: Global, members: &[u8], change: Change) -> Option<Fault> {
     match open(alloc, members) {
         Ok(mut pair) => fault_of_two(alloc, &mut pair, change),
