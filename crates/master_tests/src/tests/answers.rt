@@ -37,17 +37,25 @@ fn sent_all(group: &Group<Tally>) -> bool {
     is_append(group, 0) && is_held(group, 1) && is_held(group, 2) && is_commit(group, 3)
 }
 
-/// Finds the first step that goes otherwise: a command is answered once both members hold it.
-pub fn waits_for_all(group: &mut Group<Tally>) -> Option<usize> {
-    first_false(&[
-        adds(group, 1, 2),
-        counts(group) == (1, 0, 0),
-        come(group, ANSWERED),
-        sent_all(group),
-        gave(group, 0, 0, 2),
-        agrees(group, &[TallyCommand::Add(2)]),
-        is_active(group, 1),
-    ])
+/// Returns the first step that is not so: a command is answered once both members hold it.
+pub fn waits_for_all(group: &mut Group<Tally>) -> Option<&'static str> {
+    if !adds(group, 1, 2) {
+        Some("node 1 takes the command")
+    } else if counts(group) != (1, 0, 0) {
+        Some("one message is sent, and nothing is agreed")
+    } else if !come(group, ANSWERED) {
+        Some("the messages come as the rows say")
+    } else if !sent_all(group) {
+        Some("they are Append, Held, Held and Commit")
+    } else if !gave(group, 0, 0, 2) {
+        Some("output 2 of place 0 leaves")
+    } else if !agrees(group, &[TallyCommand::Add(2)]) {
+        Some("the command is agreed")
+    } else if !is_active(group, 1) {
+        Some("ballot 1 is active, and nothing is lost")
+    } else {
+        None
+    }
 }
 
 // A command is appended, held, answered and committed; a message may come twice.
@@ -62,20 +70,25 @@ const ALONE: &[TallyCommand] = &[
     TallyCommand::Add(3),
 ];
 
-/// Finds the first of these that is not so: a sole member answers at once two numbers that are
+/// Returns the first of these that is not so: a sole member answers at once two numbers that are
 /// proposed to it, and a Start between them.
-pub fn counts_alone(group: &mut Group<Tally>) -> Option<usize> {
+pub fn counts_alone(group: &mut Group<Tally>) -> Option<&'static str> {
     group.run(&[
         Event::Propose(1, TallyCommand::Add(2)),
         Event::Propose(1, TallyCommand::Start(2)),
         Event::Propose(1, TallyCommand::Add(3)),
     ]);
-    first_false(&[
-        counts(group) == (0, 2, 3),
-        gave(group, 0, 0, 2),
-        gave(group, 1, 2, 5),
-        agrees(group, ALONE),
-    ])
+    if counts(group) != (0, 2, 3) {
+        Some("no message is sent, two outputs leave, three places are agreed")
+    } else if !gave(group, 0, 0, 2) {
+        Some("the first output is 2, of place 0")
+    } else if !gave(group, 1, 2, 5) {
+        Some("the second output is 5, of place 2")
+    } else if !agrees(group, ALONE) {
+        Some("the three commands are agreed")
+    } else {
+        None
+    }
 }
 
 // A sole member answers at once: 2, nothing at the start of a ballot, and 5.

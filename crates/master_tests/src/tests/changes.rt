@@ -19,16 +19,22 @@ const CHANGED: &[Row] = &[
     (8, 10, 0, 1),
 ];
 
-/// Finds the first step that goes otherwise: the master gives the ballot to members 1 and 2 and
+/// Returns the first step that is not so: the master gives the ballot to members 1 and 2 and
 /// primary 2, and its messages come as these rows say.
-pub fn is_changed(group: &mut Group<Tally>, alloc: Global) -> Option<usize> {
-    first_false(&[
-        gives_to(group, alloc, &[1, 2], 2),
-        counts(group) == (1, 0, 0),
-        come(group, CHANGED),
-        is_active(group, 2),
-        agrees(group, STARTED),
-    ])
+pub fn is_changed(group: &mut Group<Tally>, alloc: Global) -> Option<&'static str> {
+    if !gives_to(group, alloc, &[1, 2], 2) {
+        Some("the master gives ballot 2")
+    } else if counts(group) != (1, 0, 0) {
+        Some("one message is sent")
+    } else if !come(group, CHANGED) {
+        Some("the messages come as the rows say")
+    } else if !is_active(group, 2) {
+        Some("ballot 2 is active, and nothing is lost")
+    } else if !agrees(group, STARTED) {
+        Some("its start is agreed")
+    } else {
+        None
+    }
 }
 
 // The counts of a change of configuration: [1] to [1, 2] with primary 2. The messages are
@@ -70,18 +76,26 @@ fn is_refused(group: &Group<Tally>) -> bool {
     asks && refuses
 }
 
-/// Finds the first step that goes otherwise: the ballot of members 1 and 2 is superseded by that of
+/// Returns the first step that is not so: the ballot of members 1 and 2 is superseded by that of
 /// member 3, and messages come as these rows say.
-pub fn is_superseded(group: &mut Group<Tally>, alloc: Global) -> Option<usize> {
-    first_false(&[
-        gives_to(group, alloc, &[1, 2], 2),
-        come(group, WAITING),
-        gives_to(group, alloc, &[3], 3),
-        come(group, SUPERSEDED),
-        is_refused(group),
-        is_active(group, 3),
-        agrees(group, &[TallyCommand::Start(3)]),
-    ])
+pub fn is_superseded(group: &mut Group<Tally>, alloc: Global) -> Option<&'static str> {
+    if !gives_to(group, alloc, &[1, 2], 2) {
+        Some("the master gives ballot 2")
+    } else if !come(group, WAITING) {
+        Some("the messages up to Installed come as the rows say")
+    } else if !gives_to(group, alloc, &[3], 3) {
+        Some("the master gives ballot 3")
+    } else if !come(group, SUPERSEDED) {
+        Some("the others come as the rows say")
+    } else if !is_refused(group) {
+        Some("message 5 is Activate(2), and 7 Superseded(2)")
+    } else if !is_active(group, 3) {
+        Some("ballot 3 is active, and nothing is lost")
+    } else if !agrees(group, &[TallyCommand::Start(3)]) {
+        Some("its start is agreed")
+    } else {
+        None
+    }
 }
 
 // The counts of a ballot that is superseded while it waits: message 5 is Activate(2), and message 7
@@ -111,18 +125,26 @@ const TAKEN_OVER: &[TallyCommand] = &[
     TallyCommand::Add(3),
 ];
 
-/// Finds the first step that goes otherwise: node 1 answers a command and stops, and node 2 answers
+/// Returns the first step that is not so: node 1 answers a command and stops, and node 2 answers
 /// the next one.
-pub fn takes_over(group: &mut Group<Tally>, alloc: Global) -> Option<usize> {
-    first_false(&[
-        adds_and_settles(group, 1, 2),
-        goes_over(group, alloc),
-        adds_and_settles(group, 2, 3),
-        gave(group, 0, 0, 2),
-        gave(group, 1, 2, 5),
-        group.left().len() == 2,
-        agrees(group, TAKEN_OVER),
-    ])
+pub fn takes_over(group: &mut Group<Tally>, alloc: Global) -> Option<&'static str> {
+    if !adds_and_settles(group, 1, 2) {
+        Some("node 1 takes a command")
+    } else if !goes_over(group, alloc) {
+        Some("node 1 stops, and ballot 2 is active")
+    } else if !adds_and_settles(group, 2, 3) {
+        Some("node 2 takes a command")
+    } else if !gave(group, 0, 0, 2) {
+        Some("the first output is 2, of place 0")
+    } else if !gave(group, 1, 2, 5) {
+        Some("the second output is 5, of place 2")
+    } else if group.left().len() != 2 {
+        Some("no other output leaves")
+    } else if !agrees(group, TAKEN_OVER) {
+        Some("both commands and a start are agreed")
+    } else {
+        None
+    }
 }
 
 // Node 1 answers a command and stops. Node 2 is given the next ballot, has what was agreed, and
@@ -146,17 +168,24 @@ const LEFT_BEHIND: &[Row] = &[
     (12, 13, 0, 1),
 ];
 
-/// Finds the first step that goes otherwise: the longer log of node 1 is replaced after the change
-/// to primary 2.
-pub fn is_replaced(group: &mut Group<Tally>, alloc: Global) -> Option<usize> {
-    first_false(&[
-        adds(group, 1, 2),
-        adds(group, 1, 3),
-        gives_to(group, alloc, &[1, 2], 2),
-        come(group, LEFT_BEHIND),
-        is_active(group, 2),
-        agrees(group, STARTED),
-    ])
+/// Returns the first step that is not so: the longer log of node 1 is replaced after the change to
+/// primary 2.
+pub fn is_replaced(group: &mut Group<Tally>, alloc: Global) -> Option<&'static str> {
+    if !adds(group, 1, 2) {
+        Some("node 1 takes a command")
+    } else if !adds(group, 1, 3) {
+        Some("node 1 takes another one")
+    } else if !gives_to(group, alloc, &[1, 2], 2) {
+        Some("the master gives ballot 2")
+    } else if !come(group, LEFT_BEHIND) {
+        Some("the messages come as the rows say")
+    } else if !is_active(group, 2) {
+        Some("ballot 2 is active, and nothing is lost")
+    } else if !agrees(group, STARTED) {
+        Some("its start alone is agreed")
+    } else {
+        None
+    }
 }
 
 // Node 1 has two commands that node 2 never got. The log of ballot 2 replaces its longer one, and

@@ -14,19 +14,28 @@ fn cuts(group: &mut Group<Tally>, node: u8) -> bool {
         && counts(group) == before
 }
 
-/// Finds the first step that goes otherwise: two members cut what they applied, and no more; node 2
+/// Returns the first step that is not so: two members cut what they applied, and no more; node 2
 /// applies it only with the Commit.
-pub fn cuts_what_is_applied(group: &mut Group<Tally>) -> Option<usize> {
-    first_false(&[
-        adds(group, 1, 2),
-        !happens(group, &Event::Cut(1)),
-        come(group, &[(0, 2, 0, 1), (1, 3, 1, 1)]),
-        cuts(group, 1),
-        !happens(group, &Event::Cut(2)),
-        come(group, &[(2, 3, 1, 1)]),
-        cuts(group, 2),
-        agrees(group, &[TallyCommand::Add(2)]),
-    ])
+pub fn cuts_what_is_applied(group: &mut Group<Tally>) -> Option<&'static str> {
+    if !adds(group, 1, 2) {
+        Some("node 1 takes a command")
+    } else if happens(group, &Event::Cut(1)) {
+        Some("node 1 has nothing to cut before Held")
+    } else if !come(group, &[(0, 2, 0, 1), (1, 3, 1, 1)]) {
+        Some("Append and Held come")
+    } else if !cuts(group, 1) {
+        Some("node 1 cuts its log once")
+    } else if happens(group, &Event::Cut(2)) {
+        Some("node 2 has nothing to cut before Commit")
+    } else if !come(group, &[(2, 3, 1, 1)]) {
+        Some("Commit comes")
+    } else if !cuts(group, 2) {
+        Some("node 2 cuts its log once")
+    } else if !agrees(group, &[TallyCommand::Add(2)]) {
+        Some("the command is agreed")
+    } else {
+        None
+    }
 }
 
 // Cutting changes nothing that is seen of a group.
@@ -49,25 +58,43 @@ const CHANGE: &[Row] = &[
     (8, 10, 1, 2),
 ];
 
-/// Finds the first step that goes otherwise: node 1 cuts its log, and node 2 takes over from its
+/// Returns the first step that is not so: node 1 cuts its log, and node 2 takes over from its
 /// snapshot and counts on from 2.
-pub fn takes_over_from_a_snapshot(group: &mut Group<Tally>, alloc: Global) -> Option<usize> {
-    let list = [
-        TallyCommand::Add(2),
-        TallyCommand::Start(2),
-        TallyCommand::Add(3),
-    ];
-    first_false(&[
-        adds(group, 1, 2),
-        cuts(group, 1),
-        gives_to(group, alloc, &[1, 2], 2),
-        come(group, CHANGE),
-        adds(group, 2, 3),
-        come(group, &[(10, 12, 1, 3), (11, 13, 2, 3)]),
-        gave(group, 1, 2, 5),
-        agrees(group, &list),
-        is_active(group, 2),
-    ])
+pub fn takes_over_from_a_snapshot(group: &mut Group<Tally>, alloc: Global) -> Option<&'static str> {
+    if !adds(group, 1, 2) {
+        Some("node 1 takes a command")
+    } else if !cuts(group, 1) {
+        Some("node 1 cuts its log once")
+    } else if !gives_to(group, alloc, &[1, 2], 2) {
+        Some("the master gives ballot 2")
+    } else if !come(group, CHANGE) {
+        Some("the messages of the change come as the rows say")
+    } else {
+        counts_on(group)
+    }
+}
+
+const COUNTED: &[TallyCommand] = &[
+    TallyCommand::Add(2),
+    TallyCommand::Start(2),
+    TallyCommand::Add(3),
+];
+
+// Returns the first step that is not so: node 2 adds 3 to the total of the snapshot.
+fn counts_on(group: &mut Group<Tally>) -> Option<&'static str> {
+    if !adds(group, 2, 3) {
+        Some("node 2 takes a command")
+    } else if !come(group, &[(10, 12, 1, 3), (11, 13, 2, 3)]) {
+        Some("its Append and the Held come")
+    } else if !gave(group, 1, 2, 5) {
+        Some("the second output is 5, of place 2")
+    } else if !agrees(group, COUNTED) {
+        Some("both commands and a start are agreed")
+    } else if !is_active(group, 2) {
+        Some("ballot 2 is active, and nothing is lost")
+    } else {
+        None
+    }
 }
 
 // A sole member cuts its log, and node 2 becomes the primary of both.

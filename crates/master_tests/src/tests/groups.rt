@@ -19,16 +19,6 @@ pub fn group(alloc: Global, nodes: u8, members: &[u8]) -> Result<Group<Tally>, O
     Group::opening(alloc, nodes, config)
 }
 
-/// Finds the first of these that is not so.
-pub fn first_false(steps: &[bool]) -> Option<usize> {
-    for (step, is_so) in steps.iter().enumerate() {
-        if !*is_so {
-            return Some(step);
-        }
-    }
-    None
-}
-
 /// Says whether an event is not idle.
 pub fn happens(group: &mut Group<Tally>, event: &Event<TallyCommand>) -> bool {
     group.step(event).is_ok()

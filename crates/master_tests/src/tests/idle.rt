@@ -6,27 +6,26 @@ use master::{Event, Group, Idle};
 use std::alloc::Global;
 use std::test::Fail;
 
-// Says whether an event is idle.
-fn is_idle(group: &mut Group<Tally>, event: &Event<TallyCommand>) -> bool {
-    !happens(group, event)
-}
-
-// Says whether there is no node 0 or 3, no message, and no backup that takes a proposal.
-fn idles_at_first(group: &mut Group<Tally>) -> bool {
-    is_idle(group, &Event::Propose(0, TallyCommand::Add(1)))
-        && is_idle(group, &Event::Propose(2, TallyCommand::Add(1)))
-        && is_idle(group, &Event::Propose(3, TallyCommand::Add(1)))
-        && is_idle(group, &Event::Deliver(0))
-        && is_idle(group, &Event::Tick(0))
-        && is_idle(group, &Event::Tick(3))
-        && is_idle(group, &Event::Crash(3))
-}
-
-// Says whether node 2, which has stopped, does nothing.
-fn idles_stopped(group: &mut Group<Tally>) -> bool {
-    is_idle(group, &Event::Crash(2))
-        && is_idle(group, &Event::Tick(2))
-        && is_idle(group, &Event::Deliver(0))
+// Returns the first of these that is not so: there is no node 0 or 3, no message, and no backup
+// that takes a proposal.
+fn idles_at_first(group: &mut Group<Tally>) -> Option<&'static str> {
+    if happens(group, &Event::Propose(0, TallyCommand::Add(1))) {
+        Some("node 0 takes no command")
+    } else if happens(group, &Event::Propose(2, TallyCommand::Add(1))) {
+        Some("node 2, a backup, takes no command")
+    } else if happens(group, &Event::Propose(3, TallyCommand::Add(1))) {
+        Some("node 3 takes no command")
+    } else if happens(group, &Event::Deliver(0)) {
+        Some("there is no message")
+    } else if happens(group, &Event::Tick(0)) {
+        Some("node 0 has no tick")
+    } else if happens(group, &Event::Tick(3)) {
+        Some("node 3 has no tick")
+    } else if happens(group, &Event::Crash(3)) {
+        Some("node 3 does not stop")
+    } else {
+        None
+    }
 }
 
 // Says whether a run continues after what is idle in it.
@@ -35,16 +34,35 @@ fn runs_on(group: &mut Group<Tally>) -> bool {
     counts(group) == (3, 0, 0) && is_active(group, 1)
 }
 
-/// Finds the first step that goes otherwise: what cannot happen at first, and once node 2 has
-/// stopped, is idle.
-pub fn is_idle_where_nothing_can_happen(group: &mut Group<Tally>) -> Option<usize> {
-    first_false(&[
-        idles_at_first(group),
-        adds(group, 1, 2),
-        happens(group, &Event::Crash(2)),
-        idles_stopped(group),
-        runs_on(group),
-    ])
+// Returns the first of these that is not so: node 2, which has stopped, does nothing, and a run
+// continues after that.
+fn idles_stopped(group: &mut Group<Tally>) -> Option<&'static str> {
+    if happens(group, &Event::Crash(2)) {
+        Some("node 2 stops once")
+    } else if happens(group, &Event::Tick(2)) {
+        Some("node 2 has no tick any more")
+    } else if happens(group, &Event::Deliver(0)) {
+        Some("no message comes to node 2 any more")
+    } else if !runs_on(group) {
+        Some("a run continues after what is idle in it")
+    } else {
+        None
+    }
+}
+
+/// Returns the first step that is not so: what cannot happen at first, and once node 2 has stopped,
+/// is idle.
+pub fn is_idle_where_nothing_can_happen(group: &mut Group<Tally>) -> Option<&'static str> {
+    if let Some(step) = idles_at_first(group) {
+        return Some(step);
+    }
+    if !adds(group, 1, 2) {
+        Some("node 1 takes a command")
+    } else if !happens(group, &Event::Crash(2)) {
+        Some("node 2 stops")
+    } else {
+        idles_stopped(group)
+    }
 }
 
 // No node 0 or 3, no message, a backup that is proposed to, a node that has stopped. A run

@@ -46,15 +46,19 @@ fn is_taken_over(group: &mut Group<Tally>, alloc: Global) -> bool {
     group.left().len() == left.saturating_add(1)
 }
 
-/// Finds the first step that goes otherwise: a command is answered or counted, and two nodes take
+/// Returns the first step that is not so: a command is answered or counted, and two nodes take
 /// over; at the second try if memory ran out at the first.
-pub fn serves_on(group: &mut Group<Tally>, alloc: Global) -> Option<usize> {
+pub fn serves_on(group: &mut Group<Tally>, alloc: Global) -> Option<&'static str> {
     answers(group, 1, 2);
-    first_false(&[
-        is_whole_or_counted(group),
-        is_taken_over(group, alloc) || is_taken_over(group, alloc),
-        group.losses() <= 1,
-    ])
+    if !is_whole_or_counted(group) {
+        Some("the command is answered, or one loss is counted")
+    } else if !is_taken_over(group, alloc) && !is_taken_over(group, alloc) {
+        Some("two nodes take over and answer a command")
+    } else if group.losses() > 1 {
+        Some("at most one loss is counted")
+    } else {
+        None
+    }
 }
 
 #[test]
@@ -120,9 +124,9 @@ fn takes_over(group: &mut Group<Tally>, alloc: Global) -> bool {
     true
 }
 
-/// Finds the first step that goes otherwise: a log is cut and its snapshot goes over, or one loss
-/// is counted; what left is right in any case.
-pub fn cuts_on(group: &mut Group<Tally>, alloc: Global) -> Option<usize> {
+/// Returns the first step that is not so: a log is cut and its snapshot goes over, or one loss is
+/// counted; what left is right in any case.
+pub fn cuts_on(group: &mut Group<Tally>, alloc: Global) -> Option<&'static str> {
     adds_and_cuts(group);
     let is_given = takes_over(group, alloc) || takes_over(group, alloc);
     answers(group, 2, 3);
@@ -132,7 +136,15 @@ pub fn cuts_on(group: &mut Group<Tally>, alloc: Global) -> Option<usize> {
         TallyCommand::Add(3),
     ];
     let as_ever = agrees(group, &list) && gave(group, 1, 2, 5) && is_active(group, 2);
-    first_false(&[is_given, are_answers(group), as_ever || group.losses() == 1])
+    if !is_given {
+        Some("the master gives ballot 2")
+    } else if !are_answers(group) {
+        Some("each output is the answer at its place of the agreed list")
+    } else if !as_ever && group.losses() != 1 {
+        Some("all is as ever, or one loss is counted")
+    } else {
+        None
+    }
 }
 
 // With one growth refused while a log is cut, or while its snapshot goes over.

@@ -38,12 +38,12 @@ pub struct Shown {
 pub enum Fault {
     /// The group did not open.
     Unopened,
-    /// This step went otherwise; after the last step the group shows this.
-    Step(usize, Shown),
+    /// This step, in words. The group showed this after it.
+    Step(&'static str, Shown),
 }
 
-// Finds the first step at which a group does not what a run says.
-fn step_of(alloc: Global, group: &mut Group<Tally>, run: Run) -> Option<usize> {
+// Returns the first step of a run that is not so, in words.
+fn step_of(alloc: Global, group: &mut Group<Tally>, run: Run) -> Option<&'static str> {
     match run {
         Run::WaitsForAll => answers::waits_for_all(group),
         Run::CountsAlone => answers::counts_alone(group),
@@ -61,7 +61,7 @@ fn step_of(alloc: Global, group: &mut Group<Tally>, run: Run) -> Option<usize> {
     }
 }
 
-// Finds the same, with what the group shows then.
+// Returns the same, with what the group shows then.
 fn fault_of(alloc: Global, group: &mut Group<Tally>, run: Run) -> Option<Fault> {
     match step_of(alloc, group, run) {
         Some(step) => {
@@ -76,7 +76,7 @@ fn fault_of(alloc: Global, group: &mut Group<Tally>, run: Run) -> Option<Fault> 
     }
 }
 
-// Finds the first step at which a fresh group goes otherwise; `unopened` if it does not open.
+// Returns the first step that is not so of a fresh group; `unopened` if it does not open.
 fn fault_from_the_opening(
     alloc: Global,
     nodes: u8,
@@ -90,13 +90,13 @@ fn fault_from_the_opening(
     }
 }
 
-/// Finds the first step at which this many nodes, these of them members and node 1 the primary, go
-/// through a run in another way.
+/// Returns the first step of a run that is not so of this many nodes, these of them members and
+/// node 1 the primary.
 pub fn first_fault(alloc: Global, nodes: u8, members: &[u8], run: Run) -> Option<Fault> {
     fault_from_the_opening(alloc, nodes, members, run, Some(Fault::Unopened))
 }
 
-/// Finds the same if they open; none if memory runs out for them.
+/// Returns the same if they open; none if memory runs out for them.
 pub fn first_fault_if_opened(alloc: Global, nodes: u8, members: &[u8], run: Run) -> Option<Fault> {
     fault_from_the_opening(alloc, nodes, members, run, None)
 }

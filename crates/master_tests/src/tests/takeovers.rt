@@ -77,21 +77,36 @@ fn serve(group: &mut Group<Tally>, course: &mut Course, leader: u8, stale: u8) {
     }
 }
 
-// Says whether another configuration takes over and agrees on commands with its members. Each
-// second time its former primary has stopped.
-fn serves_next(group: &mut Group<Tally>, course: &mut Course, alloc: Global, leader: u8) -> bool {
+// Returns the first step that is not so: another configuration takes over and agrees on commands
+// with its members. Each second time its former primary has stopped.
+fn serves_next(
+    group: &mut Group<Tally>,
+    course: &mut Course,
+    alloc: Global,
+    leader: u8,
+) -> Option<&'static str> {
     let before = course.agreed;
     let stale = leader.saturating_sub(1);
     let stops = if leader % 2 == 0 { Some(stale) } else { None };
     let members = [leader, leader.saturating_add(1), leader.saturating_add(2)];
     let is_taken = is_taken_over(group, course, alloc, stops, members);
     serve(group, course, leader, stale);
-    is_taken && is_active(group, u64::from(leader)) && course.agreed.saturating_sub(before) > 100
+    if !is_taken {
+        Some("there is memory for another configuration")
+    } else if !is_active(group, u64::from(leader)) {
+        Some("its ballot is active, and nothing is lost")
+    } else if course.agreed.saturating_sub(before) <= 100 {
+        Some("over 100 places are agreed in it")
+    } else if !course.only_grows {
+        Some("what is agreed only grows")
+    } else {
+        None
+    }
 }
 
-/// Finds the first primary from 2 on that does not; 0 if all twelve do, one after another, but what
-/// is agreed does not only grow.
-pub fn serves_in_turn(group: &mut Group<Tally>, alloc: Global) -> Option<usize> {
+/// Returns the first step that is not so of twelve primaries, 2 to 13, one after another. Each is
+/// given the ballot of its own number.
+pub fn serves_in_turn(group: &mut Group<Tally>, alloc: Global) -> Option<&'static str> {
     let mut course = Course {
         next: 0,
         agreed: 0,
@@ -99,11 +114,11 @@ pub fn serves_in_turn(group: &mut Group<Tally>, alloc: Global) -> Option<usize> 
     };
     serve(group, &mut course, 1, 1);
     for leader in 2..14 {
-        if !serves_next(group, &mut course, alloc, leader) {
-            return Some(leader as usize);
+        if let Some(step) = serves_next(group, &mut course, alloc, leader) {
+            return Some(step);
         }
     }
-    first_false(&[course.only_grows])
+    None
 }
 
 // More than 20,000 events, in which twelve times another configuration takes over: each second time
@@ -147,19 +162,28 @@ fn goes_over(group: &mut Group<Tally>, alloc: Global) -> bool {
         && is_active(group, 2)
 }
 
-/// Finds the first step after this that goes otherwise: the output of place 2 leaves, and then that
-/// of place 0.
-pub fn leaves_late(group: &mut Group<Tally>, alloc: Global) -> Option<usize> {
-    first_false(&[
-        goes_over(group, alloc),
-        adds(group, 2, 3),
-        all_come(group, &[13, 14]),
-        left_at(group, 0) == Some(2),
-        comes(group, 1),
-        left_at(group, 1) == Some(0),
-        gave(group, 0, 2, 5),
-        gave(group, 1, 0, 2),
-    ])
+/// Returns the first step that is not so: once ballot 2 is active the output of place 2 leaves, and
+/// then that of place 0.
+pub fn leaves_late(group: &mut Group<Tally>, alloc: Global) -> Option<&'static str> {
+    if !goes_over(group, alloc) {
+        Some("node 1 takes a command, and ballot 2 is active")
+    } else if !adds(group, 2, 3) {
+        Some("node 2 takes a command")
+    } else if !all_come(group, &[13, 14]) {
+        Some("its Append and the Held come")
+    } else if left_at(group, 0) != Some(2) {
+        Some("the output of place 2 leaves first")
+    } else if !comes(group, 1) {
+        Some("the late Held comes")
+    } else if left_at(group, 1) != Some(0) {
+        Some("the output of place 0 leaves then")
+    } else if !gave(group, 0, 2, 5) {
+        Some("that of place 2 is 5")
+    } else if !gave(group, 1, 0, 2) {
+        Some("that of place 0 is 2")
+    } else {
+        None
+    }
 }
 
 // A primary whose ballot has ended receives late that place 0 is held: message 1. The next primary

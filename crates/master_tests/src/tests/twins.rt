@@ -1,6 +1,6 @@
 // Two groups with the same events, except that one of them cuts its logs: nothing else differs.
 
-use super::groups::{agrees, config, counts, first_false, group};
+use super::groups::{agrees, config, counts, group};
 use ballot::{Body, Effect};
 use machine::{Tally, TallyCommand};
 use master::{Event, Group};
@@ -41,7 +41,7 @@ struct Twins {
 enum Fault {
     Opening,
     Event(u64),
-    End(usize),
+    End(&'static str),
 }
 
 // Returns a number below 256.
@@ -150,19 +150,20 @@ impl Twins {
         None
     }
 
-    // Finds the first of these that is not so at the end: both have the same agreed list and the
+    // Returns the first of these that is not so at the end: both have the same agreed list and the
     // same outputs, and nothing is lost.
     fn fault_at_the_end(&self) -> Option<Fault> {
         let (recorded, kept) = self.keeping.agreed();
-        let fault = first_false(&[
-            recorded.is_empty() && agrees(&self.cutting, kept),
-            gave_the_same(self.cutting.left(), self.keeping.left()),
-            self.cutting.losses() == 0,
-            self.keeping.losses() == 0,
-        ]);
-        match fault {
-            Some(number) => Some(Fault::End(number)),
-            None => None,
+        if !recorded.is_empty() || !agrees(&self.cutting, kept) {
+            Some(Fault::End("both have the same agreed list"))
+        } else if !gave_the_same(self.cutting.left(), self.keeping.left()) {
+            Some(Fault::End("both have the same outputs"))
+        } else if self.cutting.losses() != 0 {
+            Some(Fault::End("the group that cuts lost nothing"))
+        } else if self.keeping.losses() != 0 {
+            Some(Fault::End("the group that cuts nothing lost nothing"))
+        } else {
+            None
         }
     }
 
