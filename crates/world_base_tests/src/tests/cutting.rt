@@ -1,8 +1,6 @@
 // Nodes that cut their logs, and a snapshot that goes over to another node, byte by byte.
 
-use super::handling::{
-    ACCEPTED, Effects, PRESENT, bring, first_false, give, hands_over, node_of, take, tell,
-};
+use super::handling::{ACCEPTED, Effects, PRESENT, bring, give, hands_over, node_of, take, tell};
 use ballot::Log;
 use std::alloc::Global;
 use world_base::{Body, Command, Effect, Item, Members, NodeCore, Port};
@@ -32,13 +30,18 @@ const BEGUN: &[u8] = &[
     0x00, 0x00,
 ];
 
-// Bytes that are no frozen broker: none at all, only a form, a window that is neither of the two,
-// and bytes left over.
-const UNREADABLE: &[&[u8]] = &[
-    &[],
-    &[0x02],
-    &[0x02, 0x20, 0x00, 0x00, 0x00, 0x00],
-    &[0x02, 0x40, 0x00, 0x00, 0x00, 0x00, 0x00],
+// Bytes that are no frozen broker, and what a row shows with them.
+const UNREADABLE: &[(&str, &[u8])] = &[
+    ("no bytes count as lost", &[]),
+    ("a form alone counts as lost", &[0x02]),
+    (
+        "a window that is neither of the two counts as lost",
+        &[0x02, 0x20, 0x00, 0x00, 0x00, 0x00],
+    ),
+    (
+        "a broker with a byte left over counts as lost",
+        &[0x02, 0x40, 0x00, 0x00, 0x00, 0x00, 0x00],
+    ),
 ];
 
 // Says whether this is the base of a node's log, and these are the bytes there.
@@ -125,32 +128,42 @@ fn comes_back(alloc: Global, one: &mut NodeCore, two: &mut NodeCore) -> bool {
     hands_over(alloc, two, 1, PRESENT, true)
 }
 
-// Finds the first step that goes otherwise: a session goes over by a snapshot, and both nodes lose
+// Returns the first step that is not so: a session goes over by a snapshot, and both nodes lose
 // nothing.
-fn fault_of_going_over(alloc: Global, one: &mut NodeCore, two: &mut NodeCore) -> Option<usize> {
-    first_false(&[
-        serves_and_cuts(alloc, one),
-        takes_over(alloc, one, two) == Some(true),
-        comes_back(alloc, one, two),
-        one.losses() == 0,
-        two.losses() == 0,
-    ])
-}
-
-// Finds the first step that goes otherwise with a fresh second node; step 0 if there is no memory.
-// Each node has an owner of its own, which has one way on which it drops it.
-fn fault_with_fresh(alloc: Global, one: &mut NodeCore) -> Option<usize> {
-    match node_of(alloc, 2, &[1]) {
-        Some(mut two) => fault_of_going_over(alloc, one, &mut two),
-        None => Some(0),
+fn fault_of_going_over(
+    alloc: Global,
+    one: &mut NodeCore,
+    two: &mut NodeCore,
+) -> Option<&'static str> {
+    if !serves_and_cuts(alloc, one) {
+        Some("node 1 accepts client a, and cuts its log once")
+    } else if takes_over(alloc, one, two) != Some(true) {
+        Some("State brings the snapshot, and node 2 asks for ballot 2")
+    } else if !comes_back(alloc, one, two) {
+        Some("client a finds its session at node 2")
+    } else if one.losses() != 0 {
+        Some("no step of node 1 ran out of memory")
+    } else if two.losses() != 0 {
+        Some("no step of node 2 ran out of memory")
+    } else {
+        None
     }
 }
 
-// Finds the first step that goes otherwise with two fresh nodes.
-fn fault_of_fresh(alloc: Global) -> Option<usize> {
+// Returns the first step that is not so with a fresh second node. Each node has an owner of its
+// own, which has one way on which it drops it.
+fn fault_with_fresh(alloc: Global, one: &mut NodeCore) -> Option<&'static str> {
+    match node_of(alloc, 2, &[1]) {
+        Some(mut two) => fault_of_going_over(alloc, one, &mut two),
+        None => Some("there is memory for node 2"),
+    }
+}
+
+// Returns the first step that is not so of two fresh nodes.
+fn fault_of_fresh(alloc: Global) -> Option<&'static str> {
     match node_of(alloc, 1, &[1]) {
         Some(mut one) => fault_with_fresh(alloc, &mut one),
-        None => Some(0),
+        None => Some("there is memory for node 1"),
     }
 }
 
@@ -208,37 +221,39 @@ fn is_lost(alloc: Global, two: &mut NodeCore, bytes: &[u8]) -> bool {
     effects.is_empty() && same && same_places && kept && two.losses() == losses.saturating_add(1)
 }
 
-// Finds the first row that is not lost; the row after the last one if the node does not continue
-// from bytes that it can read.
-fn first_not_lost(alloc: Global, two: &mut NodeCore) -> Option<usize> {
-    for (row, bytes) in UNREADABLE.iter().enumerate() {
+// Returns the first row that is not so, or what is not so after them: the node continues from bytes
+// that it can read, and four messages are lost.
+fn first_not_lost(alloc: Global, two: &mut NodeCore) -> Option<&'static str> {
+    for (words, bytes) in UNREADABLE {
         if !is_lost(alloc, two, bytes) {
-            return Some(row);
+            return Some(*words);
         }
     }
-    if goes_on(alloc, two) == Some(true) && two.losses() == 4 {
-        None
+    if goes_on(alloc, two) != Some(true) {
+        Some("the node continues from bytes that it can read")
+    } else if two.losses() != 4 {
+        Some("four messages are lost")
     } else {
-        Some(UNREADABLE.len())
+        None
     }
 }
 
-// Finds the first row that is not lost once the node is given ballot 2; row 0 without memory.
-fn first_not_lost_in_2(alloc: Global, two: &mut NodeCore) -> Option<usize> {
+// Returns the same once the node is given ballot 2.
+fn first_not_lost_in_2(alloc: Global, two: &mut NodeCore) -> Option<&'static str> {
     match ballot_2(alloc, &[2]) {
         Some(ballot) => {
             tell(alloc, two, 0, ballot);
             first_not_lost(alloc, two)
         }
-        None => Some(0),
+        None => Some("there is memory for ballot 2"),
     }
 }
 
-// Finds the first row that is not lost for a fresh node; row 0 if there is no memory for it.
-fn first_not_lost_of_fresh(alloc: Global) -> Option<usize> {
+// Returns the same of a fresh node.
+fn first_not_lost_of_fresh(alloc: Global) -> Option<&'static str> {
     match node_of(alloc, 2, &[1]) {
         Some(mut two) => first_not_lost_in_2(alloc, &mut two),
-        None => Some(0),
+        None => Some("there is memory for a node"),
     }
 }
 

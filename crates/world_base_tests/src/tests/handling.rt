@@ -28,16 +28,6 @@ pub const PRESENT: &[u8] = &[0x20, 0x02, 0x01, 0x00];
 /// No bytes.
 pub const NOTHING: &[u8] = &[];
 
-/// Finds the first of these that is not so.
-pub fn first_false(steps: &[bool]) -> Option<usize> {
-    for (step, is_so) in steps.iter().enumerate() {
-        if !*is_so {
-            return Some(step);
-        }
-    }
-    None
-}
-
 /// Returns this node in ballot 1 with these members, whose primary is node 1.
 pub fn node_of(alloc: Global, number: u8, members: &[u8]) -> Option<NodeCore> {
     let config = Config {

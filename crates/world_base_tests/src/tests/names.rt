@@ -1,7 +1,7 @@
 // Names: the connections of a ballot are numbered from 1.
 
 use super::handling::{
-    CONNECT_A, CONNECT_B, Effects, bring, connecting, first_false, give, primary, take, tell,
+    CONNECT_A, CONNECT_B, Effects, bring, connecting, give, primary, take, tell,
 };
 use std::alloc::Global;
 use world_base::{Body, Command, Item, Members, NodeCore, Port};
@@ -60,21 +60,26 @@ fn is_named(
     }
 }
 
-// Finds the first step that goes otherwise: a connection of ballot 1, and two of ballot 2.
-fn first_fault(alloc: Global, node: &mut NodeCore) -> Option<usize> {
-    first_false(&[
-        serves(alloc, node),
-        changes(alloc, node),
-        is_named(alloc, node, 2, CONNECT_A, (2, 1)),
-        is_named(alloc, node, 3, CONNECT_B, (2, 2)),
-    ])
+// Returns the first step that is not so: a connection of ballot 1, and two of ballot 2.
+fn first_fault(alloc: Global, node: &mut NodeCore) -> Option<&'static str> {
+    if !serves(alloc, node) {
+        Some("a CONNECT comes in ballot 1")
+    } else if !changes(alloc, node) {
+        Some("there is memory for ballot 2")
+    } else if !is_named(alloc, node, 2, CONNECT_A, (2, 1)) {
+        Some("the CONNECT of port 2 is sent as connection 1 of ballot 2")
+    } else if !is_named(alloc, node, 3, CONNECT_B, (2, 2)) {
+        Some("the CONNECT of port 3 is sent as connection 2 of ballot 2")
+    } else {
+        None
+    }
 }
 
-// Finds the first step that goes otherwise with a fresh node; step 0 if there is no memory for it.
-fn first_fault_of_fresh(alloc: Global) -> Option<usize> {
+// Returns the first step that is not so of a fresh node.
+fn first_fault_of_fresh(alloc: Global) -> Option<&'static str> {
     match primary(alloc, &[1]) {
         Some(mut node) => first_fault(alloc, &mut node),
-        None => Some(0),
+        None => Some("there is memory for a node"),
     }
 }
 
