@@ -173,17 +173,25 @@ fn answers_again(client: &mut ClientCore, alloc: Global) -> bool {
         && wrote(client, alloc, PUBRECS)
 }
 
-// Says whether both are accepted and answered, those before running out of memory at once.
-fn is_taken_in(client: &mut ClientCore, alloc: Global) -> bool {
+// Returns the first step that is not so: both are accepted and answered, those before running out
+// of memory at once.
+fn missed_step(client: &mut ClientCore, alloc: Global) -> Option<&'static str> {
     let refusal = give(client, PUBLISHES);
     let count = client.accepted().len();
     if !answers(client, alloc, count) {
-        return false;
+        return Some("what was accepted is answered at once");
     }
     match refusal {
-        None => count == 2,
-        Some(ClientError::Memory) => count < 2 && answers_again(client, alloc),
-        Some(_) => false,
+        None if count == 2 => None,
+        None => Some("both are accepted"),
+        Some(ClientError::Memory) => {
+            if count < 2 && answers_again(client, alloc) {
+                None
+            } else {
+                Some("a client without memory is lost, and answers both when they come again")
+            }
+        }
+        Some(_) => Some("they are refused only for memory"),
     }
 }
 
@@ -192,6 +200,6 @@ fn is_taken_in(client: &mut ClientCore, alloc: Global) -> bool {
 #[test]
 fn earlier_packets_of_a_piece_stand(rt: HostRuntime) {
     let mut client = online_at_last(rt.alloc()).expect(&rt, "memory runs out at most once");
-    assert!(rt; is_taken_in(&mut client, rt.alloc()));
+    assert_eq!(rt; missed_step(&mut client, rt.alloc()), None);
     assert_eq!(rt; taken(&mut client), (2, 0));
 }
