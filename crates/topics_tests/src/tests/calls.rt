@@ -160,19 +160,36 @@ fn filters_are_ordered_by_bytes(rt: HostRuntime) {
     assert_eq!(rt; missed_filter(rt.alloc(), ("#", "+")), None);
 }
 
-// Says whether a filter is its own text as a topic, or none.
-fn is_topic(filter: &Filter, wanted: Option<&str>) -> bool {
+fn has_text(topic: &TopicName, wanted: Option<&str>) -> bool {
+    Some(topic.as_str()) == wanted
+}
+
+// Returns what is not so of a filter that is the topic of this text, or none.
+fn missed_topic(filter: &Filter, wanted: Option<&str>) -> Option<&'static str> {
     match filter.as_topic() {
-        Ok(Some(topic)) => Some(topic.as_str()) == wanted,
-        Ok(None) => wanted.is_none(),
-        Err(_) => false,
+        Ok(Some(topic)) => {
+            if has_text(&topic, wanted) {
+                None
+            } else {
+                Some("it is no topic but that of the row")
+            }
+        }
+        Ok(None) => {
+            if wanted.is_none() {
+                None
+            } else {
+                Some("it is a topic")
+            }
+        }
+        Err(_) => Some("there is memory for the topic"),
     }
 }
 
-fn is_topic_of(alloc: Global, text: &str, wanted: Option<&str>) -> bool {
+// Returns the first of these that is not so of a text, that it is a filter among them.
+fn missed_topic_of(alloc: Global, text: &str, wanted: Option<&str>) -> Option<&'static str> {
     match Filter::new(alloc, text) {
-        Ok(filter) => is_topic(&filter, wanted),
-        Err(_) => false,
+        Ok(filter) => missed_topic(&filter, wanted),
+        Err(_) => Some("it is a filter"),
     }
 }
 
@@ -180,7 +197,7 @@ fn is_topic_of(alloc: Global, text: &str, wanted: Option<&str>) -> bool {
 #[test]
 fn bare_filters_are_topics(rt: HostRuntime) {
     for (text, topic) in [("sport/tennis", Some("sport/tennis")), ("sport/#", None)] {
-        assert!(rt; is_topic_of(rt.alloc(), text, topic), "{text}");
+        assert_eq!(rt; missed_topic_of(rt.alloc(), text, topic), None, "{text}");
     }
 }
 
