@@ -1,7 +1,7 @@
 // CONNECT and CONNACK, and the texts and numbers around them.
 
 use super::answers::*;
-use super::spelling::{Made, other_spelling};
+use super::spelling::{Made, Spelling, other_spelling};
 use packet::*;
 use std::alloc::Global;
 use std::cmp::Ordering;
@@ -25,7 +25,7 @@ fn finished_front(alloc: Global, bytes: &[u8]) -> Option<(usize, Answer)> {
     None
 }
 
-const CONNECTS: &[(Made<'static>, &[u8])] = &[(Made::Connect("a", 60), &CONNECT)];
+const CONNECTS: &[Spelling<'static>] = &[("CONNECT", Made::Connect("a", 60), &CONNECT)];
 
 #[test]
 fn connect_is_read_and_written(rt: HostRuntime) {
@@ -97,32 +97,39 @@ fn a_connect_is_refused_with_its_code(rt: HostRuntime) {
     assert_eq!(rt; other_answer(rt.alloc(), NO_CLIENT), None);
 }
 
-const CONNACKS: &[(Made<'static>, &[u8])] = &[
+const CONNACKS: &[Spelling<'static>] = &[
     (
+        "accepted, without a session",
         Made::Connack(Connack::Accepted(false)),
         &[0x20, 0x02, 0x00, 0x00],
     ),
     (
+        "accepted, with Session Present",
         Made::Connack(Connack::Accepted(true)),
         &[0x20, 0x02, 0x01, 0x00],
     ),
     (
+        "refused with code 1",
         Made::Connack(Connack::Refused(RefusalCode::ProtocolVersion)),
         &[0x20, 0x02, 0x00, 0x01],
     ),
     (
+        "refused with code 2",
         Made::Connack(Connack::Refused(RefusalCode::IdentifierRejected)),
         &[0x20, 0x02, 0x00, 0x02],
     ),
     (
+        "refused with code 3",
         Made::Connack(Connack::Refused(RefusalCode::ServerUnavailable)),
         &[0x20, 0x02, 0x00, 0x03],
     ),
     (
+        "refused with code 4",
         Made::Connack(Connack::Refused(RefusalCode::BadUserNameOrPassword)),
         &[0x20, 0x02, 0x00, 0x04],
     ),
     (
+        "refused with code 5",
         Made::Connack(Connack::Refused(RefusalCode::NotAuthorized)),
         &[0x20, 0x02, 0x00, 0x05],
     ),

@@ -1,14 +1,15 @@
 // SUBSCRIBE, SUBACK and UNSUBSCRIBE.
 
-use super::spelling::{Made, other_spelling};
+use super::spelling::{Made, Spelling, other_spelling};
 use packet::*;
 use std::alloc::Global;
 use std::test::*;
 
 // MQTT 3.8.3: the filters `a/b` at QoS 1 and `c/d` at QoS 2. MQTT 3.9.3, figure 3.27: QoS 0, QoS 2,
 // failure; and QoS 1. MQTT 3.10.3: the filters `a/b` and `c/d`.
-const LISTS: &[(Made<'static>, &[u8])] = &[
+const LISTS: &[Spelling<'static>] = &[
     (
+        "SUBSCRIBE",
         Made::Subscribe(&[("a/b", QoS::AtLeastOnce), ("c/d", QoS::ExactlyOnce)]),
         &[
             0x82, 0x0E, 0x00, 0x0A, 0x00, 0x03, 0x61, 0x2F, 0x62, 0x01, 0x00, 0x03, 0x63, 0x2F,
@@ -16,6 +17,7 @@ const LISTS: &[(Made<'static>, &[u8])] = &[
         ],
     ),
     (
+        "SUBACK",
         Made::Suback(&[
             SubackCode::Granted(QoS::AtMostOnce),
             SubackCode::Granted(QoS::ExactlyOnce),
@@ -25,6 +27,7 @@ const LISTS: &[(Made<'static>, &[u8])] = &[
         &[0x90, 0x06, 0x00, 0x0A, 0x00, 0x02, 0x80, 0x01],
     ),
     (
+        "UNSUBSCRIBE",
         Made::Unsubscribe(&["a/b", "c/d"]),
         &[
             0xA2, 0x0C, 0x00, 0x0A, 0x00, 0x03, 0x61, 0x2F, 0x62, 0x00, 0x03, 0x63, 0x2F, 0x64,

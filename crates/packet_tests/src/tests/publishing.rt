@@ -6,24 +6,29 @@ use std::alloc::Global;
 use std::test::*;
 
 // MQTT 3.3: DUP is bit 3, QoS bits 2 and 1, RETAIN bit 0.
-const PUBLISHES: &[(Made<'static>, &[u8])] = &[
+const PUBLISHES: &[Spelling<'static>] = &[
     (
+        "QoS 0",
         Made::Publish(QoS::AtMostOnce, false, false),
         &[0x30, 0x05, 0x00, 0x01, 0x74, 0x68, 0x69],
     ),
     (
+        "QoS 0 with RETAIN",
         Made::Publish(QoS::AtMostOnce, false, true),
         &[0x31, 0x05, 0x00, 0x01, 0x74, 0x68, 0x69],
     ),
     (
+        "QoS 1",
         Made::Publish(QoS::AtLeastOnce, false, false),
         &[0x32, 0x07, 0x00, 0x01, 0x74, 0x00, 0x0A, 0x68, 0x69],
     ),
     (
+        "QoS 1 with DUP and RETAIN",
         Made::Publish(QoS::AtLeastOnce, true, true),
         &[0x3B, 0x07, 0x00, 0x01, 0x74, 0x00, 0x0A, 0x68, 0x69],
     ),
     (
+        "QoS 2 with DUP",
         Made::Publish(QoS::ExactlyOnce, true, false),
         &[0x3C, 0x07, 0x00, 0x01, 0x74, 0x00, 0x0A, 0x68, 0x69],
     ),
@@ -43,15 +48,15 @@ fn a_delivery_says_its_qos_and_identifier(rt: HostRuntime) {
 }
 
 // MQTT 3.4 to 3.7, 3.11 to 3.14.
-const ANSWERS: &[(Made<'static>, &[u8])] = &[
-    (Made::Answer(0x40), &[0x40, 0x02, 0x12, 0x34]),
-    (Made::Answer(0x50), &[0x50, 0x02, 0x12, 0x34]),
-    (Made::Answer(0x62), &[0x62, 0x02, 0x12, 0x34]),
-    (Made::Answer(0x70), &[0x70, 0x02, 0x12, 0x34]),
-    (Made::Answer(0xB0), &[0xB0, 0x02, 0x12, 0x34]),
-    (Made::Pingreq, &[0xC0, 0x00]),
-    (Made::Pingresp, &[0xD0, 0x00]),
-    (Made::Disconnect, &[0xE0, 0x00]),
+const ANSWERS: &[Spelling<'static>] = &[
+    ("PUBACK", Made::Answer(0x40), &[0x40, 0x02, 0x12, 0x34]),
+    ("PUBREC", Made::Answer(0x50), &[0x50, 0x02, 0x12, 0x34]),
+    ("PUBREL", Made::Answer(0x62), &[0x62, 0x02, 0x12, 0x34]),
+    ("PUBCOMP", Made::Answer(0x70), &[0x70, 0x02, 0x12, 0x34]),
+    ("UNSUBACK", Made::Answer(0xB0), &[0xB0, 0x02, 0x12, 0x34]),
+    ("PINGREQ", Made::Pingreq, &[0xC0, 0x00]),
+    ("PINGRESP", Made::Pingresp, &[0xD0, 0x00]),
+    ("DISCONNECT", Made::Disconnect, &[0xE0, 0x00]),
 ];
 
 #[test]

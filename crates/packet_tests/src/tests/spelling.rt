@@ -205,8 +205,8 @@ pub enum Came {
     Read(Answer),
 }
 
-/// The index of a row, and what came of its packet.
-pub type Spelled = (usize, Came);
+/// A row: what its packet is, in words; the packet; and its bytes.
+pub type Spelling<'a> = (&'a str, Made<'a>, &'a [u8]);
 
 // Returns what was written, if it is something else.
 fn other_bytes(written: &[u8], bytes: &[u8]) -> Option<Came> {
@@ -255,11 +255,12 @@ fn came_of(alloc: Global, packet: Made<'_>, bytes: &[u8]) -> Option<Came> {
     }
 }
 
-/// Finds the first row whose bytes are not written for its packet, or not read as it.
-pub fn other_spelling(alloc: Global, rows: &[(Made<'_>, &[u8])]) -> Option<Spelled> {
-    for (row, (packet, bytes)) in rows.iter().enumerate() {
+/// Finds the first row whose bytes are not written for its packet, or not read as it: its words,
+/// and what came.
+pub fn other_spelling<'a>(alloc: Global, rows: &[Spelling<'a>]) -> Option<(&'a str, Came)> {
+    for (words, packet, bytes) in rows {
         if let Some(came) = came_of(alloc, *packet, bytes) {
-            return Some((row, came));
+            return Some((*words, came));
         }
     }
     None
