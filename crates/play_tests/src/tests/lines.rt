@@ -1,7 +1,8 @@
 // Lines that have their form.
 
-use crate::tests::reading::{Outcome, comes};
-use std::alloc::Global;
+use crate::tests::reading::read_back;
+use std::alloc::{AllocError, Global};
+use std::test::Fail;
 
 const HEAD: &str = "world 2 1,2 1 a,b\n";
 
@@ -40,35 +41,41 @@ const LINES: &[(&str, &str)] = &[
 ];
 
 #[test]
-fn each_form_of_line_is_read(rt: HostRuntime) {
+fn each_form_of_line_is_read(rt: HostRuntime) -> Result<(), Fail> {
     for (line, wanted) in LINES {
-        assert!(rt; is_read_as(rt.alloc(), line, wanted), "{line}");
+        let read = read_of(rt.alloc(), line)?;
+        let wanted = format!(in rt.alloc(); "{HEAD}{wanted}\n")?;
+        assert_eq!(rt; read.as_str(), wanted.as_str(), "{line}");
     }
+    Ok(())
 }
 
-// Says whether this is read of a line, after a first line.
-fn is_read_as(alloc: Global, line: &str, wanted: &str) -> bool {
-    match format!(in alloc; "{HEAD}{line}\n") {
-        Ok(text) => comes(alloc, text.as_str().as_bytes(), Outcome::Lines(1, wanted)),
-        Err(_) => false,
-    }
+// Returns what is read of a line, after a first line.
+fn read_of(alloc: Global, line: &str) -> Result<String, AllocError> {
+    let text = format!(in alloc; "{HEAD}{line}\n")?;
+    read_back(alloc, text.as_str().as_bytes())
 }
 
-// Texts, and the result of them: how many lines they have after the first one.
-const COUNTED: &[(&str, Outcome<'static>)] = &[
-    ("world 2 1,2 1 a,b", Outcome::Counts(0)),
-    ("world 2 1,2 1 a,b\n", Outcome::Counts(0)),
-    ("world 2 1,2 1 a,b\ntick 1", Outcome::Counts(1)),
-    ("world 2 1,2 1 a,b\ntick 1\n", Outcome::Counts(1)),
-    ("world 2 1,2 1 a,b\ntick 1\ntick 2", Outcome::Counts(2)),
-    ("world 2 1,2 1 a,b\ntick 1\n\n", Outcome::Refused),
-    ("\nworld 2 1,2 1 a,b\n", Outcome::Refused),
+// Texts, and what is read of them: a script, or why it is none.
+const FEEDS: &[(&str, &str)] = &[
+    ("world 2 1,2 1 a,b", "world 2 1,2 1 a,b\n"),
+    ("world 2 1,2 1 a,b\n", "world 2 1,2 1 a,b\n"),
+    ("world 2 1,2 1 a,b\ntick 1", "world 2 1,2 1 a,b\ntick 1\n"),
+    ("world 2 1,2 1 a,b\ntick 1\n", "world 2 1,2 1 a,b\ntick 1\n"),
+    (
+        "world 2 1,2 1 a,b\ntick 1\ntick 2",
+        "world 2 1,2 1 a,b\ntick 1\ntick 2\n",
+    ),
+    ("world 2 1,2 1 a,b\ntick 1\n\n", "script line 3"),
+    ("\nworld 2 1,2 1 a,b\n", "script line 1"),
 ];
 
 // The line feed after the last line may be missing.
 #[test]
-fn the_last_line_feed_may_be_missing(rt: HostRuntime) {
-    for (text, outcome) in COUNTED {
-        assert!(rt; comes(rt.alloc(), text.as_bytes(), *outcome), "{text}");
+fn the_last_line_feed_may_be_missing(rt: HostRuntime) -> Result<(), Fail> {
+    for (text, wanted) in FEEDS {
+        let read = read_back(rt.alloc(), text.as_bytes())?;
+        assert_eq!(rt; read.as_str(), *wanted, "{text}");
     }
+    Ok(())
 }

@@ -1,23 +1,9 @@
-// The result of a text: whether it is a script, and what its lines say.
+// The result of a text: the script that is read of it, or the line by which it is refused.
 
-use crate::tests::worlds::World;
 use packet::{ClientId, Payload};
 use script::{Amount, Numbers, Opening, Script, ScriptFault, ScriptLine, read};
 use session_base::Publication;
 use std::alloc::{AllocError, Global};
-
-/// The result of a text.
-#[derive(Clone, Copy)]
-pub enum Outcome<'a> {
-    /// It has this many lines after the first one, and these texts spell them.
-    Lines(usize, &'a str),
-    /// It has this many.
-    Counts(usize),
-    /// It opens the world of this row.
-    Opens(&'a World),
-    /// It is refused.
-    Refused,
-}
 
 /// Returns the line by which a text is refused; none if it is a script, or memory ran out.
 pub fn bad_line(alloc: Global, text: &[u8]) -> Option<u64> {
@@ -29,54 +15,54 @@ pub fn bad_line(alloc: Global, text: &[u8]) -> Option<u64> {
     }
 }
 
-/// Says whether reading a text has this outcome.
-pub fn comes(alloc: Global, text: &[u8], outcome: Outcome<'_>) -> bool {
+/// Returns the script that is read of a text, spelt without zeros in front and with each line feed;
+/// or why it is none.
+pub fn read_back(alloc: Global, text: &[u8]) -> Result<String, AllocError> {
     let read: Result<Script, ScriptFault> = read(alloc, text);
     match read {
-        Ok(script) => is_script(alloc, &script, outcome),
-        Err(ScriptFault::Line(_)) => matches!(outcome, Outcome::Refused),
-        Err(_) => false,
+        Ok(script) => spelt_script(alloc, &script),
+        Err(fault) => format!(in alloc; "{fault}"),
     }
 }
 
-fn is_script(alloc: Global, script: &Script, outcome: Outcome<'_>) -> bool {
-    match outcome {
-        Outcome::Lines(count, lines) => {
-            script.lines.len() == count && are_spelt(alloc, script.lines.as_slice(), lines)
-        }
-        Outcome::Counts(count) => script.lines.len() == count,
-        Outcome::Opens(world) => is_opened(&script.opening, world),
-        Outcome::Refused => false,
+fn spelt_script(alloc: Global, script: &Script) -> Result<String, AllocError> {
+    let mut text = first_line(alloc, &script.opening)?;
+    text.push_str("\n")?;
+    for line in script.lines.as_slice() {
+        text.push_str(spelt(alloc, line)?.as_str())?;
+        text.push_str("\n")?;
     }
+    Ok(text)
 }
 
-// Says whether a first line opens the world of its row.
-fn is_opened(opening: &Opening, world: &World) -> bool {
-    let (_, nodes, members, primary, clients) = world;
-    (opening.nodes, opening.config.primary) == (*nodes, *primary)
-        && opening.config.members.as_slice() == *members
-        && opening.clients.len() == clients.len()
-        && opening
-            .clients
-            .iter()
-            .zip(*clients)
-            .all(|(client, name)| client.as_str() == *name)
+fn first_line(alloc: Global, opening: &Opening) -> Result<String, AllocError> {
+    let nodes = opening.nodes;
+    let members = members(alloc, opening.config.members.as_slice())?;
+    let primary = opening.config.primary;
+    let clients = clients(alloc, opening.clients.as_slice())?;
+    format!(in alloc; "world {nodes} {members} {primary} {clients}")
 }
 
-// Says whether the lines of a text spell these.
-fn are_spelt(alloc: Global, script_lines: &[ScriptLine], lines: &str) -> bool {
-    script_lines
-        .iter()
-        .zip(lines.split('\n'))
-        .all(|(script_line, line)| is_spelt(alloc, script_line, line))
-}
-
-// Says whether this text spells a line, without zeros in front.
-fn is_spelt(alloc: Global, script_line: &ScriptLine, line: &str) -> bool {
-    match spelt(alloc, script_line) {
-        Ok(text) => text.as_str() == line,
-        Err(_) => false,
+fn members(alloc: Global, members: &[u8]) -> Result<String, AllocError> {
+    let mut list = String::new(alloc);
+    let mut between = "";
+    for member in members {
+        list.push_str(between)?;
+        list.push_str(format!(in alloc; "{member}")?.as_str())?;
+        between = ",";
     }
+    Ok(list)
+}
+
+fn clients(alloc: Global, clients: &[ClientId]) -> Result<String, AllocError> {
+    let mut list = String::new(alloc);
+    let mut between = "";
+    for client in clients {
+        list.push_str(between)?;
+        list.push_str(client.as_str())?;
+        between = ",";
+    }
+    Ok(list)
 }
 
 fn spelt(alloc: Global, script_line: &ScriptLine) -> Result<String, AllocError> {
