@@ -55,7 +55,7 @@ fn changed_by(alloc: Global, rows: &[Row], node: u8) -> Option<usize> {
 #[test]
 fn cuts_change_nothing_else(rt: HostRuntime) {
     for node in [1, 2] {
-        assert_eq!(rt; changed_by(rt.alloc(), CRASHED, node), None);
-        assert_eq!(rt; changed_by(rt.alloc(), STALE, node), None);
+        assert_eq!(rt; changed_by(rt.alloc(), CRASHED, node), None, "{node}");
+        assert_eq!(rt; changed_by(rt.alloc(), STALE, node), None, "{node}");
     }
 }

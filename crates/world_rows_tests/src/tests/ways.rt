@@ -278,7 +278,7 @@ fn a_client_comes_back(rt: HostRuntime) {
 fn nothing_leads_out_where_nobody_lives(rt: HostRuntime) {
     for members in LISTS {
         let idle = answer(rt.alloc(), NOBODY, "a", Asked::IsIdle(*members));
-        assert_eq!(rt; idle, Some(true));
+        assert_eq!(rt; idle, Some(true), "{members:?}");
     }
 }
 
