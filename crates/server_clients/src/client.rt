@@ -130,8 +130,8 @@ pub fn is_open_for(stream: &mut TcpStream, milliseconds: u64) -> bool {
     waits_for(stream, milliseconds) && stream.read(&mut byte).is_err() && waits_for(stream, 10_000)
 }
 
-/// Says whether the server ends the stream within two seconds, and sends nothing.
+/// Says whether the server ends the stream within five seconds, and sends nothing.
 pub fn is_closed(stream: &mut TcpStream) -> bool {
     let mut byte = [0; 1];
-    waits_for(stream, 2_000) && matches!(stream.read(&mut byte), Ok(0))
+    waits_for(stream, 5_000) && matches!(stream.read(&mut byte), Ok(0))
 }

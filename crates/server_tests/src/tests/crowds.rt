@@ -81,7 +81,7 @@ where
     }
 }
 
-// Says whether the next connection is closed within two seconds.
+// Says whether the next connection is closed within five seconds.
 fn is_turned_away<R>(rt: &R, listener: Option<&Listener>) -> bool
 where
     R: Net<Stream = TcpStream>,
