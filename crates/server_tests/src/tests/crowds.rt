@@ -92,8 +92,8 @@ where
     }
 }
 
-/// Sixty clients that say nothing keep their connections for six seconds, and not for fourteen.
-/// Then another is accepted. Returns what of that is not so.
+/// Sixty clients that say nothing keep their connections for four seconds, and lose them within ten
+/// more. Then another is accepted. Returns what of that is not so.
 pub(super) fn silent_ones<R>(rt: &R, listener: Option<&Listener>) -> Missed
 where
     R: AllocGlobal + Net<Stream = TcpStream>,
@@ -113,13 +113,16 @@ where
     }
 }
 
-// Returns what is not so of connections on which nothing is said: they last six seconds, not 14.
+// Returns what is not so of connections on which nothing is said: they last four seconds, and end
+// within ten more.
 fn silence_of(streams: &mut [TcpStream]) -> Missed {
-    if streams.first_mut().map(|stream| is_open_for(stream, 6_000)) != Some(true) {
-        Some("the first is open for six seconds")
+    if streams.first_mut().map(|stream| is_open_for(stream, 4_000)) != Some(true) {
+        Some("the first is open for four seconds")
     } else {
-        let are_ended = streams.iter_mut().all(|stream| !is_open_for(stream, 8_000));
-        unless(are_ended, "all are ended eight seconds later")
+        let are_ended = streams
+            .iter_mut()
+            .all(|stream| !is_open_for(stream, 10_000));
+        unless(are_ended, "all are ended ten seconds later")
     }
 }
 
