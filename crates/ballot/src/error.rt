@@ -81,7 +81,7 @@ pub enum ProposeError {
     LogFull,
     /// Memory for the log ran out.
     Memory,
-    /// The replica stopped because memory ran out, now or before.
+    /// The replica stopped: memory ran out, now or before, or its node crashed.
     Halted,
 }
 

@@ -78,7 +78,7 @@ pub struct Status {
     pub held: u64,
     /// How many of them are applied.
     pub committed: u64,
-    /// Whether it stopped because memory ran out.
+    /// Whether it stopped: its node crashed, or memory ran out.
     pub stopped: bool,
 }
 

@@ -16,8 +16,8 @@ pub data Thinned {C O : Type 0} : List (Effect C O) → List (Effect C O) → Ty
   loses : {receiver : ℕ} {m : Message C} {xs ys : List (Effect C O)} →
       Thinned xs ys → Thinned xs (To receiver m ∷ ys)
 
--- a replica that ran out of memory while it applied: its fields stay as before the call, and its
--- machine, which may have done a part, is no longer shown
+-- a replica that stopped, as memory ran out while it applied or its node crashed: its other fields
+-- stay as before, and its machine, which may have done a part of a command, is no longer shown
 abbrev pub halted : {S C O : Type 0} → Rules S C O → ReplicaState S C → ReplicaState S C
 halted rules r = record r { stopped = true; machine = rules.opening }
 
