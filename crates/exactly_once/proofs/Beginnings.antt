@@ -9,7 +9,7 @@ use Rattle.broker_base.specs.broker_spec.Received.{is_new}
 use Rattle.broker_base.specs.broker_spec.declared.command.Command.{Command}
 use Rattle.broker_base.specs.broker_spec.declared.command.Command.TheVariants as commands
 use Rattle.broker_base.proofs.QuietPasts.{no_connection}
-use Rattle.exactly_once.specs.Items.{Item, busy, has_released}
+use Rattle.exactly_once.specs.Items.{SenderItem, busy, has_released}
 use Rattle.exactly_once.specs.Handshake.{Backward}
 use Rattle.exactly_once.specs.HandshakeInvariant.{IsGood, IsBehind, IsNew, IsWaiting, WaitsLast}
 use Rattle.client_base.specs.Keeper.{Own, ids_in_use}
@@ -41,40 +41,40 @@ all_wait : (n : ℕ) (own : List Own) → AreUnsent n own → Each IsWaiting (it
 all_wait n [] h = tt
 all_wait n (Own.Unsent k p id ∷ own) h = by (is_two p.qos) (all_wait (suc n) own h.1)
   where
-    by : (b : Bool) → Each IsWaiting (items_of_own own) → Each IsWaiting (if b then Item.Waits k ∷ items_of_own own else items_of_own own)
+    by : (b : Bool) → Each IsWaiting (items_of_own own) → Each IsWaiting (if b then SenderItem.Waits k ∷ items_of_own own else items_of_own own)
     by true w = (tt, w)
     by false w = w
 all_wait n (Own.Sent k p id ∷ own) h = absurd h
 all_wait n (Own.Released k p id ∷ own) h = absurd h
 all_wait n (Own.Done k p ∷ own) h = absurd h
 
-waits_last : {V : Type 0} (items : List (Item V)) → Each IsWaiting items → WaitsLast items
+waits_last : {V : Type 0} (items : List (SenderItem V)) → Each IsWaiting items → WaitsLast items
 waits_last [] h = tt
-waits_last (Item.Waits v ∷ items) h = h.1
-waits_last (Item.Sent v id ∷ items) h = absurd h.0
-waits_last (Item.Released v id ∷ items) h = absurd h.0
-waits_last (Item.Finished v ∷ items) h = absurd h.0
+waits_last (SenderItem.Waits v ∷ items) h = h.1
+waits_last (SenderItem.Sent v id ∷ items) h = absurd h.0
+waits_last (SenderItem.Released v id ∷ items) h = absurd h.0
+waits_last (SenderItem.Finished v ∷ items) h = absurd h.0
 
-all_new : {V : Type 0} (received : ℕ → Bool) (items : List (Item V)) → Each IsWaiting items → Each (IsNew received) items
+all_new : {V : Type 0} (received : ℕ → Bool) (items : List (SenderItem V)) → Each IsWaiting items → Each (IsNew received) items
 all_new received [] h = tt
-all_new received (Item.Waits v ∷ items) h = (tt, all_new received items h.1)
-all_new received (Item.Sent v id ∷ items) h = absurd h.0
-all_new received (Item.Released v id ∷ items) h = absurd h.0
-all_new received (Item.Finished v ∷ items) h = absurd h.0
+all_new received (SenderItem.Waits v ∷ items) h = (tt, all_new received items h.1)
+all_new received (SenderItem.Sent v id ∷ items) h = absurd h.0
+all_new received (SenderItem.Released v id ∷ items) h = absurd h.0
+all_new received (SenderItem.Finished v ∷ items) h = absurd h.0
 
-none_busy : {V : Type 0} (items : List (Item V)) → Each IsWaiting items → busy items ≡ []
+none_busy : {V : Type 0} (items : List (SenderItem V)) → Each IsWaiting items → busy items ≡ []
 none_busy [] h = refl
-none_busy (Item.Waits v ∷ items) h = none_busy items h.1
-none_busy (Item.Sent v id ∷ items) h = absurd h.0
-none_busy (Item.Released v id ∷ items) h = absurd h.0
-none_busy (Item.Finished v ∷ items) h = absurd h.0
+none_busy (SenderItem.Waits v ∷ items) h = none_busy items h.1
+none_busy (SenderItem.Sent v id ∷ items) h = absurd h.0
+none_busy (SenderItem.Released v id ∷ items) h = absurd h.0
+none_busy (SenderItem.Finished v ∷ items) h = absurd h.0
 
 -- none is released
 none_released : (id : ℕ) (n : ℕ) (own : List Own) → AreUnsent n own → false ≡ has_released id (items_of_own own)
 none_released id n [] h = refl
 none_released id n (Own.Unsent k p i ∷ own) h = by (is_two p.qos) (none_released id (suc n) own h.1)
   where
-    by : (b : Bool) → false ≡ has_released id (items_of_own own) → false ≡ has_released id (if b then Item.Waits k ∷ items_of_own own else items_of_own own)
+    by : (b : Bool) → false ≡ has_released id (items_of_own own) → false ≡ has_released id (if b then SenderItem.Waits k ∷ items_of_own own else items_of_own own)
     by true e = e
     by false e = e
 none_released id n (Own.Sent k p i ∷ own) h = absurd h
@@ -136,7 +136,7 @@ begun_publisher limits past c earlier own none unsent =
         apart = subst IsDistinct (sym (none_busy (items_of_own own) wait)) tt;
         known = λ id e. absurd (no_id id (ap (has_id id) (sym (received_outside past c none)) ∙ e));
       };
-      link = record { due = tt; apart = tt };
+      transit = record { due = tt; apart = tt };
     }
   where
     no_id : (id : ℕ) → has_id id [] ≡ true → ⊥
@@ -156,7 +156,7 @@ begun_subscriber limits past c earlier own none =
         apart = tt;
         known = λ i e. e;
       };
-      link = subst (λ (b : List Backward). IsBehind {V = Publication} (λ id. false) [] b) (sym (nothing_left (current_connection past c))) (record { due = tt; apart = tt });
+      transit = subst (λ (b : List Backward). IsBehind {V = Publication} (λ id. false) [] b) (sym (nothing_left (current_connection past c))) (record { due = tt; apart = tt });
     }
   where
     nothing_left : (o : Option ConnectionName) → left_behind o [] ≡ []

@@ -8,7 +8,7 @@ use Rattle.broker_base.specs.broker_spec.Entries.{Entry}
 use Rattle.broker_base.specs.broker_spec.Readings.{publication_in}
 use Rattle.broker_base.specs.broker_spec.Times.{entries_of}
 use Rattle.client_base.specs.lists.Lists.{Each, IsPrefixOf}
-use Rattle.exactly_once.specs.Items.{Item, value_of}
+use Rattle.exactly_once.specs.Items.{SenderItem, value_of}
 use Rattle.exactly_once.specs.Exact.{is_over}
 use Rattle.exactly_once.specs.Handshake.{Handshake}
 use Rattle.exactly_once.specs.HandshakeInvariant.{IsGood}
@@ -22,20 +22,20 @@ use Rattle.exactly_once.specs.Story.{Story}
 
 -- two handshakes that differ in nothing are one
 pub like_is : {A : Type 0} (h k : Handshake A) → IsLike h k → h ≡ k
-like_is h k l = λ i. record { items = l.items i; accepted = l.accepted i; received = λ id. l.received id i; link = l.link i }
+like_is h k l = λ i. record { items = l.items i; accepted = l.accepted i; received = λ id. l.received id i; transit = l.transit i }
 
 pub good_goes : {A : Type 0} (h k : Handshake A) → IsGood h → GoesTo h k → IsGood k
 good_goes h k g t = subst IsGood (like_is t.between k t.like) (good_run h t.between g t.run)
 
 -- ---- entries and items
 
-abbrev pub item_of : Entry → Item Publication
-item_of (Entry.Waits made p) = Item.Waits p
-item_of (Entry.Started made p id start) = Item.Sent p id
-item_of (Entry.Released made p id start release) = Item.Released p id
-item_of (Entry.Finished made p id start release finish) = Item.Finished p
+abbrev pub item_of : Entry → SenderItem Publication
+item_of (Entry.Waits made p) = SenderItem.Waits p
+item_of (Entry.Started made p id start) = SenderItem.Sent p id
+item_of (Entry.Released made p id start release) = SenderItem.Released p id
+item_of (Entry.Finished made p id start release finish) = SenderItem.Finished p
 
-two_by : (entry : Entry) (es : List Entry) (items : List (Item Publication)) → map item_of (two_entries es) ≡ items
+two_by : (entry : Entry) (es : List Entry) (items : List (SenderItem Publication)) → map item_of (two_entries es) ≡ items
     → map item_of (two_entries (entry ∷ es)) ≡ two_item (publication_in entry) (item_of entry) items
 two_by entry es items e = by (is_two (publication_in entry).qos)
   where
@@ -104,17 +104,17 @@ accepted_in_order limits s g =
 
 -- ---- publications
 
-own_by : (b : Bool) (k : ℕ) (item : Item ℕ) (items : List (Item ℕ)) (own : List ℕ) → value_of item ≡ k → map value_of items ≡ own
+own_by : (b : Bool) (k : ℕ) (item : SenderItem ℕ) (items : List (SenderItem ℕ)) (own : List ℕ) → value_of item ≡ k → map value_of items ≡ own
     → map value_of (if b then item ∷ items else items) ≡ (if b then k ∷ own else own)
 own_by true k item items own e f = ap₂ (λ x l. x ∷ l) e f
 own_by false k item items own e f = f
 
 numbers_are : (own : List Own) → map value_of (items_of_own own) ≡ published own
 numbers_are [] = refl
-numbers_are (Own.Unsent k p id ∷ own) = own_by (is_two p.qos) k (Item.Waits k) (items_of_own own) (published own) refl (numbers_are own)
-numbers_are (Own.Sent k p id ∷ own) = own_by (is_two p.qos) k (Item.Sent k id) (items_of_own own) (published own) refl (numbers_are own)
-numbers_are (Own.Released k p id ∷ own) = own_by (is_two p.qos) k (Item.Released k id) (items_of_own own) (published own) refl (numbers_are own)
-numbers_are (Own.Done k p ∷ own) = own_by (is_two p.qos) k (Item.Finished k) (items_of_own own) (published own) refl (numbers_are own)
+numbers_are (Own.Unsent k p id ∷ own) = own_by (is_two p.qos) k (SenderItem.Waits k) (items_of_own own) (published own) refl (numbers_are own)
+numbers_are (Own.Sent k p id ∷ own) = own_by (is_two p.qos) k (SenderItem.Sent k id) (items_of_own own) (published own) refl (numbers_are own)
+numbers_are (Own.Released k p id ∷ own) = own_by (is_two p.qos) k (SenderItem.Released k id) (items_of_own own) (published own) refl (numbers_are own)
+numbers_are (Own.Done k p ∷ own) = own_by (is_two p.qos) k (SenderItem.Finished k) (items_of_own own) (published own) refl (numbers_are own)
 
 pub numbers_in_order : (limits : Limits) (s : Story) → IsGood (as_publisher limits s) → IsPrefixOf (new_numbers s.connections s.past) (published s.keeper.own)
 numbers_in_order limits s g =

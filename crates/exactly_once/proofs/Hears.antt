@@ -16,12 +16,12 @@ use Rattle.broker_base.specs.broker_spec.Place.{Place, Past, Limits}
 use Rattle.broker_base.specs.broker_spec.Received.{is_new}
 use Rattle.broker_base.specs.broker_spec.declared.command.Command.{Command}
 use Rattle.broker_base.specs.broker_spec.declared.command.Command.TheVariants as commands
-use Rattle.exactly_once.specs.Items.{Item, releasing, has_sent}
-use Rattle.exactly_once.specs.Handshake.{Forward, Backward, Link, with_items, heard, reply}
+use Rattle.exactly_once.specs.Items.{SenderItem, releasing, has_sent}
+use Rattle.exactly_once.specs.Handshake.{Forward, Backward, Transit, with_items, heard, reply}
 use Rattle.exactly_once.specs.Handshake.Advances.{hears}
 use Rattle.exactly_once.specs.Handshake.Run.{stays, goes_on}
 use Rattle.client_base.proofs.of_lists.Tests.{or_then}
-use Rattle.exactly_once.specs.HandshakeInvariant.{IsGood, IsJoined, IsLinked}
+use Rattle.exactly_once.specs.HandshakeInvariant.{IsGood, IsJoined, FitsTransit}
 use Rattle.broker_base.specs.broker_spec.Past.{current_connection}
 use Rattle.exactly_once.specs.Sends.{put_to}
 use Rattle.client_base.specs.Keeper.{Own, Written, Keeper}
@@ -32,7 +32,7 @@ use Rattle.client_base.specs.Written.{plain, writes}
 use Rattle.exactly_once.specs.Story.{Story, with_side}
 use Rattle.exactly_once.specs.StoryCommands.{is_packet_of, count_of}
 use Rattle.exactly_once.specs.Carried.{is_two, carries, connection_named, number_at, number_of, more_by, new_numbers}
-use Rattle.exactly_once.specs.Inside.Projections.{items_of_own, own_item, forward_of_own, forward_of_one, carried_by, backward_of_own, to_come, to_be_taken, is_current, link_of_own, last_confirmed, as_publisher, GoesTo}
+use Rattle.exactly_once.specs.Inside.Projections.{items_of_own, own_item, forward_of_own, forward_of_one, carried_by, backward_of_own, to_come, to_be_taken, is_current, transit_of_own, last_confirmed, as_publisher, GoesTo}
 
 -- ---- its publications
 
@@ -54,7 +54,7 @@ not_two_one qualities.AtMostOnce a e = absurd (both_ways false refl a)
 not_two_one qualities.AtLeastOnce a e = refl
 not_two_one qualities.ExactlyOnce a e = absurd (both_ways true e refl)
 
-own_map : (i : ℕ) (p : Publication) (x y : Item ℕ) (es fs : List (Item ℕ)) → y ≡ releasing i x → fs ≡ map (releasing i) es → own_item p y fs ≡ map (releasing i) (own_item p x es)
+own_map : (i : ℕ) (p : Publication) (x y : SenderItem ℕ) (es fs : List (SenderItem ℕ)) → y ≡ releasing i x → fs ≡ map (releasing i) es → own_item p y fs ≡ map (releasing i) (own_item p x es)
 own_map i p x y es fs e f = by (is_two p.qos)
   where
     by : (b : Bool) → (if b then y ∷ fs else fs) ≡ map (releasing i) (if b then x ∷ es else es)
@@ -63,36 +63,36 @@ own_map i p x y es fs e f = by (is_two p.qos)
 
 pub own_pubrec : (i : ℕ) (own : List Own) → OwnAnswered own → items_of_own (map (at_pubrec i) own) ≡ map (releasing i) (items_of_own own)
 own_pubrec i [] h = refl
-own_pubrec i (Own.Unsent k p id ∷ own) h = own_map i p (Item.Waits k) (Item.Waits k) (items_of_own own) (items_of_own (map (at_pubrec i) own)) refl (own_pubrec i own h.1)
+own_pubrec i (Own.Unsent k p id ∷ own) h = own_map i p (SenderItem.Waits k) (SenderItem.Waits k) (items_of_own own) (items_of_own (map (at_pubrec i) own)) refl (own_pubrec i own h.1)
 own_pubrec i (Own.Sent k p id ∷ own) h = by (cases_Bool (i == id)) (cases_Bool (is_two p.qos)) (own_pubrec i own h.1)
   where
     by : ((i == id) ≡ true) ⊎ ((i == id) ≡ false) → (is_two p.qos ≡ true) ⊎ (is_two p.qos ≡ false) → items_of_own (map (at_pubrec i) own) ≡ map (releasing i) (items_of_own own)
-        → items_of_own (at_pubrec i (Own.Sent k p id) ∷ map (at_pubrec i) own) ≡ map (releasing i) (own_item p (Item.Sent k id) (items_of_own own))
-    by (inl b) (inl t) ih = rw (b, t, two_not_one p.qos t) (rw t (rw b (ap (λ l. Item.Released k id ∷ l) ih)))
+        → items_of_own (at_pubrec i (Own.Sent k p id) ∷ map (at_pubrec i) own) ≡ map (releasing i) (own_item p (SenderItem.Sent k id) (items_of_own own))
+    by (inl b) (inl t) ih = rw (b, t, two_not_one p.qos t) (rw t (rw b (ap (λ l. SenderItem.Released k id ∷ l) ih)))
     by (inl b) (inr t) ih = rw (b, t, not_two_one p.qos h.0 t) (rw t ih)
-    by (inr b) (inl t) ih = rw (b, t) (rw b (ap (λ l. Item.Sent k id ∷ l) ih))
+    by (inr b) (inl t) ih = rw (b, t) (rw b (ap (λ l. SenderItem.Sent k id ∷ l) ih))
     by (inr b) (inr t) ih = rw (b, t) ih
-own_pubrec i (Own.Released k p id ∷ own) h = own_map i p (Item.Released k id) (Item.Released k id) (items_of_own own) (items_of_own (map (at_pubrec i) own)) refl (own_pubrec i own h.1)
-own_pubrec i (Own.Done k p ∷ own) h = own_map i p (Item.Finished k) (Item.Finished k) (items_of_own own) (items_of_own (map (at_pubrec i) own)) refl (own_pubrec i own h)
+own_pubrec i (Own.Released k p id ∷ own) h = own_map i p (SenderItem.Released k id) (SenderItem.Released k id) (items_of_own own) (items_of_own (map (at_pubrec i) own)) refl (own_pubrec i own h.1)
+own_pubrec i (Own.Done k p ∷ own) h = own_map i p (SenderItem.Finished k) (SenderItem.Finished k) (items_of_own own) (items_of_own (map (at_pubrec i) own)) refl (own_pubrec i own h)
 
 -- the item that the PUBREC is of is there
-skip : (i : ℕ) (b : Bool) (x : Item ℕ) (items : List (Item ℕ)) → has_sent i (x ∷ items) ≡ has_sent i items → has_sent i (if b then x ∷ items else items) ≡ has_sent i items
+skip : (i : ℕ) (b : Bool) (x : SenderItem ℕ) (items : List (SenderItem ℕ)) → has_sent i (x ∷ items) ≡ has_sent i items → has_sent i (if b then x ∷ items else items) ≡ has_sent i items
 skip i true x items e = e
 skip i false x items e = refl
 
 pub sent_is : (i : ℕ) (own : List Own) → OwnAnswered own → has_sent i (items_of_own own) ≡ is_sent_with i own
 sent_is i [] h = refl
-sent_is i (Own.Unsent k p id ∷ own) h = skip i (is_two p.qos) (Item.Waits k) (items_of_own own) refl ∙ sent_is i own h.1
+sent_is i (Own.Unsent k p id ∷ own) h = skip i (is_two p.qos) (SenderItem.Waits k) (items_of_own own) refl ∙ sent_is i own h.1
 sent_is i (Own.Sent k p id ∷ own) h = by (cases_Bool (i == id)) (cases_Bool (is_two p.qos)) (sent_is i own h.1)
   where
     by : ((i == id) ≡ true) ⊎ ((i == id) ≡ false) → (is_two p.qos ≡ true) ⊎ (is_two p.qos ≡ false) → has_sent i (items_of_own own) ≡ is_sent_with i own
-        → has_sent i (own_item p (Item.Sent k id) (items_of_own own)) ≡ (((i == id) && not (is_acknowledged p.qos)) || is_sent_with i own)
+        → has_sent i (own_item p (SenderItem.Sent k id) (items_of_own own)) ≡ (((i == id) && not (is_acknowledged p.qos)) || is_sent_with i own)
     by (inl b) (inl t) ih = rw (b, t, two_not_one p.qos t) (rw b refl)
     by (inl b) (inr t) ih = rw (b, t, not_two_one p.qos h.0 t) ih
     by (inr b) (inl t) ih = rw (b, t) (rw b ih)
     by (inr b) (inr t) ih = rw (b, t) ih
-sent_is i (Own.Released k p id ∷ own) h = skip i (is_two p.qos) (Item.Released k id) (items_of_own own) refl ∙ sent_is i own h.1
-sent_is i (Own.Done k p ∷ own) h = skip i (is_two p.qos) (Item.Finished k) (items_of_own own) refl ∙ sent_is i own h
+sent_is i (Own.Released k p id ∷ own) h = skip i (is_two p.qos) (SenderItem.Released k id) (items_of_own own) refl ∙ sent_is i own h.1
+sent_is i (Own.Done k p ∷ own) h = skip i (is_two p.qos) (SenderItem.Finished k) (items_of_own own) refl ∙ sent_is i own h
 
 -- ---- what it writes
 
@@ -205,18 +205,18 @@ dropped n [] x e = cc
 dropped zero (y ∷ xs) x e = let h : y ≡ x = cc in ap (λ z. z ∷ xs) h
 dropped (suc n) (y ∷ xs) x e = dropped n xs x e
 
--- the link of a client that is online on its newest connection, the current one
+-- the transit of a client that is online on its newest connection, the current one
 pub joined_link : (limits : Limits) (past : Past) (current : Option ConnectionName) (online : Bool) (κ : ClientConnection) (others : List ClientConnection) → online ≡ true → κ.confirmed ≡ true
     → is_current current κ.name ≡ true
-    → link_of_own limits past current online (last_confirmed (κ ∷ others)) ≡ Link.Joined (forward_of_own (to_be_taken κ)) (backward_of_own (to_come limits past κ))
+    → transit_of_own limits past current online (last_confirmed (κ ∷ others)) ≡ Transit.Joined (forward_of_own (to_be_taken κ)) (backward_of_own (to_come limits past κ))
 joined_link limits past current online κ others on conf e = rw (on, conf) (rw e refl)
 
-sent_front : (i : ℕ) (old new : List (Item ℕ)) → has_sent i old ≡ true → has_sent i (old ++ new) ≡ true
+sent_front : (i : ℕ) (old new : List (SenderItem ℕ)) → has_sent i old ≡ true → has_sent i (old ++ new) ≡ true
 sent_front i [] new e = absurd (both_ways false refl e)
-sent_front i (Item.Waits v ∷ old) new e = sent_front i old new e
-sent_front i (Item.Sent v id ∷ old) new e = or_then (i == id) (has_sent i old) (has_sent i (old ++ new)) e (sent_front i old new)
-sent_front i (Item.Released v id ∷ old) new e = sent_front i old new e
-sent_front i (Item.Finished v ∷ old) new e = sent_front i old new e
+sent_front i (SenderItem.Waits v ∷ old) new e = sent_front i old new e
+sent_front i (SenderItem.Sent v id ∷ old) new e = or_then (i == id) (has_sent i old) (has_sent i (old ++ new)) e (sent_front i old new)
+sent_front i (SenderItem.Released v id ∷ old) new e = sent_front i old new e
+sent_front i (SenderItem.Finished v ∷ old) new e = sent_front i old new e
 
 -- the side after the PUBREC
 abbrev pub heard_pubrec : ℕ → Keeper → ClientConnection → Side
@@ -241,22 +241,22 @@ hears_pubrec limits past keeper κ others i two on conf within counted current n
     let h = as_publisher limits s in
     let f = forward_of_own (to_be_taken κ) in
     let b = backward_of_own (drop (suc κ.handled) (put_to limits past κ.name)) in
-    let link : h.link ≡ Link.Joined f (Backward.Pubrec i ∷ b) =
+    let transit : h.transit ≡ Transit.Joined f (Backward.Pubrec i ∷ b) =
     joined_link limits past (current_connection past keeper.client) keeper.is_online κ others on conf current
-    ∙ ap (λ z. Link.Joined f (backward_of_own z)) (dropped κ.handled (put_to limits past κ.name) (packets.Pubrec i) next) in
-    let due : IsJoined h.received good.old good.new f (Backward.Pubrec i ∷ b) = subst (λ (z : Link ℕ). IsLinked h.received good.old good.new z) link good.link in
+    ∙ ap (λ z. Transit.Joined f (backward_of_own z)) (dropped κ.handled (put_to limits past κ.name) (packets.Pubrec i) next) in
+    let due : IsJoined h.received good.old good.new f (Backward.Pubrec i ∷ b) = subst (λ (z : Transit ℕ). FitsTransit h.received good.old good.new z) transit good.transit in
     let has : is_sent_with i keeper.own ≡ true = sym (sent_is i keeper.own two) ∙ ap (has_sent i) good.sides.is ∙ sent_front i good.old good.new due.due.0 in
     let side = heard_pubrec i keeper κ in
     let t : Story = with_side s others side in
     let goes : GoesTo h (as_publisher limits t) = record {
-      between = with_items (heard (Backward.Pubrec i) h.items) (Link.Joined (f ++ reply (Backward.Pubrec i)) b) h;
-      run = goes_on stays (hears (Backward.Pubrec i) f b link);
+      between = with_items (heard (Backward.Pubrec i) h.items) (Transit.Joined (f ++ reply (Backward.Pubrec i)) b) h;
+      run = goes_on stays (hears (Backward.Pubrec i) f b transit);
       like = record {
         items = sym (own_pubrec i keeper.own two);
         accepted = sym (numbers_more past κ side.connection others (plain (packets.Pubrel i) ∷ []) refl refl counted);
         received = λ id. refl;
-        link = sym (joined_link limits past (current_connection past keeper.client) keeper.is_online side.connection others on conf current
-            ∙ ap (λ z. Link.Joined z b) (more_to_take κ.taken κ.written (plain (packets.Pubrel i) ∷ []) within));
+        transit = sym (joined_link limits past (current_connection past keeper.client) keeper.is_online side.connection others on conf current
+            ∙ ap (λ z. Transit.Joined z b) (more_to_take κ.taken κ.written (plain (packets.Pubrel i) ∷ []) within));
       };
     } in
     subst (λ (z : Side). GoesTo h (as_publisher limits (with_side s others z))) (sym (handled_is i keeper κ on has)) goes

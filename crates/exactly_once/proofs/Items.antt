@@ -7,7 +7,7 @@ use Rattle.client_base.specs.session_base.declared.publication.Publication.{Publ
 use Rattle.client_base.specs.session_base.Publication.{is_acknowledged, is_answered}
 use Rattle.broker_base.specs.broker_spec.Entries.{Entry}
 use Rattle.broker_base.specs.broker_spec.Times.{at_pubrec, at_pubcomp}
-use Rattle.exactly_once.specs.Items.{Item, releasing, finishing}
+use Rattle.exactly_once.specs.Items.{SenderItem, releasing, finishing}
 use Rattle.exactly_once.specs.Carried.{is_two}
 use Rattle.exactly_once.specs.Inside.AsSubscriber.{items_of, two_item}
 
@@ -44,33 +44,33 @@ items_pubrec n i [] h = refl
 items_pubrec n i (Entry.Waits made p ∷ es) h = by (is_two p.qos) (items_pubrec n i es h.1)
   where
     by : (b : Bool) → items_of (map (at_pubrec n i) es) ≡ map (releasing i) (items_of es)
-        → (if b then Item.Waits p ∷ items_of (map (at_pubrec n i) es) else items_of (map (at_pubrec n i) es)) ≡ map (releasing i) (if b then Item.Waits p ∷ items_of es else items_of es)
-    by true ih = ap (λ l. Item.Waits p ∷ l) ih
+        → (if b then SenderItem.Waits p ∷ items_of (map (at_pubrec n i) es) else items_of (map (at_pubrec n i) es)) ≡ map (releasing i) (if b then SenderItem.Waits p ∷ items_of es else items_of es)
+    by true ih = ap (λ l. SenderItem.Waits p ∷ l) ih
     by false ih = ih
 items_pubrec n i (Entry.Started made p id start ∷ es) h = by (cases_Bool (i == id)) (cases_Bool (is_two p.qos)) (items_pubrec n i es h.1)
   where
     by : ((i == id) ≡ true) ⊎ ((i == id) ≡ false) → (is_two p.qos ≡ true) ⊎ (is_two p.qos ≡ false) → items_of (map (at_pubrec n i) es) ≡ map (releasing i) (items_of es)
-        → items_of (at_pubrec n i (Entry.Started made p id start) ∷ map (at_pubrec n i) es) ≡ map (releasing i) (two_item p (Item.Sent p id) (items_of es))
-    by (inl b) (inl t) ih = rw (b, t, two_not_one p.qos t) (rw t (rw b (ap (λ l. Item.Released p id ∷ l) ih)))
+        → items_of (at_pubrec n i (Entry.Started made p id start) ∷ map (at_pubrec n i) es) ≡ map (releasing i) (two_item p (SenderItem.Sent p id) (items_of es))
+    by (inl b) (inl t) ih = rw (b, t, two_not_one p.qos t) (rw t (rw b (ap (λ l. SenderItem.Released p id ∷ l) ih)))
     by (inl b) (inr t) ih = rw (b, t, not_two_one p.qos h.0 t) (rw t ih)
-    by (inr b) (inl t) ih = rw (b, t) (rw b (ap (λ l. Item.Sent p id ∷ l) ih))
+    by (inr b) (inl t) ih = rw (b, t) (rw b (ap (λ l. SenderItem.Sent p id ∷ l) ih))
     by (inr b) (inr t) ih = rw (b, t) ih
 items_pubrec n i (Entry.Released made p id start release ∷ es) h = by (is_two p.qos) (items_pubrec n i es h.1)
   where
     by : (b : Bool) → items_of (map (at_pubrec n i) es) ≡ map (releasing i) (items_of es)
-        → (if b then Item.Released p id ∷ items_of (map (at_pubrec n i) es) else items_of (map (at_pubrec n i) es)) ≡ map (releasing i) (if b then Item.Released p id ∷ items_of es else items_of es)
-    by true ih = ap (λ l. Item.Released p id ∷ l) ih
+        → (if b then SenderItem.Released p id ∷ items_of (map (at_pubrec n i) es) else items_of (map (at_pubrec n i) es)) ≡ map (releasing i) (if b then SenderItem.Released p id ∷ items_of es else items_of es)
+    by true ih = ap (λ l. SenderItem.Released p id ∷ l) ih
     by false ih = ih
 items_pubrec n i (Entry.Finished made p id start release finish ∷ es) h = by (is_two p.qos) (items_pubrec n i es h.1)
   where
     by : (b : Bool) → items_of (map (at_pubrec n i) es) ≡ map (releasing i) (items_of es)
-        → (if b then Item.Finished p ∷ items_of (map (at_pubrec n i) es) else items_of (map (at_pubrec n i) es)) ≡ map (releasing i) (if b then Item.Finished p ∷ items_of es else items_of es)
-    by true ih = ap (λ l. Item.Finished p ∷ l) ih
+        → (if b then SenderItem.Finished p ∷ items_of (map (at_pubrec n i) es) else items_of (map (at_pubrec n i) es)) ≡ map (releasing i) (if b then SenderItem.Finished p ∷ items_of es else items_of es)
+    by true ih = ap (λ l. SenderItem.Finished p ∷ l) ih
     by false ih = ih
 
 -- ---- PUBCOMP
 
-two_map : (i : ℕ) (p : Publication) (x y : Item Publication) (es fs : List (Item Publication)) → y ≡ finishing i x → fs ≡ map (finishing i) es → two_item p y fs ≡ map (finishing i) (two_item p x es)
+two_map : (i : ℕ) (p : Publication) (x y : SenderItem Publication) (es fs : List (SenderItem Publication)) → y ≡ finishing i x → fs ≡ map (finishing i) es → two_item p y fs ≡ map (finishing i) (two_item p x es)
 two_map i p x y es fs e f = by (is_two p.qos)
   where
     by : (b : Bool) → (if b then y ∷ fs else fs) ≡ map (finishing i) (if b then x ∷ es else es)
@@ -79,19 +79,19 @@ two_map i p x y es fs e f = by (is_two p.qos)
 
 pub items_pubcomp : (n i : ℕ) (es : List Entry) → items_of (map (at_pubcomp n i) es) ≡ map (finishing i) (items_of es)
 items_pubcomp n i [] = refl
-items_pubcomp n i (Entry.Waits made p ∷ es) = two_map i p (Item.Waits p) (Item.Waits p) (items_of es) (items_of (map (at_pubcomp n i) es)) refl (items_pubcomp n i es)
-items_pubcomp n i (Entry.Started made p id start ∷ es) = two_map i p (Item.Sent p id) (Item.Sent p id) (items_of es) (items_of (map (at_pubcomp n i) es)) refl (items_pubcomp n i es)
+items_pubcomp n i (Entry.Waits made p ∷ es) = two_map i p (SenderItem.Waits p) (SenderItem.Waits p) (items_of es) (items_of (map (at_pubcomp n i) es)) refl (items_pubcomp n i es)
+items_pubcomp n i (Entry.Started made p id start ∷ es) = two_map i p (SenderItem.Sent p id) (SenderItem.Sent p id) (items_of es) (items_of (map (at_pubcomp n i) es)) refl (items_pubcomp n i es)
 items_pubcomp n i (Entry.Released made p id start release ∷ es) = by (cases_Bool (i == id)) (items_pubcomp n i es)
   where
     by : ((i == id) ≡ true) ⊎ ((i == id) ≡ false) → items_of (map (at_pubcomp n i) es) ≡ map (finishing i) (items_of es)
-        → items_of (at_pubcomp n i (Entry.Released made p id start release) ∷ map (at_pubcomp n i) es) ≡ map (finishing i) (two_item p (Item.Released p id) (items_of es))
-    by (inl b) ih = rw b (two_map i p (Item.Released p id) (Item.Finished p) (items_of es) (items_of (map (at_pubcomp n i) es)) (rw b refl) ih)
-    by (inr b) ih = rw b (two_map i p (Item.Released p id) (Item.Released p id) (items_of es) (items_of (map (at_pubcomp n i) es)) (rw b refl) ih)
-items_pubcomp n i (Entry.Finished made p id start release finish ∷ es) = two_map i p (Item.Finished p) (Item.Finished p) (items_of es) (items_of (map (at_pubcomp n i) es)) refl (items_pubcomp n i es)
+        → items_of (at_pubcomp n i (Entry.Released made p id start release) ∷ map (at_pubcomp n i) es) ≡ map (finishing i) (two_item p (SenderItem.Released p id) (items_of es))
+    by (inl b) ih = rw b (two_map i p (SenderItem.Released p id) (SenderItem.Finished p) (items_of es) (items_of (map (at_pubcomp n i) es)) (rw b refl) ih)
+    by (inr b) ih = rw b (two_map i p (SenderItem.Released p id) (SenderItem.Released p id) (items_of es) (items_of (map (at_pubcomp n i) es)) (rw b refl) ih)
+items_pubcomp n i (Entry.Finished made p id start release finish ∷ es) = two_map i p (SenderItem.Finished p) (SenderItem.Finished p) (items_of es) (items_of (map (at_pubcomp n i) es)) refl (items_pubcomp n i es)
 
 -- ---- new entries
 
-two_append : (p : Publication) (x : Item Publication) (es more all : List (Item Publication)) → all ≡ es ++ more → two_item p x all ≡ two_item p x es ++ more
+two_append : (p : Publication) (x : SenderItem Publication) (es more all : List (SenderItem Publication)) → all ≡ es ++ more → two_item p x all ≡ two_item p x es ++ more
 two_append p x es more all e = by (is_two p.qos)
   where
     by : (b : Bool) → (if b then x ∷ all else all) ≡ (if b then x ∷ es else es) ++ more
@@ -100,7 +100,7 @@ two_append p x es more all e = by (is_two p.qos)
 
 pub items_append : (es more : List Entry) → items_of (es ++ more) ≡ items_of es ++ items_of more
 items_append [] more = refl
-items_append (Entry.Waits made p ∷ es) more = two_append p (Item.Waits p) (items_of es) (items_of more) (items_of (es ++ more)) (items_append es more)
-items_append (Entry.Started made p id start ∷ es) more = two_append p (Item.Sent p id) (items_of es) (items_of more) (items_of (es ++ more)) (items_append es more)
-items_append (Entry.Released made p id start release ∷ es) more = two_append p (Item.Released p id) (items_of es) (items_of more) (items_of (es ++ more)) (items_append es more)
-items_append (Entry.Finished made p id start release finish ∷ es) more = two_append p (Item.Finished p) (items_of es) (items_of more) (items_of (es ++ more)) (items_append es more)
+items_append (Entry.Waits made p ∷ es) more = two_append p (SenderItem.Waits p) (items_of es) (items_of more) (items_of (es ++ more)) (items_append es more)
+items_append (Entry.Started made p id start ∷ es) more = two_append p (SenderItem.Sent p id) (items_of es) (items_of more) (items_of (es ++ more)) (items_append es more)
+items_append (Entry.Released made p id start release ∷ es) more = two_append p (SenderItem.Released p id) (items_of es) (items_of more) (items_of (es ++ more)) (items_append es more)
+items_append (Entry.Finished made p id start release finish ∷ es) more = two_append p (SenderItem.Finished p) (items_of es) (items_of more) (items_of (es ++ more)) (items_append es more)

@@ -2,7 +2,7 @@
 use Rattle.std.proofs.Common.{◌≡◌, ℕ, Bool, false, ◌==◌, List, [], ◌∷◌, ◌++◌, map, ap, sym, ◌∙◌, subst, append_assoc}
 use Rattle.std.proofs.lemmas.List.{append-nil, map-append}
 use Rattle.client_base.specs.lists.Lists.{has_id, IsDistinct, Each}
-use Rattle.exactly_once.specs.Items.{Item, sent, releasing}
+use Rattle.exactly_once.specs.Items.{SenderItem, sent, releasing}
 use Rattle.exactly_once.specs.Handshake.{Forward, Backward}
 use Rattle.exactly_once.specs.HandshakeInvariant.{publishes, forward_id, backward_id, IsMeant, IsDue, IsSent, IsJoined}
 use Rattle.client_base.proofs.of_lists.Tests.{or_none, eq_turn}
@@ -19,20 +19,20 @@ not_among i [] n = tt
 not_among i (Forward.Publish id v ∷ f) n = let h = or_none (i == id) (has_id i (map forward_id f)) n in (h.0, not_among i f h.1)
 not_among i (Forward.Pubrel id ∷ f) n = let h = or_none (i == id) (has_id i (map forward_id f)) n in not_among i f h.1
 
-knowns : {V : Type 0} (i : ℕ) (old : List (Item V)) (rows : List (ℕ × V)) → Each (λ (row : ℕ × V). (i == row.0) ≡ false) rows → Each (IsSent old) rows
+knowns : {V : Type 0} (i : ℕ) (old : List (SenderItem V)) (rows : List (ℕ × V)) → Each (λ (row : ℕ × V). (i == row.0) ≡ false) rows → Each (IsSent old) rows
     → Each (IsSent (map (releasing i) old)) rows
 knowns i old [] n h = tt
 knowns i old (row ∷ rows) n h = (row_releasing i row old n.0 h.0, knowns i old rows n.1 h.1)
 
-meant_releasing : {V : Type 0} (i : ℕ) (old : List (Item V)) (m : Forward V) → IsMeant old m → IsMeant (map (releasing i) old) m
+meant_releasing : {V : Type 0} (i : ℕ) (old : List (SenderItem V)) (m : Forward V) → IsMeant old m → IsMeant (map (releasing i) old) m
 meant_releasing i old (Forward.Publish id v) h = tt
 meant_releasing i old (Forward.Pubrel id) h = released_releasing i id old h
 
-pub due_releasing : {V : Type 0} (received : ℕ → Bool) (i : ℕ) (old : List (Item V)) (m : Backward) → IsDue received old m → (i == backward_id m) ≡ false → IsDue received (map (releasing i) old) m
+pub due_releasing : {V : Type 0} (received : ℕ → Bool) (i : ℕ) (old : List (SenderItem V)) (m : Backward) → IsDue received old m → (i == backward_id m) ≡ false → IsDue received (map (releasing i) old) m
 due_releasing received i old (Backward.Pubrec id) h n = sent_releasing i id old (eq_turn i id n) h
 due_releasing received i old (Backward.Pubcomp id) h n = (released_releasing i id old h.0, h.1)
 
-pub joined_released : {V : Type 0} (received : ℕ → Bool) (old new : List (Item V)) (id : ℕ) (f : List (Forward V)) (b : List Backward)
+pub joined_released : {V : Type 0} (received : ℕ → Bool) (old new : List (SenderItem V)) (id : ℕ) (f : List (Forward V)) (b : List Backward)
     → IsJoined received old new f (Backward.Pubrec id ∷ b) → IsJoined received (map (releasing id) old) new (f ++ Forward.Pubrel id ∷ []) b
 joined_released {V = X} received old new id f b j =
     let away = distinct_middle (map forward_id f) id (map backward_id b) j.apart in

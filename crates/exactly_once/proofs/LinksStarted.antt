@@ -2,9 +2,9 @@
 use Rattle.std.proofs.Common.{◌≡◌, ℕ, Bool, true, false, ◌==◌, List, [], ◌∷◌, ◌++◌, map, refl, ap, sym, ◌∙◌, subst, append_assoc}
 use Rattle.std.proofs.lemmas.List.{append-nil, map-append}
 use Rattle.client_base.specs.lists.Lists.{has_id, IsDistinct, Each}
-use Rattle.exactly_once.specs.Items.{Item, busy, sent, start_first}
-use Rattle.exactly_once.specs.Handshake.{Forward, Backward, Link, sending}
-use Rattle.exactly_once.specs.HandshakeInvariant.{publishes, forward_id, backward_id, IsMeant, IsDue, IsSent, Comes, IsJoined, IsBehind, IsAhead, IsLinked}
+use Rattle.exactly_once.specs.Items.{SenderItem, busy, sent, start_first}
+use Rattle.exactly_once.specs.Handshake.{Forward, Backward, Transit, sending}
+use Rattle.exactly_once.specs.HandshakeInvariant.{publishes, forward_id, backward_id, IsMeant, IsDue, IsSent, Comes, IsJoined, IsBehind, IsAhead, FitsTransit}
 use Rattle.client_base.proofs.of_lists.Tests.{or_none, none_or}
 use Rattle.client_base.proofs.of_lists.Identifiers.{other_id, distinct_after, distinct_insert}
 use Rattle.client_base.proofs.of_lists.OfEach.{each_append, each_then}
@@ -16,33 +16,33 @@ use Rattle.exactly_once.proofs.LinksTaken.{publishes_append}
 -- ---- one starts
 
 -- what is in transit has identifiers that are busy
-not_busy : {V : Type 0} (i j : ℕ) (old : List (Item V)) → has_id i (busy old) ≡ false → has_id j (busy old) ≡ true → (i == j) ≡ false
+not_busy : {V : Type 0} (i j : ℕ) (old : List (SenderItem V)) → has_id i (busy old) ≡ false → has_id j (busy old) ≡ true → (i == j) ≡ false
 not_busy i j old n h = other_id i j (busy old) n h
 
-rows_away : {V : Type 0} (i : ℕ) (new : List (Item V)) → has_id i (busy new) ≡ false → Each (λ (row : ℕ × V). (i == row.0) ≡ false) (sent new)
+rows_away : {V : Type 0} (i : ℕ) (new : List (SenderItem V)) → has_id i (busy new) ≡ false → Each (λ (row : ℕ × V). (i == row.0) ≡ false) (sent new)
 rows_away i [] n = tt
-rows_away i (Item.Waits v ∷ new) n = rows_away i new n
-rows_away i (Item.Sent v id ∷ new) n = let h = or_none (i == id) (has_id i (busy new)) n in (h.0, rows_away i new h.1)
-rows_away i (Item.Released v id ∷ new) n = let h = or_none (i == id) (has_id i (busy new)) n in rows_away i new h.1
-rows_away i (Item.Finished v ∷ new) n = rows_away i new n
+rows_away i (SenderItem.Waits v ∷ new) n = rows_away i new n
+rows_away i (SenderItem.Sent v id ∷ new) n = let h = or_none (i == id) (has_id i (busy new)) n in (h.0, rows_away i new h.1)
+rows_away i (SenderItem.Released v id ∷ new) n = let h = or_none (i == id) (has_id i (busy new)) n in rows_away i new h.1
+rows_away i (SenderItem.Finished v ∷ new) n = rows_away i new n
 
-forward_away : {V : Type 0} (i : ℕ) (old : List (Item V)) (f : List (Forward V)) → has_id i (busy old) ≡ false → Each (IsMeant old) f
+forward_away : {V : Type 0} (i : ℕ) (old : List (SenderItem V)) (f : List (Forward V)) → has_id i (busy old) ≡ false → Each (IsMeant old) f
     → Each (λ (row : ℕ × V). (i == row.0) ≡ false) (publishes f) → has_id i (map forward_id f) ≡ false
 forward_away i old [] n m r = refl
 forward_away i old (Forward.Publish id v ∷ f) n m r = none_or (i == id) (has_id i (map forward_id f)) r.0 (forward_away i old f n m.1 r.1)
 forward_away i old (Forward.Pubrel id ∷ f) n m r =
     none_or (i == id) (has_id i (map forward_id f)) (not_busy i id old n (released_busy id old m.0)) (forward_away i old f n m.1 r)
 
-backward_away : {V : Type 0} (received : ℕ → Bool) (i : ℕ) (old : List (Item V)) (b : List Backward) → has_id i (busy old) ≡ false → Each (IsDue received old) b → has_id i (map backward_id b) ≡ false
+backward_away : {V : Type 0} (received : ℕ → Bool) (i : ℕ) (old : List (SenderItem V)) (b : List Backward) → has_id i (busy old) ≡ false → Each (IsDue received old) b → has_id i (map backward_id b) ≡ false
 backward_away received i old [] n d = refl
 backward_away received i old (Backward.Pubrec id ∷ b) n d =
     none_or (i == id) (has_id i (map backward_id b)) (not_busy i id old n (sent_busy id old d.0)) (backward_away received i old b n d.1)
 backward_away received i old (Backward.Pubcomp id ∷ b) n d =
     none_or (i == id) (has_id i (map backward_id b)) (not_busy i id old n (released_busy id old d.0.0)) (backward_away received i old b n d.1)
 
-pub linked_start : {V : Type 0} (received : ℕ → Bool) (old new : List (Item V)) (id : ℕ) (v : V) (l : Link V) → has_id id (busy old) ≡ false → has_id id (busy new) ≡ false
-    → Started received id v new → IsLinked received old new l → IsLinked received old (start_first id new) (sending (Forward.Publish id v) l)
-linked_start {V = X} received old new id v (Link.Joined f b) n n' s j =
+pub linked_start : {V : Type 0} (received : ℕ → Bool) (old new : List (SenderItem V)) (id : ℕ) (v : V) (l : Transit V) → has_id id (busy old) ≡ false → has_id id (busy new) ≡ false
+    → Started received id v new → FitsTransit received old new l → FitsTransit received old (start_first id new) (sending (Forward.Publish id v) l)
+linked_start {V = X} received old new id v (Transit.Joined f b) n n' s j =
     let known = each_then (IsSent old) (λ (row : ℕ × X). (id == row.0) ≡ false) j.comes.again
     (λ row h. not_busy id row.0 old n (sent_busy row.0 old (row_sent row old h))) j.comes.known in
     let rows = subst (Each (λ (row : ℕ × X). (id == row.0) ≡ false)) (sym j.comes.is)
@@ -59,27 +59,27 @@ linked_start {V = X} received old new id v (Link.Joined f b) n n' s j =
       apart = subst IsDistinct (sym (ap (λ z. z ++ map backward_id b) (map-append forward_id f (Forward.Publish id v ∷ [])) ∙ append_assoc (map forward_id f) (id ∷ []) (map backward_id b)))
           (distinct_insert (map forward_id f) id (map backward_id b) j.apart away (backward_away received id old b n j.due));
     }
-linked_start received old new id v (Link.Behind b) n n' s j = j
-linked_start received old new id v (Link.Ahead f) n n' s j =
+linked_start received old new id v (Transit.Behind b) n n' s j = j
+linked_start received old new id v (Transit.Ahead f) n n' s j =
     record {
       next = j.next;
       more = j.more ++ (id, v) ∷ [];
       comes = j.comes;
-      front = s.sent_is ∙ ap (λ z. z ++ (id, v) ∷ []) j.front ∙ append_assoc j.next j.more ((id, v) ∷ []);
+      prefix = s.sent_is ∙ ap (λ z. z ++ (id, v) ∷ []) j.prefix ∙ append_assoc j.next j.more ((id, v) ∷ []);
     }
 
 -- ---- one more waits
 
-pub linked_add : {V : Type 0} (received : ℕ → Bool) (old new new' : List (Item V)) (l : Link V) → sent new' ≡ sent new → IsLinked received old new l → IsLinked received old new' l
-linked_add {V = X} received old new new' (Link.Joined f b) e j =
+pub linked_add : {V : Type 0} (received : ℕ → Bool) (old new new' : List (SenderItem V)) (l : Transit V) → sent new' ≡ sent new → FitsTransit received old new l → FitsTransit received old new' l
+linked_add {V = X} received old new new' (Transit.Joined f b) e j =
     record { comes = subst (λ (z : List (ℕ × X)). Comes old f z) (sym e) j.comes; due = j.due; apart = j.apart }
-linked_add received old new new' (Link.Behind b) e j = j
-linked_add received old new new' (Link.Ahead f) e j = record { next = j.next; more = j.more; comes = j.comes; front = e ∙ j.front }
+linked_add received old new new' (Transit.Behind b) e j = j
+linked_add received old new new' (Transit.Ahead f) e j = record { next = j.next; more = j.more; comes = j.comes; prefix = e ∙ j.prefix }
 
 -- ---- leaving
 
-pub joined_ahead : {V : Type 0} (received : ℕ → Bool) (old new : List (Item V)) (f : List (Forward V)) (b : List Backward) → IsJoined received old new f b → IsAhead old new f
-joined_ahead received old new f b j = record { next = sent new; more = []; comes = j.comes; front = sym (append-nil (sent new)) }
+pub joined_ahead : {V : Type 0} (received : ℕ → Bool) (old new : List (SenderItem V)) (f : List (Forward V)) (b : List Backward) → IsJoined received old new f b → IsAhead old new f
+joined_ahead received old new f b j = record { next = sent new; more = []; comes = j.comes; prefix = sym (append-nil (sent new)) }
 
-pub joined_behind : {V : Type 0} (received : ℕ → Bool) (old new : List (Item V)) (f : List (Forward V)) (b : List Backward) → IsJoined received old new f b → IsBehind received old b
+pub joined_behind : {V : Type 0} (received : ℕ → Bool) (old new : List (SenderItem V)) (f : List (Forward V)) (b : List Backward) → IsJoined received old new f b → IsBehind received old b
 joined_behind received old new f b j = record { due = j.due; apart = distinct_after (map forward_id f) (map backward_id b) j.apart }

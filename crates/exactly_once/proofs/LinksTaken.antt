@@ -2,7 +2,7 @@
 use Rattle.std.proofs.Common.{◌≡◌, ℕ, Bool, false, ◌==◌, List, [], ◌∷◌, ◌++◌, map, refl, ap, sym, ◌∙◌, subst, append_assoc}
 use Rattle.std.proofs.lemmas.List.{append-nil, map-append}
 use Rattle.client_base.specs.lists.Lists.{has_id, IsDistinct, Each}
-use Rattle.exactly_once.specs.Items.{Item}
+use Rattle.exactly_once.specs.Items.{SenderItem}
 use Rattle.exactly_once.specs.Handshake.{Forward, Backward, Handshake, answer}
 use Rattle.exactly_once.specs.HandshakeInvariant.{publishes, forward_id, backward_id, IsDue, Comes, IsJoined}
 use Rattle.client_base.proofs.of_lists.Tests.{or_none}
@@ -21,7 +21,7 @@ answered_id : {V : Type 0} (m : Forward V) → backward_id (answer m) ≡ forwar
 answered_id (Forward.Publish id v) = refl
 answered_id (Forward.Pubrel id) = refl
 
-pub dues : {V : Type 0} (received later : ℕ → Bool) (old old' : List (Item V)) (i : ℕ) (b : List Backward)
+pub dues : {V : Type 0} (received later : ℕ → Bool) (old old' : List (SenderItem V)) (i : ℕ) (b : List Backward)
     → ((m : Backward) → IsDue received old m → (i == backward_id m) ≡ false → IsDue later old' m)
     → has_id i (map backward_id b) ≡ false → Each (IsDue received old) b → Each (IsDue later old') b
 dues received later old old' i [] f n d = tt
@@ -29,7 +29,7 @@ dues received later old old' i (m ∷ b) f n d =
     let h = or_none (i == backward_id m) (has_id i (map backward_id b)) n in
     (f m d.0 h.0, dues received later old old' i b f h.1 d.1)
 
-pub joined_taken : {V : Type 0} (received : ℕ → Bool) (old new : List (Item V)) (m : Forward V) (f : List (Forward V)) (b : List Backward) (after : Handshake V)
+pub joined_taken : {V : Type 0} (received : ℕ → Bool) (old new : List (SenderItem V)) (m : Forward V) (f : List (Forward V)) (b : List Backward) (after : Handshake V)
     → IsJoined received old new (m ∷ f) b → (t : Took m received old f [] after) → IsJoined after.received t.old' t.new' f (b ++ answer m ∷ [])
 joined_taken {V = X} received old new m f b after j t =
     let away = has_split (forward_id m) (map forward_id f) (map backward_id b) j.apart.0 in

@@ -4,33 +4,33 @@ use Rattle.std.proofs.lemmas.Bool.{both_ways}
 use Rattle.std.proofs.lemmas.List.{append-nil}
 use Rattle.client_base.specs.lists.Lists.{In, Each}
 use Rattle.client_base.specs.lists.Lists.In.{here, there}
-use Rattle.exactly_once.specs.Items.{Item, value_of, sent}
-use Rattle.exactly_once.specs.Handshake.{Forward, Link, Handshake, opening}
-use Rattle.exactly_once.specs.HandshakeInvariant.{IsNew, IsSent, IsLinked, IsGood, Comes, publishes}
+use Rattle.exactly_once.specs.Items.{SenderItem, value_of, sent}
+use Rattle.exactly_once.specs.Handshake.{Forward, Transit, Handshake, opening}
+use Rattle.exactly_once.specs.HandshakeInvariant.{IsNew, IsSent, FitsTransit, IsGood, Comes, publishes}
 use Rattle.exactly_once.specs.Exact.{next_of, RepeatsWereAccepted}
 use Rattle.exactly_once.proofs.Exact.{good_run, good_opening}
 use Rattle.exactly_once.proofs.ItemsKnown.{cons_is}
 
 -- the value of a row that is sent is that of an item
-sent_value : {V : Type 0} (row : ℕ × V) (items : List (Item V)) → In row (sent items) → In row.1 (map value_of items)
+sent_value : {V : Type 0} (row : ℕ × V) (items : List (SenderItem V)) → In row (sent items) → In row.1 (map value_of items)
 sent_value row [] i = elim i [ ]
-sent_value row (Item.Waits v ∷ items) i = there (sent_value row items i)
-sent_value row (Item.Sent v id ∷ items) here = here
-sent_value row (Item.Sent v id ∷ items) (there i) = there (sent_value row items i)
-sent_value row (Item.Released v id ∷ items) i = there (sent_value row items i)
-sent_value row (Item.Finished v ∷ items) i = there (sent_value row items i)
+sent_value row (SenderItem.Waits v ∷ items) i = there (sent_value row items i)
+sent_value row (SenderItem.Sent v id ∷ items) here = here
+sent_value row (SenderItem.Sent v id ∷ items) (there i) = there (sent_value row items i)
+sent_value row (SenderItem.Released v id ∷ items) i = there (sent_value row items i)
+sent_value row (SenderItem.Finished v ∷ items) i = there (sent_value row items i)
 
 -- one that is not accepted has an identifier that the receiver does not know
-new_unknown : {V : Type 0} (received : ℕ → Bool) (row : ℕ × V) (items : List (Item V)) → Each (IsNew received) items → In row (sent items) → received row.0 ≡ false
+new_unknown : {V : Type 0} (received : ℕ → Bool) (row : ℕ × V) (items : List (SenderItem V)) → Each (IsNew received) items → In row (sent items) → received row.0 ≡ false
 new_unknown received row [] h i = elim i [ ]
-new_unknown received row (Item.Waits v ∷ items) h i = new_unknown received row items h.1 i
-new_unknown received row (Item.Sent v id ∷ items) h here = h.0
-new_unknown received row (Item.Sent v id ∷ items) h (there i) = new_unknown received row items h.1 i
-new_unknown received row (Item.Released v id ∷ items) h i = elim h.0 [ ]
-new_unknown received row (Item.Finished v ∷ items) h i = elim h.0 [ ]
+new_unknown received row (SenderItem.Waits v ∷ items) h i = new_unknown received row items h.1 i
+new_unknown received row (SenderItem.Sent v id ∷ items) h here = h.0
+new_unknown received row (SenderItem.Sent v id ∷ items) h (there i) = new_unknown received row items h.1 i
+new_unknown received row (SenderItem.Released v id ∷ items) h i = elim h.0 [ ]
+new_unknown received row (SenderItem.Finished v ∷ items) h i = elim h.0 [ ]
 
 -- the first of what comes, by whether the receiver has it
-first_known : {V : Type 0} (received : ℕ → Bool) (old new : List (Item V)) (row : ℕ × V) (rows again next more : List (ℕ × V)) → Each (IsNew received) new → received row.0 ≡ true
+first_known : {V : Type 0} (received : ℕ → Bool) (old new : List (SenderItem V)) (row : ℕ × V) (rows again next more : List (ℕ × V)) → Each (IsNew received) new → received row.0 ≡ true
     → row ∷ rows ≡ again ++ next → Each (IsSent old) again → sent new ≡ next ++ more → In row.1 (map value_of old)
 first_known {V = X} received old new row rows (r ∷ again) next more news known is sents front =
     let same = cons_is row r rows (again ++ next) is in
@@ -43,21 +43,21 @@ first_known {V = X} received old new row rows [] next more news known is sents f
 some_is : {A : Type 0} (x y : A) → Some x ≡ Some y → x ≡ y
 some_is x y e = cc
 
-link_known : {V : Type 0} (received : ℕ → Bool) (old new : List (Item V)) (l : Link V) (id : ℕ) (v : V) → Each (IsNew received) new → IsLinked received old new l
+link_known : {V : Type 0} (received : ℕ → Bool) (old new : List (SenderItem V)) (l : Transit V) (id : ℕ) (v : V) → Each (IsNew received) new → FitsTransit received old new l
     → next_of l ≡ Some (Forward.Publish id v) → received id ≡ true → In v (map value_of old)
-link_known {V = X} received old new (Link.Joined (m ∷ f) b) id v news j e known =
+link_known {V = X} received old new (Transit.Joined (m ∷ f) b) id v news j e known =
     let c = subst (λ (z : Forward X). Comes old (z ∷ f) (sent new)) (some_is m (Forward.Publish id v) e) j.comes in
     first_known received old new (id, v) (publishes f) c.again (sent new) [] news known c.is c.known (sym (append-nil (sent new)))
-link_known {V = X} received old new (Link.Ahead (m ∷ f)) id v news j e known =
+link_known {V = X} received old new (Transit.Ahead (m ∷ f)) id v news j e known =
     let c = subst (λ (z : Forward X). Comes old (z ∷ f) j.next) (some_is m (Forward.Publish id v) e) j.comes in
-    first_known received old new (id, v) (publishes f) c.again j.next j.more news known c.is c.known j.front
-link_known received old new (Link.Joined [] b) id v news j e known = cc
-link_known received old new (Link.Ahead []) id v news j e known = cc
-link_known received old new (Link.Behind b) id v news j e known = cc
+    first_known received old new (id, v) (publishes f) c.again j.next j.more news known c.is c.known j.prefix
+link_known received old new (Transit.Joined [] b) id v news j e known = cc
+link_known received old new (Transit.Ahead []) id v news j e known = cc
+link_known received old new (Transit.Behind b) id v news j e known = cc
 
-pub good_repeat : {V : Type 0} (h : Handshake V) → IsGood h → (id : ℕ) (v : V) → next_of h.link ≡ Some (Forward.Publish id v) → h.received id ≡ true → In v h.accepted
+pub good_repeat : {V : Type 0} (h : Handshake V) → IsGood h → (id : ℕ) (v : V) → next_of h.transit ≡ Some (Forward.Publish id v) → h.received id ≡ true → In v h.accepted
 good_repeat {V = X} h g id v e known =
-    subst (λ (z : List X). In v z) (sym g.sides.accepted_is) (link_known h.received g.old g.new h.link id v g.sides.news g.link e known)
+    subst (λ (z : List X). In v z) (sym g.sides.accepted_is) (link_known h.received g.old g.new h.transit id v g.sides.news g.transit e known)
 
 pub repeats_were_accepted : (V : Type 0) → RepeatsWereAccepted V
 repeats_were_accepted V h run = good_repeat h (good_run (opening V) h (good_opening V) run)

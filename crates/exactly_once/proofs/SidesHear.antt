@@ -3,7 +3,7 @@ use Rattle.std.proofs.Common.{◌≡◌, ℕ, Bool, true, false, ◌==◌, List,
 use Rattle.std.proofs.lemmas.List.{map-append}
 use Rattle.std.proofs.lemmas.Bool.{both_ways, cases_Bool}
 use Rattle.client_base.specs.lists.Lists.{has_id, IsDistinct}
-use Rattle.exactly_once.specs.Items.{Item, busy, has_sent, has_released, releasing, finishing}
+use Rattle.exactly_once.specs.Items.{SenderItem, busy, has_sent, has_released, releasing, finishing}
 use Rattle.exactly_once.specs.HandshakeInvariant.{AreSides}
 use Rattle.client_base.proofs.of_lists.Tests.{eq_is}
 use Rattle.client_base.proofs.of_lists.Identifiers.{distinct_apart}
@@ -13,7 +13,7 @@ use Rattle.exactly_once.proofs.ItemsFinished.{values_finishing, finishing_others
 
 -- ---- the sender receives an answer
 
-pub sides_release : {V : Type 0} (items : List (Item V)) (accepted : List V) (received : ℕ → Bool) (old new : List (Item V)) (id : ℕ)
+pub sides_release : {V : Type 0} (items : List (SenderItem V)) (accepted : List V) (received : ℕ → Bool) (old new : List (SenderItem V)) (id : ℕ)
     → AreSides items accepted received old new → has_sent id old ≡ true
     → AreSides (map (releasing id) items) accepted received (map (releasing id) old) new
 sides_release items accepted received old new id s e =
@@ -36,7 +36,7 @@ two_ids received i j e f = by (cases_Bool (j == i))
     by (inr h) = h
     by (inl h) = absurd (both_ways (received i) e (subst (λ (k : ℕ). received k ≡ true) (eq_is j i h) f))
 
-pub sides_finish : {V : Type 0} (items : List (Item V)) (accepted : List V) (received : ℕ → Bool) (old new : List (Item V)) (id : ℕ)
+pub sides_finish : {V : Type 0} (items : List (SenderItem V)) (accepted : List V) (received : ℕ → Bool) (old new : List (SenderItem V)) (id : ℕ)
     → AreSides items accepted received old new → has_released id old ≡ true → received id ≡ false
     → AreSides (map (finishing id) items) accepted received (map (finishing id) old) new
 sides_finish items accepted received old new id s e n =

@@ -3,7 +3,7 @@ use Rattle.std.proofs.Common.{◌≡◌, ℕ, Bool, true, false, List, [], ◌�
 use Rattle.std.proofs.lemmas.List.{append-nil}
 use Rattle.std.proofs.lemmas.Bool.{both_ways, cases_Bool}
 use Rattle.client_base.specs.lists.Lists.{has_id, IsDistinct}
-use Rattle.exactly_once.specs.Items.{Item, busy, sent, start_first, first_waiting}
+use Rattle.exactly_once.specs.Items.{SenderItem, busy, sent, start_first, first_waiting}
 use Rattle.exactly_once.specs.HandshakeInvariant.{IsNew, IsWaiting, WaitsLast, AreSides}
 use Rattle.client_base.proofs.of_lists.Identifiers.{has_join, has_split, distinct_push}
 use Rattle.client_base.proofs.of_lists.OfEach.{each_append}
@@ -12,29 +12,29 @@ use Rattle.exactly_once.proofs.ItemsStarted.{start_after, waiting_after, Started
 
 -- ---- a publication comes
 
-waits_more : {V : Type 0} (items : List (Item V)) (v : V) → WaitsLast items → WaitsLast (items ++ Item.Waits v ∷ [])
+waits_more : {V : Type 0} (items : List (SenderItem V)) (v : V) → WaitsLast items → WaitsLast (items ++ SenderItem.Waits v ∷ [])
 waits_more [] v w = tt
-waits_more (Item.Waits u ∷ items) v w = each_append IsWaiting items (Item.Waits v ∷ []) w (tt, tt)
-waits_more (Item.Sent u id ∷ items) v w = waits_more items v w
-waits_more (Item.Released u id ∷ items) v w = waits_more items v w
-waits_more (Item.Finished u ∷ items) v w = waits_more items v w
+waits_more (SenderItem.Waits u ∷ items) v w = each_append IsWaiting items (SenderItem.Waits v ∷ []) w (tt, tt)
+waits_more (SenderItem.Sent u id ∷ items) v w = waits_more items v w
+waits_more (SenderItem.Released u id ∷ items) v w = waits_more items v w
+waits_more (SenderItem.Finished u ∷ items) v w = waits_more items v w
 
-pub busy_waits : {V : Type 0} (items : List (Item V)) (v : V) → busy (items ++ Item.Waits v ∷ []) ≡ busy items
-busy_waits items v = busy_append items (Item.Waits v ∷ []) ∙ append-nil (busy items)
+pub busy_waits : {V : Type 0} (items : List (SenderItem V)) (v : V) → busy (items ++ SenderItem.Waits v ∷ []) ≡ busy items
+busy_waits items v = busy_append items (SenderItem.Waits v ∷ []) ∙ append-nil (busy items)
 
-pub sent_waits : {V : Type 0} (items : List (Item V)) (v : V) → sent (items ++ Item.Waits v ∷ []) ≡ sent items
-sent_waits items v = sent_append items (Item.Waits v ∷ []) ∙ append-nil (sent items)
+pub sent_waits : {V : Type 0} (items : List (SenderItem V)) (v : V) → sent (items ++ SenderItem.Waits v ∷ []) ≡ sent items
+sent_waits items v = sent_append items (SenderItem.Waits v ∷ []) ∙ append-nil (sent items)
 
-pub sides_add : {V : Type 0} (items : List (Item V)) (accepted : List V) (received : ℕ → Bool) (old new : List (Item V)) (v : V)
-    → AreSides items accepted received old new → AreSides (items ++ Item.Waits v ∷ []) accepted received old (new ++ Item.Waits v ∷ [])
+pub sides_add : {V : Type 0} (items : List (SenderItem V)) (accepted : List V) (received : ℕ → Bool) (old new : List (SenderItem V)) (v : V)
+    → AreSides items accepted received old new → AreSides (items ++ SenderItem.Waits v ∷ []) accepted received old (new ++ SenderItem.Waits v ∷ [])
 sides_add items accepted received old new v s =
     record {
-      is = ap (λ l. l ++ Item.Waits v ∷ []) s.is ∙ append_assoc old new (Item.Waits v ∷ []);
+      is = ap (λ l. l ++ SenderItem.Waits v ∷ []) s.is ∙ append_assoc old new (SenderItem.Waits v ∷ []);
       accepted_is = s.accepted_is;
       olds = s.olds;
-      news = each_append (IsNew received) new (Item.Waits v ∷ []) s.news (tt, tt);
+      news = each_append (IsNew received) new (SenderItem.Waits v ∷ []) s.news (tt, tt);
       waits_last = waits_more new v s.waits_last;
-      apart = subst IsDistinct (sym (ap busy (sym (append_assoc old new (Item.Waits v ∷ []))) ∙ busy_waits (old ++ new) v)) s.apart;
+      apart = subst IsDistinct (sym (ap busy (sym (append_assoc old new (SenderItem.Waits v ∷ []))) ∙ busy_waits (old ++ new) v)) s.apart;
       known = s.known;
     }
 
@@ -47,12 +47,12 @@ free_is_new received ids id known e = by (cases_Bool (received id))
     by (inr h) = h
     by (inl h) = absurd (both_ways (has_id id ids) e (known id h))
 
-pub free_of : {V : Type 0} (items : List (Item V)) (old new : List (Item V)) (id : ℕ) → items ≡ old ++ new → has_id id (busy items) ≡ false
+pub free_of : {V : Type 0} (items : List (SenderItem V)) (old new : List (SenderItem V)) (id : ℕ) → items ≡ old ++ new → has_id id (busy items) ≡ false
     → (has_id id (busy old) ≡ false) × (has_id id (busy new) ≡ false)
 free_of items old new id is e =
     has_split id (busy old) (busy new) (subst (λ (l : List ℕ). has_id id l ≡ false) (ap busy is ∙ busy_append old new) e)
 
-pub sides_start : {V : Type 0} (items : List (Item V)) (accepted : List V) (received : ℕ → Bool) (old new : List (Item V)) (id : ℕ) (v : V)
+pub sides_start : {V : Type 0} (items : List (SenderItem V)) (accepted : List V) (received : ℕ → Bool) (old new : List (SenderItem V)) (id : ℕ) (v : V)
     → AreSides items accepted received old new → has_id id (busy items) ≡ false → first_waiting items ≡ Some v
     → Started received id v new × AreSides (start_first id items) accepted received old (start_first id new)
 sides_start items accepted received old new id v s e w =

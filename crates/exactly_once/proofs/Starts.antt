@@ -8,8 +8,8 @@ use Rattle.broker_base.specs.broker_spec.Entries.{Entry}
 use Rattle.broker_base.specs.broker_spec.Times.{start_all}
 use Rattle.broker_base.specs.broker_spec.IdentifierLaws.{WaitsLast, IsWaiting}
 use Rattle.broker_base.proofs.LeastFree.{least-is-free}
-use Rattle.exactly_once.specs.Items.{Item, busy, start_first, first_waiting}
-use Rattle.exactly_once.specs.Handshake.{sending, with_items, Forward, Link, Handshake, Run}
+use Rattle.exactly_once.specs.Items.{SenderItem, busy, start_first, first_waiting}
+use Rattle.exactly_once.specs.Handshake.{sending, with_items, Forward, Transit, Handshake, Run}
 use Rattle.exactly_once.specs.Handshake.Advances.{starts}
 use Rattle.exactly_once.specs.Handshake.Run.{stays, goes_on}
 use Rattle.client_base.proofs.of_lists.Identifiers.{has_append}
@@ -21,38 +21,38 @@ use Rattle.exactly_once.specs.Inside.AsSubscriber.{items_of}
 use Rattle.std.specs.List.{AllByRecursion}
 
 -- items of which none waits
-abbrev pub NoneWaits : {V : Type 0} → List (Item V) → Type 0
-NoneWaits (Item.Waits v ∷ items) = ⊥
+abbrev pub NoneWaits : {V : Type 0} → List (SenderItem V) → Type 0
+NoneWaits (SenderItem.Waits v ∷ items) = ⊥
 NoneWaits (_ ∷ items) = NoneWaits items
 NoneWaits [] = Unit {0}
 
-none_more : {V : Type 0} (pre more : List (Item V)) → NoneWaits pre → NoneWaits more → NoneWaits (pre ++ more)
+none_more : {V : Type 0} (pre more : List (SenderItem V)) → NoneWaits pre → NoneWaits more → NoneWaits (pre ++ more)
 none_more [] more n m = m
-none_more (Item.Waits v ∷ pre) more n m = elim n [ ]
-none_more (Item.Sent v id ∷ pre) more n m = none_more pre more n m
-none_more (Item.Released v id ∷ pre) more n m = none_more pre more n m
-none_more (Item.Finished v ∷ pre) more n m = none_more pre more n m
+none_more (SenderItem.Waits v ∷ pre) more n m = elim n [ ]
+none_more (SenderItem.Sent v id ∷ pre) more n m = none_more pre more n m
+none_more (SenderItem.Released v id ∷ pre) more n m = none_more pre more n m
+none_more (SenderItem.Finished v ∷ pre) more n m = none_more pre more n m
 
-first_after : {V : Type 0} (pre more : List (Item V)) → NoneWaits pre → first_waiting (pre ++ more) ≡ first_waiting more
+first_after : {V : Type 0} (pre more : List (SenderItem V)) → NoneWaits pre → first_waiting (pre ++ more) ≡ first_waiting more
 first_after [] more n = refl
-first_after (Item.Waits v ∷ pre) more n = elim n [ ]
-first_after (Item.Sent v id ∷ pre) more n = first_after pre more n
-first_after (Item.Released v id ∷ pre) more n = first_after pre more n
-first_after (Item.Finished v ∷ pre) more n = first_after pre more n
+first_after (SenderItem.Waits v ∷ pre) more n = elim n [ ]
+first_after (SenderItem.Sent v id ∷ pre) more n = first_after pre more n
+first_after (SenderItem.Released v id ∷ pre) more n = first_after pre more n
+first_after (SenderItem.Finished v ∷ pre) more n = first_after pre more n
 
-start_after : {V : Type 0} (id : ℕ) (pre more : List (Item V)) → NoneWaits pre → start_first id (pre ++ more) ≡ pre ++ start_first id more
+start_after : {V : Type 0} (id : ℕ) (pre more : List (SenderItem V)) → NoneWaits pre → start_first id (pre ++ more) ≡ pre ++ start_first id more
 start_after id [] more n = refl
-start_after id (Item.Waits v ∷ pre) more n = elim n [ ]
-start_after id (Item.Sent v i ∷ pre) more n = ap (λ l. Item.Sent v i ∷ l) (start_after id pre more n)
-start_after id (Item.Released v i ∷ pre) more n = ap (λ l. Item.Released v i ∷ l) (start_after id pre more n)
-start_after id (Item.Finished v ∷ pre) more n = ap (λ l. Item.Finished v ∷ l) (start_after id pre more n)
+start_after id (SenderItem.Waits v ∷ pre) more n = elim n [ ]
+start_after id (SenderItem.Sent v i ∷ pre) more n = ap (λ l. SenderItem.Sent v i ∷ l) (start_after id pre more n)
+start_after id (SenderItem.Released v i ∷ pre) more n = ap (λ l. SenderItem.Released v i ∷ l) (start_after id pre more n)
+start_after id (SenderItem.Finished v ∷ pre) more n = ap (λ l. SenderItem.Finished v ∷ l) (start_after id pre more n)
 
 -- what waits is not busy
 waiting_free : (es : List Entry) → AllByRecursion IsWaiting es → busy (items_of es) ≡ []
 waiting_free [] w = refl
 waiting_free (Entry.Waits made p ∷ es) w = by (is_two p.qos) (waiting_free es w.1)
   where
-    by : (b : Bool) → busy (items_of es) ≡ [] → busy (if b then Item.Waits p ∷ items_of es else items_of es) ≡ []
+    by : (b : Bool) → busy (items_of es) ≡ [] → busy (if b then SenderItem.Waits p ∷ items_of es else items_of es) ≡ []
     by true ih = ih
     by false ih = ih
 waiting_free (Entry.Started made p id start ∷ es) w = elim w.0 [ ]
@@ -72,50 +72,50 @@ rows_started w ids (Entry.Released made p id start release ∷ es) = rows_starte
 rows_started w ids (Entry.Finished made p id start release finish ∷ es) = rows_started w ids es
 rows_started w ids [] = []
 
-abbrev pub sending_all : List (ℕ × Publication) → Link Publication → Link Publication
+abbrev pub sending_all : List (ℕ × Publication) → Transit Publication → Transit Publication
 sending_all (row ∷ rows) l = sending_all rows (sending (Forward.Publish row.0 row.1) l)
 sending_all [] l = l
 
 -- what is in front uses no other identifiers than these
-abbrev pub Covers : List ℕ → List (Item Publication) → Type 0
+abbrev pub Covers : List ℕ → List (SenderItem Publication) → Type 0
 Covers ids pre = (i : ℕ) → has_id i ids ≡ false → has_id i (busy pre) ≡ false
 
-pub record Starts (h : Handshake Publication) (items : List (Item Publication)) (rows : List (ℕ × Publication)) : Type 0 where
+pub record Starts (h : Handshake Publication) (items : List (SenderItem Publication)) (rows : List (ℕ × Publication)) : Type 0 where
   pub after : Handshake Publication
   pub run : Run h after
   pub items_are : after.items ≡ items
   pub accepted : after.accepted ≡ h.accepted
   pub received : after.received ≡ h.received
-  pub link : after.link ≡ sending_all rows h.link
+  pub transit : after.transit ≡ sending_all rows h.transit
 
-covers_more : (ids : List ℕ) (pre : List (Item Publication)) (id : ℕ) → Covers ids pre → Covers (id ∷ ids) pre
+covers_more : (ids : List ℕ) (pre : List (SenderItem Publication)) (id : ℕ) → Covers ids pre → Covers (id ∷ ids) pre
 covers_more ids pre id c i e = c i (or_none (i == id) (has_id i ids) e).1
 
-covers_one : (ids : List ℕ) (pre : List (Item Publication)) (item : Item Publication) (id : ℕ) → busy (item ∷ []) ≡ id ∷ [] → Covers ids pre → Covers (id ∷ ids) (pre ++ item ∷ [])
+covers_one : (ids : List ℕ) (pre : List (SenderItem Publication)) (item : SenderItem Publication) (id : ℕ) → busy (item ∷ []) ≡ id ∷ [] → Covers ids pre → Covers (id ∷ ids) (pre ++ item ∷ [])
 covers_one ids pre item id b c i e =
     let h = or_none (i == id) (has_id i ids) e in
     ap (has_id i) (busy_append pre (item ∷ []) ∙ ap (λ l. busy pre ++ l) b) ∙ has_append i (busy pre) (id ∷ [])
     ∙ none_or (has_id i (busy pre)) ((i == id) || false) (c i h.1) (none_or (i == id) false h.0 refl)
 
-covers_free : (ids : List ℕ) (pre : List (Item Publication)) (item : Item Publication) → busy (item ∷ []) ≡ [] → Covers ids pre → Covers ids (pre ++ item ∷ [])
+covers_free : (ids : List ℕ) (pre : List (SenderItem Publication)) (item : SenderItem Publication) → busy (item ∷ []) ≡ [] → Covers ids pre → Covers ids (pre ++ item ∷ [])
 covers_free ids pre item b c i e = ap (has_id i) (busy_append pre (item ∷ []) ∙ ap (λ l. busy pre ++ l) b ∙ append-nil (busy pre)) ∙ c i e
 
 -- an item more in front
-in_front : (h : Handshake Publication) (pre items : List (Item Publication)) (item : Item Publication) (rows : List (ℕ × Publication))
+in_front : (h : Handshake Publication) (pre items : List (SenderItem Publication)) (item : SenderItem Publication) (rows : List (ℕ × Publication))
     → Starts h ((pre ++ item ∷ []) ++ items) rows → Starts h (pre ++ item ∷ items) rows
 in_front h pre items item rows s =
-    record { after = s.after; run = s.run; items_are = s.items_are ∙ append_assoc pre (item ∷ []) items; accepted = s.accepted; received = s.received; link = s.link }
+    record { after = s.after; run = s.run; items_are = s.items_are ∙ append_assoc pre (item ∷ []) items; accepted = s.accepted; received = s.received; transit = s.transit }
 
 -- the start of one that waits
-starts_one : (h : Handshake Publication) (pre : List (Item Publication)) (id : ℕ) (p : Publication) (es : List Entry) (ids : List ℕ)
-    → h.items ≡ pre ++ Item.Waits p ∷ items_of es → NoneWaits pre → Covers ids pre → has_id id ids ≡ false → AllByRecursion IsWaiting es
-    → Run h (with_items (start_first id h.items) (sending (Forward.Publish id p) h.link) h) × (start_first id h.items ≡ (pre ++ Item.Sent p id ∷ []) ++ items_of es)
+starts_one : (h : Handshake Publication) (pre : List (SenderItem Publication)) (id : ℕ) (p : Publication) (es : List Entry) (ids : List ℕ)
+    → h.items ≡ pre ++ SenderItem.Waits p ∷ items_of es → NoneWaits pre → Covers ids pre → has_id id ids ≡ false → AllByRecursion IsWaiting es
+    → Run h (with_items (start_first id h.items) (sending (Forward.Publish id p) h.transit) h) × (start_first id h.items ≡ (pre ++ SenderItem.Sent p id ∷ []) ++ items_of es)
 starts_one h pre id p es ids e n c free w =
     let fresh : has_id id (busy h.items) ≡ false =
-    ap (λ l. has_id id (busy l)) e ∙ ap (has_id id) (busy_append pre (Item.Waits p ∷ items_of es) ∙ ap (λ l. busy pre ++ l) (waiting_free es w) ∙ append-nil (busy pre)) ∙ c id free in
-    let first : first_waiting h.items ≡ Some p = ap first_waiting e ∙ first_after pre (Item.Waits p ∷ items_of es) n in (
+    ap (λ l. has_id id (busy l)) e ∙ ap (has_id id) (busy_append pre (SenderItem.Waits p ∷ items_of es) ∙ ap (λ l. busy pre ++ l) (waiting_free es w) ∙ append-nil (busy pre)) ∙ c id free in
+    let first : first_waiting h.items ≡ Some p = ap first_waiting e ∙ first_after pre (SenderItem.Waits p ∷ items_of es) n in (
       goes_on stays (starts id p fresh first),
-      ap (start_first id) e ∙ start_after id pre (Item.Waits p ∷ items_of es) n ∙ sym (append_assoc pre (Item.Sent p id ∷ []) (items_of es)),
+      ap (start_first id) e ∙ start_after id pre (SenderItem.Waits p ∷ items_of es) n ∙ sym (append_assoc pre (SenderItem.Sent p id ∷ []) (items_of es)),
     )
 
 waits_after : (es : List Entry) → AllByRecursion IsWaiting es → WaitsLast es
@@ -126,65 +126,65 @@ waits_after (Entry.Released made p id start release ∷ es) w = elim w.0 [ ]
 waits_after (Entry.Finished made p id start release finish ∷ es) w = elim w.0 [ ]
 
 -- all starts of a place
-pub all_starts : (w n : ℕ) (ids : List ℕ) (pre : List (Item Publication)) (es : List Entry) (h : Handshake Publication)
+pub all_starts : (w n : ℕ) (ids : List ℕ) (pre : List (SenderItem Publication)) (es : List Entry) (h : Handshake Publication)
     → h.items ≡ pre ++ items_of es → NoneWaits pre → Covers ids pre → WaitsLast es
     → Starts h (pre ++ items_of (start_all w n ids es)) (rows_started w ids es)
-all_starts w n ids pre [] h e nw c l = record { after = h; run = stays; items_are = e; accepted = refl; received = refl; link = refl }
+all_starts w n ids pre [] h e nw c l = record { after = h; run = stays; items_are = e; accepted = refl; received = refl; transit = refl }
 all_starts w n ids pre (Entry.Started made p id start ∷ es) h e nw c l =
     by (is_two p.qos) e (λ e'. all_starts w n (id ∷ ids) pre es h e' nw (covers_more ids pre id c) l)
-    (λ e'. all_starts w n (id ∷ ids) (pre ++ Item.Sent p id ∷ []) es h e' (none_more pre (Item.Sent p id ∷ []) nw tt) (covers_one ids pre (Item.Sent p id) id refl c) l)
+    (λ e'. all_starts w n (id ∷ ids) (pre ++ SenderItem.Sent p id ∷ []) es h e' (none_more pre (SenderItem.Sent p id ∷ []) nw tt) (covers_one ids pre (SenderItem.Sent p id) id refl c) l)
   where
-    by : (b : Bool) → h.items ≡ pre ++ (if b then Item.Sent p id ∷ items_of es else items_of es)
+    by : (b : Bool) → h.items ≡ pre ++ (if b then SenderItem.Sent p id ∷ items_of es else items_of es)
         → (h.items ≡ pre ++ items_of es → Starts h (pre ++ items_of (start_all w n (id ∷ ids) es)) (rows_started w (id ∷ ids) es))
-        → (h.items ≡ (pre ++ Item.Sent p id ∷ []) ++ items_of es → Starts h ((pre ++ Item.Sent p id ∷ []) ++ items_of (start_all w n (id ∷ ids) es)) (rows_started w (id ∷ ids) es))
-        → Starts h (pre ++ (if b then Item.Sent p id ∷ items_of (start_all w n (id ∷ ids) es) else items_of (start_all w n (id ∷ ids) es))) (rows_started w (id ∷ ids) es)
-    by true e f g = in_front h pre (items_of (start_all w n (id ∷ ids) es)) (Item.Sent p id) (rows_started w (id ∷ ids) es) (g (e ∙ sym (append_assoc pre (Item.Sent p id ∷ []) (items_of es))))
+        → (h.items ≡ (pre ++ SenderItem.Sent p id ∷ []) ++ items_of es → Starts h ((pre ++ SenderItem.Sent p id ∷ []) ++ items_of (start_all w n (id ∷ ids) es)) (rows_started w (id ∷ ids) es))
+        → Starts h (pre ++ (if b then SenderItem.Sent p id ∷ items_of (start_all w n (id ∷ ids) es) else items_of (start_all w n (id ∷ ids) es))) (rows_started w (id ∷ ids) es)
+    by true e f g = in_front h pre (items_of (start_all w n (id ∷ ids) es)) (SenderItem.Sent p id) (rows_started w (id ∷ ids) es) (g (e ∙ sym (append_assoc pre (SenderItem.Sent p id ∷ []) (items_of es))))
     by false e f g = f e
 all_starts w n ids pre (Entry.Released made p id start release ∷ es) h e nw c l =
     by (is_two p.qos) e (λ e'. all_starts w n (id ∷ ids) pre es h e' nw (covers_more ids pre id c) l)
-    (λ e'. all_starts w n (id ∷ ids) (pre ++ Item.Released p id ∷ []) es h e' (none_more pre (Item.Released p id ∷ []) nw tt) (covers_one ids pre (Item.Released p id) id refl c) l)
+    (λ e'. all_starts w n (id ∷ ids) (pre ++ SenderItem.Released p id ∷ []) es h e' (none_more pre (SenderItem.Released p id ∷ []) nw tt) (covers_one ids pre (SenderItem.Released p id) id refl c) l)
   where
-    by : (b : Bool) → h.items ≡ pre ++ (if b then Item.Released p id ∷ items_of es else items_of es)
+    by : (b : Bool) → h.items ≡ pre ++ (if b then SenderItem.Released p id ∷ items_of es else items_of es)
         → (h.items ≡ pre ++ items_of es → Starts h (pre ++ items_of (start_all w n (id ∷ ids) es)) (rows_started w (id ∷ ids) es))
-        → (h.items ≡ (pre ++ Item.Released p id ∷ []) ++ items_of es → Starts h ((pre ++ Item.Released p id ∷ []) ++ items_of (start_all w n (id ∷ ids) es)) (rows_started w (id ∷ ids) es))
-        → Starts h (pre ++ (if b then Item.Released p id ∷ items_of (start_all w n (id ∷ ids) es) else items_of (start_all w n (id ∷ ids) es))) (rows_started w (id ∷ ids) es)
-    by true e f g = in_front h pre (items_of (start_all w n (id ∷ ids) es)) (Item.Released p id) (rows_started w (id ∷ ids) es) (g (e ∙ sym (append_assoc pre (Item.Released p id ∷ []) (items_of es))))
+        → (h.items ≡ (pre ++ SenderItem.Released p id ∷ []) ++ items_of es → Starts h ((pre ++ SenderItem.Released p id ∷ []) ++ items_of (start_all w n (id ∷ ids) es)) (rows_started w (id ∷ ids) es))
+        → Starts h (pre ++ (if b then SenderItem.Released p id ∷ items_of (start_all w n (id ∷ ids) es) else items_of (start_all w n (id ∷ ids) es))) (rows_started w (id ∷ ids) es)
+    by true e f g = in_front h pre (items_of (start_all w n (id ∷ ids) es)) (SenderItem.Released p id) (rows_started w (id ∷ ids) es) (g (e ∙ sym (append_assoc pre (SenderItem.Released p id ∷ []) (items_of es))))
     by false e f g = f e
 all_starts w n ids pre (Entry.Finished made p id start release finish ∷ es) h e nw c l =
     by (is_two p.qos) e (λ e'. all_starts w n ids pre es h e' nw c l)
-    (λ e'. all_starts w n ids (pre ++ Item.Finished p ∷ []) es h e' (none_more pre (Item.Finished p ∷ []) nw tt) (covers_free ids pre (Item.Finished p) refl c) l)
+    (λ e'. all_starts w n ids (pre ++ SenderItem.Finished p ∷ []) es h e' (none_more pre (SenderItem.Finished p ∷ []) nw tt) (covers_free ids pre (SenderItem.Finished p) refl c) l)
   where
-    by : (b : Bool) → h.items ≡ pre ++ (if b then Item.Finished p ∷ items_of es else items_of es)
+    by : (b : Bool) → h.items ≡ pre ++ (if b then SenderItem.Finished p ∷ items_of es else items_of es)
         → (h.items ≡ pre ++ items_of es → Starts h (pre ++ items_of (start_all w n ids es)) (rows_started w ids es))
-        → (h.items ≡ (pre ++ Item.Finished p ∷ []) ++ items_of es → Starts h ((pre ++ Item.Finished p ∷ []) ++ items_of (start_all w n ids es)) (rows_started w ids es))
-        → Starts h (pre ++ (if b then Item.Finished p ∷ items_of (start_all w n ids es) else items_of (start_all w n ids es))) (rows_started w ids es)
-    by true e f g = in_front h pre (items_of (start_all w n ids es)) (Item.Finished p) (rows_started w ids es) (g (e ∙ sym (append_assoc pre (Item.Finished p ∷ []) (items_of es))))
+        → (h.items ≡ (pre ++ SenderItem.Finished p ∷ []) ++ items_of es → Starts h ((pre ++ SenderItem.Finished p ∷ []) ++ items_of (start_all w n ids es)) (rows_started w ids es))
+        → Starts h (pre ++ (if b then SenderItem.Finished p ∷ items_of (start_all w n ids es) else items_of (start_all w n ids es))) (rows_started w ids es)
+    by true e f g = in_front h pre (items_of (start_all w n ids es)) (SenderItem.Finished p) (rows_started w ids es) (g (e ∙ sym (append_assoc pre (SenderItem.Finished p ∷ []) (items_of es))))
     by false e f g = f e
 all_starts w n ids pre (Entry.Waits made p ∷ es) h e nw c l =
     by (nat_lt (length ids) w)
     (two (is_two p.qos) e
     (λ e'. all_starts w n (least_free ids ∷ ids) pre es h e' nw (covers_more ids pre (least_free ids) c) (waits_after es l))
-    (λ k e'. all_starts w n (least_free ids ∷ ids) (pre ++ Item.Sent p (least_free ids) ∷ []) es k e' (none_more pre (Item.Sent p (least_free ids) ∷ []) nw tt)
-    (covers_one ids pre (Item.Sent p (least_free ids)) (least_free ids) refl c) (waits_after es l)))
+    (λ k e'. all_starts w n (least_free ids ∷ ids) (pre ++ SenderItem.Sent p (least_free ids) ∷ []) es k e' (none_more pre (SenderItem.Sent p (least_free ids) ∷ []) nw tt)
+    (covers_one ids pre (SenderItem.Sent p (least_free ids)) (least_free ids) refl c) (waits_after es l)))
   where
-    two : (b : Bool) → h.items ≡ pre ++ (if b then Item.Waits p ∷ items_of es else items_of es)
+    two : (b : Bool) → h.items ≡ pre ++ (if b then SenderItem.Waits p ∷ items_of es else items_of es)
         → (h.items ≡ pre ++ items_of es → Starts h (pre ++ items_of (start_all w n (least_free ids ∷ ids) es)) (rows_started w (least_free ids ∷ ids) es))
-        → ((k : Handshake Publication) → k.items ≡ (pre ++ Item.Sent p (least_free ids) ∷ []) ++ items_of es
-        → Starts k ((pre ++ Item.Sent p (least_free ids) ∷ []) ++ items_of (start_all w n (least_free ids ∷ ids) es)) (rows_started w (least_free ids ∷ ids) es))
-        → Starts h (pre ++ (if b then Item.Sent p (least_free ids) ∷ items_of (start_all w n (least_free ids ∷ ids) es) else items_of (start_all w n (least_free ids ∷ ids) es)))
+        → ((k : Handshake Publication) → k.items ≡ (pre ++ SenderItem.Sent p (least_free ids) ∷ []) ++ items_of es
+        → Starts k ((pre ++ SenderItem.Sent p (least_free ids) ∷ []) ++ items_of (start_all w n (least_free ids ∷ ids) es)) (rows_started w (least_free ids ∷ ids) es))
+        → Starts h (pre ++ (if b then SenderItem.Sent p (least_free ids) ∷ items_of (start_all w n (least_free ids ∷ ids) es) else items_of (start_all w n (least_free ids ∷ ids) es)))
         (if b then (least_free ids, p) ∷ rows_started w (least_free ids ∷ ids) es else rows_started w (least_free ids ∷ ids) es)
     two false a f g = f a
     two true a f g =
         let s = starts_one h pre (least_free ids) p es ids a nw c (least-is-free ids) l in
-        let k = with_items (start_first (least_free ids) h.items) (sending (Forward.Publish (least_free ids) p) h.link) h in
+        let k = with_items (start_first (least_free ids) h.items) (sending (Forward.Publish (least_free ids) p) h.transit) h in
         let r = g k s.1 in
         record {
           after = r.after;
           run = run_then s.0 r.run;
-          items_are = r.items_are ∙ append_assoc pre (Item.Sent p (least_free ids) ∷ []) (items_of (start_all w n (least_free ids ∷ ids) es));
+          items_are = r.items_are ∙ append_assoc pre (SenderItem.Sent p (least_free ids) ∷ []) (items_of (start_all w n (least_free ids ∷ ids) es));
           accepted = r.accepted;
           received = r.received;
-          link = r.link;
+          transit = r.transit;
         }
 
     by : (room : Bool)
@@ -193,4 +193,4 @@ all_starts w n ids pre (Entry.Waits made p ∷ es) h e nw c l =
         → Starts h (pre ++ items_of (if room then Entry.Started made p (least_free ids) n ∷ start_all w n (least_free ids ∷ ids) es else Entry.Waits made p ∷ es))
         (if room then (if is_two p.qos then (least_free ids, p) ∷ rows_started w (least_free ids ∷ ids) es else rows_started w (least_free ids ∷ ids) es) else [])
     by true r = r
-    by false r = record { after = h; run = stays; items_are = e; accepted = refl; received = refl; link = refl }
+    by false r = record { after = h; run = stays; items_are = e; accepted = refl; received = refl; transit = refl }

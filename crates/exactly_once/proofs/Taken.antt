@@ -1,9 +1,9 @@
--- What the receiver takes, on either link.
+-- What the receiver takes, on either transit.
 use Rattle.std.proofs.Common.{◌≡◌, ℕ, Bool, true, false, not, ◌&&◌, ◌==◌, List, [], ◌∷◌, ◌++◌, refl, ap, sym, ◌∙◌, subst}
 use Rattle.std.proofs.lemmas.Bool.{both_ways}
 use Rattle.client_base.specs.lists.Lists.{Each}
-use Rattle.exactly_once.specs.Items.{Item, sent, has_sent, has_released}
-use Rattle.exactly_once.specs.Handshake.{Forward, Backward, Link, Handshake, answer, accepting, taking}
+use Rattle.exactly_once.specs.Items.{SenderItem, sent, has_sent, has_released}
+use Rattle.exactly_once.specs.Handshake.{Forward, Backward, Transit, Handshake, answer, accepting, taking}
 use Rattle.exactly_once.specs.HandshakeInvariant.{AreSides, publishes, forward_id, backward_id, IsMeant, IsDue, IsSent, Comes}
 use Rattle.client_base.proofs.of_lists.Tests.{none_or, eq_same, eq_turn, or_left, or_right, or_then}
 use Rattle.client_base.proofs.of_lists.OfEach.{each_then}
@@ -11,9 +11,9 @@ use Rattle.exactly_once.proofs.ItemsKnown.{cons_is, pair_is, olds_sent, first_se
 use Rattle.exactly_once.proofs.RowsSent.{row_sent}
 use Rattle.exactly_once.proofs.SidesAccept.{sides_accept, sides_forget}
 
-pub record Took {V : Type 0} (m : Forward V) (received : ℕ → Bool) (old : List (Item V)) (f : List (Forward V)) (more : List (ℕ × V)) (after : Handshake V) : Type 0 where
-  pub old' : List (Item V)
-  pub new' : List (Item V)
+pub record Took {V : Type 0} (m : Forward V) (received : ℕ → Bool) (old : List (SenderItem V)) (f : List (Forward V)) (more : List (ℕ × V)) (after : Handshake V) : Type 0 where
+  pub old' : List (SenderItem V)
+  pub new' : List (SenderItem V)
   pub next' : List (ℕ × V)
   pub sides : AreSides after.items after.accepted after.received old' new'
   pub comes : Comes old' f next'
@@ -23,32 +23,32 @@ pub record Took {V : Type 0} (m : Forward V) (received : ℕ → Bool) (old : Li
 
 -- ---- one more accepted
 
-sent_more : {V : Type 0} (i : ℕ) (items more : List (Item V)) → has_sent i items ≡ true → has_sent i (items ++ more) ≡ true
+sent_more : {V : Type 0} (i : ℕ) (items more : List (SenderItem V)) → has_sent i items ≡ true → has_sent i (items ++ more) ≡ true
 sent_more i [] more e = absurd (both_ways false refl e)
-sent_more i (Item.Waits v ∷ items) more e = sent_more i items more e
-sent_more i (Item.Sent v id ∷ items) more e = or_then (i == id) (has_sent i items) (has_sent i (items ++ more)) e (sent_more i items more)
-sent_more i (Item.Released v id ∷ items) more e = sent_more i items more e
-sent_more i (Item.Finished v ∷ items) more e = sent_more i items more e
+sent_more i (SenderItem.Waits v ∷ items) more e = sent_more i items more e
+sent_more i (SenderItem.Sent v id ∷ items) more e = or_then (i == id) (has_sent i items) (has_sent i (items ++ more)) e (sent_more i items more)
+sent_more i (SenderItem.Released v id ∷ items) more e = sent_more i items more e
+sent_more i (SenderItem.Finished v ∷ items) more e = sent_more i items more e
 
-released_more : {V : Type 0} (i : ℕ) (items more : List (Item V)) → has_released i items ≡ true → has_released i (items ++ more) ≡ true
+released_more : {V : Type 0} (i : ℕ) (items more : List (SenderItem V)) → has_released i items ≡ true → has_released i (items ++ more) ≡ true
 released_more i [] more e = absurd (both_ways false refl e)
-released_more i (Item.Waits v ∷ items) more e = released_more i items more e
-released_more i (Item.Sent v id ∷ items) more e = released_more i items more e
-released_more i (Item.Released v id ∷ items) more e = or_then (i == id) (has_released i items) (has_released i (items ++ more)) e (released_more i items more)
-released_more i (Item.Finished v ∷ items) more e = released_more i items more e
+released_more i (SenderItem.Waits v ∷ items) more e = released_more i items more e
+released_more i (SenderItem.Sent v id ∷ items) more e = released_more i items more e
+released_more i (SenderItem.Released v id ∷ items) more e = or_then (i == id) (has_released i items) (has_released i (items ++ more)) e (released_more i items more)
+released_more i (SenderItem.Finished v ∷ items) more e = released_more i items more e
 
-now_sent : {V : Type 0} (items : List (Item V)) (v : V) (id : ℕ) → has_sent id (items ++ Item.Sent v id ∷ []) ≡ true
+now_sent : {V : Type 0} (items : List (SenderItem V)) (v : V) (id : ℕ) → has_sent id (items ++ SenderItem.Sent v id ∷ []) ≡ true
 now_sent [] v id = or_left (id == id) false (eq_same id)
-now_sent (Item.Waits u ∷ items) v id = now_sent items v id
-now_sent (Item.Sent u i ∷ items) v id = or_right (id == i) (has_sent id (items ++ Item.Sent v id ∷ [])) (now_sent items v id)
-now_sent (Item.Released u i ∷ items) v id = now_sent items v id
-now_sent (Item.Finished u ∷ items) v id = now_sent items v id
+now_sent (SenderItem.Waits u ∷ items) v id = now_sent items v id
+now_sent (SenderItem.Sent u i ∷ items) v id = or_right (id == i) (has_sent id (items ++ SenderItem.Sent v id ∷ [])) (now_sent items v id)
+now_sent (SenderItem.Released u i ∷ items) v id = now_sent items v id
+now_sent (SenderItem.Finished u ∷ items) v id = now_sent items v id
 
-pub meant_more : {V : Type 0} (old more : List (Item V)) (m : Forward V) → IsMeant old m → IsMeant (old ++ more) m
+pub meant_more : {V : Type 0} (old more : List (SenderItem V)) (m : Forward V) → IsMeant old m → IsMeant (old ++ more) m
 meant_more old more (Forward.Publish id v) h = tt
 meant_more old more (Forward.Pubrel id) h = released_more id old more h
 
-due_more : {V : Type 0} (received : ℕ → Bool) (old more : List (Item V)) (id : ℕ) (b : Backward) → IsDue received old b → (id == backward_id b) ≡ false
+due_more : {V : Type 0} (received : ℕ → Bool) (old more : List (SenderItem V)) (id : ℕ) (b : Backward) → IsDue received old b → (id == backward_id b) ≡ false
     → IsDue (with id received) (old ++ more) b
 due_more received old more id (Backward.Pubrec i) h n = sent_more i old more h
 due_more received old more id (Backward.Pubcomp i) h n = (released_more i old more h.0, none_or (i == id) (received i) (eq_turn id i n) h.1)
@@ -59,7 +59,7 @@ and_none : (x y : Bool) → y ≡ false → (x && y) ≡ false
 and_none true y e = e
 and_none false y e = refl
 
-due_less : {V : Type 0} (received : ℕ → Bool) (old : List (Item V)) (id : ℕ) (b : Backward) → IsDue received old b → IsDue (without id received) old b
+due_less : {V : Type 0} (received : ℕ → Bool) (old : List (SenderItem V)) (id : ℕ) (b : Backward) → IsDue received old b → IsDue (without id received) old b
 due_less received old id (Backward.Pubrec i) h = h
 due_less received old id (Backward.Pubcomp i) h = (h.0, and_none (not (i == id)) (received i) h.1)
 
@@ -69,7 +69,7 @@ now_less received id = ap (λ b. not b && received id) (eq_same id)
 -- ---- both
 
 -- one that the receiver knows: only answered
-took_again : {V : Type 0} (h : Handshake V) (id : ℕ) (v : V) (f : List (Forward V)) (l : Link V) (old new : List (Item V)) (next more again : List (ℕ × V))
+took_again : {V : Type 0} (h : Handshake V) (id : ℕ) (v : V) (f : List (Forward V)) (l : Transit V) (old new : List (SenderItem V)) (next more again : List (ℕ × V))
     → AreSides h.items h.accepted h.received old new → (b : Bool) → b ≡ true → publishes f ≡ again ++ next → Each (IsSent old) again
     → Each (IsMeant old) f → has_sent id old ≡ true → sent new ≡ next ++ more → Took (Forward.Publish id v) h.received old f more (accepting id v b h l)
 took_again h id v f l old new next more again s false e is known meant here front = absurd (both_ways false refl e)
@@ -86,23 +86,23 @@ took_again h id v f l old new next more again s true e is known meant here front
     }
 
 -- the next one: accepted
-took_next : {V : Type 0} (h : Handshake V) (id : ℕ) (v : V) (f : List (Forward V)) (l : Link V) (old later : List (Item V)) (more : List (ℕ × V))
-    → AreSides h.items h.accepted h.received old (Item.Sent v id ∷ later) → (b : Bool) → b ≡ false
+took_next : {V : Type 0} (h : Handshake V) (id : ℕ) (v : V) (f : List (Forward V)) (l : Transit V) (old later : List (SenderItem V)) (more : List (ℕ × V))
+    → AreSides h.items h.accepted h.received old (SenderItem.Sent v id ∷ later) → (b : Bool) → b ≡ false
     → Each (IsMeant old) f → sent later ≡ publishes f ++ more → Took (Forward.Publish id v) h.received old f more (accepting id v b h l)
 took_next h id v f l old later more s true e meant front = absurd (both_ways true e refl)
 took_next h id v f l old later more s false e meant front =
     record {
-      old' = old ++ Item.Sent v id ∷ [];
+      old' = old ++ SenderItem.Sent v id ∷ [];
       new' = later;
       next' = publishes f;
       sides = sides_accept h.items h.accepted h.received old later id v s;
-      comes = record { again = []; is = refl; known = tt; meant = each_then (IsMeant old) (IsMeant (old ++ Item.Sent v id ∷ [])) f (meant_more old (Item.Sent v id ∷ [])) meant };
+      comes = record { again = []; is = refl; known = tt; meant = each_then (IsMeant old) (IsMeant (old ++ SenderItem.Sent v id ∷ [])) f (meant_more old (SenderItem.Sent v id ∷ [])) meant };
       front = front;
       due = now_sent old v id;
-      others = λ b d n. due_more h.received old (Item.Sent v id ∷ []) id b d n;
+      others = λ b d n. due_more h.received old (SenderItem.Sent v id ∷ []) id b d n;
     }
 
-took_publish : {V : Type 0} (h : Handshake V) (id : ℕ) (v : V) (f : List (Forward V)) (l : Link V) (old new : List (Item V)) (next more again : List (ℕ × V))
+took_publish : {V : Type 0} (h : Handshake V) (id : ℕ) (v : V) (f : List (Forward V)) (l : Transit V) (old new : List (SenderItem V)) (next more again : List (ℕ × V))
     → AreSides h.items h.accepted h.received old new → (id, v) ∷ publishes f ≡ again ++ next → Each (IsSent old) again
     → Each (IsMeant old) f → sent new ≡ next ++ more → Took (Forward.Publish id v) h.received old f more (accepting id v (h.received id) h l)
 took_publish h id v f l old new next more (row ∷ again) s is known meant front =
@@ -112,10 +112,10 @@ took_publish h id v f l old new next more (row ∷ again) s is known meant front
 took_publish {V = X} h id v f l old new next more [] s is known meant front =
     let front' : sent new ≡ (id, v) ∷ (publishes f ++ more) = front ∙ ap (λ z. z ++ more) (sym is) in
     let first = first_sent h.received id v (publishes f ++ more) new s.news s.waits_last front' in
-    let s' : AreSides h.items h.accepted h.received old (Item.Sent v id ∷ first.later) = subst (λ (z : List (Item X)). AreSides h.items h.accepted h.received old z) first.is s in
+    let s' : AreSides h.items h.accepted h.received old (SenderItem.Sent v id ∷ first.later) = subst (λ (z : List (SenderItem X)). AreSides h.items h.accepted h.received old z) first.is s in
     took_next h id v f l old first.later more s' (h.received id) s'.news.0 meant first.sent_is
 
-pub took : {V : Type 0} (h : Handshake V) (m : Forward V) (f : List (Forward V)) (l : Link V) (old new : List (Item V)) (next more : List (ℕ × V))
+pub took : {V : Type 0} (h : Handshake V) (m : Forward V) (f : List (Forward V)) (l : Transit V) (old new : List (SenderItem V)) (next more : List (ℕ × V))
     → AreSides h.items h.accepted h.received old new → Comes old (m ∷ f) next → sent new ≡ next ++ more → Took m h.received old f more (taking m h l)
 took h (Forward.Publish id v) f l old new next more s c front = took_publish h id v f l old new next more c.again s c.is c.known c.meant.1 front
 took h (Forward.Pubrel id) f l old new next more s c front =

@@ -17,7 +17,7 @@ use Rattle.broker_base.specs.broker_spec.Received.{receives, received_of, is_exa
 use Rattle.broker_base.specs.broker_spec.Sends.{deliveries_to}
 use Rattle.broker_base.specs.broker_spec.Answers.{acknowledged, answers_at}
 use Rattle.broker_base.proofs.ClientsInOrder.{same_self}
-use Rattle.exactly_once.specs.Handshake.{Forward, Backward, Link, Handshake, answer, taking, accepting}
+use Rattle.exactly_once.specs.Handshake.{Forward, Backward, Transit, Handshake, answer, taking, accepting}
 use Rattle.exactly_once.specs.Handshake.Advances.{takes}
 use Rattle.exactly_once.specs.Handshake.Run.{stays, goes_on}
 use Rattle.exactly_once.specs.Sends.{sends_to, put_to}
@@ -87,10 +87,10 @@ abbrev pub taken_once : ClientConnection → ClientConnection
 taken_once κ = record κ { taken = suc κ.taken }
 
 -- the handshake after an acceptance
-accepting_like : (id k : ℕ) (b : Bool) (h : Handshake ℕ) (l : Link ℕ) (t : Handshake ℕ) → b ≡ false → h.items ≡ t.items → h.accepted ++ k ∷ [] ≡ t.accepted
-    → ((j : ℕ) → ((j == id) || h.received j) ≡ t.received j) → l ≡ t.link → IsLike (accepting id k b h l) t
+accepting_like : (id k : ℕ) (b : Bool) (h : Handshake ℕ) (l : Transit ℕ) (t : Handshake ℕ) → b ≡ false → h.items ≡ t.items → h.accepted ++ k ∷ [] ≡ t.accepted
+    → ((j : ℕ) → ((j == id) || h.received j) ≡ t.received j) → l ≡ t.transit → IsLike (accepting id k b h l) t
 accepting_like id k true h l t n i a r e = absurd (both_ways true n refl)
-accepting_like id k false h l t n i a r e = record { items = i; accepted = a; received = r; link = e }
+accepting_like id k false h l t n i a r e = record { items = i; accepted = a; received = r; transit = e }
 
 pub takes_new : (limits : Limits) (past : Past) (keeper : Keeper) (κ : ClientConnection) (others : List ClientConnection) (p : Publish) (k : ℕ) (dup : Bool) (id : ℕ) (clean : Bool)
     → keeper.is_online ≡ true → κ.confirmed ≡ true → is_current (current_connection past keeper.client) κ.name ≡ true
@@ -108,9 +108,9 @@ takes_new limits past keeper κ others p k dup id clean on conf current next two
     let f = forward_of_own (drop (suc κ.taken) κ.written) in
     let b = backward_of_own (to_come limits past κ) in
     let m : Forward ℕ = Forward.Publish id k in
-    let link : h.link ≡ Link.Joined (m ∷ f) b =
+    let transit : h.transit ≡ Transit.Joined (m ∷ f) b =
     joined_link limits past (current_connection past c) keeper.is_online κ others on conf current
-    ∙ ap (λ z. Link.Joined z b) (ap forward_of_own (dropped_one κ.taken κ.written (record { packet = packets.Publish p; number = Some k }) next)
+    ∙ ap (λ z. Transit.Joined z b) (ap forward_of_own (dropped_one κ.taken κ.written (record { packet = packets.Publish p; number = Some k }) next)
     ∙ ap (λ (d : Delivery). carried_by d (Some k) f) two) in
     let current' : is_current (current_connection (place ∷ past) c) κ.name ≡ true =
     ap (λ z. is_current z κ.name) (current_packet past c κ.name (packets.Publish p) (Mark.Taken c) refl) ∙ current in
@@ -119,9 +119,9 @@ takes_new limits past keeper κ others p k dup id clean on conf current next two
     ∙ ap backward_of_own (drop-append-le κ.handled (put_to limits past κ.name) (sends_to κ.name (answers_at limits place past)) handled)
     ∙ backward_append (to_come limits past κ) (sends_to κ.name (answers_at limits place past))
     ∙ ap (λ z. b ++ z) (answers_two limits past κ.name p c dup id two) in
-    let link' : Link.Joined f (b ++ Backward.Pubrec id ∷ []) ≡ (as_publisher limits t).link =
+    let transit' : Transit.Joined f (b ++ Backward.Pubrec id ∷ []) ≡ (as_publisher limits t).transit =
     sym (joined_link limits (place ∷ past) (current_connection (place ∷ past) c) keeper.is_online (taken_once κ) others on conf current'
-    ∙ ap (λ z. Link.Joined f z) come) in
+    ∙ ap (λ z. Transit.Joined f z) come) in
     let named : connection_named κ.name (taken_once κ ∷ others) ≡ Some (taken_once κ) = ap (λ b. if b then Some (taken_once κ) else connection_named κ.name others) (same_name_self κ.name) in
     let carried : number_at (count_of κ.name past) (connection_named κ.name (taken_once κ ∷ others)) ≡ Some k =
     ap₂ (λ (n : ℕ) (o : Option ClientConnection). number_at n o) counted named ∙ ap number_of next in
@@ -133,8 +133,8 @@ takes_new limits past keeper κ others p k dup id clean on conf current next two
     received_packet past c κ.name (packets.Publish p) (Mark.Taken c) clean refl session
     ∙ ap (λ z. if z then receives p.delivery (received_of past c) else received_of past c) (same_self c) in
     record {
-      between = taking m h (Link.Joined f (b ++ answer m ∷ []));
-      run = goes_on stays (takes m f b link);
-      like = accepting_like id k (h.received id) h (Link.Joined f (b ++ Backward.Pubrec id ∷ [])) (as_publisher limits t) new refl accepted
-          (λ j. sym (ap (has_id j) received ∙ ap (λ (d : Delivery). has_id j (receives d (received_of past c))) two ∙ has_with j id (received_of past c))) link';
+      between = taking m h (Transit.Joined f (b ++ answer m ∷ []));
+      run = goes_on stays (takes m f b transit);
+      like = accepting_like id k (h.received id) h (Transit.Joined f (b ++ Backward.Pubrec id ∷ [])) (as_publisher limits t) new refl accepted
+          (λ j. sym (ap (has_id j) received ∙ ap (λ (d : Delivery). has_id j (receives d (received_of past c))) two ∙ has_with j id (received_of past c))) transit';
     }

@@ -41,7 +41,7 @@ publisher_opens limits c =
       old = [];
       new = [];
       sides = record { is = refl; accepted_is = refl; olds = tt; news = tt; waits_last = tt; apart = tt; known = λ i e. e };
-      link = record { due = tt; apart = tt };
+      transit = record { due = tt; apart = tt };
     }
 
 subscriber_opens : (limits : Limits) (c : Client) → IsGood (as_subscriber limits (no_story c))
@@ -51,7 +51,7 @@ subscriber_opens limits c =
       old = [];
       new = [];
       sides = record { is = refl; accepted_is = refl; olds = tt; news = tt; waits_last = tt; apart = tt; known = λ i e. e };
-      link = record { due = tt; apart = tt };
+      transit = record { due = tt; apart = tt };
     }
 
 pub stories_are_sound : EventKeepsShape → EventPublishes → EventSubscribes → (limits : Limits) → IsSteady limits → (c : Client) (s : Story) → StoryTrace limits c s → IsSoundStory limits s

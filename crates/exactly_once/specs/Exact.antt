@@ -1,21 +1,21 @@
 -- What holds after every run of a handshake.
 use Rattle.std.specs.Prelude.{◌≡◌, ℕ, Bool, true, false, List, ◌∷◌, ◌++◌, map, Option, Some, None}
 use Rattle.client_base.specs.lists.Lists.{In, Each}
-use Rattle.exactly_once.specs.Items.{Item, value_of}
-use Rattle.exactly_once.specs.Handshake.{Forward, Link, Handshake, Run, opening}
+use Rattle.exactly_once.specs.Items.{SenderItem, value_of}
+use Rattle.exactly_once.specs.Handshake.{Forward, Transit, Handshake, Run, opening}
 
 -- ---- what holds after every run
 
 -- whether the receiver's PUBREC for an item has come to the sender
-abbrev pub is_over : {V : Type 0} → Item V → Bool
-is_over (Item.Released v id) = true
-is_over (Item.Finished v) = true
+abbrev pub is_over : {V : Type 0} → SenderItem V → Bool
+is_over (SenderItem.Released v id) = true
+is_over (SenderItem.Finished v) = true
 is_over _ = false
 
 -- What is accepted is a prefix of the items, in order, and each that is released is among them.
 pub record IsExact {V : Type 0} (h : Handshake V) : Type 0 where
-  pub prefix : List (Item V)
-  pub others : List (Item V)
+  pub prefix : List (SenderItem V)
+  pub others : List (SenderItem V)
   pub is : h.items ≡ prefix ++ others
   pub accepted : h.accepted ≡ map value_of prefix
   pub rest : Each (λ item. is_over item ≡ false) others
@@ -25,9 +25,9 @@ abbrev pub RunsAreExact : Type 0 → Type 0
 RunsAreExact V = (h : Handshake V) → Run (opening V) h → IsExact h
 
 -- what comes next to the receiver
-abbrev pub next_of : {V : Type 0} → Link V → Option (Forward V)
-next_of (Link.Joined (m ∷ f) b) = Some m
-next_of (Link.Ahead (m ∷ f)) = Some m
+abbrev pub next_of : {V : Type 0} → Transit V → Option (Forward V)
+next_of (Transit.Joined (m ∷ f) b) = Some m
+next_of (Transit.Ahead (m ∷ f)) = Some m
 next_of _ = None
 
 -- a publication that comes with an identifier that the receiver knows was accepted before, the same
@@ -35,5 +35,5 @@ next_of _ = None
 abbrev pub RepeatsWereAccepted : Type 0 → Type 0
 RepeatsWereAccepted V =
     (h : Handshake V) → Run (opening V) h → (id : ℕ) (v : V) →
-    next_of h.link ≡ Some (Forward.Publish id v) →
+    next_of h.transit ≡ Some (Forward.Publish id v) →
     h.received id ≡ true → In v h.accepted

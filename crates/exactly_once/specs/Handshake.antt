@@ -1,7 +1,7 @@
 -- The handshake of QoS 2 between two sides, over connections that come and go (MQTT 4.3.3, 4.4).
 use Rattle.std.specs.Prelude.{◌≡◌, ℕ, Bool, true, false, not, ◌&&◌, ◌||◌, ◌==◌, List, [], ◌∷◌, ◌++◌, map, Some}
 use Rattle.client_base.specs.lists.Lists.{has_id, IsDistinct, Each}
-use Rattle.exactly_once.specs.Items.{Item, busy, sent, has_released, releasing, finishing, start_first, first_waiting}
+use Rattle.exactly_once.specs.Items.{SenderItem, busy, sent, has_released, releasing, finishing, start_first, first_waiting}
 
 -- a packet from the sender to the receiver
 pub data Forward (V : Type 0) : Type 0 where
@@ -14,17 +14,17 @@ pub data Backward : Type 0 where
   Pubcomp : (id : ℕ) → Backward  -- the identifier is forgotten, and may be used again
 
 -- the connection between the two sides, with what is in transit on it
-pub data Link (V : Type 0) : Type 0 where
-  Joined : (forward : List (Forward V)) → (backward : List Backward) → Link V  -- both are on it
-  Behind : (backward : List Backward) → Link V  -- the receiver left; the sender may receive
-  Ahead : (forward : List (Forward V)) → Link V  -- the sender left; the receiver may take
+pub data Transit (V : Type 0) : Type 0 where
+  Joined : (forward : List (Forward V)) → (backward : List Backward) → Transit V  -- both are on it
+  Behind : (backward : List Backward) → Transit V  -- the receiver left; the sender may receive
+  Ahead : (forward : List (Forward V)) → Transit V  -- the sender left; the receiver may take
 
 -- the items, what is accepted, which identifiers the receiver knows, and what is in transit
 pub record Handshake (V : Type 0) : Type 0 where
-  pub items : List (Item V)
+  pub items : List (SenderItem V)
   pub accepted : List V
   pub received : ℕ → Bool
-  pub link : Link V
+  pub transit : Transit V
 
 -- the receiver's answer to a packet of the sender
 abbrev pub answer : {V : Type 0} → Forward V → Backward
@@ -37,78 +37,78 @@ reply (Backward.Pubrec id) = Forward.Pubrel id ∷ []
 reply (Backward.Pubcomp id) = []
 
 -- the receiver accepts
-abbrev pub accepting : {V : Type 0} → ℕ → V → Bool → Handshake V → Link V → Handshake V
+abbrev pub accepting : {V : Type 0} → ℕ → V → Bool → Handshake V → Transit V → Handshake V
 accepting id v true h l =
-    record { items = h.items; accepted = h.accepted; received = h.received; link = l }
+    record { items = h.items; accepted = h.accepted; received = h.received; transit = l }
 accepting id v false h l =
     record {
       items = h.items;
       accepted = h.accepted ++ v ∷ [];
       received = λ j. (j == id) || h.received j;
-      link = l;
+      transit = l;
     }
 
 -- the receiver takes a packet: it accepts a PUBLISH, or forgets a PUBREL's identifier
-abbrev pub taking : {V : Type 0} → Forward V → Handshake V → Link V → Handshake V
+abbrev pub taking : {V : Type 0} → Forward V → Handshake V → Transit V → Handshake V
 taking (Forward.Publish id v) h l = accepting id v (h.received id) h l
 taking (Forward.Pubrel id) h l =
     record {
       items = h.items;
       accepted = h.accepted;
       received = λ j. not (j == id) && h.received j;
-      link = l;
+      transit = l;
     }
 
 -- the sender receives an answer
-abbrev pub heard : {V : Type 0} → Backward → List (Item V) → List (Item V)
+abbrev pub heard : {V : Type 0} → Backward → List (SenderItem V) → List (SenderItem V)
 heard (Backward.Pubrec id) items = map (releasing id) items
 heard (Backward.Pubcomp id) items = map (finishing id) items
 
 -- a handshake with these items and this connection in place of its own
-abbrev pub with_items : {V : Type 0} → List (Item V) → Link V → Handshake V → Handshake V
+abbrev pub with_items : {V : Type 0} → List (SenderItem V) → Transit V → Handshake V → Handshake V
 with_items items l h =
-    record { items = items; accepted = h.accepted; received = h.received; link = l }
+    record { items = items; accepted = h.accepted; received = h.received; transit = l }
 
 -- what the sender sends on its connection, if the receiver may still take it
-abbrev pub sending : {V : Type 0} → Forward V → Link V → Link V
-sending m (Link.Joined f b) = Link.Joined (f ++ m ∷ []) b
-sending m (Link.Behind b) = Link.Behind b
-sending m (Link.Ahead f) = Link.Ahead f
+abbrev pub sending : {V : Type 0} → Forward V → Transit V → Transit V
+sending m (Transit.Joined f b) = Transit.Joined (f ++ m ∷ []) b
+sending m (Transit.Behind b) = Transit.Behind b
+sending m (Transit.Ahead f) = Transit.Ahead f
 
 -- the PUBLISH of an item that was sent
 abbrev pub publishing : {V : Type 0} → ℕ × V → Forward V
 publishing row = Forward.Publish row.0 row.1
 
 -- what the sender sends on a new connection: PUBRELs, and each PUBLISH again (MQTT 4.4)
-abbrev pub resend : {V : Type 0} → List ℕ → List (Item V) → List (Forward V)
+abbrev pub resend : {V : Type 0} → List ℕ → List (SenderItem V) → List (Forward V)
 resend releases items = map (λ id. Forward.Pubrel id) releases ++ map publishing (sent items)
 
 -- one step of a handshake; Packet Identifiers are those of the sender
 pub data Advances {V : Type 0} (h : Handshake V) : Handshake V → Type 0 where
-  adds : (v : V) → Advances h (with_items (h.items ++ Item.Waits v ∷ []) h.link h)  -- another waits
+  adds : (v : V) → Advances h (with_items (h.items ++ SenderItem.Waits v ∷ []) h.transit h)
   -- the first that waits starts with a free identifier: its PUBLISH is sent (MQTT 4.3.3)
   starts : (id : ℕ) (v : V) → has_id id (busy h.items) ≡ false → first_waiting h.items ≡ Some v →
-      Advances h (with_items (start_first id h.items) (sending (Forward.Publish id v) h.link) h)
+      Advances h (with_items (start_first id h.items) (sending (Forward.Publish id v) h.transit) h)
   takes : (m : Forward V) (f : List (Forward V)) (b : List Backward) →
-      h.link ≡ Link.Joined (m ∷ f) b →
-      Advances h (taking m h (Link.Joined f (b ++ answer m ∷ [])))  -- it is taken and answered
-  takes_alone : (m : Forward V) (f : List (Forward V)) → h.link ≡ Link.Ahead (m ∷ f) →
-      Advances h (taking m h (Link.Ahead f))  -- the sender left: the answer goes to nobody
+      h.transit ≡ Transit.Joined (m ∷ f) b →
+      Advances h (taking m h (Transit.Joined f (b ++ answer m ∷ [])))  -- it is taken and answered
+  takes_alone : (m : Forward V) (f : List (Forward V)) → h.transit ≡ Transit.Ahead (m ∷ f) →
+      Advances h (taking m h (Transit.Ahead f))  -- the sender left: the answer goes to nobody
   hears : (m : Backward) (f : List (Forward V)) (b : List Backward) →
-      h.link ≡ Link.Joined f (m ∷ b) →  -- the sender gets an answer: a PUBREL follows a PUBREC
-      Advances h (with_items (heard m h.items) (Link.Joined (f ++ reply m) b) h)
-  hears_alone : (m : Backward) (b : List Backward) → h.link ≡ Link.Behind (m ∷ b) →
-      Advances h (with_items (heard m h.items) (Link.Behind b) h)  -- the receiver left: no PUBREL
-  sender_leaves : (f : List (Forward V)) (b : List Backward) → h.link ≡ Link.Joined f b →
-      Advances h (with_items h.items (Link.Ahead f) h)  -- the sender leaves: no answer comes
-  receiver_leaves : (f : List (Forward V)) (b : List Backward) → h.link ≡ Link.Joined f b →
-      Advances h (with_items h.items (Link.Behind b) h)  -- the receiver leaves: it takes no more
-  parts : Advances h (with_items h.items (Link.Behind []) h)  -- what is in transit is lost
-  parts_ahead : Advances h (with_items h.items (Link.Ahead []) h)  -- the same, and the sender left
+      h.transit ≡ Transit.Joined f (m ∷ b) →  -- the sender gets an answer: PUBREL follows PUBREC
+      Advances h (with_items (heard m h.items) (Transit.Joined (f ++ reply m) b) h)
+  hears_alone : (m : Backward) (b : List Backward) → h.transit ≡ Transit.Behind (m ∷ b) →
+      Advances h (with_items (heard m h.items) (Transit.Behind b) h)  -- receiver left: no PUBREL
+  sender_leaves : (f : List (Forward V)) (b : List Backward) → h.transit ≡ Transit.Joined f b →
+      Advances h (with_items h.items (Transit.Ahead f) h)  -- the sender leaves: no answer comes
+  receiver_leaves : (f : List (Forward V)) (b : List Backward) → h.transit ≡ Transit.Joined f b →
+      Advances h (with_items h.items (Transit.Behind b) h)  -- the receiver leaves: it takes no more
+  parts : Advances h (with_items h.items (Transit.Behind []) h)  -- what is in transit is lost
+  parts_ahead : Advances h (with_items h.items (Transit.Ahead []) h)  -- the same, the sender left
   -- on a new connection PUBRELs are sent again, and each PUBLISH without PUBREC (MQTT 4.4)
   restarts : (releases : List ℕ) → IsDistinct releases →
       Each (λ id. has_released id h.items ≡ true) releases →
-      Advances h (with_items h.items (Link.Joined (resend releases h.items) []) h)
+      Advances h (with_items h.items (Transit.Joined (resend releases h.items) []) h)
 
 -- steps one after another
 pub data Run {V : Type 0} (h : Handshake V) : Handshake V → Type 0 where
@@ -117,4 +117,4 @@ pub data Run {V : Type 0} (h : Handshake V) : Handshake V → Type 0 where
 
 -- nothing was sent yet, and there is no connection
 abbrev pub opening : (V : Type 0) → Handshake V
-opening V = record { items = []; accepted = []; received = λ id. false; link = Link.Behind [] }
+opening V = record { items = []; accepted = []; received = λ i. false; transit = Transit.Behind [] }

@@ -1,31 +1,31 @@
 -- What every run of a handshake keeps: the two sides, and what is in transit between them.
 use Rattle.std.specs.Prelude.{◌≡◌, ℕ, Bool, true, false, List, [], ◌∷◌, ◌++◌, map}
 use Rattle.client_base.specs.lists.Lists.{In, has_id, IsDistinct, Each}
-use Rattle.exactly_once.specs.Items.{Item, value_of, busy, sent, has_sent, has_released}
-use Rattle.exactly_once.specs.Handshake.{Forward, Backward, Link, Handshake}
+use Rattle.exactly_once.specs.Items.{SenderItem, value_of, busy, sent, has_sent, has_released}
+use Rattle.exactly_once.specs.Handshake.{Forward, Backward, Transit, Handshake}
 
 -- an accepted item was sent, and until it is released the receiver knows its identifier
-abbrev pub IsOld : {V : Type 0} → (ℕ → Bool) → Item V → Type 0
-IsOld received (Item.Waits v) = ⊥
-IsOld received (Item.Sent v id) = received id ≡ true
-IsOld received (Item.Released v id) = Unit {0}
-IsOld received (Item.Finished v) = Unit {0}
+abbrev pub IsOld : {V : Type 0} → (ℕ → Bool) → SenderItem V → Type 0
+IsOld received (SenderItem.Waits v) = ⊥
+IsOld received (SenderItem.Sent v id) = received id ≡ true
+IsOld received (SenderItem.Released v id) = Unit {0}
+IsOld received (SenderItem.Finished v) = Unit {0}
 
 -- any other waits, or is sent with an identifier that the receiver does not know
-abbrev pub IsNew : {V : Type 0} → (ℕ → Bool) → Item V → Type 0
-IsNew received (Item.Waits v) = Unit {0}
-IsNew received (Item.Sent v id) = received id ≡ false
-IsNew received (Item.Released v id) = ⊥
-IsNew received (Item.Finished v) = ⊥
+abbrev pub IsNew : {V : Type 0} → (ℕ → Bool) → SenderItem V → Type 0
+IsNew received (SenderItem.Waits v) = Unit {0}
+IsNew received (SenderItem.Sent v id) = received id ≡ false
+IsNew received (SenderItem.Released v id) = ⊥
+IsNew received (SenderItem.Finished v) = ⊥
 
 -- the item was not sent yet
-abbrev pub IsWaiting : {V : Type 0} → Item V → Type 0
-IsWaiting (Item.Waits v) = Unit {0}
+abbrev pub IsWaiting : {V : Type 0} → SenderItem V → Type 0
+IsWaiting (SenderItem.Waits v) = Unit {0}
 IsWaiting _ = ⊥
 
 -- after one that waits, all wait
-abbrev pub WaitsLast : {V : Type 0} → List (Item V) → Type 0
-WaitsLast (Item.Waits v ∷ items) = Each IsWaiting items
+abbrev pub WaitsLast : {V : Type 0} → List (SenderItem V) → Type 0
+WaitsLast (SenderItem.Waits v ∷ items) = Each IsWaiting items
 WaitsLast (_ ∷ items) = WaitsLast items
 WaitsLast [] = Unit {0}
 
@@ -48,22 +48,22 @@ backward_id (Backward.Pubrec id) = id
 backward_id (Backward.Pubcomp id) = id
 
 -- a PUBREL is of a released item
-abbrev pub IsMeant : {V : Type 0} → List (Item V) → Forward V → Type 0
+abbrev pub IsMeant : {V : Type 0} → List (SenderItem V) → Forward V → Type 0
 IsMeant old (Forward.Publish id v) = Unit {0}
 IsMeant old (Forward.Pubrel id) = has_released id old ≡ true
 
 -- a PUBREC is for an accepted item, and a PUBCOMP for one whose identifier the receiver forgot
-abbrev pub IsDue : {V : Type 0} → (ℕ → Bool) → List (Item V) → Backward → Type 0
+abbrev pub IsDue : {V : Type 0} → (ℕ → Bool) → List (SenderItem V) → Backward → Type 0
 IsDue received old (Backward.Pubrec id) = has_sent id old ≡ true
 IsDue received old (Backward.Pubcomp id) = (has_released id old ≡ true) × (received id ≡ false)
 
 -- an item that is sent, with the identifier and the value of this row
-abbrev pub IsSent : {V : Type 0} → List (Item V) → ℕ × V → Type 0
+abbrev pub IsSent : {V : Type 0} → List (SenderItem V) → ℕ × V → Type 0
 IsSent items row = In row (sent items)
 
 -- what comes to the receiver: some that it has already, each with the value that was first sent,
 -- and then exactly these
-pub record Comes {V : Type 0} (old : List (Item V)) (f : List (Forward V))
+pub record Comes {V : Type 0} (old : List (SenderItem V)) (f : List (Forward V))
     (next : List (ℕ × V)) : Type 0 where
   pub again : List (ℕ × V)
   pub is : publishes f ≡ again ++ next
@@ -71,7 +71,7 @@ pub record Comes {V : Type 0} (old : List (Item V)) (f : List (Forward V))
   pub meant : Each (IsMeant old) f
 
 -- both sides: each new item that was sent comes, answers are due, identifiers differ
-pub record IsJoined {V : Type 0} (received : ℕ → Bool) (old new : List (Item V))
+pub record IsJoined {V : Type 0} (received : ℕ → Bool) (old new : List (SenderItem V))
     (f : List (Forward V)) (b : List Backward)
     : Type 0 where
   pub comes : Comes old f (sent new)
@@ -79,28 +79,29 @@ pub record IsJoined {V : Type 0} (received : ℕ → Bool) (old new : List (Item
   pub apart : IsDistinct (map forward_id f ++ map backward_id b)
 
 -- only to the sender: answers are due, and identifiers differ
-pub record IsBehind {V : Type 0} (received : ℕ → Bool) (old : List (Item V))
+pub record IsBehind {V : Type 0} (received : ℕ → Bool) (old : List (SenderItem V))
     (b : List Backward) : Type 0 where
   pub due : Each (IsDue received old) b
   pub apart : IsDistinct (map backward_id b)
 
 -- only to the receiver: of the new items that were sent, a prefix comes
-pub record IsAhead {V : Type 0} (old new : List (Item V)) (f : List (Forward V)) : Type 0 where
+pub record IsAhead {V : Type 0} (old new : List (SenderItem V)) (f : List (Forward V))
+    : Type 0 where
   pub next : List (ℕ × V)
   pub more : List (ℕ × V)
   pub comes : Comes old f next
-  pub front : sent new ≡ next ++ more
+  pub prefix : sent new ≡ next ++ more
 
 -- what is in transit fits the items, by which sides are on the connection
-abbrev pub IsLinked : {V : Type 0} → (ℕ → Bool) → List (Item V) → List (Item V) → Link V → Type 0
-IsLinked received old new (Link.Joined f b) = IsJoined received old new f b
-IsLinked received old new (Link.Behind b) = IsBehind received old b
-IsLinked received old new (Link.Ahead f) = IsAhead old new f
+abbrev pub FitsTransit : {V : Type 0} → (ℕ → Bool) → List (SenderItem V) → List (SenderItem V) →
+    Transit V → Type 0
+FitsTransit received old new (Transit.Joined f b) = IsJoined received old new f b
+FitsTransit received old new (Transit.Behind b) = IsBehind received old b
+FitsTransit received old new (Transit.Ahead f) = IsAhead old new f
 
 -- the two sides, apart from what is in transit
-pub record AreSides {V : Type 0} (items : List (Item V)) (accepted : List V) (received : ℕ → Bool)
-    (old new : List (Item V))
-    : Type 0 where
+pub record AreSides {V : Type 0} (items : List (SenderItem V)) (accepted : List V)
+    (received : ℕ → Bool) (old new : List (SenderItem V)) : Type 0 where
   pub is : items ≡ old ++ new
   pub accepted_is : accepted ≡ map value_of old
   pub olds : Each (IsOld received) old
@@ -111,7 +112,7 @@ pub record AreSides {V : Type 0} (items : List (Item V)) (accepted : List V) (re
 
 -- the items are accepted ones, then new ones, and what is in transit fits them
 pub record IsGood {V : Type 0} (h : Handshake V) : Type 0 where
-  pub old : List (Item V)
-  pub new : List (Item V)
+  pub old : List (SenderItem V)
+  pub new : List (SenderItem V)
   pub sides : AreSides h.items h.accepted h.received old new
-  pub link : IsLinked h.received old new h.link
+  pub transit : FitsTransit h.received old new h.transit

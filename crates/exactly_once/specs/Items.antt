@@ -4,62 +4,64 @@ use Rattle.std.specs.Prelude.{ℕ, Bool, false, ◌||◌, ◌==◌, if◌then◌
 -- ---- the sender's items
 
 -- one QoS 2 publication of a sender, with its state
-pub data Item (V : Type 0) : Type 0 where
-  Waits : (value : V) → Item V  -- it was not sent yet
-  Sent : (value : V) → (id : ℕ) → Item V  -- its PUBLISH was sent, and no PUBREC came
-  Released : (value : V) → (id : ℕ) → Item V  -- PUBREC came, and no PUBCOMP
-  Finished : (value : V) → Item V  -- PUBCOMP came
+pub data SenderItem (V : Type 0) : Type 0 where
+  Waits : (value : V) → SenderItem V  -- it was not sent yet
+  Sent : (value : V) → (id : ℕ) → SenderItem V  -- its PUBLISH was sent, and no PUBREC came
+  Released : (value : V) → (id : ℕ) → SenderItem V  -- PUBREC came, and no PUBCOMP
+  Finished : (value : V) → SenderItem V  -- PUBCOMP came
 
 -- the publication of an item
-abbrev pub value_of : {V : Type 0} → Item V → V
-value_of (Item.Waits v) = v
-value_of (Item.Sent v id) = v
-value_of (Item.Released v id) = v
-value_of (Item.Finished v) = v
+abbrev pub value_of : {V : Type 0} → SenderItem V → V
+value_of (SenderItem.Waits v) = v
+value_of (SenderItem.Sent v id) = v
+value_of (SenderItem.Released v id) = v
+value_of (SenderItem.Finished v) = v
 
 -- identifiers in flight: those of sent and of released items
-abbrev pub busy : {V : Type 0} → List (Item V) → List ℕ
-busy (Item.Sent v id ∷ items) = id ∷ busy items
-busy (Item.Released v id ∷ items) = id ∷ busy items
+abbrev pub busy : {V : Type 0} → List (SenderItem V) → List ℕ
+busy (SenderItem.Sent v id ∷ items) = id ∷ busy items
+busy (SenderItem.Released v id ∷ items) = id ∷ busy items
 busy (_ ∷ items) = busy items
 busy [] = []
 
 -- the items that were sent and not released, each as its identifier and value
-abbrev pub sent : {V : Type 0} → List (Item V) → List (ℕ × V)
-sent (Item.Sent v id ∷ items) = (id, v) ∷ sent items
+abbrev pub sent : {V : Type 0} → List (SenderItem V) → List (ℕ × V)
+sent (SenderItem.Sent v id ∷ items) = (id, v) ∷ sent items
 sent (_ ∷ items) = sent items
 sent [] = []
 
 -- whether an item with this identifier was sent and not released
-abbrev pub has_sent : {V : Type 0} → ℕ → List (Item V) → Bool
-has_sent i (Item.Sent v id ∷ items) = (i == id) || has_sent i items
+abbrev pub has_sent : {V : Type 0} → ℕ → List (SenderItem V) → Bool
+has_sent i (SenderItem.Sent v id ∷ items) = (i == id) || has_sent i items
 has_sent i (_ ∷ items) = has_sent i items
 has_sent i [] = false
 
 -- whether an item with this identifier is released and not finished
-abbrev pub has_released : {V : Type 0} → ℕ → List (Item V) → Bool
-has_released i (Item.Released v id ∷ items) = (i == id) || has_released i items
+abbrev pub has_released : {V : Type 0} → ℕ → List (SenderItem V) → Bool
+has_released i (SenderItem.Released v id ∷ items) = (i == id) || has_released i items
 has_released i (_ ∷ items) = has_released i items
 has_released i [] = false
 
 -- PUBREC releases, PUBCOMP finishes
-abbrev pub releasing : {V : Type 0} → ℕ → Item V → Item V
-releasing i (Item.Sent v id) = if i == id then Item.Released v id else Item.Sent v id
+abbrev pub releasing : {V : Type 0} → ℕ → SenderItem V → SenderItem V
+releasing i (SenderItem.Sent v id) =
+    if i == id then SenderItem.Released v id else SenderItem.Sent v id
 releasing i item = item
 
 -- an item after a PUBCOMP with this identifier
-abbrev pub finishing : {V : Type 0} → ℕ → Item V → Item V
-finishing i (Item.Released v id) = if i == id then Item.Finished v else Item.Released v id
+abbrev pub finishing : {V : Type 0} → ℕ → SenderItem V → SenderItem V
+finishing i (SenderItem.Released v id) =
+    if i == id then SenderItem.Finished v else SenderItem.Released v id
 finishing i item = item
 
 -- the first that waits starts
-abbrev pub start_first : {V : Type 0} → ℕ → List (Item V) → List (Item V)
-start_first id (Item.Waits v ∷ items) = Item.Sent v id ∷ items
+abbrev pub start_first : {V : Type 0} → ℕ → List (SenderItem V) → List (SenderItem V)
+start_first id (SenderItem.Waits v ∷ items) = SenderItem.Sent v id ∷ items
 start_first id (item ∷ items) = item ∷ start_first id items
 start_first id [] = []
 
 -- the value of the first item that waits
-abbrev pub first_waiting : {V : Type 0} → List (Item V) → Option V
-first_waiting (Item.Waits v ∷ items) = Some v
+abbrev pub first_waiting : {V : Type 0} → List (SenderItem V) → Option V
+first_waiting (SenderItem.Waits v ∷ items) = Some v
 first_waiting (_ ∷ items) = first_waiting items
 first_waiting [] = None

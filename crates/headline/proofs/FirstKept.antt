@@ -8,7 +8,7 @@ use Rattle.byte_world.proofs.of_broker_base.PacketOfNobody.{window_is_steady}
 use Rattle.byte_world.specs.client_base.History as history
 use Rattle.byte_world.specs.client_base.Keeper.{Own, all_own}
 use Rattle.byte_world.specs.client_base.State.{ClientState}
-use Rattle.byte_world.specs.exactly_once.Items.{Item, value_of}
+use Rattle.byte_world.specs.exactly_once.Items.{SenderItem, value_of}
 use Rattle.byte_world.specs.exactly_once.HandshakeInvariant.{IsGood}
 use Rattle.byte_world.specs.exactly_once.Carried.{new_numbers, publications_of}
 use Rattle.byte_world.specs.exactly_once.Inside.Projections.{as_publisher}
@@ -56,13 +56,13 @@ module _ (s : Story) (state : ClientState) (lived : Lived usual_limits s.keeper.
 
   published_parts : (new : List Publication) → map (slice_get qs) (map value_of good.old) ≡ some_of new → some_of (at_two qs) ≡ some_of new ++ rest
   published_parts new are =
-      sym (two_published s.keeper.own numbered) ∙ ap (λ (l : List (Item ℕ)). map (slice_get qs) (map value_of l)) good.sides.is
+      sym (two_published s.keeper.own numbered) ∙ ap (λ (l : List (SenderItem ℕ)). map (slice_get qs) (map value_of l)) good.sides.is
       ∙ ap (map (slice_get qs)) (map-append value_of good.old good.new) ∙ map-append (slice_get qs) (map value_of good.old) (map value_of good.new)
       ∙ ap (λ (l : List (Option Publication)). l ++ rest) are
 
   kept_parts : history.StandsFor s.keeper state → some_of (at_two (kept_of state)) ≡ map (slice_get qs) (kept_values good.old) ++ rest
   kept_parts stands =
-      sym (two_kept s.keeper state stands numbered) ∙ ap (λ (l : List (Item ℕ)). map (slice_get qs) (kept_values l)) good.sides.is
+      sym (two_kept s.keeper state stands numbered) ∙ ap (λ (l : List (SenderItem ℕ)). map (slice_get qs) (kept_values l)) good.sides.is
       ∙ ap (map (slice_get qs)) (kept_both good.old good.new ∙ ap (λ (l : List ℕ). kept_values good.old ++ l) (new_kept _ good.new good.sides.news))
       ∙ map-append (slice_get qs) (kept_values good.old) (map value_of good.new)
 

@@ -7,7 +7,7 @@ use Rattle.byte_world.specs.client_base.History.{IsSentFirst, sent_of, unsent_of
 use Rattle.byte_world.specs.client_base.Keeper.{Keeper, Own}
 use Rattle.byte_world.specs.client_base.State.{ClientState}
 use Rattle.byte_world.specs.client_base.declared.kept_publication.KeptPublication.{KeptPublication}
-use Rattle.byte_world.specs.exactly_once.Items.{Item, value_of}
+use Rattle.byte_world.specs.exactly_once.Items.{SenderItem, value_of}
 use Rattle.byte_world.specs.exactly_once.HandshakeInvariant.{IsNew}
 use Rattle.byte_world.specs.lists.Lists.{Each}
 use Rattle.byte_world.specs.exactly_once.Carried.{is_two, publication_in, publications_of}
@@ -18,27 +18,27 @@ use Rattle.headline.specs.Shown.{at_two, kept_of}
 -- ---- of a handshake
 
 -- those that wait, or are sent
-abbrev pub kept_values : List (Item ℕ) → List ℕ
-kept_values (Item.Waits v ∷ items) = v ∷ kept_values items
-kept_values (Item.Sent v id ∷ items) = v ∷ kept_values items
-kept_values (Item.Released v id ∷ items) = kept_values items
-kept_values (Item.Finished v ∷ items) = kept_values items
+abbrev pub kept_values : List (SenderItem ℕ) → List ℕ
+kept_values (SenderItem.Waits v ∷ items) = v ∷ kept_values items
+kept_values (SenderItem.Sent v id ∷ items) = v ∷ kept_values items
+kept_values (SenderItem.Released v id ∷ items) = kept_values items
+kept_values (SenderItem.Finished v ∷ items) = kept_values items
 kept_values [] = []
 
-pub kept_both : (old new : List (Item ℕ)) → kept_values (old ++ new) ≡ kept_values old ++ kept_values new
+pub kept_both : (old new : List (SenderItem ℕ)) → kept_values (old ++ new) ≡ kept_values old ++ kept_values new
 kept_both [] new = refl
-kept_both (Item.Waits v ∷ old) new = ap (λ (l : List ℕ). v ∷ l) (kept_both old new)
-kept_both (Item.Sent v id ∷ old) new = ap (λ (l : List ℕ). v ∷ l) (kept_both old new)
-kept_both (Item.Released v id ∷ old) new = kept_both old new
-kept_both (Item.Finished v ∷ old) new = kept_both old new
+kept_both (SenderItem.Waits v ∷ old) new = ap (λ (l : List ℕ). v ∷ l) (kept_both old new)
+kept_both (SenderItem.Sent v id ∷ old) new = ap (λ (l : List ℕ). v ∷ l) (kept_both old new)
+kept_both (SenderItem.Released v id ∷ old) new = kept_both old new
+kept_both (SenderItem.Finished v ∷ old) new = kept_both old new
 
 -- all that the receiver does not have are
-pub new_kept : (received : ℕ → Bool) (new : List (Item ℕ)) → Each (IsNew received) new → kept_values new ≡ map value_of new
+pub new_kept : (received : ℕ → Bool) (new : List (SenderItem ℕ)) → Each (IsNew received) new → kept_values new ≡ map value_of new
 new_kept received [] all = refl
-new_kept received (Item.Waits v ∷ new) all = ap (λ (l : List ℕ). v ∷ l) (new_kept received new all.1)
-new_kept received (Item.Sent v id ∷ new) all = ap (λ (l : List ℕ). v ∷ l) (new_kept received new all.1)
-new_kept received (Item.Released v id ∷ new) all = absurd all.0
-new_kept received (Item.Finished v ∷ new) all = absurd all.0
+new_kept received (SenderItem.Waits v ∷ new) all = ap (λ (l : List ℕ). v ∷ l) (new_kept received new all.1)
+new_kept received (SenderItem.Sent v id ∷ new) all = ap (λ (l : List ℕ). v ∷ l) (new_kept received new all.1)
+new_kept received (SenderItem.Released v id ∷ new) all = absurd all.0
+new_kept received (SenderItem.Finished v ∷ new) all = absurd all.0
 
 -- ---- of a client
 
@@ -90,7 +90,7 @@ first_is ps n k o own e stand =
 abbrev pub some_of : List Publication → List (Option Publication)
 some_of = map (λ (p : Publication). Some p)
 
-one_two : (get : ℕ → Option Publication) (b : Bool) (item : Item ℕ) (k : ℕ) (p : Publication) (items : List (Item ℕ)) (ps : List Publication) → value_of item ≡ k → get k ≡ Some p
+one_two : (get : ℕ → Option Publication) (b : Bool) (item : SenderItem ℕ) (k : ℕ) (p : Publication) (items : List (SenderItem ℕ)) (ps : List Publication) → value_of item ≡ k → get k ≡ Some p
     → map get (map value_of items) ≡ some_of ps → map get (map value_of (if b then item ∷ items else items)) ≡ some_of (if b then p ∷ ps else ps)
 one_two get true item k p items ps value is more = ap₂ (λ (x : Option Publication) l. x ∷ l) (ap get value ∙ is) more
 one_two get false item k p items ps value is more = more
@@ -100,26 +100,26 @@ pub two_numbered : (ps : List Publication) (n : ℕ) (own : List Own) → AreNum
     → map (slice_get ps) (map value_of (items_of_own own)) ≡ some_of (at_two (publications_of own))
 two_numbered ps n [] h stand = refl
 two_numbered ps n (Own.Unsent k p id ∷ own) h stand =
-    one_two (slice_get ps) (is_two p.qos) (Item.Waits k) k p (items_of_own own) (at_two (publications_of own)) refl (first_is ps n k (Own.Unsent k p id) own h.0 stand)
+    one_two (slice_get ps) (is_two p.qos) (SenderItem.Waits k) k p (items_of_own own) (at_two (publications_of own)) refl (first_is ps n k (Own.Unsent k p id) own h.0 stand)
     (two_numbered ps (suc n) own h.1 (after ps n (Own.Unsent k p id) own stand))
 two_numbered ps n (Own.Sent k p id ∷ own) h stand =
-    one_two (slice_get ps) (is_two p.qos) (Item.Sent k id) k p (items_of_own own) (at_two (publications_of own)) refl (first_is ps n k (Own.Sent k p id) own h.0 stand)
+    one_two (slice_get ps) (is_two p.qos) (SenderItem.Sent k id) k p (items_of_own own) (at_two (publications_of own)) refl (first_is ps n k (Own.Sent k p id) own h.0 stand)
     (two_numbered ps (suc n) own h.1 (after ps n (Own.Sent k p id) own stand))
 two_numbered ps n (Own.Released k p id ∷ own) h stand =
-    one_two (slice_get ps) (is_two p.qos) (Item.Released k id) k p (items_of_own own) (at_two (publications_of own)) refl (first_is ps n k (Own.Released k p id) own h.0 stand)
+    one_two (slice_get ps) (is_two p.qos) (SenderItem.Released k id) k p (items_of_own own) (at_two (publications_of own)) refl (first_is ps n k (Own.Released k p id) own h.0 stand)
     (two_numbered ps (suc n) own h.2 (after ps n (Own.Released k p id) own stand))
 two_numbered ps n (Own.Done k p ∷ own) h stand =
-    one_two (slice_get ps) (is_two p.qos) (Item.Finished k) k p (items_of_own own) (at_two (publications_of own)) refl (first_is ps n k (Own.Done k p) own h.0 stand)
+    one_two (slice_get ps) (is_two p.qos) (SenderItem.Finished k) k p (items_of_own own) (at_two (publications_of own)) refl (first_is ps n k (Own.Done k p) own h.0 stand)
     (two_numbered ps (suc n) own h.1 (after ps n (Own.Done k p) own stand))
 
 -- one that it keeps, and one that it does not
-one_kept : (get : ℕ → Option Publication) (b : Bool) (k : ℕ) (p : Publication) (item : Item ℕ) (items : List (Item ℕ)) (ps : List Publication)
+one_kept : (get : ℕ → Option Publication) (b : Bool) (k : ℕ) (p : Publication) (item : SenderItem ℕ) (items : List (SenderItem ℕ)) (ps : List Publication)
     → kept_values (item ∷ items) ≡ k ∷ kept_values items → get k ≡ Some p → map get (kept_values items) ≡ some_of ps
     → map get (kept_values (if b then item ∷ items else items)) ≡ some_of (if b then p ∷ ps else ps)
 one_kept get true k p item items ps kept is more = ap (map get) kept ∙ ap₂ (λ (x : Option Publication) l. x ∷ l) is more
 one_kept get false k p item items ps kept is more = more
 
-none_kept : (get : ℕ → Option Publication) (b : Bool) (item : Item ℕ) (items : List (Item ℕ)) (ps : List Publication) → kept_values (item ∷ items) ≡ kept_values items
+none_kept : (get : ℕ → Option Publication) (b : Bool) (item : SenderItem ℕ) (items : List (SenderItem ℕ)) (ps : List Publication) → kept_values (item ∷ items) ≡ kept_values items
     → map get (kept_values items) ≡ some_of ps → map get (kept_values (if b then item ∷ items else items)) ≡ some_of ps
 none_kept get true item items ps kept more = ap (map get) kept ∙ more
 none_kept get false item items ps kept more = more
@@ -128,16 +128,16 @@ kept_numbered : (ps : List Publication) (n : ℕ) (own : List Own) → AreNumber
     → map (slice_get ps) (kept_values (items_of_own own)) ≡ some_of (at_two (kept_own own))
 kept_numbered ps n [] h stand = refl
 kept_numbered ps n (Own.Unsent k p id ∷ own) h stand =
-    one_kept (slice_get ps) (is_two p.qos) k p (Item.Waits k) (items_of_own own) (at_two (kept_own own)) refl (first_is ps n k (Own.Unsent k p id) own h.0 stand)
+    one_kept (slice_get ps) (is_two p.qos) k p (SenderItem.Waits k) (items_of_own own) (at_two (kept_own own)) refl (first_is ps n k (Own.Unsent k p id) own h.0 stand)
     (kept_numbered ps (suc n) own h.1 (after ps n (Own.Unsent k p id) own stand))
 kept_numbered ps n (Own.Sent k p id ∷ own) h stand =
-    one_kept (slice_get ps) (is_two p.qos) k p (Item.Sent k id) (items_of_own own) (at_two (kept_own own)) refl (first_is ps n k (Own.Sent k p id) own h.0 stand)
+    one_kept (slice_get ps) (is_two p.qos) k p (SenderItem.Sent k id) (items_of_own own) (at_two (kept_own own)) refl (first_is ps n k (Own.Sent k p id) own h.0 stand)
     (kept_numbered ps (suc n) own h.1 (after ps n (Own.Sent k p id) own stand))
 kept_numbered ps n (Own.Released k p id ∷ own) h stand =
-    none_kept (slice_get ps) (is_two p.qos) (Item.Released k id) (items_of_own own) (at_two (kept_own own)) refl
+    none_kept (slice_get ps) (is_two p.qos) (SenderItem.Released k id) (items_of_own own) (at_two (kept_own own)) refl
     (kept_numbered ps (suc n) own h.2 (after ps n (Own.Released k p id) own stand))
 kept_numbered ps n (Own.Done k p ∷ own) h stand =
-    none_kept (slice_get ps) (is_two p.qos) (Item.Finished k) (items_of_own own) (at_two (kept_own own)) refl
+    none_kept (slice_get ps) (is_two p.qos) (SenderItem.Finished k) (items_of_own own) (at_two (kept_own own)) refl
     (kept_numbered ps (suc n) own h.1 (after ps n (Own.Done k p) own stand))
 
 -- ---- both

@@ -27,7 +27,7 @@ use Rattle.client_base.specs.Called.{opens}
 use Rattle.exactly_once.specs.Sides.{ClientConnection}
 use Rattle.exactly_once.specs.StoryCommands.{counted_at, count_of, command_of}
 use Rattle.exactly_once.specs.Carried.{connection_named, number_at, new_numbers}
-use Rattle.exactly_once.specs.Inside.Projections.{forward_of_own, forward_of_one, backward_of_own, to_come, is_current, link_of_own, as_publisher}
+use Rattle.exactly_once.specs.Inside.Projections.{forward_of_own, forward_of_one, backward_of_own, to_come, is_current, transit_of_own, as_publisher}
 use Rattle.exactly_once.specs.Inside.Shape.{HasShape}
 use Rattle.exactly_once.specs.Inside.ConnectionShape.{ConnectionInShape}
 use Rattle.broker_base.proofs.ConnectionNames.{same_itself}
@@ -52,7 +52,7 @@ next_link false m f b = refl
 -- what comes next to the broker
 next_there : (limits : Limits) (past : Past) (keeper : Keeper) (connections : List ClientConnection) (i : ℕ) (κ : ClientConnection) (p : Publish) (dup : Bool) (id k : ℕ)
     → p.delivery ≡ deliveries.ExactlyOnce dup id → OnCurrent limits past keeper connections i κ (record { packet = packets.Publish p; number = Some k })
-    → next_of (as_publisher limits (story_by past connections keeper)).link ≡ Some (Forward.Publish id k)
+    → next_of (as_publisher limits (story_by past connections keeper)).transit ≡ Some (Forward.Publish id k)
 next_there limits past keeper connections i κ p dup id k two o =
     let current = current_connection past keeper.client in
     let online = keeper.is_online in
@@ -60,7 +60,7 @@ next_there limits past keeper connections i κ p dup id k two o =
     let b = backward_of_own (to_come limits past κ) in
     let front : forward_of_one (packets.Publish p) (Some k) f ≡ Forward.Publish id k ∷ f = ap (λ d. forward_of_one (packets.Publish (record p { delivery = d })) (Some k) f) two in
     let here : is_current current κ.name ≡ true = ap (λ (z : Option ConnectionName). is_current z κ.name) o.current ∙ same_itself κ.name in
-    ap next_of (ap (link_of_own limits past current online) o.last ∙ link_is limits past current online (Some κ)
+    ap next_of (ap (transit_of_own limits past current online) o.last ∙ link_is limits past current online (Some κ)
     ∙ ap₂ (λ c g. link_by c online g b) here (taken_front κ (record { packet = packets.Publish p; number = Some k }) o.next ∙ front))
     ∙ next_link online (Forward.Publish id k) f b
 

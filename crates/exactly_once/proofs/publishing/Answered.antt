@@ -7,9 +7,9 @@ use Rattle.client_base.specs.packet.declared.packet.Packet.TheVariants as packet
 use Rattle.client_base.specs.lists.Lists.{has_id}
 use Rattle.broker_base.specs.broker_spec.Place.{Past, Limits}
 use Rattle.broker_base.specs.broker_spec.Past.{current_connection}
-use Rattle.exactly_once.specs.Items.{Item, has_sent}
-use Rattle.exactly_once.specs.Handshake.{Forward, Backward, Link, Handshake, heard, reply}
-use Rattle.exactly_once.specs.HandshakeInvariant.{IsGood, IsDue, IsLinked}
+use Rattle.exactly_once.specs.Items.{SenderItem, has_sent}
+use Rattle.exactly_once.specs.Handshake.{Forward, Backward, Transit, Handshake, heard, reply}
+use Rattle.exactly_once.specs.HandshakeInvariant.{IsGood, IsDue, FitsTransit}
 use Rattle.client_base.proofs.of_lists.Tests.{or_then}
 use Rattle.exactly_once.specs.Sends.{put_to}
 use Rattle.exactly_once.specs.Sides.{ClientConnection, Side}
@@ -27,18 +27,18 @@ use Rattle.exactly_once.proofs.publishing.Written.{dropped_next}
 use Rattle.exactly_once.proofs.publishing.First.{story_by, first_link, goes_first}
 
 -- the first answer in transit is due
-pub due_first : (h : Handshake ℕ) (good : IsGood h) (cur : Bool) (m : Backward) (f : List (Forward ℕ)) (b : List Backward) → h.link ≡ link_by cur true f (m ∷ b)
+pub due_first : (h : Handshake ℕ) (good : IsGood h) (cur : Bool) (m : Backward) (f : List (Forward ℕ)) (b : List Backward) → h.transit ≡ link_by cur true f (m ∷ b)
     → IsDue h.received good.old m
-due_first h good true m f b e = (subst (λ (l : Link ℕ). IsLinked h.received good.old good.new l) e good.link).due.0
-due_first h good false m f b e = (subst (λ (l : Link ℕ). IsLinked h.received good.old good.new l) e good.link).due.0
+due_first h good true m f b e = (subst (λ (l : Transit ℕ). FitsTransit h.received good.old good.new l) e good.transit).due.0
+due_first h good false m f b e = (subst (λ (l : Transit ℕ). FitsTransit h.received good.old good.new l) e good.transit).due.0
 
 -- one that is sent among the first is sent among all
-pub sent_among : (i : ℕ) (old new : List (Item ℕ)) → has_sent i old ≡ true → has_sent i (old ++ new) ≡ true
+pub sent_among : (i : ℕ) (old new : List (SenderItem ℕ)) → has_sent i old ≡ true → has_sent i (old ++ new) ≡ true
 sent_among i [] new e = absurd (both_ways false refl e)
-sent_among i (Item.Waits v ∷ old) new e = sent_among i old new e
-sent_among i (Item.Sent v id ∷ old) new e = or_then (i == id) (has_sent i old) (has_sent i (old ++ new)) e (sent_among i old new)
-sent_among i (Item.Released v id ∷ old) new e = sent_among i old new e
-sent_among i (Item.Finished v ∷ old) new e = sent_among i old new e
+sent_among i (SenderItem.Waits v ∷ old) new e = sent_among i old new e
+sent_among i (SenderItem.Sent v id ∷ old) new e = or_then (i == id) (has_sent i old) (has_sent i (old ++ new)) e (sent_among i old new)
+sent_among i (SenderItem.Released v id ∷ old) new e = sent_among i old new e
+sent_among i (SenderItem.Finished v ∷ old) new e = sent_among i old new e
 
 -- the client's side of its newest connection, this packet counted
 abbrev pub counted_side : Keeper → ClientConnection → Side
@@ -51,10 +51,10 @@ releasing_by has i keeper κ =
     then writing (plain (packets.Pubrel i) ∷ []) (counted_side (record keeper { own = map (at_pubrec i) keeper.own; releases = keeper.releases ++ i ∷ [] }) κ)
     else if has_id i keeper.releases then writing (plain (packets.Pubrel i) ∷ []) (counted_side keeper κ) else counted_side keeper κ
 
--- the link with the answer that comes in front
+-- the transit with the answer that comes in front
 pub answer_link : (limits : Limits) (past : Past) (keeper : Keeper) (κ : ClientConnection) (others : List ClientConnection) (m : Backward) (b : List Backward) → keeper.is_online ≡ true → κ.confirmed ≡ true
     → backward_of_own (drop κ.handled (put_to limits past κ.name)) ≡ m ∷ b
-    → (as_publisher limits (story_by past (κ ∷ others) keeper)).link ≡ link_by (is_current (current_connection past keeper.client) κ.name) true (forward_of_own (to_be_taken κ)) (m ∷ b)
+    → (as_publisher limits (story_by past (κ ∷ others) keeper)).transit ≡ link_by (is_current (current_connection past keeper.client) κ.name) true (forward_of_own (to_be_taken κ)) (m ∷ b)
 answer_link limits past keeper κ others m b on conf come =
     let cur = is_current (current_connection past keeper.client) κ.name in
     let f = forward_of_own (to_be_taken κ) in
@@ -72,16 +72,16 @@ hears_pubrec limits past keeper κ others i shape on conf next good =
     let cur = is_current (current_connection past keeper.client) κ.name in
     let f = forward_of_own (to_be_taken κ) in
     let b = backward_of_own (drop (suc κ.handled) (put_to limits past κ.name)) in
-    let link : h.link ≡ link_by cur true f (Backward.Pubrec i ∷ b) =
+    let transit : h.transit ≡ link_by cur true f (Backward.Pubrec i ∷ b) =
     answer_link limits past keeper κ others (Backward.Pubrec i) b on conf (ap backward_of_own (dropped_next κ.handled (put_to limits past κ.name) (packets.Pubrec i) next)) in
     let has : is_sent_with i keeper.own ≡ true =
-    sent_then i keeper.own (ap (has_sent i) good.sides.is ∙ sent_among i good.old good.new (due_first h good cur (Backward.Pubrec i) f b link)) in
+    sent_then i keeper.own (ap (has_sent i) good.sides.is ∙ sent_among i good.old good.new (due_first h good cur (Backward.Pubrec i) f b transit)) in
     let more = plain (packets.Pubrel i) ∷ [] in
     let later : Keeper = record keeper { own = map (at_pubrec i) keeper.own; releases = keeper.releases ++ i ∷ [] } in
     let goes =
     goes_first limits past keeper later κ others (κ.written ++ more) more (suc κ.handled) κ.confirmed κ.accepted (heard (Backward.Pubrec i) h.items) (f ++ reply (Backward.Pubrec i)) b
     shape refl conf refl
-    (subst (λ (online : Bool). Reaches h (heard (Backward.Pubrec i) h.items) (link_by cur online (f ++ reply (Backward.Pubrec i)) b)) (sym on) (hears_one h cur (Backward.Pubrec i) f b link))
+    (subst (λ (online : Bool). Reaches h (heard (Backward.Pubrec i) h.items) (link_by cur online (f ++ reply (Backward.Pubrec i)) b)) (sym on) (hears_one h cur (Backward.Pubrec i) f b transit))
     (sym (items_released i keeper.own)) refl refl in
     subst (λ (z : Bool). GoesTo h (as_publisher limits (with_side s others (releasing_by z i keeper κ)))) (sym has) goes
 
@@ -94,10 +94,10 @@ hears_pubcomp limits past keeper κ others i shape on conf next =
     let cur = is_current (current_connection past keeper.client) κ.name in
     let f = forward_of_own (to_be_taken κ) in
     let b = backward_of_own (drop (suc κ.handled) (put_to limits past κ.name)) in
-    let link : h.link ≡ link_by cur true f (Backward.Pubcomp i ∷ b) =
+    let transit : h.transit ≡ link_by cur true f (Backward.Pubcomp i ∷ b) =
     answer_link limits past keeper κ others (Backward.Pubcomp i) b on conf (ap backward_of_own (dropped_next κ.handled (put_to limits past κ.name) (packets.Pubcomp i) next)) in
     let later : Keeper = record keeper { own = map (at_pubcomp i) keeper.own; releases = without_id i keeper.releases } in
     goes_first limits past keeper later κ others κ.written [] (suc κ.handled) κ.confirmed κ.accepted (heard (Backward.Pubcomp i) h.items) (f ++ []) b
     shape refl conf (sym (append-nil κ.written))
-    (subst (λ (online : Bool). Reaches h (heard (Backward.Pubcomp i) h.items) (link_by cur online (f ++ []) b)) (sym on) (hears_one h cur (Backward.Pubcomp i) f b link))
+    (subst (λ (online : Bool). Reaches h (heard (Backward.Pubcomp i) h.items) (link_by cur online (f ++ []) b)) (sym on) (hears_one h cur (Backward.Pubcomp i) f b transit))
     (sym (items_finished i keeper.own)) refl refl

@@ -8,7 +8,7 @@ use Rattle.broker_base.specs.broker_spec.Past.{current_connection}
 use Rattle.broker_base.specs.broker_spec.Connection.{ConnectionName}
 use Rattle.broker_base.specs.broker_spec.Received.{is_new, received_of}
 use Rattle.broker_base.specs.broker_spec.Answers.{answers_at}
-use Rattle.exactly_once.specs.Handshake.{Forward, Backward, Link, Handshake}
+use Rattle.exactly_once.specs.Handshake.{Forward, Backward, Transit, Handshake}
 use Rattle.exactly_once.specs.Sends.{sends_to, put_to}
 use Rattle.exactly_once.specs.Sides.{ClientConnection}
 use Rattle.client_base.specs.Keeper.{Keeper}
@@ -55,7 +55,7 @@ come_same limits place past keeper connections each none = by (last_confirmed co
         let shape = each_last (ConnectionInShape limits past keeper.client) connections κ each e in
         sym (come_more limits place past κ shape.handled_within ∙ ap (λ l. backward_of_own (to_come limits past κ) ++ l) (none κ e) ∙ append-nil (backward_of_own (to_come limits past κ)))
 
--- the link does not change, or the receiver leaves
+-- the transit does not change, or the receiver leaves
 abbrev pub StaysOrLeaves : Bool → Bool → List (Forward ℕ) → List (Forward ℕ) → Type 0
 StaysOrLeaves before after f g = (after ≡ false) ⊎ ((before ≡ after) × (f ≡ g))
 
@@ -78,14 +78,14 @@ goes_place limits place past keeper connections later numbers received come choi
     let g = forward_last (last_confirmed later) in
     let b = backward_last limits past (last_confirmed connections) in
     let d = backward_last limits (place ∷ past) (last_confirmed later) in
-    let link : h.link ≡ link_by before keeper.is_online f b = link_is limits past current keeper.is_online (last_confirmed connections) in
-    goes_of h (as_publisher limits (story_by (place ∷ past) later keeper)) h.items (link_by after keeper.is_online g d) (by h before after f g b d link come choice) refl numbers
+    let transit : h.transit ≡ link_by before keeper.is_online f b = link_is limits past current keeper.is_online (last_confirmed connections) in
+    goes_of h (as_publisher limits (story_by (place ∷ past) later keeper)) h.items (link_by after keeper.is_online g d) (by h before after f g b d transit come choice) refl numbers
     (λ id. ap (has_id id) received) (sym (link_is limits (place ∷ past) (current_connection (place ∷ past) keeper.client) keeper.is_online (last_confirmed later)))
   where
-    by : (h : Handshake ℕ) (before after : Bool) (f g : List (Forward ℕ)) (b d : List Backward) → h.link ≡ link_by before keeper.is_online f b → b ≡ d → StaysOrLeaves before after f g
+    by : (h : Handshake ℕ) (before after : Bool) (f g : List (Forward ℕ)) (b d : List Backward) → h.transit ≡ link_by before keeper.is_online f b → b ≡ d → StaysOrLeaves before after f g
         → Reaches h h.items (link_by after keeper.is_online g d)
-    by h before after f g b d link come (inl leaves) =
-        subst (λ (l : Link ℕ). Reaches h h.items l)
-        (ignores keeper.is_online f g b ∙ ap₂ (λ c l. link_by c keeper.is_online g l) (sym leaves) come) (receiver_goes h before keeper.is_online f b link)
-    by h before after f g b d link come (inr (same, written)) =
-        reaches_itself h (link_by after keeper.is_online g d) (link ∙ ap₂ (λ c l. link_by c keeper.is_online l b) same written ∙ ap (λ l. link_by after keeper.is_online g l) come)
+    by h before after f g b d transit come (inl leaves) =
+        subst (λ (l : Transit ℕ). Reaches h h.items l)
+        (ignores keeper.is_online f g b ∙ ap₂ (λ c l. link_by c keeper.is_online g l) (sym leaves) come) (receiver_goes h before keeper.is_online f b transit)
+    by h before after f g b d transit come (inr (same, written)) =
+        reaches_itself h (link_by after keeper.is_online g d) (transit ∙ ap₂ (λ c l. link_by c keeper.is_online l b) same written ∙ ap (λ l. link_by after keeper.is_online g l) come)

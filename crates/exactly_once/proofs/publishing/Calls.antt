@@ -17,7 +17,7 @@ use Rattle.exactly_once.specs.Story.{Story}
 use Rattle.exactly_once.specs.StoryCommands.{count_of}
 use Rattle.client_base.specs.Called.{new_connection}
 use Rattle.client_base.specs.Written.{writes_first}
-use Rattle.exactly_once.specs.Inside.Projections.{items_of_own, forward_of_own, backward_of_own, to_come, to_be_taken, is_current, link_of_own, last_confirmed, as_publisher, GoesTo}
+use Rattle.exactly_once.specs.Inside.Projections.{items_of_own, forward_of_own, backward_of_own, to_come, to_be_taken, is_current, transit_of_own, last_confirmed, as_publisher, GoesTo}
 use Rattle.exactly_once.specs.Inside.Shape.{HeldInShape}
 use Rattle.exactly_once.specs.Inside.ConnectionShape.{ConnectionInShape}
 use Rattle.exactly_once.proofs.publishing.Links.{link_by, current_last, forward_last, backward_last, link_is, reaches_itself, goes_of, sender_goes}
@@ -33,11 +33,11 @@ leaves_all limits past keeper later connections after client own offline last nu
     let k = as_publisher limits (story_by past after later) in
     let current = current_connection past keeper.client in
     let lastly = last_confirmed connections in
-    let link = link_by (current_last current lastly) false (forward_last lastly) (backward_last limits past lastly) in
-    goes_of h k h.items link (sender_goes h (current_last current lastly) keeper.is_online (forward_last lastly) (backward_last limits past lastly) (link_is limits past current keeper.is_online lastly))
+    let transit = link_by (current_last current lastly) false (forward_last lastly) (backward_last limits past lastly) in
+    goes_of h k h.items transit (sender_goes h (current_last current lastly) keeper.is_online (forward_last lastly) (backward_last limits past lastly) (link_is limits past current keeper.is_online lastly))
     (ap items_of_own own) numbers (λ id. ap (λ c. has_id id (received_of past c)) client)
-    (sym (link_is limits past current false lastly) ∙ ap (λ c. link_of_own limits past (current_connection past c) false lastly) client
-    ∙ ap₂ (λ on l. link_of_own limits past (current_connection past later.client) on l) (sym offline) last)
+    (sym (link_is limits past current false lastly) ∙ ap (λ c. transit_of_own limits past (current_connection past c) false lastly) client
+    ∙ ap₂ (λ on l. transit_of_own limits past (current_connection past later.client) on l) (sym offline) last)
 
 -- it loses its connection
 pub loses_it : (limits : Limits) (s : Story) → GoesTo (as_publisher limits s) (as_publisher limits (record s { keeper = lost s.keeper }))
@@ -95,7 +95,7 @@ pub writes_quietly : (limits : Limits) (past : Past) (keeper later : Keeper) (co
     → GoesTo (as_publisher limits (story_by past connections keeper)) (as_publisher limits (story_by past (writes_first more connections) later))
 writes_quietly limits past keeper later [] more each held on client online items none =
     let h = as_publisher limits (story_by past [] keeper) in
-    goes_of h (as_publisher limits (story_by past [] later)) h.items h.link (reaches_itself h h.link refl) items refl (λ id. ap (λ c. has_id id (received_of past c)) client) refl
+    goes_of h (as_publisher limits (story_by past [] later)) h.items h.transit (reaches_itself h h.transit refl) items refl (λ id. ap (λ c. has_id id (received_of past c)) client) refl
 writes_quietly limits past keeper later (κ ∷ others) more each held on client online items none =
     let h = as_publisher limits (story_by past (κ ∷ others) keeper) in
     let holds = holds_of limits past keeper κ others each held in

@@ -8,14 +8,14 @@ use Rattle.client_base.specs.lists.Lists.{has_id}
 use Rattle.broker_base.specs.broker_spec.Place.{Past, Limits}
 use Rattle.broker_base.specs.broker_spec.Past.{current_connection}
 use Rattle.broker_base.specs.broker_spec.Received.{received_of}
-use Rattle.exactly_once.specs.Items.{Item}
+use Rattle.exactly_once.specs.Items.{SenderItem}
 use Rattle.exactly_once.specs.Handshake.{Forward, Backward}
 use Rattle.exactly_once.specs.Sends.{put_to}
 use Rattle.client_base.specs.Keeper.{Written, Keeper}
 use Rattle.exactly_once.specs.Sides.{ClientConnection}
 use Rattle.exactly_once.specs.Story.{Story}
 use Rattle.exactly_once.specs.StoryCommands.{count_of}
-use Rattle.exactly_once.specs.Inside.Projections.{items_of_own, forward_of_own, backward_of_own, to_come, to_be_taken, is_current, link_of_own, last_confirmed, as_publisher, GoesTo}
+use Rattle.exactly_once.specs.Inside.Projections.{items_of_own, forward_of_own, backward_of_own, to_come, to_be_taken, is_current, transit_of_own, last_confirmed, as_publisher, GoesTo}
 use Rattle.exactly_once.specs.Inside.ConnectionShape.{ConnectionInShape}
 use Rattle.exactly_once.proofs.publishing.Links.{link_by, link_is, Reaches, reaches_itself, goes_of, sender_goes}
 use Rattle.exactly_once.proofs.publishing.kept.Numbers.{same_numbers, same_written}
@@ -28,12 +28,12 @@ story_by past connections keeper = record { past = past; connections = connectio
 abbrev pub after_by : ClientConnection → List Written → ℕ → Bool → List Publication → ClientConnection
 after_by κ ws handled confirmed accepted = record { name = κ.name; written = ws; taken = κ.taken; handled = handled; confirmed = confirmed; accepted = accepted }
 
--- the link if the newest connection is confirmed
+-- the transit if the newest connection is confirmed
 pub first_link : (limits : Limits) (past : Past) (keeper : Keeper) (κ : ClientConnection) (others : List ClientConnection) → κ.confirmed ≡ true
-    → (as_publisher limits (story_by past (κ ∷ others) keeper)).link
+    → (as_publisher limits (story_by past (κ ∷ others) keeper)).transit
     ≡ link_by (is_current (current_connection past keeper.client) κ.name) keeper.is_online (forward_of_own (to_be_taken κ)) (backward_of_own (to_come limits past κ))
 first_link limits past keeper κ others e =
-    ap (λ b. link_of_own limits past (current_connection past keeper.client) keeper.is_online (if b then Some κ else last_confirmed others)) e
+    ap (λ b. transit_of_own limits past (current_connection past keeper.client) keeper.is_online (if b then Some κ else last_confirmed others)) e
     ∙ link_is limits past (current_connection past keeper.client) keeper.is_online (Some κ)
 
 -- the packets that are taken are among those written
@@ -41,7 +41,7 @@ pub counted_within : (limits : Limits) (past : Past) (keeper : Keeper) (κ : Cli
 counted_within limits past keeper κ shape = subst (λ n. n ≤ length κ.written) (sym shape.counted) shape.within
 
 pub goes_first : (limits : Limits) (past : Past) (keeper later : Keeper) (κ : ClientConnection) (others : List ClientConnection) (ws more : List Written) (n : ℕ) (confirmed : Bool)
-    (accepted : List Publication) (items : List (Item ℕ)) (f : List (Forward ℕ)) (b : List Backward)
+    (accepted : List Publication) (items : List (SenderItem ℕ)) (f : List (Forward ℕ)) (b : List Backward)
     → ConnectionInShape limits past keeper.client κ → keeper.client ≡ later.client → confirmed ≡ true → ws ≡ κ.written ++ more
     → Reaches (as_publisher limits (story_by past (κ ∷ others) keeper)) items (link_by (is_current (current_connection past keeper.client) κ.name) later.is_online f b)
     → items ≡ items_of_own later.own → f ≡ forward_of_own (to_be_taken κ) ++ forward_of_own more → b ≡ backward_of_own (drop n (put_to limits past κ.name))

@@ -5,7 +5,7 @@ use Rattle.client_base.specs.packet.declared.qos.QoS.{QoS}
 use Rattle.client_base.specs.packet.declared.qos.QoS.TheVariants as qualities
 use Rattle.client_base.specs.session_base.declared.publication.Publication.{Publication}
 use Rattle.client_base.specs.session_base.Publication.{is_acknowledged}
-use Rattle.exactly_once.specs.Items.{Item, releasing, finishing, has_sent}
+use Rattle.exactly_once.specs.Items.{SenderItem, releasing, finishing, has_sent}
 use Rattle.client_base.proofs.of_lists.Tests.{or_right}
 use Rattle.client_base.specs.Keeper.{Own}
 use Rattle.client_base.specs.Handshakes.{at_puback, at_pubrec, at_pubcomp, is_sent_with}
@@ -18,7 +18,7 @@ two_unacknowledged qualities.AtLeastOnce e = absurd (both_ways false refl e)
 two_unacknowledged qualities.ExactlyOnce e = refl
 
 -- one item changes, and the others change as a map does
-own_map : (g : Item ℕ → Item ℕ) (p : Publication) (x y : Item ℕ) (es fs : List (Item ℕ)) → y ≡ g x → fs ≡ map g es → own_item p y fs ≡ map g (own_item p x es)
+own_map : (g : SenderItem ℕ → SenderItem ℕ) (p : Publication) (x y : SenderItem ℕ) (es fs : List (SenderItem ℕ)) → y ≡ g x → fs ≡ map g es → own_item p y fs ≡ map g (own_item p x es)
 own_map g p x y es fs e f = by (is_two p.qos)
   where
     by : (b : Bool) → (if b then y ∷ fs else fs) ≡ map g (if b then x ∷ es else es)
@@ -28,63 +28,63 @@ own_map g p x y es fs e f = by (is_two p.qos)
 -- a PUBREC releases
 pub items_released : (i : ℕ) (own : List Own) → items_of_own (map (at_pubrec i) own) ≡ map (releasing i) (items_of_own own)
 items_released i [] = refl
-items_released i (Own.Unsent k p id ∷ own) = own_map (releasing i) p (Item.Waits k) (Item.Waits k) (items_of_own own) (items_of_own (map (at_pubrec i) own)) refl (items_released i own)
+items_released i (Own.Unsent k p id ∷ own) = own_map (releasing i) p (SenderItem.Waits k) (SenderItem.Waits k) (items_of_own own) (items_of_own (map (at_pubrec i) own)) refl (items_released i own)
 items_released i (Own.Sent k p id ∷ own) = by (cases_Bool (i == id)) (is_acknowledged p.qos) (cases_Bool (is_two p.qos)) (two_unacknowledged p.qos) (items_released i own)
   where
     by : ((i == id) ≡ true) ⊎ ((i == id) ≡ false) → (a : Bool) → (is_two p.qos ≡ true) ⊎ (is_two p.qos ≡ false) → (is_two p.qos ≡ true → a ≡ false)
         → items_of_own (map (at_pubrec i) own) ≡ map (releasing i) (items_of_own own)
-        → items_of_own ((if (i == id) && not a then Own.Released k p id else Own.Sent k p id) ∷ map (at_pubrec i) own) ≡ map (releasing i) (own_item p (Item.Sent k id) (items_of_own own))
+        → items_of_own ((if (i == id) && not a then Own.Released k p id else Own.Sent k p id) ∷ map (at_pubrec i) own) ≡ map (releasing i) (own_item p (SenderItem.Sent k id) (items_of_own own))
     by (inl b) true (inl t) n ih = absurd (both_ways true (n t) refl)
-    by (inl b) false (inl t) n ih = rw (b, t) (rw b (ap (λ l. Item.Released k id ∷ l) ih))
+    by (inl b) false (inl t) n ih = rw (b, t) (rw b (ap (λ l. SenderItem.Released k id ∷ l) ih))
     by (inl b) true (inr t) n ih = rw (b, t) ih
     by (inl b) false (inr t) n ih = rw (b, t) ih
-    by (inr b) a (inl t) n ih = rw (b, t) (rw b (ap (λ l. Item.Sent k id ∷ l) ih))
+    by (inr b) a (inl t) n ih = rw (b, t) (rw b (ap (λ l. SenderItem.Sent k id ∷ l) ih))
     by (inr b) a (inr t) n ih = rw (b, t) ih
 items_released i (Own.Released k p id ∷ own) =
-    own_map (releasing i) p (Item.Released k id) (Item.Released k id) (items_of_own own) (items_of_own (map (at_pubrec i) own)) refl (items_released i own)
-items_released i (Own.Done k p ∷ own) = own_map (releasing i) p (Item.Finished k) (Item.Finished k) (items_of_own own) (items_of_own (map (at_pubrec i) own)) refl (items_released i own)
+    own_map (releasing i) p (SenderItem.Released k id) (SenderItem.Released k id) (items_of_own own) (items_of_own (map (at_pubrec i) own)) refl (items_released i own)
+items_released i (Own.Done k p ∷ own) = own_map (releasing i) p (SenderItem.Finished k) (SenderItem.Finished k) (items_of_own own) (items_of_own (map (at_pubrec i) own)) refl (items_released i own)
 
 -- a PUBCOMP finishes
 pub items_finished : (i : ℕ) (own : List Own) → items_of_own (map (at_pubcomp i) own) ≡ map (finishing i) (items_of_own own)
 items_finished i [] = refl
-items_finished i (Own.Unsent k p id ∷ own) = own_map (finishing i) p (Item.Waits k) (Item.Waits k) (items_of_own own) (items_of_own (map (at_pubcomp i) own)) refl (items_finished i own)
-items_finished i (Own.Sent k p id ∷ own) = own_map (finishing i) p (Item.Sent k id) (Item.Sent k id) (items_of_own own) (items_of_own (map (at_pubcomp i) own)) refl (items_finished i own)
+items_finished i (Own.Unsent k p id ∷ own) = own_map (finishing i) p (SenderItem.Waits k) (SenderItem.Waits k) (items_of_own own) (items_of_own (map (at_pubcomp i) own)) refl (items_finished i own)
+items_finished i (Own.Sent k p id ∷ own) = own_map (finishing i) p (SenderItem.Sent k id) (SenderItem.Sent k id) (items_of_own own) (items_of_own (map (at_pubcomp i) own)) refl (items_finished i own)
 items_finished i (Own.Released k p id ∷ own) = by (cases_Bool (i == id)) (items_finished i own)
   where
     by : ((i == id) ≡ true) ⊎ ((i == id) ≡ false) → items_of_own (map (at_pubcomp i) own) ≡ map (finishing i) (items_of_own own)
-        → items_of_own (at_pubcomp i (Own.Released k p id) ∷ map (at_pubcomp i) own) ≡ map (finishing i) (own_item p (Item.Released k id) (items_of_own own))
-    by (inl b) ih = rw b (own_map (finishing i) p (Item.Released k id) (Item.Finished k) (items_of_own own) (items_of_own (map (at_pubcomp i) own)) (rw b refl) ih)
-    by (inr b) ih = rw b (own_map (finishing i) p (Item.Released k id) (Item.Released k id) (items_of_own own) (items_of_own (map (at_pubcomp i) own)) (rw b refl) ih)
-items_finished i (Own.Done k p ∷ own) = own_map (finishing i) p (Item.Finished k) (Item.Finished k) (items_of_own own) (items_of_own (map (at_pubcomp i) own)) refl (items_finished i own)
+        → items_of_own (at_pubcomp i (Own.Released k p id) ∷ map (at_pubcomp i) own) ≡ map (finishing i) (own_item p (SenderItem.Released k id) (items_of_own own))
+    by (inl b) ih = rw b (own_map (finishing i) p (SenderItem.Released k id) (SenderItem.Finished k) (items_of_own own) (items_of_own (map (at_pubcomp i) own)) (rw b refl) ih)
+    by (inr b) ih = rw b (own_map (finishing i) p (SenderItem.Released k id) (SenderItem.Released k id) (items_of_own own) (items_of_own (map (at_pubcomp i) own)) (rw b refl) ih)
+items_finished i (Own.Done k p ∷ own) = own_map (finishing i) p (SenderItem.Finished k) (SenderItem.Finished k) (items_of_own own) (items_of_own (map (at_pubcomp i) own)) refl (items_finished i own)
 
 -- ---- PUBACK is of no item
 
-own_same : (p : Publication) (x : Item ℕ) (es fs : List (Item ℕ)) → fs ≡ es → own_item p x fs ≡ own_item p x es
+own_same : (p : Publication) (x : SenderItem ℕ) (es fs : List (SenderItem ℕ)) → fs ≡ es → own_item p x fs ≡ own_item p x es
 own_same p x es fs e = ap (own_item p x) e
 
 pub items_acknowledged : (i : ℕ) (own : List Own) → items_of_own (map (at_puback i) own) ≡ items_of_own own
 items_acknowledged i [] = refl
-items_acknowledged i (Own.Unsent k p id ∷ own) = own_same p (Item.Waits k) (items_of_own own) (items_of_own (map (at_puback i) own)) (items_acknowledged i own)
+items_acknowledged i (Own.Unsent k p id ∷ own) = own_same p (SenderItem.Waits k) (items_of_own own) (items_of_own (map (at_puback i) own)) (items_acknowledged i own)
 items_acknowledged i (Own.Sent k p id ∷ own) = by (i == id) (is_acknowledged p.qos) (cases_Bool (is_two p.qos)) (two_unacknowledged p.qos) (items_acknowledged i own)
   where
     by : (b a : Bool) → (is_two p.qos ≡ true) ⊎ (is_two p.qos ≡ false) → (is_two p.qos ≡ true → a ≡ false) → items_of_own (map (at_puback i) own) ≡ items_of_own own
-        → items_of_own ((if b && a then Own.Done k p else Own.Sent k p id) ∷ map (at_puback i) own) ≡ own_item p (Item.Sent k id) (items_of_own own)
+        → items_of_own ((if b && a then Own.Done k p else Own.Sent k p id) ∷ map (at_puback i) own) ≡ own_item p (SenderItem.Sent k id) (items_of_own own)
     by true true (inl t) n ih = absurd (both_ways true (n t) refl)
     by true true (inr t) n ih = rw t ih
-    by true false t n ih = own_same p (Item.Sent k id) (items_of_own own) (items_of_own (map (at_puback i) own)) ih
-    by false a t n ih = own_same p (Item.Sent k id) (items_of_own own) (items_of_own (map (at_puback i) own)) ih
-items_acknowledged i (Own.Released k p id ∷ own) = own_same p (Item.Released k id) (items_of_own own) (items_of_own (map (at_puback i) own)) (items_acknowledged i own)
-items_acknowledged i (Own.Done k p ∷ own) = own_same p (Item.Finished k) (items_of_own own) (items_of_own (map (at_puback i) own)) (items_acknowledged i own)
+    by true false t n ih = own_same p (SenderItem.Sent k id) (items_of_own own) (items_of_own (map (at_puback i) own)) ih
+    by false a t n ih = own_same p (SenderItem.Sent k id) (items_of_own own) (items_of_own (map (at_puback i) own)) ih
+items_acknowledged i (Own.Released k p id ∷ own) = own_same p (SenderItem.Released k id) (items_of_own own) (items_of_own (map (at_puback i) own)) (items_acknowledged i own)
+items_acknowledged i (Own.Done k p ∷ own) = own_same p (SenderItem.Finished k) (items_of_own own) (items_of_own (map (at_puback i) own)) (items_acknowledged i own)
 
 -- ---- a sent item is a sent publication
 
-skipped : (i : ℕ) (b : Bool) (x : Item ℕ) (items : List (Item ℕ)) → has_sent i (x ∷ items) ≡ has_sent i items → has_sent i (if b then x ∷ items else items) ≡ true → has_sent i items ≡ true
+skipped : (i : ℕ) (b : Bool) (x : SenderItem ℕ) (items : List (SenderItem ℕ)) → has_sent i (x ∷ items) ≡ has_sent i items → has_sent i (if b then x ∷ items else items) ≡ true → has_sent i items ≡ true
 skipped i true x items e h = sym e ∙ h
 skipped i false x items e h = h
 
 pub sent_then : (i : ℕ) (own : List Own) → has_sent i (items_of_own own) ≡ true → is_sent_with i own ≡ true
 sent_then i [] h = h
-sent_then i (Own.Unsent k p id ∷ own) h = sent_then i own (skipped i (is_two p.qos) (Item.Waits k) (items_of_own own) refl h)
+sent_then i (Own.Unsent k p id ∷ own) h = sent_then i own (skipped i (is_two p.qos) (SenderItem.Waits k) (items_of_own own) refl h)
 sent_then i (Own.Sent k p id ∷ own) h = by (cases_Bool (is_two p.qos)) (sent_then i own)
   where
     first : (b a : Bool) → a ≡ false → (b || has_sent i (items_of_own own)) ≡ true → (has_sent i (items_of_own own) ≡ true → is_sent_with i own ≡ true)
@@ -97,9 +97,9 @@ sent_then i (Own.Sent k p id ∷ own) h = by (cases_Bool (is_two p.qos)) (sent_t
         → ((((i == id) && not (is_acknowledged p.qos)) || is_sent_with i own) ≡ true)
     by (inl t) ih =
         first (i == id) (is_acknowledged p.qos) (two_unacknowledged p.qos t)
-        (sym (ap (λ b. has_sent i (if b then Item.Sent k id ∷ items_of_own own else items_of_own own)) t) ∙ h) ih
+        (sym (ap (λ b. has_sent i (if b then SenderItem.Sent k id ∷ items_of_own own else items_of_own own)) t) ∙ h) ih
     by (inr t) ih =
         or_right ((i == id) && not (is_acknowledged p.qos)) (is_sent_with i own)
-        (ih (sym (ap (λ b. has_sent i (if b then Item.Sent k id ∷ items_of_own own else items_of_own own)) t) ∙ h))
-sent_then i (Own.Released k p id ∷ own) h = sent_then i own (skipped i (is_two p.qos) (Item.Released k id) (items_of_own own) refl h)
-sent_then i (Own.Done k p ∷ own) h = sent_then i own (skipped i (is_two p.qos) (Item.Finished k) (items_of_own own) refl h)
+        (ih (sym (ap (λ b. has_sent i (if b then SenderItem.Sent k id ∷ items_of_own own else items_of_own own)) t) ∙ h))
+sent_then i (Own.Released k p id ∷ own) h = sent_then i own (skipped i (is_two p.qos) (SenderItem.Released k id) (items_of_own own) refl h)
+sent_then i (Own.Done k p ∷ own) h = sent_then i own (skipped i (is_two p.qos) (SenderItem.Finished k) (items_of_own own) refl h)

@@ -2,7 +2,7 @@
 use Rattle.std.proofs.Common.{◌≡◌, ℕ, Bool, true, false, if◌then◌else◌, List, [], ◌∷◌, ◌++◌, map, refl, ap, ap₂, sym, ◌∙◌}
 use Rattle.client_base.specs.packet.declared.packet.Packet.TheVariants as packets
 use Rattle.client_base.specs.session_base.declared.publication.Publication.{Publication}
-use Rattle.exactly_once.specs.Items.{Item, sent}
+use Rattle.exactly_once.specs.Items.{SenderItem, sent}
 use Rattle.exactly_once.specs.Handshake.{Forward, publishing, resend}
 use Rattle.client_base.specs.Keeper.{Own, Keeper}
 use Rattle.client_base.specs.Written.{plain, sent_again, sent_first, resent}
@@ -17,7 +17,7 @@ releases_again [] = refl
 releases_again (id ∷ ids) = ap (λ l. Forward.Pubrel id ∷ l) (releases_again ids)
 
 -- an item that is not sent is not sent again
-not_again : (p : Publication) (item : Item ℕ) (items : List (Item ℕ)) → sent (item ∷ items) ≡ sent items → sent items ≡ sent (own_item p item items)
+not_again : (p : Publication) (item : SenderItem ℕ) (items : List (SenderItem ℕ)) → sent (item ∷ items) ≡ sent items → sent items ≡ sent (own_item p item items)
 not_again p item items e = by (is_two p.qos)
   where
     by : (b : Bool) → sent items ≡ sent (if b then item ∷ items else items)
@@ -27,15 +27,15 @@ not_again p item items e = by (is_two p.qos)
 -- PUBLISHes with DUP 1
 publishes_again : (own : List Own) → forward_of_own (sent_again own) ≡ map publishing (sent (items_of_own own))
 publishes_again [] = refl
-publishes_again (Own.Unsent k p id ∷ own) = publishes_again own ∙ ap (map publishing) (not_again p (Item.Waits k) (items_of_own own) refl)
+publishes_again (Own.Unsent k p id ∷ own) = publishes_again own ∙ ap (map publishing) (not_again p (SenderItem.Waits k) (items_of_own own) refl)
 publishes_again (Own.Sent k p id ∷ own) = forward_publishes true k id p (sent_again own) ∙ by (is_two p.qos) (publishes_again own)
   where
     by : (b : Bool) → forward_of_own (sent_again own) ≡ map publishing (sent (items_of_own own))
-        → (if b then Forward.Publish id k ∷ forward_of_own (sent_again own) else forward_of_own (sent_again own)) ≡ map publishing (sent (if b then Item.Sent k id ∷ items_of_own own else items_of_own own))
+        → (if b then Forward.Publish id k ∷ forward_of_own (sent_again own) else forward_of_own (sent_again own)) ≡ map publishing (sent (if b then SenderItem.Sent k id ∷ items_of_own own else items_of_own own))
     by true ih = ap (λ l. Forward.Publish id k ∷ l) ih
     by false ih = ih
-publishes_again (Own.Released k p id ∷ own) = publishes_again own ∙ ap (map publishing) (not_again p (Item.Released k id) (items_of_own own) refl)
-publishes_again (Own.Done k p ∷ own) = publishes_again own ∙ ap (map publishing) (not_again p (Item.Finished k) (items_of_own own) refl)
+publishes_again (Own.Released k p id ∷ own) = publishes_again own ∙ ap (map publishing) (not_again p (SenderItem.Released k id) (items_of_own own) refl)
+publishes_again (Own.Done k p ∷ own) = publishes_again own ∙ ap (map publishing) (not_again p (SenderItem.Finished k) (items_of_own own) refl)
 
 pub forward_resent : (keeper : Keeper) → forward_of_own (resent keeper) ≡ resend keeper.releases (items_of_own keeper.own) ++ forward_of_own (sent_first keeper.own)
 forward_resent keeper =

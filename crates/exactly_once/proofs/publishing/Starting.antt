@@ -1,7 +1,7 @@
 -- The first item that waits starts.
 use Rattle.std.proofs.Common.{◌≡◌, ℕ, Bool, true, false, List, [], ◌∷◌, ◌++◌, Some, refl, ap, sym, ◌∙◌, subst, append_assoc}
 use Rattle.client_base.specs.lists.Lists.{has_id}
-use Rattle.exactly_once.specs.Items.{Item, busy, start_first, first_waiting}
+use Rattle.exactly_once.specs.Items.{SenderItem, busy, start_first, first_waiting}
 use Rattle.exactly_once.specs.Handshake.{sending, Forward, Backward, Handshake}
 use Rattle.exactly_once.specs.Handshake.Advances.{starts}
 use Rattle.client_base.proofs.of_lists.Identifiers.{has_join}
@@ -9,31 +9,31 @@ use Rattle.exactly_once.proofs.BusyIdentifiers.{busy_append}
 use Rattle.exactly_once.proofs.publishing.Links.{link_by, Reaches, reaches_by}
 
 -- items of which none waits
-abbrev pub NoneWaits : List (Item ℕ) → Type 0
-NoneWaits (Item.Waits v ∷ items) = ⊥
+abbrev pub NoneWaits : List (SenderItem ℕ) → Type 0
+NoneWaits (SenderItem.Waits v ∷ items) = ⊥
 NoneWaits (_ ∷ items) = NoneWaits items
 NoneWaits [] = Unit {0}
 
-pub none_waits_more : (pre more : List (Item ℕ)) → NoneWaits pre → NoneWaits more → NoneWaits (pre ++ more)
+pub none_waits_more : (pre more : List (SenderItem ℕ)) → NoneWaits pre → NoneWaits more → NoneWaits (pre ++ more)
 none_waits_more [] more n m = m
-none_waits_more (Item.Waits v ∷ pre) more n m = elim n [ ]
-none_waits_more (Item.Sent v id ∷ pre) more n m = none_waits_more pre more n m
-none_waits_more (Item.Released v id ∷ pre) more n m = none_waits_more pre more n m
-none_waits_more (Item.Finished v ∷ pre) more n m = none_waits_more pre more n m
+none_waits_more (SenderItem.Waits v ∷ pre) more n m = elim n [ ]
+none_waits_more (SenderItem.Sent v id ∷ pre) more n m = none_waits_more pre more n m
+none_waits_more (SenderItem.Released v id ∷ pre) more n m = none_waits_more pre more n m
+none_waits_more (SenderItem.Finished v ∷ pre) more n m = none_waits_more pre more n m
 
-first_waits : (pre more : List (Item ℕ)) → NoneWaits pre → first_waiting (pre ++ more) ≡ first_waiting more
+first_waits : (pre more : List (SenderItem ℕ)) → NoneWaits pre → first_waiting (pre ++ more) ≡ first_waiting more
 first_waits [] more n = refl
-first_waits (Item.Waits v ∷ pre) more n = elim n [ ]
-first_waits (Item.Sent v id ∷ pre) more n = first_waits pre more n
-first_waits (Item.Released v id ∷ pre) more n = first_waits pre more n
-first_waits (Item.Finished v ∷ pre) more n = first_waits pre more n
+first_waits (SenderItem.Waits v ∷ pre) more n = elim n [ ]
+first_waits (SenderItem.Sent v id ∷ pre) more n = first_waits pre more n
+first_waits (SenderItem.Released v id ∷ pre) more n = first_waits pre more n
+first_waits (SenderItem.Finished v ∷ pre) more n = first_waits pre more n
 
-first_starts : (id : ℕ) (pre more : List (Item ℕ)) → NoneWaits pre → start_first id (pre ++ more) ≡ pre ++ start_first id more
+first_starts : (id : ℕ) (pre more : List (SenderItem ℕ)) → NoneWaits pre → start_first id (pre ++ more) ≡ pre ++ start_first id more
 first_starts id [] more n = refl
-first_starts id (Item.Waits v ∷ pre) more n = elim n [ ]
-first_starts id (Item.Sent v i ∷ pre) more n = ap (λ l. Item.Sent v i ∷ l) (first_starts id pre more n)
-first_starts id (Item.Released v i ∷ pre) more n = ap (λ l. Item.Released v i ∷ l) (first_starts id pre more n)
-first_starts id (Item.Finished v ∷ pre) more n = ap (λ l. Item.Finished v ∷ l) (first_starts id pre more n)
+first_starts id (SenderItem.Waits v ∷ pre) more n = elim n [ ]
+first_starts id (SenderItem.Sent v i ∷ pre) more n = ap (λ l. SenderItem.Sent v i ∷ l) (first_starts id pre more n)
+first_starts id (SenderItem.Released v i ∷ pre) more n = ap (λ l. SenderItem.Released v i ∷ l) (first_starts id pre more n)
+first_starts id (SenderItem.Finished v ∷ pre) more n = ap (λ l. SenderItem.Finished v ∷ l) (first_starts id pre more n)
 
 -- the sender is there
 sending_by : (cur : Bool) (m : Forward ℕ) (f : List (Forward ℕ)) (b : List Backward) → sending m (link_by cur true f b) ≡ link_by cur true (f ++ m ∷ []) b
@@ -41,14 +41,14 @@ sending_by true m f b = refl
 sending_by false m f b = refl
 
 -- one starts
-pub starts_one : (k : Handshake ℕ) (pre behind : List (Item ℕ)) (v id : ℕ) (cur : Bool) (f : List (Forward ℕ)) (b : List Backward) → k.items ≡ pre ++ Item.Waits v ∷ behind → NoneWaits pre
-    → has_id id (busy pre) ≡ false → has_id id (busy behind) ≡ false → k.link ≡ link_by cur true f b
-    → Reaches k ((pre ++ Item.Sent v id ∷ []) ++ behind) (link_by cur true (f ++ Forward.Publish id v ∷ []) b)
+pub starts_one : (k : Handshake ℕ) (pre behind : List (SenderItem ℕ)) (v id : ℕ) (cur : Bool) (f : List (Forward ℕ)) (b : List Backward) → k.items ≡ pre ++ SenderItem.Waits v ∷ behind → NoneWaits pre
+    → has_id id (busy pre) ≡ false → has_id id (busy behind) ≡ false → k.transit ≡ link_by cur true f b
+    → Reaches k ((pre ++ SenderItem.Sent v id ∷ []) ++ behind) (link_by cur true (f ++ Forward.Publish id v ∷ []) b)
 starts_one k pre behind v id cur f b e n free clear l =
     let fresh : has_id id (busy k.items) ≡ false =
-    ap (λ items. has_id id (busy items)) e ∙ ap (has_id id) (busy_append pre (Item.Waits v ∷ behind)) ∙ has_join id (busy pre) (busy behind) free clear in
-    let first : first_waiting k.items ≡ Some v = ap first_waiting e ∙ first_waits pre (Item.Waits v ∷ behind) n in
-    subst (λ (items : List (Item ℕ)). Reaches k items (link_by cur true (f ++ Forward.Publish id v ∷ []) b))
-    (ap (start_first id) e ∙ first_starts id pre (Item.Waits v ∷ behind) n ∙ sym (append_assoc pre (Item.Sent v id ∷ []) behind))
-    (reaches_by k (start_first id k.items) (sending (Forward.Publish id v) k.link) (link_by cur true (f ++ Forward.Publish id v ∷ []) b) (starts id v fresh first)
+    ap (λ items. has_id id (busy items)) e ∙ ap (has_id id) (busy_append pre (SenderItem.Waits v ∷ behind)) ∙ has_join id (busy pre) (busy behind) free clear in
+    let first : first_waiting k.items ≡ Some v = ap first_waiting e ∙ first_waits pre (SenderItem.Waits v ∷ behind) n in
+    subst (λ (items : List (SenderItem ℕ)). Reaches k items (link_by cur true (f ++ Forward.Publish id v ∷ []) b))
+    (ap (start_first id) e ∙ first_starts id pre (SenderItem.Waits v ∷ behind) n ∙ sym (append_assoc pre (SenderItem.Sent v id ∷ []) behind))
+    (reaches_by k (start_first id k.items) (sending (Forward.Publish id v) k.transit) (link_by cur true (f ++ Forward.Publish id v ∷ []) b) (starts id v fresh first)
     (ap (sending (Forward.Publish id v)) l ∙ sending_by cur (Forward.Publish id v) f b))

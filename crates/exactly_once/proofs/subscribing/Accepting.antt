@@ -10,7 +10,7 @@ use Rattle.client_base.specs.session_base.declared.publication.Publication.{Publ
 use Rattle.client_base.specs.session_base.Publication.{publication_of}
 use Rattle.client_base.specs.lists.Lists.{has_id}
 use Rattle.broker_base.specs.broker_spec.Place.{Limits}
-use Rattle.exactly_once.specs.Handshake.{Forward, Link, Handshake, taking, accepting}
+use Rattle.exactly_once.specs.Handshake.{Forward, Transit, Handshake, taking, accepting}
 use Rattle.exactly_once.specs.Sides.{ClientConnection, Side}
 use Rattle.client_base.specs.Written.{plain, writing}
 use Rattle.client_base.specs.Handshakes.{takes_in}
@@ -25,22 +25,22 @@ first_two : (d : Delivery) (dup : Bool) (id : ℕ) (p : Publication) (f : List (
 first_two d dup id p f e = ap (λ (z : Delivery). published_in z p f) e
 
 -- one whose identifier is known is not accepted again
-again : (h t : Handshake Publication) (id : ℕ) (p : Publication) (l : Link Publication) → h.received id ≡ true
-    → IsLike (record { items = h.items; accepted = h.accepted ++ []; received = h.received; link = l }) t → IsLike (taking (Forward.Publish id p) h l) t
+again : (h t : Handshake Publication) (id : ℕ) (p : Publication) (l : Transit Publication) → h.received id ≡ true
+    → IsLike (record { items = h.items; accepted = h.accepted ++ []; received = h.received; transit = l }) t → IsLike (taking (Forward.Publish id p) h l) t
 again h t id p l e like = by (h.received id) e
   where
     by : (b : Bool) → b ≡ true → IsLike (accepting id p b h l) t
-    by true e = record { items = like.items; accepted = sym (append-nil h.accepted) ∙ like.accepted; received = like.received; link = like.link }
+    by true e = record { items = like.items; accepted = sym (append-nil h.accepted) ∙ like.accepted; received = like.received; transit = like.transit }
     by false e = absurd (both_ways false refl e)
 
 -- any other is accepted
-anew : (h t : Handshake Publication) (id : ℕ) (p : Publication) (l : Link Publication) → h.received id ≡ false
-    → IsLike (record { items = h.items; accepted = h.accepted ++ p ∷ []; received = λ j. (j == id) || h.received j; link = l }) t → IsLike (taking (Forward.Publish id p) h l) t
+anew : (h t : Handshake Publication) (id : ℕ) (p : Publication) (l : Transit Publication) → h.received id ≡ false
+    → IsLike (record { items = h.items; accepted = h.accepted ++ p ∷ []; received = λ j. (j == id) || h.received j; transit = l }) t → IsLike (taking (Forward.Publish id p) h l) t
 anew h t id p l e like = by (h.received id) e
   where
     by : (b : Bool) → b ≡ false → IsLike (accepting id p b h l) t
     by true e = absurd (both_ways true e refl)
-    by false e = record { items = like.items; accepted = like.accepted; received = like.received; link = like.link }
+    by false e = record { items = like.items; accepted = like.accepted; received = like.received; transit = like.transit }
 
 -- a PUBLISH of QoS 2 is taken
 next_two : (limits : Limits) (s : Story) (κ : ClientConnection) (others : List ClientConnection) (p : Publish) (dup : Bool) (id : ℕ) → IsNext limits s κ others (packets.Publish p)

@@ -9,7 +9,7 @@ use Rattle.broker_base.specs.broker_spec.Times.{started}
 use Rattle.broker_base.specs.broker_spec.IdentifierLaws.{WaitsLast, IsWaiting}
 use Rattle.broker_base.proofs.SoundEntries.{AllWait, InOrder, Sound}
 use Rattle.broker_base.proofs.SoundStarts.{sound_new}
-use Rattle.exactly_once.specs.Items.{Item}
+use Rattle.exactly_once.specs.Items.{SenderItem}
 use Rattle.exactly_once.specs.Handshake.{Handshake, Run, with_items}
 use Rattle.exactly_once.specs.Handshake.Advances.{adds}
 use Rattle.exactly_once.specs.Handshake.Run.{stays, goes_on}
@@ -24,20 +24,20 @@ use Rattle.exactly_once.proofs.Starts.{Starts, rows_started, sending_all, all_st
 
 -- those of QoS 2 are added, one after another
 pub adds_all : (n : ℕ) (ps : List Publication) (h : Handshake Publication) → Starts h (h.items ++ items_of (map (Entry.Waits n) ps)) []
-adds_all n [] h = record { after = h; run = stays; items_are = sym (append-nil h.items); accepted = refl; received = refl; link = refl }
-adds_all n (p ∷ ps) h = by (is_two p.qos) (adds_all n ps (with_items (h.items ++ Item.Waits p ∷ []) h.link h)) (adds_all n ps h)
+adds_all n [] h = record { after = h; run = stays; items_are = sym (append-nil h.items); accepted = refl; received = refl; transit = refl }
+adds_all n (p ∷ ps) h = by (is_two p.qos) (adds_all n ps (with_items (h.items ++ SenderItem.Waits p ∷ []) h.transit h)) (adds_all n ps h)
   where
-    by : (b : Bool) → Starts (with_items (h.items ++ Item.Waits p ∷ []) h.link h) ((h.items ++ Item.Waits p ∷ []) ++ items_of (map (Entry.Waits n) ps)) []
+    by : (b : Bool) → Starts (with_items (h.items ++ SenderItem.Waits p ∷ []) h.transit h) ((h.items ++ SenderItem.Waits p ∷ []) ++ items_of (map (Entry.Waits n) ps)) []
         → Starts h (h.items ++ items_of (map (Entry.Waits n) ps)) []
-        → Starts h (h.items ++ (if b then Item.Waits p ∷ items_of (map (Entry.Waits n) ps) else items_of (map (Entry.Waits n) ps))) []
+        → Starts h (h.items ++ (if b then SenderItem.Waits p ∷ items_of (map (Entry.Waits n) ps) else items_of (map (Entry.Waits n) ps))) []
     by true r q =
         record {
           after = r.after;
           run = run_then (goes_on stays (adds p)) r.run;
-          items_are = r.items_are ∙ append_assoc h.items (Item.Waits p ∷ []) (items_of (map (Entry.Waits n) ps));
+          items_are = r.items_are ∙ append_assoc h.items (SenderItem.Waits p ∷ []) (items_of (map (Entry.Waits n) ps));
           accepted = r.accepted;
           received = r.received;
-          link = r.link;
+          transit = r.transit;
         }
     by false r q = q
 
@@ -74,7 +74,7 @@ place_starts w n current es ps h e s = by current (adds_all n ps h)
 
     by : (current : Option ConnectionName) → Starts h (h.items ++ items_of (map (Entry.Waits n) ps)) []
         → Starts h (items_of (started w n current (es ++ map (Entry.Waits n) ps))) (rows_at w current (es ++ map (Entry.Waits n) ps))
-    by None r = record { after = r.after; run = r.run; items_are = r.items_are ∙ items; accepted = r.accepted; received = r.received; link = r.link }
+    by None r = record { after = r.after; run = r.run; items_are = r.items_are ∙ items; accepted = r.accepted; received = r.received; transit = r.transit }
     by (Some x) r =
         let q = all_starts w n [] [] (es ++ map (Entry.Waits n) ps) r.after (r.items_are ∙ items) tt (λ i e. refl) (waits_last (es ++ map (Entry.Waits n) ps) (sound_new n es ps s).in_order) in
         record {
@@ -83,17 +83,17 @@ place_starts w n current es ps h e s = by current (adds_all n ps h)
           items_are = q.items_are;
           accepted = q.accepted ∙ r.accepted;
           received = q.received ∙ r.received;
-          link = q.link ∙ ap (sending_all (rows_started w [] (es ++ map (Entry.Waits n) ps))) r.link;
+          transit = q.transit ∙ ap (sending_all (rows_started w [] (es ++ map (Entry.Waits n) ps))) r.transit;
         }
 
 -- after a run
 pub goes_started : (h k t : Handshake Publication) (w n : ℕ) (current : Option ConnectionName) (es : List Entry) (ps : List Publication)
     → Run h k → k.items ≡ items_of es → Sound (suc n) es → k.accepted ≡ t.accepted → ((id : ℕ) → k.received id ≡ t.received id)
-    → t.items ≡ items_of (started w n current (es ++ map (Entry.Waits n) ps)) → t.link ≡ sending_all (rows_at w current (es ++ map (Entry.Waits n) ps)) k.link → GoesTo h t
+    → t.items ≡ items_of (started w n current (es ++ map (Entry.Waits n) ps)) → t.transit ≡ sending_all (rows_at w current (es ++ map (Entry.Waits n) ps)) k.transit → GoesTo h t
 goes_started h k t w n current es ps run e s a r i l =
     let q = place_starts w n current es ps k e s in
     record {
       between = q.after;
       run = run_then run q.run;
-      like = record { items = q.items_are ∙ sym i; accepted = q.accepted ∙ a; received = λ id. ap (λ (f : ℕ → Bool). f id) q.received ∙ r id; link = q.link ∙ sym l };
+      like = record { items = q.items_are ∙ sym i; accepted = q.accepted ∙ a; received = λ id. ap (λ (f : ℕ → Bool). f id) q.received ∙ r id; transit = q.transit ∙ sym l };
     }

@@ -56,7 +56,7 @@ own_hears limits s i κ w packet m o e first g items =
     place_goes limits s (at_own s κ.name packet) (counted_at i s.connections) (answered s limits κ.name packet) [] (reply m) (with_items (heard m h.items) (link_as (grown (reply m) v) b) h) o.shape g
     (view_counted limits (at_own s κ.name packet ∷ s.past) current s.keeper s.connections i o.n κ o.at o.taken) (accepted_counted i s.connections)
     (hears_view h v m b (link_is limits s.past current s.keeper s.connections ∙ ap (link_as v) left)
-    (subst (Stands h.link) left (stands limits s.past s.keeper.client s.keeper s.connections current o.shape.connections o.shape.newest_is_served)))
+    (subst (Stands h.transit) left (stands limits s.past s.keeper.client s.keeper s.connections current o.shape.connections o.shape.newest_is_served)))
     items refl (λ j. refl) refl
 
 -- a PUBCOMP

@@ -1,17 +1,17 @@
 -- A client that holds no connection any more.
 use Rattle.std.proofs.Common.{◌≡◌, ℕ, List, [], ap, sym, ◌∙◌, inl, inr}
 use Rattle.client_base.specs.session_base.declared.publication.Publication.{Publication}
-use Rattle.exactly_once.specs.Handshake.{Backward, Link, Handshake, with_items}
+use Rattle.exactly_once.specs.Handshake.{Backward, Transit, Handshake, with_items}
 use Rattle.exactly_once.specs.Handshake.Advances.{receiver_leaves, parts}
 use Rattle.exactly_once.specs.Handshake.Run.{stays, goes_on}
 use Rattle.exactly_once.specs.Inside.Projections.{GoesTo}
 use Rattle.exactly_once.proofs.subscribing.Standing.{Stands}
 
 -- the receiver leaves, if it had not: what the broker's connection still brings is received
-pub gone : (h t : Handshake Publication) (b : List Backward) → Stands h.link b
-    → h.items ≡ t.items → h.accepted ≡ t.accepted → ((id : ℕ) → h.received id ≡ t.received id) → t.link ≡ Link.Behind b → GoesTo h t
-gone h t b (inl e) i a r l = record { between = h; run = stays; like = record { items = i; accepted = a; received = r; link = e ∙ sym l } }
+pub gone : (h t : Handshake Publication) (b : List Backward) → Stands h.transit b
+    → h.items ≡ t.items → h.accepted ≡ t.accepted → ((id : ℕ) → h.received id ≡ t.received id) → t.transit ≡ Transit.Behind b → GoesTo h t
+gone h t b (inl e) i a r l = record { between = h; run = stays; like = record { items = i; accepted = a; received = r; transit = e ∙ sym l } }
 gone h t b (inr (inl (f, e))) i a r l =
-    record { between = with_items h.items (Link.Behind b) h; run = goes_on stays (receiver_leaves f b e); like = record { items = i; accepted = a; received = r; link = sym l } }
+    record { between = with_items h.items (Transit.Behind b) h; run = goes_on stays (receiver_leaves f b e); like = record { items = i; accepted = a; received = r; transit = sym l } }
 gone h t b (inr (inr (f, e, n))) i a r l =
-    record { between = with_items h.items (Link.Behind []) h; run = goes_on stays parts; like = record { items = i; accepted = a; received = r; link = ap Link.Behind (sym n) ∙ sym l } }
+    record { between = with_items h.items (Transit.Behind []) h; run = goes_on stays parts; like = record { items = i; accepted = a; received = r; transit = ap Transit.Behind (sym n) ∙ sym l } }

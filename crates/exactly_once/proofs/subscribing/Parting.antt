@@ -8,7 +8,7 @@ use Rattle.broker_base.specs.broker_spec.Past.{current_connection}
 use Rattle.broker_base.specs.broker_spec.Times.{entries_of}
 use Rattle.broker_base.specs.broker_spec.Answers.{answers_at}
 use Rattle.client_base.specs.lists.Lists.{Each}
-use Rattle.exactly_once.specs.Handshake.{Backward, Link, Handshake, with_items}
+use Rattle.exactly_once.specs.Handshake.{Backward, Transit, Handshake, with_items}
 use Rattle.exactly_once.specs.Handshake.Advances.{sender_leaves, parts}
 use Rattle.exactly_once.specs.Handshake.Run.{stays, goes_on}
 use Rattle.exactly_once.specs.Sends.{sends_to}
@@ -18,7 +18,7 @@ use Rattle.exactly_once.specs.Story.{Story}
 use Rattle.exactly_once.specs.StoryCommands.{any_named}
 use Rattle.exactly_once.specs.Acceptance.{accepted_on}
 use Rattle.exactly_once.specs.Inside.Projections.{to_come, is_current, GoesTo}
-use Rattle.exactly_once.specs.Inside.AsSubscriber.{items_of, forward_of, held, left_behind, link_to, as_subscriber}
+use Rattle.exactly_once.specs.Inside.AsSubscriber.{items_of, forward_of, held, left_behind, transit_to, as_subscriber}
 use Rattle.exactly_once.specs.Inside.Shape.{HasShape}
 use Rattle.exactly_once.specs.Inside.ConnectionShape.{ConnectionInShape}
 use Rattle.exactly_once.proofs.Takes.{same_name_self}
@@ -55,12 +55,12 @@ view_parted limits place past c current other keeper (κ ∷ others) g sends not
         (not κ.name first)
 
 -- the sender leaves, if it had not
-pub parts_view : (h t : Handshake Publication) (v : View) (b : List Backward) → h.link ≡ link_as v b → h.items ≡ t.items → h.accepted ≡ t.accepted → ((id : ℕ) → h.received id ≡ t.received id)
-    → t.link ≡ link_as (parted v) [] → GoesTo h t
-parts_view h t None b e i a r l = record { between = with_items h.items (Link.Behind []) h; run = goes_on stays parts; like = record { items = i; accepted = a; received = r; link = sym l } }
+pub parts_view : (h t : Handshake Publication) (v : View) (b : List Backward) → h.transit ≡ link_as v b → h.items ≡ t.items → h.accepted ≡ t.accepted → ((id : ℕ) → h.received id ≡ t.received id)
+    → t.transit ≡ link_as (parted v) [] → GoesTo h t
+parts_view h t None b e i a r l = record { between = with_items h.items (Transit.Behind []) h; run = goes_on stays parts; like = record { items = i; accepted = a; received = r; transit = sym l } }
 parts_view h t (Some (f, true)) b e i a r l =
-    record { between = with_items h.items (Link.Ahead f) h; run = goes_on stays (sender_leaves f b e); like = record { items = i; accepted = a; received = r; link = sym l } }
-parts_view h t (Some (f, false)) b e i a r l = record { between = h; run = stays; like = record { items = i; accepted = a; received = r; link = e ∙ sym l } }
+    record { between = with_items h.items (Transit.Ahead f) h; run = goes_on stays (sender_leaves f b e); like = record { items = i; accepted = a; received = r; transit = sym l } }
+parts_view h t (Some (f, false)) b e i a r l = record { between = h; run = stays; like = record { items = i; accepted = a; received = r; transit = e ∙ sym l } }
 
 -- such a place
 pub place_parts : (limits : Limits) (s : Story) (place : Place) (connections : List ClientConnection) → HasShape limits s
@@ -74,6 +74,6 @@ place_parts limits s place connections shape over entries sends same accepted =
     let current = current_connection s.past s.keeper.client in
     parts_view (as_subscriber limits s) (as_subscriber limits (placed s place connections)) (view limits s.past current s.keeper s.connections) (left_behind current s.connections)
     (link_is limits s.past current s.keeper s.connections) (ap items_of (sym entries)) (sym accepted) (λ id. refl)
-    (ap (λ (o : Option ConnectionName). link_to limits (place ∷ s.past) o connections (held s.keeper connections)) over
+    (ap (λ (o : Option ConnectionName). transit_to limits (place ∷ s.past) o connections (held s.keeper connections)) over
     ∙ link_is limits (place ∷ s.past) None s.keeper connections
     ∙ ap₂ link_as (same ∙ view_parted limits place s.past s.keeper.client current None s.keeper s.connections shape.connections sends (λ x h. refl)) (nothing_behind connections))

@@ -13,7 +13,7 @@ use Rattle.exactly_once.specs.Sides.{ClientConnection}
 use Rattle.exactly_once.specs.Story.{Story}
 use Rattle.exactly_once.specs.Acceptance.{accepted_on}
 use Rattle.exactly_once.specs.Inside.Projections.{GoesTo}
-use Rattle.exactly_once.specs.Inside.AsSubscriber.{items_of, held, left_behind, link_to, as_subscriber}
+use Rattle.exactly_once.specs.Inside.AsSubscriber.{items_of, held, left_behind, transit_to, as_subscriber}
 use Rattle.exactly_once.specs.Inside.Shape.{HasShape}
 use Rattle.exactly_once.proofs.Starts.{sending_all}
 use Rattle.exactly_once.proofs.subscribing.Adding.{rows_at, goes_started}
@@ -44,11 +44,11 @@ pub place_goes : (limits : Limits) (s : Story) (place : Place) (connections : Li
     → view limits (place ∷ s.past) (current_connection s.past s.keeper.client) s.keeper connections ≡ view limits (place ∷ s.past) (current_connection s.past s.keeper.client) s.keeper s.connections
     → accepted_on connections ≡ accepted_on s.connections
     → Run (as_subscriber limits s) k → k.items ≡ items_of es → k.accepted ≡ accepted_on s.connections → ((id : ℕ) → k.received id ≡ has_id id s.keeper.received)
-    → k.link ≡ link_as (grown more (view limits s.past (current_connection s.past s.keeper.client) s.keeper s.connections)) (left_behind (current_connection s.past s.keeper.client) connections)
+    → k.transit ≡ link_as (grown more (view limits s.past (current_connection s.past s.keeper.client) s.keeper s.connections)) (left_behind (current_connection s.past s.keeper.client) connections)
     → GoesTo (as_subscriber limits s) (as_subscriber limits (placed s place connections))
-place_goes limits s place connections es ps more k shape g same accepted run items accepts received link =
+place_goes limits s place connections es ps more k shape g same accepted run items accepts received transit =
     goes_started (as_subscriber limits s) k (as_subscriber limits (placed s place connections)) (window_at limits (place ∷ s.past)) (length s.past) (current_connection s.past s.keeper.client) es ps run items g.sound
-    (accepts ∙ sym accepted) received (ap items_of g.entries) link'
+    (accepts ∙ sym accepted) received (ap items_of g.entries) transit'
   where
     current : Option ConnectionName
     current = current_connection s.past s.keeper.client
@@ -59,13 +59,13 @@ place_goes limits s place connections es ps more k shape g same accepted run ite
     b : List Backward
     b = left_behind current connections
 
-    link' : (as_subscriber limits (placed s place connections)).link ≡ sending_all rows k.link
-    link' =
-        ap (λ (o : Option ConnectionName). link_to limits (place ∷ s.past) o connections (held s.keeper connections)) g.current
+    transit' : (as_subscriber limits (placed s place connections)).transit ≡ sending_all rows k.transit
+    transit' =
+        ap (λ (o : Option ConnectionName). transit_to limits (place ∷ s.past) o connections (held s.keeper connections)) g.current
         ∙ link_is limits (place ∷ s.past) current s.keeper connections
         ∙ ap (λ v. link_as v b)
         (same
         ∙ view_grown limits place s.past s.keeper.client current s.keeper s.connections (more ++ map publishing rows) shape.connections g.sends
         ∙ grown_twice more (map publishing rows) (view limits s.past current s.keeper s.connections))
         ∙ link_grown rows (grown more (view limits s.past current s.keeper s.connections)) b
-        ∙ ap (sending_all rows) (sym link)
+        ∙ ap (sending_all rows) (sym transit)

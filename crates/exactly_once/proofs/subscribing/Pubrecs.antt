@@ -90,7 +90,7 @@ own_pubrec limits s i κ w id o good e =
     let h = as_subscriber limits s in
     let sent : has_sent id h.items ≡ true =
     pubrec_due h v id b good (link_is limits s.past current s.keeper s.connections ∙ ap (link_as v) left)
-    (subst (Stands h.link) left (stands limits s.past s.keeper.client s.keeper s.connections current o.shape.connections o.shape.newest_is_served)) in
+    (subst (Stands h.transit) left (stands limits s.past s.keeper.client s.keeper s.connections current o.shape.connections o.shape.newest_is_served)) in
     own_hears limits s i κ w (packets.Pubrec id) (Backward.Pubrec id) o e (λ b. refl)
     (answers_on limits s κ.name (packets.Pubrec id) (Forward.Pubrel id ∷ []) o.current refl
     (λ x h. pubrel_sends (has_id id (released_below (suc (length s.past)) (entries_of limits (at_own s κ.name (packets.Pubrec id) ∷ s.past) s.keeper.client))) current κ.name x id

@@ -11,7 +11,7 @@ use Rattle.client_base.proofs.of_session_base.CountedIdentifiers.{one_if, count,
 use Rattle.broker_base.proofs.SoundEntries.{Sound}
 use Rattle.broker_base.proofs.flights.IdentifiersInFlight.{same_ids}
 use Rattle.client_base.specs.lists.Lists.{has_id, IsDistinct, Each}
-use Rattle.exactly_once.specs.Items.{Item, has_released}
+use Rattle.exactly_once.specs.Items.{SenderItem, has_released}
 use Rattle.client_base.proofs.of_lists.OfEach.{each_append, each_then}
 use Rattle.client_base.proofs.of_lists.Tests.{or_right, or_left, none_or, eq_same}
 use Rattle.exactly_once.specs.Carried.{is_two}
@@ -21,17 +21,17 @@ use Rattle.exactly_once.proofs.subscribing.Queued.{AreKept}
 -- ---- of released items
 
 -- an item more in front
-more_by : (id : ℕ) (b : Bool) (item : Item Publication) (items : List (Item Publication)) → (has_released id items ≡ true → has_released id (item ∷ items) ≡ true) → has_released id items ≡ true
+more_by : (id : ℕ) (b : Bool) (item : SenderItem Publication) (items : List (SenderItem Publication)) → (has_released id items ≡ true → has_released id (item ∷ items) ≡ true) → has_released id items ≡ true
     → has_released id (if b then item ∷ items else items) ≡ true
 more_by id true item items f e = f e
 more_by id false item items f e = e
 
 -- an entry more in front
 has_more : (id : ℕ) (e : Entry) (es : List Entry) → has_released id (items_of es) ≡ true → has_released id (items_of (e ∷ es)) ≡ true
-has_more id (Entry.Waits made p) es h = more_by id (is_two p.qos) (Item.Waits p) (items_of es) (λ e. e) h
-has_more id (Entry.Started made p i start) es h = more_by id (is_two p.qos) (Item.Sent p i) (items_of es) (λ e. e) h
-has_more id (Entry.Released made p i start release) es h = more_by id (is_two p.qos) (Item.Released p i) (items_of es) (or_right (id == i) (has_released id (items_of es))) h
-has_more id (Entry.Finished made p i start release finish) es h = more_by id (is_two p.qos) (Item.Finished p) (items_of es) (λ e. e) h
+has_more id (Entry.Waits made p) es h = more_by id (is_two p.qos) (SenderItem.Waits p) (items_of es) (λ e. e) h
+has_more id (Entry.Started made p i start) es h = more_by id (is_two p.qos) (SenderItem.Sent p i) (items_of es) (λ e. e) h
+has_more id (Entry.Released made p i start release) es h = more_by id (is_two p.qos) (SenderItem.Released p i) (items_of es) (or_right (id == i) (has_released id (items_of es))) h
+has_more id (Entry.Finished made p i start release finish) es h = more_by id (is_two p.qos) (SenderItem.Finished p) (items_of es) (λ e. e) h
 
 -- those of one place
 released_here : (t : ℕ) (es : List Entry) → AreKept es → Each (λ id. has_released id (items_of es) ≡ true) (released_at t es)
@@ -49,7 +49,7 @@ released_here t (Entry.Released made p i start release ∷ es) h =
     (each_then (λ id. has_released id (items_of es) ≡ true) (λ id. has_released id (items_of (Entry.Released made p i start release ∷ es)) ≡ true) (released_at t es)
     (λ id. has_more id (Entry.Released made p i start release) es) (released_here t es h.1))
   where
-    first : has_released i (if is_two p.qos then Item.Released p i ∷ items_of es else items_of es) ≡ true
+    first : has_released i (if is_two p.qos then SenderItem.Released p i ∷ items_of es else items_of es) ≡ true
     first = rw h.0 (or_left (i == i) (has_released i (items_of es)) (eq_same i))
 
     by : (b : Bool) → Each (λ id. has_released id (items_of (Entry.Released made p i start release ∷ es)) ≡ true) (released_at t es)

@@ -14,7 +14,7 @@ use Rattle.broker_base.specs.broker_spec.declared.command.Output.TheVariants.{Se
 use Rattle.broker_base.proofs.flights.StartsInFlight.{released_started}
 use Rattle.broker_base.proofs.EntriesStartedBefore.{StartedBefore}
 use Rattle.exactly_once.specs.Handshake.{Forward, publishing, resend}
-use Rattle.exactly_once.specs.Items.{Item, sent}
+use Rattle.exactly_once.specs.Items.{SenderItem, sent}
 use Rattle.client_base.proofs.of_lists.Tests.{eq_same}
 use Rattle.exactly_once.specs.Sends.{sends_to}
 use Rattle.exactly_once.specs.Carried.{is_two}
@@ -52,14 +52,14 @@ again_of x w n ids (Entry.Released made p id start release ∷ es) = again_of x 
 again_of x w n ids (Entry.Finished made p id start release finish ∷ es) = again_of x w n ids es
 
 -- what is no sent item is skipped
-skip : (b : Bool) (item : Item Publication) (items : List (Item Publication)) → sent (item ∷ items) ≡ sent items → sent items ≡ sent (if b then item ∷ items else items)
+skip : (b : Bool) (item : SenderItem Publication) (items : List (SenderItem Publication)) → sent (item ∷ items) ≡ sent items → sent items ≡ sent (if b then item ∷ items else items)
 skip true item items e = sym e
 skip false item items e = refl
 
 -- what was sent before is sent again
 pub forward_again : (x : ConnectionName) (n : ℕ) (es : List Entry) → StartedBefore n es → forward_of (sends_to x (flat_map (sent_again x n) es)) ≡ map publishing (sent (items_of es))
 forward_again x n [] h = refl
-forward_again x n (Entry.Waits made p ∷ es) h = forward_again x n es h ∙ ap (map publishing) (skip (is_two p.qos) (Item.Waits p) (items_of es) refl)
+forward_again x n (Entry.Waits made p ∷ es) h = forward_again x n es h ∙ ap (map publishing) (skip (is_two p.qos) (SenderItem.Waits p) (items_of es) refl)
 forward_again x n (Entry.Started made p id start ∷ es) h =
     rw (earlier start n h.0)
     (ap forward_of (sends_publish x true id p (flat_map (sent_again x n) es))
@@ -68,11 +68,11 @@ forward_again x n (Entry.Started made p id start ∷ es) h =
   where
     by : (b : Bool) → forward_of (sends_to x (flat_map (sent_again x n) es)) ≡ map publishing (sent (items_of es))
         → (if b then Forward.Publish id p ∷ forward_of (sends_to x (flat_map (sent_again x n) es)) else forward_of (sends_to x (flat_map (sent_again x n) es)))
-        ≡ map publishing (sent (if b then Item.Sent p id ∷ items_of es else items_of es))
+        ≡ map publishing (sent (if b then SenderItem.Sent p id ∷ items_of es else items_of es))
     by true e = ap (λ l. Forward.Publish id p ∷ l) e
     by false e = e
-forward_again x n (Entry.Released made p id start release ∷ es) h = forward_again x n es h ∙ ap (map publishing) (skip (is_two p.qos) (Item.Released p id) (items_of es) refl)
-forward_again x n (Entry.Finished made p id start release finish ∷ es) h = forward_again x n es h ∙ ap (map publishing) (skip (is_two p.qos) (Item.Finished p) (items_of es) refl)
+forward_again x n (Entry.Released made p id start release ∷ es) h = forward_again x n es h ∙ ap (map publishing) (skip (is_two p.qos) (SenderItem.Released p id) (items_of es) refl)
+forward_again x n (Entry.Finished made p id start release finish ∷ es) h = forward_again x n es h ∙ ap (map publishing) (skip (is_two p.qos) (SenderItem.Finished p) (items_of es) refl)
 
 -- ---- all of it
 

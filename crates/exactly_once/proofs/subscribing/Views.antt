@@ -1,4 +1,4 @@
--- The link as the client's connection shows it: what comes on it, whether it is current, and what may come back.
+-- The transit as the client's connection shows it: what comes on it, whether it is current, and what may come back.
 use Rattle.std.proofs.Common.{◌≡◌, ◌≤◌, ℕ, zero, suc, Bool, true, false, ◌||◌, if◌then◌else◌, List, [], ◌∷◌, ◌++◌, length, map, drop, Option, Some, None, refl, ap, sym, ◌∙◌, append_assoc}
 use Rattle.std.proofs.lemmas.List.{append-nil, drop-append-le}
 use Rattle.client_base.specs.session_base.declared.publication.Publication.{Publication}
@@ -6,13 +6,13 @@ use Rattle.broker_base.specs.broker_spec.Connection.{ConnectionName, same_connec
 use Rattle.broker_base.specs.broker_spec.Place.{Client, Place, Past, Limits}
 use Rattle.broker_base.specs.broker_spec.Answers.{answers_at}
 use Rattle.client_base.specs.lists.Lists.{Each}
-use Rattle.exactly_once.specs.Handshake.{Forward, Backward, Link, publishing}
+use Rattle.exactly_once.specs.Handshake.{Forward, Backward, Transit, publishing}
 use Rattle.exactly_once.specs.Sends.{sends_to, put_to}
 use Rattle.exactly_once.specs.Sides.{ClientConnection}
 use Rattle.client_base.specs.Keeper.{Keeper}
 use Rattle.exactly_once.specs.StoryCommands.{any_named}
 use Rattle.exactly_once.specs.Inside.Projections.{to_come, to_be_taken, is_current}
-use Rattle.exactly_once.specs.Inside.AsSubscriber.{forward_of, backward_of, held, if_taken, left_behind, link_to}
+use Rattle.exactly_once.specs.Inside.AsSubscriber.{forward_of, backward_of, held, if_taken, left_behind, transit_to}
 use Rattle.exactly_once.specs.Inside.ConnectionShape.{ConnectionInShape}
 use Rattle.exactly_once.proofs.Starts.{sending_all}
 use Rattle.exactly_once.proofs.Takes.{same_name_self}
@@ -32,32 +32,32 @@ abbrev pub view : Limits → Past → Option ConnectionName → Keeper → List 
 view limits past current keeper (κ ∷ others) = if keeper.is_open then seen limits past current κ κ.taken else None
 view limits past current keeper [] = None
 
--- the link of a view, with what may come back
-abbrev pub link_as : View → List Backward → Link Publication
-link_as None b = Link.Behind b
-link_as (Some (f, true)) b = Link.Joined f b
-link_as (Some (f, false)) b = Link.Ahead f
+-- the transit of a view, with what may come back
+abbrev pub link_as : View → List Backward → Transit Publication
+link_as None b = Transit.Behind b
+link_as (Some (f, true)) b = Transit.Joined f b
+link_as (Some (f, false)) b = Transit.Ahead f
 
 -- by whether it is the current one
 as_by : (limits : Limits) (past : Past) (current : Option ConnectionName) (κ : ClientConnection) (others : List ClientConnection)
-    → link_to limits past current (κ ∷ others) (Some κ) ≡ link_as (Some (forward_of (to_come limits past κ), is_current current κ.name)) (left_behind current (κ ∷ others))
+    → transit_to limits past current (κ ∷ others) (Some κ) ≡ link_as (Some (forward_of (to_come limits past κ), is_current current κ.name)) (left_behind current (κ ∷ others))
 as_by limits past None κ others = refl
 as_by limits past (Some x) κ others = by (same_connection x κ.name)
   where
     by : (b : Bool)
-        → (if b then Link.Joined (forward_of (to_come limits past κ)) (backward_of (to_be_taken κ)) else Link.Ahead (forward_of (to_come limits past κ)))
+        → (if b then Transit.Joined (forward_of (to_come limits past κ)) (backward_of (to_be_taken κ)) else Transit.Ahead (forward_of (to_come limits past κ)))
         ≡ link_as (Some (forward_of (to_come limits past κ), b)) (if b then backward_of (to_be_taken κ) else left_behind (Some x) others)
     by true = refl
     by false = refl
 
--- the link of every story
+-- the transit of every story
 pub link_is : (limits : Limits) (past : Past) (current : Option ConnectionName) (keeper : Keeper) (connections : List ClientConnection)
-    → link_to limits past current connections (held keeper connections) ≡ link_as (view limits past current keeper connections) (left_behind current connections)
+    → transit_to limits past current connections (held keeper connections) ≡ link_as (view limits past current keeper connections) (left_behind current connections)
 link_is limits past current keeper [] = refl
 link_is limits past current keeper (κ ∷ others) = by keeper.is_open κ.taken
   where
     by : (opened : Bool) (taken : ℕ)
-        → link_to limits past current (κ ∷ others) (if opened then if_taken taken κ else None) ≡ link_as (if opened then seen limits past current κ taken else None) (left_behind current (κ ∷ others))
+        → transit_to limits past current (κ ∷ others) (if opened then if_taken taken κ else None) ≡ link_as (if opened then seen limits past current κ taken else None) (left_behind current (κ ∷ others))
     by false taken = refl
     by true zero = refl
     by true (suc n) = as_by limits past current κ others
@@ -88,23 +88,23 @@ abbrev pub parted : View → View
 parted None = None
 parted (Some (f, current)) = Some (f, false)
 
--- what starts is sent on the link
-pub sent_joined : (rows : List (ℕ × Publication)) (f : List (Forward Publication)) (b : List Backward) → sending_all rows (Link.Joined f b) ≡ Link.Joined (f ++ map publishing rows) b
-sent_joined [] f b = ap (λ l. Link.Joined l b) (sym (append-nil f))
+-- what starts is sent on the transit
+pub sent_joined : (rows : List (ℕ × Publication)) (f : List (Forward Publication)) (b : List Backward) → sending_all rows (Transit.Joined f b) ≡ Transit.Joined (f ++ map publishing rows) b
+sent_joined [] f b = ap (λ l. Transit.Joined l b) (sym (append-nil f))
 sent_joined (row ∷ rows) f b =
-    sent_joined rows (f ++ Forward.Publish row.0 row.1 ∷ []) b ∙ ap (λ l. Link.Joined l b) (append_assoc f (Forward.Publish row.0 row.1 ∷ []) (map publishing rows))
+    sent_joined rows (f ++ Forward.Publish row.0 row.1 ∷ []) b ∙ ap (λ l. Transit.Joined l b) (append_assoc f (Forward.Publish row.0 row.1 ∷ []) (map publishing rows))
 
 -- and nowhere else
-pub sent_behind : (rows : List (ℕ × Publication)) (b : List Backward) → sending_all rows (Link.Behind b) ≡ Link.Behind b
+pub sent_behind : (rows : List (ℕ × Publication)) (b : List Backward) → sending_all rows (Transit.Behind b) ≡ Transit.Behind b
 sent_behind [] b = refl
 sent_behind (row ∷ rows) b = sent_behind rows b
 
 -- nor to one that is not current
-pub sent_ahead : (rows : List (ℕ × Publication)) (f : List (Forward Publication)) → sending_all rows (Link.Ahead f) ≡ Link.Ahead f
+pub sent_ahead : (rows : List (ℕ × Publication)) (f : List (Forward Publication)) → sending_all rows (Transit.Ahead f) ≡ Transit.Ahead f
 sent_ahead [] f = refl
 sent_ahead (row ∷ rows) f = sent_ahead rows f
 
--- the link with what starts
+-- the transit with what starts
 pub link_grown : (rows : List (ℕ × Publication)) (v : View) (b : List Backward) → link_as (grown (map publishing rows) v) b ≡ sending_all rows (link_as v b)
 link_grown rows None b = sym (sent_behind rows b)
 link_grown rows (Some (f, true)) b = sym (sent_joined rows f b)

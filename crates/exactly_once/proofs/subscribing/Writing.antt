@@ -9,7 +9,7 @@ use Rattle.broker_base.specs.broker_spec.Connection.{ConnectionName}
 use Rattle.broker_base.specs.broker_spec.Place.{Client, Past, Limits}
 use Rattle.broker_base.specs.broker_spec.Past.{current_connection}
 use Rattle.client_base.specs.lists.Lists.{Each}
-use Rattle.exactly_once.specs.Handshake.{Backward, Link}
+use Rattle.exactly_once.specs.Handshake.{Backward, Transit}
 use Rattle.exactly_once.specs.Handshake.Run.{stays}
 use Rattle.client_base.specs.Keeper.{Own, Written, Keeper, ids_in_use, next_number}
 use Rattle.client_base.specs.declared.request.Request.{Request}
@@ -20,26 +20,26 @@ use Rattle.exactly_once.specs.Story.{Story}
 use Rattle.client_base.specs.Called.{adds_own, written_for}
 use Rattle.client_base.specs.Written.{writes_first}
 use Rattle.exactly_once.specs.Inside.Projections.{to_come, is_current, GoesTo}
-use Rattle.exactly_once.specs.Inside.AsSubscriber.{forward_of, backward_of, held, if_taken, link_to, as_subscriber}
+use Rattle.exactly_once.specs.Inside.AsSubscriber.{forward_of, backward_of, held, if_taken, transit_to, as_subscriber}
 use Rattle.exactly_once.specs.Inside.Shape.{HasShape}
 use Rattle.exactly_once.specs.Inside.ConnectionShape.{ConnectionInShape}
 use Rattle.exactly_once.proofs.subscribing.Written.{taken_same}
 use Rattle.exactly_once.proofs.subscribing.events.Leaving.{left_writes, accepted_writes}
 
--- the link stays
+-- the transit stays
 link_writes : (limits : Limits) (past : Past) (c : Client) (current : Option ConnectionName) (more : List Written) (keeper : Keeper) (connections : List ClientConnection)
     → Each (ConnectionInShape limits past c) connections → backward_of more ≡ []
-    → link_to limits past current (writes_first more connections) (held keeper (writes_first more connections)) ≡ link_to limits past current connections (held keeper connections)
+    → transit_to limits past current (writes_first more connections) (held keeper (writes_first more connections)) ≡ transit_to limits past current connections (held keeper connections)
 link_writes limits past c current more keeper [] g e = refl
 link_writes limits past c current more keeper (κ ∷ others) g e = by keeper.is_open κ.taken
   where
     by : (opened : Bool) (taken : ℕ)
-        → link_to limits past current (writes more κ ∷ others) (if opened then if_taken taken (writes more κ) else None)
-        ≡ link_to limits past current (κ ∷ others) (if opened then if_taken taken κ else None)
-    by false taken = ap Link.Behind (left_writes limits past c current more (κ ∷ others) g e)
-    by true zero = ap Link.Behind (left_writes limits past c current more (κ ∷ others) g e)
+        → transit_to limits past current (writes more κ ∷ others) (if opened then if_taken taken (writes more κ) else None)
+        ≡ transit_to limits past current (κ ∷ others) (if opened then if_taken taken κ else None)
+    by false taken = ap Transit.Behind (left_writes limits past c current more (κ ∷ others) g e)
+    by true zero = ap Transit.Behind (left_writes limits past c current more (κ ∷ others) g e)
     by true (suc n) =
-        ap (λ (b : List Backward). if is_current current κ.name then Link.Joined (forward_of (to_come limits past κ)) b else Link.Ahead (forward_of (to_come limits past κ)))
+        ap (λ (b : List Backward). if is_current current κ.name then Transit.Joined (forward_of (to_come limits past κ)) b else Transit.Ahead (forward_of (to_come limits past κ)))
         (taken_same κ.taken κ.written more g.0.within e)
 
 -- nothing moves
@@ -53,7 +53,7 @@ writes_what limits s shape more e own requests =
         items = refl;
         accepted = sym (accepted_writes more s.connections);
         received = λ id. refl;
-        link = sym (link_writes limits s.past s.keeper.client (current_connection s.past s.keeper.client) more s.keeper s.connections shape.connections e);
+        transit = sym (link_writes limits s.past s.keeper.client (current_connection s.past s.keeper.client) more s.keeper s.connections shape.connections e);
       };
     }
 

@@ -12,8 +12,8 @@ use Rattle.broker_base.specs.broker_spec.Place.{Past, Limits}
 use Rattle.broker_base.specs.broker_spec.Past.{current_connection}
 use Rattle.broker_base.specs.broker_spec.Entries.{Entry}
 use Rattle.broker_base.specs.broker_spec.Times.{entries_of}
-use Rattle.exactly_once.specs.Items.{Item}
-use Rattle.exactly_once.specs.Handshake.{Forward, Backward, Link, Handshake}
+use Rattle.exactly_once.specs.Items.{SenderItem}
+use Rattle.exactly_once.specs.Handshake.{Forward, Backward, Transit, Handshake}
 use Rattle.client_base.specs.Keeper.{Written, Keeper}
 use Rattle.exactly_once.specs.Sides.{ClientConnection}
 use Rattle.exactly_once.specs.Story.{Story}
@@ -22,18 +22,19 @@ use Rattle.exactly_once.specs.Acceptance.{accepted_on}
 use Rattle.exactly_once.specs.Inside.Projections.{to_come, to_be_taken, is_current}
 
 -- the item before these, if its publication has QoS 2
-abbrev pub two_item : Publication → Item Publication → List (Item Publication) →
-    List (Item Publication)
+abbrev pub two_item : Publication → SenderItem Publication → List (SenderItem Publication) →
+    List (SenderItem Publication)
 two_item p item items = if is_two p.qos then item ∷ items else items
 
 -- the QoS 2 entries of a session, as items of the handshake
-abbrev pub items_of : List Entry → List (Item Publication)
-items_of (Entry.Waits made p ∷ entries) = two_item p (Item.Waits p) (items_of entries)
-items_of (Entry.Started made p id start ∷ entries) = two_item p (Item.Sent p id) (items_of entries)
+abbrev pub items_of : List Entry → List (SenderItem Publication)
+items_of (Entry.Waits made p ∷ entries) = two_item p (SenderItem.Waits p) (items_of entries)
+items_of (Entry.Started made p id start ∷ entries) =
+    two_item p (SenderItem.Sent p id) (items_of entries)
 items_of (Entry.Released made p id start release ∷ entries) =
-    two_item p (Item.Released p id) (items_of entries)
+    two_item p (SenderItem.Released p id) (items_of entries)
 items_of (Entry.Finished made p id start release finish ∷ entries) =
-    two_item p (Item.Finished p) (items_of entries)
+    two_item p (SenderItem.Finished p) (items_of entries)
 items_of [] = []
 
 -- the PUBLISH before these packets, if it has QoS 2
@@ -77,13 +78,13 @@ left_behind (Some x) (κ ∷ connections) =
 left_behind _ _ = []
 
 -- what is in transit: both ways if the client's connection is current, otherwise one way
-abbrev pub link_to : Limits → Past → Option ConnectionName → List ClientConnection →
-    Option ClientConnection → Link Publication
-link_to limits past current connections (Some κ) =
+abbrev pub transit_to : Limits → Past → Option ConnectionName → List ClientConnection →
+    Option ClientConnection → Transit Publication
+transit_to limits past current connections (Some κ) =
     if is_current current κ.name
-    then Link.Joined (forward_of (to_come limits past κ)) (backward_of (to_be_taken κ))
-    else Link.Ahead (forward_of (to_come limits past κ))
-link_to limits past current connections None = Link.Behind (left_behind current connections)
+    then Transit.Joined (forward_of (to_come limits past κ)) (backward_of (to_be_taken κ))
+    else Transit.Ahead (forward_of (to_come limits past κ))
+transit_to limits past current connections None = Transit.Behind (left_behind current connections)
 
 -- the broker sends, the client accepts
 abbrev pub as_subscriber : Limits → Story → Handshake Publication
@@ -92,6 +93,6 @@ as_subscriber limits s =
       items = items_of (entries_of limits s.past s.keeper.client);
       accepted = accepted_on s.connections;
       received = λ id. has_id id s.keeper.received;
-      link = link_to limits s.past (current_connection s.past s.keeper.client) s.connections
+      transit = transit_to limits s.past (current_connection s.past s.keeper.client) s.connections
           (held s.keeper s.connections);
     }

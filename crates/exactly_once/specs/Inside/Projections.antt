@@ -10,8 +10,8 @@ use Rattle.broker_base.specs.broker_spec.Connection.{ConnectionName, same_connec
 use Rattle.broker_base.specs.broker_spec.Place.{Past, Limits}
 use Rattle.broker_base.specs.broker_spec.Past.{current_connection}
 use Rattle.broker_base.specs.broker_spec.Received.{received_of}
-use Rattle.exactly_once.specs.Items.{Item}
-use Rattle.exactly_once.specs.Handshake.{Forward, Backward, Link, Handshake, Run}
+use Rattle.exactly_once.specs.Items.{SenderItem}
+use Rattle.exactly_once.specs.Handshake.{Forward, Backward, Transit, Handshake, Run}
 use Rattle.exactly_once.specs.Sends.{put_to}
 use Rattle.client_base.specs.Keeper.{Own, Written}
 use Rattle.exactly_once.specs.Sides.{ClientConnection}
@@ -38,15 +38,15 @@ is_current None x = false
 -- as new
 
 -- the item before these, if its publication has QoS 2
-abbrev pub own_item : Publication → Item ℕ → List (Item ℕ) → List (Item ℕ)
+abbrev pub own_item : Publication → SenderItem ℕ → List (SenderItem ℕ) → List (SenderItem ℕ)
 own_item p item items = if is_two p.qos then item ∷ items else items
 
 -- the client's QoS 2 publications, as items of the handshake
-abbrev pub items_of_own : List Own → List (Item ℕ)
-items_of_own (Own.Unsent k p id ∷ own) = own_item p (Item.Waits k) (items_of_own own)
-items_of_own (Own.Sent k p id ∷ own) = own_item p (Item.Sent k id) (items_of_own own)
-items_of_own (Own.Released k p id ∷ own) = own_item p (Item.Released k id) (items_of_own own)
-items_of_own (Own.Done k p ∷ own) = own_item p (Item.Finished k) (items_of_own own)
+abbrev pub items_of_own : List Own → List (SenderItem ℕ)
+items_of_own (Own.Unsent k p id ∷ own) = own_item p (SenderItem.Waits k) (items_of_own own)
+items_of_own (Own.Sent k p id ∷ own) = own_item p (SenderItem.Sent k id) (items_of_own own)
+items_of_own (Own.Released k p id ∷ own) = own_item p (SenderItem.Released k id) (items_of_own own)
+items_of_own (Own.Done k p ∷ own) = own_item p (SenderItem.Finished k) (items_of_own own)
 items_of_own [] = []
 
 -- the PUBLISH before these packets, if it has QoS 2 and a number
@@ -78,15 +78,17 @@ last_confirmed (κ ∷ connections) = if κ.confirmed then Some κ else last_con
 last_confirmed [] = None
 
 -- what is in transit, by the last connection on which a CONNACK 0 came
-abbrev pub link_of_own : Limits → Past → Option ConnectionName → Bool → Option ClientConnection →
-    Link ℕ
-link_of_own limits past current online (Some κ) =
+abbrev pub transit_of_own : Limits → Past → Option ConnectionName → Bool → Option ClientConnection →
+    Transit ℕ
+transit_of_own limits past current online (Some κ) =
     if is_current current κ.name
     then (if online
-    then Link.Joined (forward_of_own (to_be_taken κ)) (backward_of_own (to_come limits past κ))
-    else Link.Ahead (forward_of_own (to_be_taken κ)))
-    else (if online then Link.Behind (backward_of_own (to_come limits past κ)) else Link.Behind [])
-link_of_own limits past current online None = Link.Behind []
+    then Transit.Joined (forward_of_own (to_be_taken κ)) (backward_of_own (to_come limits past κ))
+    else Transit.Ahead (forward_of_own (to_be_taken κ)))
+    else (if online
+    then Transit.Behind (backward_of_own (to_come limits past κ))
+    else Transit.Behind [])
+transit_of_own limits past current online None = Transit.Behind []
 
 -- the client sends, the broker accepts
 abbrev pub as_publisher : Limits → Story → Handshake ℕ
@@ -95,7 +97,7 @@ as_publisher limits s =
       items = items_of_own s.keeper.own;
       accepted = new_numbers s.connections s.past;
       received = λ id. has_id id (received_of s.past s.keeper.client);
-      link = link_of_own limits s.past
+      transit = transit_of_own limits s.past
           (current_connection s.past s.keeper.client) s.keeper.is_online
           (last_confirmed s.connections);
     }
@@ -107,7 +109,7 @@ pub record IsLike {A : Type 0} (h k : Handshake A) : Type 0 where
   pub items : h.items ≡ k.items
   pub accepted : h.accepted ≡ k.accepted
   pub received : (id : ℕ) → h.received id ≡ k.received id
-  pub link : h.link ≡ k.link
+  pub transit : h.transit ≡ k.transit
 
 -- a run of the first handshake ends in the second, apart from what is not relevant
 pub record GoesTo {A : Type 0} (h k : Handshake A) : Type 0 where

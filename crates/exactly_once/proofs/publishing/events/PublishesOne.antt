@@ -10,7 +10,7 @@ use Rattle.client_base.specs.session_base.Identifiers.{least_free}
 use Rattle.broker_base.specs.broker_spec.Place.{Past, Limits}
 use Rattle.broker_base.specs.broker_spec.Past.{current_connection}
 use Rattle.client_base.specs.lists.Lists.{Each}
-use Rattle.exactly_once.specs.Items.{Item}
+use Rattle.exactly_once.specs.Items.{SenderItem}
 use Rattle.exactly_once.specs.Handshake.{Forward, Backward, Handshake}
 use Rattle.exactly_once.specs.Handshake.Advances.{adds}
 use Rattle.client_base.specs.Keeper.{Own, Keeper, ids_in_use, next_number}
@@ -37,31 +37,31 @@ two_answered qualities.ExactlyOnce e = e
 
 -- what the new publication is as an item, if it is sent and if it is not
 sent_item : (a : Bool) (n id : ℕ) (p : Publication) → (a ≡ false → is_two p.qos ≡ false)
-    → items_of_own ((if a then Own.Sent n p id else Own.Done n p) ∷ []) ≡ (if is_two p.qos then Item.Sent n id ∷ [] else [])
+    → items_of_own ((if a then Own.Sent n p id else Own.Done n p) ∷ []) ≡ (if is_two p.qos then SenderItem.Sent n id ∷ [] else [])
 sent_item true n id p none = refl
 sent_item false n id p none = rw (none refl) refl
 
 -- what the handshake does
 runs_online : (h : Handshake ℕ) (cur two : Bool) (f : List (Forward ℕ)) (b : List Backward) (keeper : Keeper) (n : ℕ) → h.items ≡ items_of_own keeper.own → none_unsent keeper.own ≡ true
-    → h.link ≡ link_by cur true f b
-    → Reaches h (h.items ++ (if two then Item.Sent n (least_free (ids_in_use keeper)) ∷ [] else []))
+    → h.transit ≡ link_by cur true f b
+    → Reaches h (h.items ++ (if two then SenderItem.Sent n (least_free (ids_in_use keeper)) ∷ [] else []))
     (link_by cur true (f ++ (if two then Forward.Publish (least_free (ids_in_use keeper)) n ∷ [] else [])) b)
 runs_online h cur false f b keeper n e unsent l =
-    subst (λ (items : List (Item ℕ)). Reaches h items (link_by cur true (f ++ []) b)) (sym (append-nil h.items))
+    subst (λ (items : List (SenderItem ℕ)). Reaches h items (link_by cur true (f ++ []) b)) (sym (append-nil h.items))
     (reaches_itself h (link_by cur true (f ++ []) b) (l ∙ ap (λ g. link_by cur true g b) (sym (append-nil f))))
 runs_online h cur true f b keeper n e unsent l =
     let id = least_free (ids_in_use keeper) in
     let own = items_of_own keeper.own in
     let goal = link_by cur true (f ++ Forward.Publish id n ∷ []) b in
-    reaches_then h (h.items ++ Item.Waits n ∷ []) (h.items ++ Item.Sent n id ∷ []) (link_by cur true f b) goal
-    (reaches_by h (h.items ++ Item.Waits n ∷ []) h.link (link_by cur true f b) (adds n) l)
+    reaches_then h (h.items ++ SenderItem.Waits n ∷ []) (h.items ++ SenderItem.Sent n id ∷ []) (link_by cur true f b) goal
+    (reaches_by h (h.items ++ SenderItem.Waits n ∷ []) h.transit (link_by cur true f b) (adds n) l)
     (λ k i m.
-    subst (λ (items : List (Item ℕ)). Reaches k items goal) (append-nil (own ++ Item.Sent n id ∷ []) ∙ ap (λ items. items ++ Item.Sent n id ∷ []) (sym e))
-    (starts_one k own [] n id cur f b (i ∙ ap (λ items. items ++ Item.Waits n ∷ []) e) (none_waits keeper.own unsent) (new_is_free keeper) refl m))
+    subst (λ (items : List (SenderItem ℕ)). Reaches k items goal) (append-nil (own ++ SenderItem.Sent n id ∷ []) ∙ ap (λ items. items ++ SenderItem.Sent n id ∷ []) (sym e))
+    (starts_one k own [] n id cur f b (i ∙ ap (λ items. items ++ SenderItem.Waits n ∷ []) e) (none_waits keeper.own unsent) (new_is_free keeper) refl m))
 
-runs_offline : (h : Handshake ℕ) (two : Bool) (n : ℕ) → Reaches h (h.items ++ (if two then Item.Waits n ∷ [] else [])) h.link
-runs_offline h true n = reaches_by h (h.items ++ Item.Waits n ∷ []) h.link h.link (adds n) refl
-runs_offline h false n = subst (λ (items : List (Item ℕ)). Reaches h items h.link) (sym (append-nil h.items)) (reaches_itself h h.link refl)
+runs_offline : (h : Handshake ℕ) (two : Bool) (n : ℕ) → Reaches h (h.items ++ (if two then SenderItem.Waits n ∷ [] else [])) h.transit
+runs_offline h true n = reaches_by h (h.items ++ SenderItem.Waits n ∷ []) h.transit h.transit (adds n) refl
+runs_offline h false n = subst (λ (items : List (SenderItem ℕ)). Reaches h items h.transit) (sym (append-nil h.items)) (reaches_itself h h.transit refl)
 
 -- nothing is written
 writes_none : (connections : List ClientConnection) → writes_first [] connections ≡ connections
@@ -80,14 +80,14 @@ with_own o keeper = record keeper { own = keeper.own ++ o ∷ [] }
 
 online_one : (limits : Limits) (past : Past) (keeper : Keeper) (connections : List ClientConnection) (p : Publication) (o : Own) → OwnInShape keeper
     → Each (ConnectionInShape limits past keeper.client) connections → HeldInShape limits past keeper connections → keeper.is_online ≡ true
-    → items_of_own (o ∷ []) ≡ (if is_two p.qos then Item.Sent (next_number keeper) (least_free (ids_in_use keeper)) ∷ [] else [])
+    → items_of_own (o ∷ []) ≡ (if is_two p.qos then SenderItem.Sent (next_number keeper) (least_free (ids_in_use keeper)) ∷ [] else [])
     → GoesTo (as_publisher limits (story_by past connections keeper))
     (as_publisher limits (story_by past (writes_first (publishes false (next_number keeper) (least_free (ids_in_use keeper)) p ∷ []) connections) (with_own o keeper)))
 online_one limits past keeper [] p o own each held on item =
     let h = as_publisher limits (story_by past [] keeper) in
     let id = least_free (ids_in_use keeper) in
     let n = next_number keeper in
-    goes_of h (as_publisher limits (story_by past [] (with_own o keeper))) (h.items ++ (if is_two p.qos then Item.Sent n id ∷ [] else [])) h.link
+    goes_of h (as_publisher limits (story_by past [] (with_own o keeper))) (h.items ++ (if is_two p.qos then SenderItem.Sent n id ∷ [] else [])) h.transit
     (runs_online h false (is_two p.qos) [] [] keeper n refl (own.online_sent on) refl)
     (ap (λ l. items_of_own keeper.own ++ l) (sym item) ∙ sym (items_more keeper.own (o ∷ []))) refl (λ j. refl) refl
 online_one limits past keeper (κ ∷ others) p o own each held on item =
@@ -100,20 +100,20 @@ online_one limits past keeper (κ ∷ others) p o own each held on item =
     let f = forward_of_own (to_be_taken κ) in
     let b = backward_of_own (to_come limits past κ) in
     let more = if is_two p.qos then Forward.Publish id n ∷ [] else [] in
-    let items = h.items ++ (if is_two p.qos then Item.Sent n id ∷ [] else []) in
+    let items = h.items ++ (if is_two p.qos then SenderItem.Sent n id ∷ [] else []) in
     goes_first limits past keeper (with_own o keeper) κ others (κ.written ++ ws) ws κ.handled κ.confirmed κ.accepted items (f ++ more) b holds.shape refl (holds.confirmed on) refl
     (subst (λ (online : Bool). Reaches h items (link_by cur online (f ++ more) b)) (sym on)
     (runs_online h cur (is_two p.qos) f b keeper n refl (own.online_sent on) (first_link limits past keeper κ others (holds.confirmed on) ∙ ap (λ online. link_by cur online f b) on)))
     (ap (λ l. items_of_own keeper.own ++ l) (sym item) ∙ sym (items_more keeper.own (o ∷ []))) (ap (λ l. f ++ l) (sym (forward_one n id p))) refl
 
 offline_one : (limits : Limits) (past : Past) (keeper : Keeper) (connections : List ClientConnection) (p : Publication) (o : Own)
-    → items_of_own (o ∷ []) ≡ (if is_two p.qos then Item.Waits (next_number keeper) ∷ [] else [])
+    → items_of_own (o ∷ []) ≡ (if is_two p.qos then SenderItem.Waits (next_number keeper) ∷ [] else [])
     → GoesTo (as_publisher limits (story_by past connections keeper)) (as_publisher limits (story_by past (writes_first [] connections) (with_own o keeper)))
 offline_one limits past keeper connections p o item =
     let h = as_publisher limits (story_by past connections keeper) in
     let n = next_number keeper in
     subst (λ (later : List ClientConnection). GoesTo h (as_publisher limits (story_by past later (with_own o keeper)))) (sym (writes_none connections))
-    (goes_of h (as_publisher limits (story_by past connections (with_own o keeper))) (h.items ++ (if is_two p.qos then Item.Waits n ∷ [] else [])) h.link (runs_offline h (is_two p.qos) n)
+    (goes_of h (as_publisher limits (story_by past connections (with_own o keeper))) (h.items ++ (if is_two p.qos then SenderItem.Waits n ∷ [] else [])) h.transit (runs_offline h (is_two p.qos) n)
     (ap (λ l. items_of_own keeper.own ++ l) (sym item) ∙ sym (items_more keeper.own (o ∷ []))) refl (λ j. refl) refl)
 
 pub publishes_it : (limits : Limits) (past : Past) (keeper : Keeper) (connections : List ClientConnection) (p : Publication) → OwnInShape keeper

@@ -9,14 +9,14 @@ use Rattle.broker_base.specs.broker_spec.Past.{any_connection, current_connectio
 use Rattle.broker_base.specs.broker_spec.Received.{is_new, received_by, received_of}
 use Rattle.broker_base.specs.broker_spec.Answers.{packet_answers}
 use Rattle.broker_base.specs.broker_spec.declared.command.Command.TheVariants as commands
-use Rattle.exactly_once.specs.Handshake.{Forward, Backward, Link, Handshake, Run, answer, taking, accepting}
+use Rattle.exactly_once.specs.Handshake.{Forward, Backward, Transit, Handshake, Run, answer, taking, accepting}
 use Rattle.exactly_once.specs.Handshake.Advances.{takes, takes_alone}
 use Rattle.exactly_once.specs.Handshake.Run.{stays, goes_on}
 use Rattle.exactly_once.specs.Sends.{sends_to, put_to}
 use Rattle.client_base.specs.Keeper.{Written, Keeper}
 use Rattle.exactly_once.specs.Sides.{ClientConnection}
 use Rattle.exactly_once.specs.StoryCommands.{counted_at}
-use Rattle.exactly_once.specs.Inside.Projections.{forward_of_own, forward_of_one, backward_of_own, to_come, to_be_taken, is_current, last_confirmed, link_of_own, as_publisher, GoesTo}
+use Rattle.exactly_once.specs.Inside.Projections.{forward_of_own, forward_of_one, backward_of_own, to_come, to_be_taken, is_current, last_confirmed, transit_of_own, as_publisher, GoesTo}
 use Rattle.exactly_once.specs.Inside.Shape.{HasShape}
 use Rattle.exactly_once.specs.Inside.ConnectionShape.{ConnectionInShape}
 use Rattle.exactly_once.proofs.Packets.{at_packet, current_packet}
@@ -89,12 +89,12 @@ ends_current limits past keeper connections i κ w mark o leaving old received n
 
 -- ---- it is of the handshake
 
-takes_by : (h : Handshake ℕ) (on : Bool) (m : Forward ℕ) (f : List (Forward ℕ)) (b : List Backward) → h.link ≡ link_by true on (m ∷ f) b → Run h (taking m h (link_by true on f (b ++ answer m ∷ [])))
+takes_by : (h : Handshake ℕ) (on : Bool) (m : Forward ℕ) (f : List (Forward ℕ)) (b : List Backward) → h.transit ≡ link_by true on (m ∷ f) b → Run h (taking m h (link_by true on f (b ++ answer m ∷ [])))
 takes_by h true m f b e = goes_on stays (takes m f b e)
 takes_by h false m f b e = goes_on stays (takes_alone m f e)
 
 -- what it leaves as it is
-items_taken : (m : Forward ℕ) (h : Handshake ℕ) (l : Link ℕ) → (taking m h l).items ≡ h.items
+items_taken : (m : Forward ℕ) (h : Handshake ℕ) (l : Transit ℕ) → (taking m h l).items ≡ h.items
 items_taken (Forward.Pubrel id) h l = refl
 items_taken (Forward.Publish id v) h l = by (h.received id)
   where
@@ -102,19 +102,19 @@ items_taken (Forward.Publish id v) h l = by (h.received id)
     by true = refl
     by false = refl
 
-link_taken : (m : Forward ℕ) (h : Handshake ℕ) (l : Link ℕ) → (taking m h l).link ≡ l
+link_taken : (m : Forward ℕ) (h : Handshake ℕ) (l : Transit ℕ) → (taking m h l).transit ≡ l
 link_taken (Forward.Pubrel id) h l = refl
 link_taken (Forward.Publish id v) h l = by (h.received id)
   where
-    by : (b : Bool) → (accepting id v b h l).link ≡ l
+    by : (b : Bool) → (accepting id v b h l).transit ≡ l
     by true = refl
     by false = refl
 
 pub takes_one : (limits : Limits) (past : Past) (keeper : Keeper) (connections : List ClientConnection) (i : ℕ) (κ : ClientConnection) (w : Written) (mark : Mark) (m : Forward ℕ)
     → OnCurrent limits past keeper connections i κ w → is_leaving mark ≡ false → ((f : List (Forward ℕ)) → forward_of_one w.packet w.number f ≡ m ∷ f)
     → backward_of_own (sends_to κ.name (packet_answers limits (at_packet κ.name w.packet mark) past κ.name w.packet mark)) ≡ answer m ∷ []
-    → ((l : Link ℕ) → (taking m (as_publisher limits (story_by past connections keeper)) l).accepted ≡ (after_place limits past keeper connections i (at_packet κ.name w.packet mark)).accepted)
-    → ((l : Link ℕ) (id : ℕ) → (taking m (as_publisher limits (story_by past connections keeper)) l).received id
+    → ((l : Transit ℕ) → (taking m (as_publisher limits (story_by past connections keeper)) l).accepted ≡ (after_place limits past keeper connections i (at_packet κ.name w.packet mark)).accepted)
+    → ((l : Transit ℕ) (id : ℕ) → (taking m (as_publisher limits (story_by past connections keeper)) l).received id
     ≡ has_id id (received_by (commands.Packet κ.name w.packet) mark keeper.client (received_of past keeper.client)))
     → GoesTo (as_publisher limits (story_by past connections keeper)) (after_place limits past keeper connections i (at_packet κ.name w.packet mark))
 takes_one limits past keeper connections i κ w mark m o staying forward answers accepted received =
@@ -126,23 +126,23 @@ takes_one limits past keeper connections i κ w mark m o staying forward answers
     let b = backward_of_own (to_come limits past κ) in
     let online = keeper.is_online in
     let here : is_current current κ.name ≡ true = ap (λ (z : Option ConnectionName). is_current z κ.name) o.current ∙ same_itself κ.name in
-    let link : h.link ≡ link_by true online (m ∷ f) b =
-    ap (link_of_own limits past current online) o.last ∙ link_is limits past current online (Some κ)
+    let transit : h.transit ≡ link_by true online (m ∷ f) b =
+    ap (transit_of_own limits past current online) o.last ∙ link_is limits past current online (Some κ)
     ∙ ap₂ (λ c g. link_by c online g b) here (taken_front κ w o.next ∙ forward f) in
     let there : is_current later κ.name ≡ true = ap (λ (z : Option ConnectionName). is_current z κ.name) (current_packet past keeper.client κ.name w.packet mark staying) ∙ here in
     let l = link_by true online f (b ++ answer m ∷ []) in
     let come : backward_of_own (drop κ.handled (put_to limits (place ∷ past) κ.name)) ≡ b ++ answer m ∷ [] =
     come_more limits place past κ o.shape.handled_within ∙ ap (λ g. b ++ g) answers in
-    let after : (after_place limits past keeper connections i place).link ≡ l =
-    ap (link_of_own limits (place ∷ past) later online) o.after ∙ link_is limits (place ∷ past) later online (Some (taken_more κ))
+    let after : (after_place limits past keeper connections i place).transit ≡ l =
+    ap (transit_of_own limits (place ∷ past) later online) o.after ∙ link_is limits (place ∷ past) later online (Some (taken_more κ))
     ∙ ap₂ (λ c g. link_by c online f g) there come in
     record {
       between = taking m h l;
-      run = takes_by h online m f b link;
+      run = takes_by h online m f b transit;
       like = record {
         items = items_taken m h l;
         accepted = accepted l;
         received = λ id. received l id ∙ ap (has_id id) (sym (received_live place past keeper.client refl refl o.live));
-        link = link_taken m h l ∙ sym after;
+        transit = link_taken m h l ∙ sym after;
       };
     }

@@ -15,7 +15,7 @@ use Rattle.broker_base.specs.broker_spec.Marks.{is_refused, packet_mark}
 use Rattle.broker_base.specs.broker_spec.Sends.{deliveries_to}
 use Rattle.broker_base.specs.broker_spec.declared.command.Output.TheVariants.{Send}
 use Rattle.broker_base.proofs.ClientsInOrder.{same_self}
-use Rattle.exactly_once.specs.Handshake.{Forward, Link, Handshake, accepting}
+use Rattle.exactly_once.specs.Handshake.{Forward, Transit, Handshake, accepting}
 use Rattle.exactly_once.specs.Sends.{sends_to}
 use Rattle.client_base.specs.Keeper.{Written, Keeper}
 use Rattle.exactly_once.specs.Sides.{ClientConnection}
@@ -55,20 +55,20 @@ carries_it past i connections κ w mark apart stands next counted =
     ∙ ap₂ number_at counted (connection_at i connections κ apart stands) ∙ ap number_of next
 
 -- after an acceptance
-accepted_by : (b : Bool) (id k : ℕ) (h : Handshake ℕ) (l : Link ℕ) → b ≡ false → (accepting id k b h l).accepted ≡ h.accepted ++ k ∷ []
+accepted_by : (b : Bool) (id k : ℕ) (h : Handshake ℕ) (l : Transit ℕ) → b ≡ false → (accepting id k b h l).accepted ≡ h.accepted ++ k ∷ []
 accepted_by true id k h l e = absurd (both_ways true e refl)
 accepted_by false id k h l e = refl
 
-received_then : (b : Bool) (id k : ℕ) (h : Handshake ℕ) (l : Link ℕ) (j : ℕ) → b ≡ false → (accepting id k b h l).received j ≡ ((j == id) || h.received j)
+received_then : (b : Bool) (id k : ℕ) (h : Handshake ℕ) (l : Transit ℕ) (j : ℕ) → b ≡ false → (accepting id k b h l).received j ≡ ((j == id) || h.received j)
 received_then true id k h l j e = absurd (both_ways true e refl)
 received_then false id k h l j e = refl
 
 -- and after another try
-accepted_again : (b : Bool) (id k : ℕ) (h : Handshake ℕ) (l : Link ℕ) → b ≡ true → (accepting id k b h l).accepted ≡ h.accepted
+accepted_again : (b : Bool) (id k : ℕ) (h : Handshake ℕ) (l : Transit ℕ) → b ≡ true → (accepting id k b h l).accepted ≡ h.accepted
 accepted_again true id k h l e = refl
 accepted_again false id k h l e = absurd (both_ways false refl e)
 
-received_again : (b : Bool) (id k : ℕ) (h : Handshake ℕ) (l : Link ℕ) (j : ℕ) → b ≡ true → (accepting id k b h l).received j ≡ h.received j
+received_again : (b : Bool) (id k : ℕ) (h : Handshake ℕ) (l : Transit ℕ) (j : ℕ) → b ≡ true → (accepting id k b h l).received j ≡ h.received j
 received_again true id k h l j e = refl
 received_again false id k h l j e = absurd (both_ways false refl e)
 

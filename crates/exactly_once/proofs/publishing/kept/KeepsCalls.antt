@@ -10,7 +10,7 @@ use Rattle.client_base.specs.session_base.Publication.{is_answered}
 use Rattle.broker_base.specs.broker_spec.Place.{Limits}
 use Rattle.client_base.specs.lists.Lists.{has_id, IsDistinct}
 use Rattle.broker_base.proofs.LeastFree.{least-is-free}
-use Rattle.exactly_once.specs.Items.{Item, has_released}
+use Rattle.exactly_once.specs.Items.{SenderItem, has_released}
 use Rattle.exactly_once.specs.HandshakeInvariant.{IsGood}
 use Rattle.client_base.proofs.of_lists.Identifiers.{has_split, distinct_insert, distinct_push}
 use Rattle.exactly_once.specs.Sends.{put_to}
@@ -64,7 +64,7 @@ next_keeps keeper o s next =
     }
 
 -- an item that is not released, if it is one
-no_release : (b : Bool) (j : ℕ) (item : Item ℕ) → has_released j (item ∷ []) ≡ false → has_released j (if b then item ∷ [] else []) ≡ false
+no_release : (b : Bool) (j : ℕ) (item : SenderItem ℕ) → has_released j (item ∷ []) ≡ false → has_released j (if b then item ∷ [] else []) ≡ false
 no_release true j item e = e
 no_release false j item e = refl
 
@@ -84,13 +84,13 @@ publishes_keeps keeper p s = by keeper.is_online refl (is_answered p.qos)
         → OwnInShape (record keeper { own = keeper.own ++ (if a then (if on then Own.Sent n p id else Own.Unsent n p id) else Own.Done n p) ∷ [] })
     by true e true =
         next_keeps keeper (Own.Sent n p id) s
-        (record { ids = inl refl; numbered = (same, tt); unreleased = λ j. no_release (is_two p.qos) j (Item.Sent n id) refl; online_sent = λ on. refl })
+        (record { ids = inl refl; numbered = (same, tt); unreleased = λ j. no_release (is_two p.qos) j (SenderItem.Sent n id) refl; online_sent = λ on. refl })
     by false e true =
         next_keeps keeper (Own.Unsent n p id) s
-        (record { ids = inl refl; numbered = (same, tt); unreleased = λ j. no_release (is_two p.qos) j (Item.Waits n) refl; online_sent = λ on. absurd (both_ways keeper.is_online e on) })
+        (record { ids = inl refl; numbered = (same, tt); unreleased = λ j. no_release (is_two p.qos) j (SenderItem.Waits n) refl; online_sent = λ on. absurd (both_ways keeper.is_online e on) })
     by on e false =
         next_keeps keeper (Own.Done n p) s
-        (record { ids = inr refl; numbered = (same, tt); unreleased = λ j. no_release (is_two p.qos) j (Item.Finished n) refl; online_sent = λ on. refl })
+        (record { ids = inr refl; numbered = (same, tt); unreleased = λ j. no_release (is_two p.qos) j (SenderItem.Finished n) refl; online_sent = λ on. refl })
 
 -- ---- one more request
 

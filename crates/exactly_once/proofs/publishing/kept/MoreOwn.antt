@@ -1,7 +1,7 @@
 -- One more publication after the others, and all of them sent: identifiers, numbers and releases.
 use Rattle.std.proofs.Common.{◌≡◌, ◌+◌, ℕ, suc, Bool, true, false, ◌||◌, ◌==◌, if◌then◌else◌, List, [], ◌∷◌, ◌++◌, length, refl, ap, subst, arith}
 use Rattle.std.proofs.lemmas.Bool.{both_ways}
-use Rattle.exactly_once.specs.Items.{Item, has_released}
+use Rattle.exactly_once.specs.Items.{SenderItem, has_released}
 use Rattle.client_base.specs.Keeper.{Own, ids_of_own}
 use Rattle.client_base.specs.Written.{sent_all}
 use Rattle.exactly_once.specs.Carried.{is_two}
@@ -35,12 +35,12 @@ unsent_more (Own.Sent k p id ∷ own) more h g = unsent_more own more h g
 unsent_more (Own.Released k p id ∷ own) more h g = unsent_more own more h g
 unsent_more (Own.Done k p ∷ own) more h g = unsent_more own more h g
 
-pub released_front : (j : ℕ) (items more : List (Item ℕ)) → has_released j more ≡ false → has_released j (items ++ more) ≡ has_released j items
+pub released_front : (j : ℕ) (items more : List (SenderItem ℕ)) → has_released j more ≡ false → has_released j (items ++ more) ≡ has_released j items
 released_front j [] more e = e
-released_front j (Item.Waits v ∷ items) more e = released_front j items more e
-released_front j (Item.Sent v id ∷ items) more e = released_front j items more e
-released_front j (Item.Released v id ∷ items) more e = ap (λ b. (j == id) || b) (released_front j items more e)
-released_front j (Item.Finished v ∷ items) more e = released_front j items more e
+released_front j (SenderItem.Waits v ∷ items) more e = released_front j items more e
+released_front j (SenderItem.Sent v id ∷ items) more e = released_front j items more e
+released_front j (SenderItem.Released v id ∷ items) more e = ap (λ b. (j == id) || b) (released_front j items more e)
+released_front j (SenderItem.Finished v ∷ items) more e = released_front j items more e
 
 -- ---- all sent
 
@@ -70,25 +70,25 @@ released_sent j [] = refl
 released_sent j (Own.Unsent k p id ∷ own) = by (is_two p.qos) (released_sent j own)
   where
     by : (b : Bool) → has_released j (items_of_own own) ≡ has_released j (items_of_own (sent_all own))
-        → has_released j (if b then Item.Waits k ∷ items_of_own own else items_of_own own) ≡ has_released j (if b then Item.Sent k id ∷ items_of_own (sent_all own) else items_of_own (sent_all own))
+        → has_released j (if b then SenderItem.Waits k ∷ items_of_own own else items_of_own own) ≡ has_released j (if b then SenderItem.Sent k id ∷ items_of_own (sent_all own) else items_of_own (sent_all own))
     by true ih = ih
     by false ih = ih
 released_sent j (Own.Sent k p id ∷ own) = by (is_two p.qos) (released_sent j own)
   where
     by : (b : Bool) → has_released j (items_of_own own) ≡ has_released j (items_of_own (sent_all own))
-        → has_released j (if b then Item.Sent k id ∷ items_of_own own else items_of_own own) ≡ has_released j (if b then Item.Sent k id ∷ items_of_own (sent_all own) else items_of_own (sent_all own))
+        → has_released j (if b then SenderItem.Sent k id ∷ items_of_own own else items_of_own own) ≡ has_released j (if b then SenderItem.Sent k id ∷ items_of_own (sent_all own) else items_of_own (sent_all own))
     by true ih = ih
     by false ih = ih
 released_sent j (Own.Released k p id ∷ own) = by (is_two p.qos) (released_sent j own)
   where
     by : (b : Bool) → has_released j (items_of_own own) ≡ has_released j (items_of_own (sent_all own))
-        → has_released j (if b then Item.Released k id ∷ items_of_own own else items_of_own own)
-        ≡ has_released j (if b then Item.Released k id ∷ items_of_own (sent_all own) else items_of_own (sent_all own))
+        → has_released j (if b then SenderItem.Released k id ∷ items_of_own own else items_of_own own)
+        ≡ has_released j (if b then SenderItem.Released k id ∷ items_of_own (sent_all own) else items_of_own (sent_all own))
     by true ih = ap (λ b. (j == id) || b) ih
     by false ih = ih
 released_sent j (Own.Done k p ∷ own) = by (is_two p.qos) (released_sent j own)
   where
     by : (b : Bool) → has_released j (items_of_own own) ≡ has_released j (items_of_own (sent_all own))
-        → has_released j (if b then Item.Finished k ∷ items_of_own own else items_of_own own) ≡ has_released j (if b then Item.Finished k ∷ items_of_own (sent_all own) else items_of_own (sent_all own))
+        → has_released j (if b then SenderItem.Finished k ∷ items_of_own own else items_of_own own) ≡ has_released j (if b then SenderItem.Finished k ∷ items_of_own (sent_all own) else items_of_own (sent_all own))
     by true ih = ih
     by false ih = ih

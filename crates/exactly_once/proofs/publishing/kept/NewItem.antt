@@ -3,7 +3,7 @@ use Rattle.std.proofs.Common.{◌≡◌, ℕ, Bool, true, false, if◌then◌els
 use Rattle.std.proofs.lemmas.Bool.{both_ways}
 use Rattle.client_base.specs.session_base.Identifiers.{least_free}
 use Rattle.broker_base.proofs.LeastFree.{least-is-free}
-use Rattle.exactly_once.specs.Items.{Item, busy}
+use Rattle.exactly_once.specs.Items.{SenderItem, busy}
 use Rattle.client_base.specs.lists.Lists.{has_id}
 use Rattle.client_base.proofs.of_lists.Identifiers.{has_split}
 use Rattle.client_base.specs.Keeper.{Own, Keeper, ids_of_own, ids_in_use}
@@ -20,39 +20,39 @@ items_more [] more = refl
 items_more (Own.Unsent k p id ∷ own) more = by (is_two p.qos) (items_more own more)
   where
     by : (b : Bool) → items_of_own (own ++ more) ≡ items_of_own own ++ items_of_own more
-        → (if b then Item.Waits k ∷ items_of_own (own ++ more) else items_of_own (own ++ more)) ≡ (if b then Item.Waits k ∷ items_of_own own else items_of_own own) ++ items_of_own more
-    by true ih = ap (λ l. Item.Waits k ∷ l) ih
+        → (if b then SenderItem.Waits k ∷ items_of_own (own ++ more) else items_of_own (own ++ more)) ≡ (if b then SenderItem.Waits k ∷ items_of_own own else items_of_own own) ++ items_of_own more
+    by true ih = ap (λ l. SenderItem.Waits k ∷ l) ih
     by false ih = ih
 items_more (Own.Sent k p id ∷ own) more = by (is_two p.qos) (items_more own more)
   where
     by : (b : Bool) → items_of_own (own ++ more) ≡ items_of_own own ++ items_of_own more
-        → (if b then Item.Sent k id ∷ items_of_own (own ++ more) else items_of_own (own ++ more)) ≡ (if b then Item.Sent k id ∷ items_of_own own else items_of_own own) ++ items_of_own more
-    by true ih = ap (λ l. Item.Sent k id ∷ l) ih
+        → (if b then SenderItem.Sent k id ∷ items_of_own (own ++ more) else items_of_own (own ++ more)) ≡ (if b then SenderItem.Sent k id ∷ items_of_own own else items_of_own own) ++ items_of_own more
+    by true ih = ap (λ l. SenderItem.Sent k id ∷ l) ih
     by false ih = ih
 items_more (Own.Released k p id ∷ own) more = by (is_two p.qos) (items_more own more)
   where
     by : (b : Bool) → items_of_own (own ++ more) ≡ items_of_own own ++ items_of_own more
-        → (if b then Item.Released k id ∷ items_of_own (own ++ more) else items_of_own (own ++ more)) ≡ (if b then Item.Released k id ∷ items_of_own own else items_of_own own) ++ items_of_own more
-    by true ih = ap (λ l. Item.Released k id ∷ l) ih
+        → (if b then SenderItem.Released k id ∷ items_of_own (own ++ more) else items_of_own (own ++ more)) ≡ (if b then SenderItem.Released k id ∷ items_of_own own else items_of_own own) ++ items_of_own more
+    by true ih = ap (λ l. SenderItem.Released k id ∷ l) ih
     by false ih = ih
 items_more (Own.Done k p ∷ own) more = by (is_two p.qos) (items_more own more)
   where
     by : (b : Bool) → items_of_own (own ++ more) ≡ items_of_own own ++ items_of_own more
-        → (if b then Item.Finished k ∷ items_of_own (own ++ more) else items_of_own (own ++ more)) ≡ (if b then Item.Finished k ∷ items_of_own own else items_of_own own) ++ items_of_own more
-    by true ih = ap (λ l. Item.Finished k ∷ l) ih
+        → (if b then SenderItem.Finished k ∷ items_of_own (own ++ more) else items_of_own (own ++ more)) ≡ (if b then SenderItem.Finished k ∷ items_of_own own else items_of_own own) ++ items_of_own more
+    by true ih = ap (λ l. SenderItem.Finished k ∷ l) ih
     by false ih = ih
 
 -- nothing unsent, so nothing waits
-skips : (b : Bool) (item : Item ℕ) (items : List (Item ℕ)) → NoneWaits (item ∷ items) → NoneWaits items → NoneWaits (if b then item ∷ items else items)
+skips : (b : Bool) (item : SenderItem ℕ) (items : List (SenderItem ℕ)) → NoneWaits (item ∷ items) → NoneWaits items → NoneWaits (if b then item ∷ items else items)
 skips true item items n m = n
 skips false item items n m = m
 
 pub none_waits : (own : List Own) → none_unsent own ≡ true → NoneWaits (items_of_own own)
 none_waits [] e = tt
 none_waits (Own.Unsent k p id ∷ own) e = absurd (both_ways false refl e)
-none_waits (Own.Sent k p id ∷ own) e = let n = none_waits own e in skips (is_two p.qos) (Item.Sent k id) (items_of_own own) n n
-none_waits (Own.Released k p id ∷ own) e = let n = none_waits own e in skips (is_two p.qos) (Item.Released k id) (items_of_own own) n n
-none_waits (Own.Done k p ∷ own) e = let n = none_waits own e in skips (is_two p.qos) (Item.Finished k) (items_of_own own) n n
+none_waits (Own.Sent k p id ∷ own) e = let n = none_waits own e in skips (is_two p.qos) (SenderItem.Sent k id) (items_of_own own) n n
+none_waits (Own.Released k p id ∷ own) e = let n = none_waits own e in skips (is_two p.qos) (SenderItem.Released k id) (items_of_own own) n n
+none_waits (Own.Done k p ∷ own) e = let n = none_waits own e in skips (is_two p.qos) (SenderItem.Finished k) (items_of_own own) n n
 
 -- the identifier that it gets is free
 pub new_is_free : (keeper : Keeper) → has_id (least_free (ids_in_use keeper)) (busy (items_of_own keeper.own)) ≡ false

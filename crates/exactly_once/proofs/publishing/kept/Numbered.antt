@@ -3,7 +3,7 @@ use Rattle.std.proofs.Common.{◌≡◌, ℕ, suc, Bool, true, false, not, ◌&&
 use Rattle.std.proofs.lemmas.Bool.{both_ways, cases_Bool}
 use Rattle.client_base.specs.session_base.Publication.{is_acknowledged}
 use Rattle.client_base.specs.lists.Lists.{has_id, IsDistinct}
-use Rattle.exactly_once.specs.Items.{Item, busy, has_sent}
+use Rattle.exactly_once.specs.Items.{SenderItem, busy, has_sent}
 use Rattle.client_base.proofs.of_lists.Tests.{or_none, or_second, eq_is}
 use Rattle.exactly_once.proofs.BusyIdentifiers.{sent_busy}
 use Rattle.client_base.specs.Keeper.{Own, ids_of_own}
@@ -44,7 +44,7 @@ numbered_pubrec i n (Own.Unsent k p id ∷ own) h d s = (h.0, numbered_pubrec i 
     there : (has_sent i (items_of_own (Own.Unsent k p id ∷ own)) ≡ true) ⊎ (has_id i (id ∷ ids_of_own own) ≡ false) → (has_sent i (items_of_own own) ≡ true) ⊎ (has_id i (ids_of_own own) ≡ false)
     there (inl e) = inl (skip (is_two p.qos) e)
       where
-        skip : (b : Bool) → has_sent i (if b then Item.Waits k ∷ items_of_own own else items_of_own own) ≡ true → has_sent i (items_of_own own) ≡ true
+        skip : (b : Bool) → has_sent i (if b then SenderItem.Waits k ∷ items_of_own own else items_of_own own) ≡ true → has_sent i (items_of_own own) ≡ true
         skip true e = e
         skip false e = e
     there (inr e) = inr (or_none (i == id) (has_id i (ids_of_own own)) e).1
@@ -53,7 +53,7 @@ numbered_pubrec i n (Own.Released k p id ∷ own) h d s = (h.0, h.1, numbered_pu
     there : (has_sent i (items_of_own (Own.Released k p id ∷ own)) ≡ true) ⊎ (has_id i (id ∷ ids_of_own own) ≡ false) → (has_sent i (items_of_own own) ≡ true) ⊎ (has_id i (ids_of_own own) ≡ false)
     there (inl e) = inl (skip (is_two p.qos) e)
       where
-        skip : (b : Bool) → has_sent i (if b then Item.Released k id ∷ items_of_own own else items_of_own own) ≡ true → has_sent i (items_of_own own) ≡ true
+        skip : (b : Bool) → has_sent i (if b then SenderItem.Released k id ∷ items_of_own own else items_of_own own) ≡ true → has_sent i (items_of_own own) ≡ true
         skip true e = e
         skip false e = e
     there (inr e) = inr (or_none (i == id) (has_id i (ids_of_own own)) e).1
@@ -62,7 +62,7 @@ numbered_pubrec i n (Own.Done k p ∷ own) h d s = (h.0, numbered_pubrec i (suc 
     there : (has_sent i (items_of_own (Own.Done k p ∷ own)) ≡ true) ⊎ (has_id i (ids_of_own own) ≡ false) → (has_sent i (items_of_own own) ≡ true) ⊎ (has_id i (ids_of_own own) ≡ false)
     there (inl e) = inl (skip (is_two p.qos) e)
       where
-        skip : (b : Bool) → has_sent i (if b then Item.Finished k ∷ items_of_own own else items_of_own own) ≡ true → has_sent i (items_of_own own) ≡ true
+        skip : (b : Bool) → has_sent i (if b then SenderItem.Finished k ∷ items_of_own own else items_of_own own) ≡ true → has_sent i (items_of_own own) ≡ true
         skip true e = e
         skip false e = e
     there (inr e) = inr e
@@ -87,7 +87,7 @@ numbered_pubrec i n (Own.Sent k p id ∷ own) h d s = by (cases_Bool (i == id)) 
         → AreNumbered n ((if (i == id) && not (is_acknowledged p.qos) then Own.Released k p id else Own.Sent k p id) ∷ map (at_pubrec i) own)
     by (inl e) (inl two) s ih = numbered ((i == id) && not (is_acknowledged p.qos)) (λ b. two) (ih (inr (clear e)))
     by (inl e) (inr one) (inl has) ih =
-        let there : has_sent i (items_of_own own) ≡ true = sym (ap (λ b. has_sent i (if b then Item.Sent k id ∷ items_of_own own else items_of_own own)) one) ∙ has in
+        let there : has_sent i (items_of_own own) ≡ true = sym (ap (λ b. has_sent i (if b then SenderItem.Sent k id ∷ items_of_own own else items_of_own own)) one) ∙ has in
         absurd (both_ways (has_id i (busy (items_of_own own))) (not_busy i own (clear e)) (sent_busy i (items_of_own own) there))
     by (inl e) (inr one) (inr none) ih = absurd (both_ways (i == id) (or_none (i == id) (has_id i (ids_of_own own)) none).0 e)
     by (inr e) two (inr none) ih =
@@ -97,6 +97,6 @@ numbered_pubrec i n (Own.Sent k p id ∷ own) h d s = by (cases_Bool (i == id)) 
         numbered ((i == id) && not (is_acknowledged p.qos)) (λ b. absurd (both_ways (i == id) e (both (i == id) (not (is_acknowledged p.qos)) b)))
         (ih (inl (there (is_two p.qos) has)))
       where
-        there : (b : Bool) → has_sent i (if b then Item.Sent k id ∷ items_of_own own else items_of_own own) ≡ true → has_sent i (items_of_own own) ≡ true
+        there : (b : Bool) → has_sent i (if b then SenderItem.Sent k id ∷ items_of_own own else items_of_own own) ≡ true → has_sent i (items_of_own own) ≡ true
         there true f = or_second (i == id) (has_sent i (items_of_own own)) (has_sent i (items_of_own own)) e f (λ g. g)
         there false f = f

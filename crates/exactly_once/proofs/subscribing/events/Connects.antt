@@ -12,7 +12,7 @@ use Rattle.broker_base.specs.broker_spec.Times.{started, window_at, entries_of}
 use Rattle.broker_base.specs.broker_spec.NobodyLaws.{IsSteady}
 use Rattle.broker_base.proofs.AnswersStaySound.{sound_more}
 use Rattle.broker_base.proofs.QueueAfter.{sound_entries}
-use Rattle.exactly_once.specs.Handshake.{Backward, Link, Handshake, Run, publishing, resend, with_items}
+use Rattle.exactly_once.specs.Handshake.{Backward, Transit, Handshake, Run, publishing, resend, with_items}
 use Rattle.exactly_once.specs.Handshake.Advances.{sender_leaves, parts, restarts}
 use Rattle.exactly_once.specs.Handshake.Run.{stays, goes_on}
 use Rattle.client_base.specs.Keeper.{Written}
@@ -20,7 +20,7 @@ use Rattle.exactly_once.specs.Sides.{ClientConnection}
 use Rattle.exactly_once.specs.Story.{Story}
 use Rattle.exactly_once.specs.StoryCommands.{counted_at}
 use Rattle.exactly_once.specs.Inside.Projections.{GoesTo}
-use Rattle.exactly_once.specs.Inside.AsSubscriber.{items_of, held, left_behind, link_to, as_subscriber}
+use Rattle.exactly_once.specs.Inside.AsSubscriber.{items_of, held, left_behind, transit_to, as_subscriber}
 use Rattle.exactly_once.specs.Inside.Shape.{HasShape}
 use Rattle.exactly_once.specs.Inside.ConnectionShape.{ConnectionInShape}
 use Rattle.exactly_once.proofs.Starts.{sending_all}
@@ -46,10 +46,10 @@ pub record IsOpening (limits : Limits) (s : Story) (i : ℕ) (κ : ClientConnect
 
 -- ---- accepted
 
--- the link if the sender left
-parted_run : (h : Handshake Publication) (v : View) (b : List Backward) → h.link ≡ link_as v b → (k : Handshake Publication) × (Run h k) × (k.items ≡ h.items) × (k.accepted ≡ h.accepted) × (k.received ≡ h.received) × (k.link ≡ link_as (parted v) [])
-parted_run h None b e = (with_items h.items (Link.Behind []) h, goes_on stays parts, refl, refl, refl, refl)
-parted_run h (Some (f, true)) b e = (with_items h.items (Link.Ahead f) h, goes_on stays (sender_leaves f b e), refl, refl, refl, refl)
+-- the transit if the sender left
+parted_run : (h : Handshake Publication) (v : View) (b : List Backward) → h.transit ≡ link_as v b → (k : Handshake Publication) × (Run h k) × (k.items ≡ h.items) × (k.accepted ≡ h.accepted) × (k.received ≡ h.received) × (k.transit ≡ link_as (parted v) [])
+parted_run h None b e = (with_items h.items (Transit.Behind []) h, goes_on stays parts, refl, refl, refl, refl)
+parted_run h (Some (f, true)) b e = (with_items h.items (Transit.Ahead f) h, goes_on stays (sender_leaves f b e), refl, refl, refl, refl)
 parted_run h (Some (f, false)) b e = (h, stays, refl, refl, refl, e)
 
 -- what starts is not sent there
@@ -80,7 +80,7 @@ accepted_stale limits s i κ w o stale =
     let rows = rows_at (window_at limits (place ∷ s.past)) (Some κ.name) (es ++ []) in
     goes_started h k.0 t (window_at limits (place ∷ s.past)) (length s.past) (Some κ.name) es [] k.1 k.2 (sound_more (length s.past) es (sound_entries limits s.past c))
     (k.3 ∙ sym (accepted_counted i s.connections)) (λ id. ap (λ (f : ℕ → Bool). f id) k.4) (started_as limits s κ.name o.shape)
-    (ap (λ (z : Option ConnectionName). link_to limits (place ∷ s.past) z (counted_at i s.connections) (held s.keeper (counted_at i s.connections))) (accepted_current s.past κ.name c)
+    (ap (λ (z : Option ConnectionName). transit_to limits (place ∷ s.past) z (counted_at i s.connections) (held s.keeper (counted_at i s.connections))) (accepted_current s.past κ.name c)
     ∙ link_is limits (place ∷ s.past) (Some κ.name) s.keeper (counted_at i s.connections)
     ∙ ap₂ link_as
     (stale limits (place ∷ s.past) (Some κ.name)
@@ -100,11 +100,11 @@ accepted_fresh limits s i κ w o fresh =
     let t = as_subscriber limits (placed s place (counted_at i s.connections)) in
     let releases = released_below (length s.past) es in
     let rows = rows_at (window_at limits (place ∷ s.past)) (Some κ.name) (es ++ []) in
-    let k = with_items h.items (Link.Joined (resend releases h.items) []) h in
+    let k = with_items h.items (Transit.Joined (resend releases h.items) []) h in
     goes_started h k t (window_at limits (place ∷ s.past)) (length s.past) (Some κ.name) es []
     (goes_on stays (restarts releases (distinct_released (length s.past) es (sound_entries limits s.past c)) (each_released (length s.past) es (kept_entries limits s.past c))))
     refl (sound_more (length s.past) es (sound_entries limits s.past c)) (sym (accepted_counted i s.connections)) (λ id. refl) (started_as limits s κ.name o.shape)
-    (ap (λ (z : Option ConnectionName). link_to limits (place ∷ s.past) z (counted_at i s.connections) (held s.keeper (counted_at i s.connections))) (accepted_current s.past κ.name c)
+    (ap (λ (z : Option ConnectionName). transit_to limits (place ∷ s.past) z (counted_at i s.connections) (held s.keeper (counted_at i s.connections))) (accepted_current s.past κ.name c)
     ∙ link_is limits (place ∷ s.past) (Some κ.name) s.keeper (counted_at i s.connections)
     ∙ ap₂ link_as
     (fresh.behind limits (place ∷ s.past) (Some κ.name)

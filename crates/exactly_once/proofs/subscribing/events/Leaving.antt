@@ -8,7 +8,7 @@ use Rattle.broker_base.specs.broker_spec.Connection.{ConnectionName, same_connec
 use Rattle.broker_base.specs.broker_spec.Place.{Client, Past, Limits}
 use Rattle.broker_base.specs.broker_spec.Past.{current_connection}
 use Rattle.broker_base.specs.broker_spec.Times.{entries_of}
-use Rattle.exactly_once.specs.Handshake.{Link}
+use Rattle.exactly_once.specs.Handshake.{Transit}
 use Rattle.client_base.specs.Keeper.{Written, Keeper}
 use Rattle.exactly_once.specs.Sides.{ClientConnection}
 use Rattle.client_base.specs.Written.{plain}
@@ -19,7 +19,7 @@ use Rattle.client_base.specs.Called.{new_connection}
 use Rattle.client_base.specs.Written.{writes_first}
 use Rattle.exactly_once.specs.Acceptance.{accepted_on}
 use Rattle.exactly_once.specs.Inside.Projections.{to_be_taken, GoesTo}
-use Rattle.exactly_once.specs.Inside.AsSubscriber.{items_of, backward_of, held, left_behind, link_to, as_subscriber}
+use Rattle.exactly_once.specs.Inside.AsSubscriber.{items_of, backward_of, held, left_behind, transit_to, as_subscriber}
 use Rattle.exactly_once.specs.Inside.Shape.{LastIsCurrent, HasShape}
 use Rattle.exactly_once.specs.Inside.ConnectionShape.{ConnectionInShape}
 use Rattle.exactly_once.proofs.subscribing.Written.{taken_same}
@@ -36,8 +36,8 @@ leaves limits s shape connections keeper same received none accepted left =
     gone (as_subscriber limits s) (as_subscriber limits (record { past = s.past; connections = connections; keeper = keeper })) (left_behind current s.connections)
     (stands limits s.past s.keeper.client s.keeper s.connections current shape.connections shape.newest_is_served)
     (ap (λ (c : Client). items_of (entries_of limits s.past c)) (sym same)) (sym accepted) (λ id. ap (has_id id) (sym received))
-    (ap (λ (c : Client). link_to limits s.past (current_connection s.past c) connections (held keeper connections)) same
-    ∙ ap (link_to limits s.past current connections) none ∙ ap Link.Behind left)
+    (ap (λ (c : Client). transit_to limits s.past (current_connection s.past c) connections (held keeper connections)) same
+    ∙ ap (transit_to limits s.past current connections) none ∙ ap Transit.Behind left)
 
 -- a client that lost its connection holds none
 lost_none : (keeper : Keeper) (connections : List ClientConnection) → held (lost keeper) connections ≡ None

@@ -66,4 +66,4 @@ next_pubrel limits s κ others id i =
     handles_one limits s κ others i.n (packets.Pubrel id) (writing (plain (packets.Pubcomp id) ∷ []) (counted (record s.keeper { received = without_id id s.keeper.received }) κ)) (plain (packets.Pubcomp id) ∷ [])
     (Forward.Pubrel id) [] (λ j. not (j == id) && has_id j s.keeper.received) i.shape i.first i.is_open i.taken i.next (λ f. refl) refl
     (record { client = refl; name = refl; taken = refl; handled = refl; written = refl; accepted_is = sym (append-nil κ.accepted); received_is = λ j. has_kept j id s.keeper.received; stays_open = i.is_open })
-    (λ l t like. record { items = like.items; accepted = sym (append-nil (as_subscriber limits s).accepted) ∙ like.accepted; received = like.received; link = like.link })
+    (λ l t like. record { items = like.items; accepted = sym (append-nil (as_subscriber limits s).accepted) ∙ like.accepted; received = like.received; transit = like.transit })

@@ -12,7 +12,7 @@ use Rattle.broker_base.specs.broker_spec.Marks.{connect_mark}
 use Rattle.broker_base.specs.broker_spec.Answers.{answers_at}
 use Rattle.broker_base.specs.broker_spec.declared.command.Output.TheVariants.{Close}
 use Rattle.broker_base.proofs.QuietPasts.{no_connection, entries_none}
-use Rattle.exactly_once.specs.Handshake.{Link, with_items}
+use Rattle.exactly_once.specs.Handshake.{Transit, with_items}
 use Rattle.exactly_once.specs.Handshake.Advances.{parts_ahead}
 use Rattle.exactly_once.specs.Handshake.Run.{stays, goes_on}
 use Rattle.exactly_once.specs.Sends.{sends_to}
@@ -21,7 +21,7 @@ use Rattle.exactly_once.specs.Sides.{ClientConnection}
 use Rattle.exactly_once.specs.Story.{Story}
 use Rattle.exactly_once.specs.StoryCommands.{counted_at, count_of}
 use Rattle.exactly_once.specs.Inside.Projections.{GoesTo}
-use Rattle.exactly_once.specs.Inside.AsSubscriber.{items_of, forward_of, held, left_behind, link_to, as_subscriber}
+use Rattle.exactly_once.specs.Inside.AsSubscriber.{items_of, forward_of, held, left_behind, transit_to, as_subscriber}
 use Rattle.exactly_once.proofs.subscribing.Views.{link_as, link_is}
 use Rattle.exactly_once.proofs.subscribing.Placed.{placed}
 use Rattle.exactly_once.proofs.subscribing.Plain.{plain_goes}
@@ -75,13 +75,13 @@ full_fresh limits s i κ w o fresh session none =
     let h = as_subscriber limits s in
     let over : current_connection (place ∷ s.past) c ≡ None = current_same place s.past c refl (full_ends κ.name c (current_connection s.past c) none) ∙ none in
     record {
-      between = with_items h.items (Link.Ahead []) h;
+      between = with_items h.items (Transit.Ahead []) h;
       run = goes_on stays parts_ahead;
       like = record {
         items = ap items_of (no_entries limits s.past c session ∙ sym (entries_none limits place s.past c refl session));
         accepted = sym (accepted_counted i s.connections);
         received = λ id. refl;
-        link = sym (ap (λ (z : Option ConnectionName). link_to limits (place ∷ s.past) z (counted_at i s.connections) (held s.keeper (counted_at i s.connections))) over
+        transit = sym (ap (λ (z : Option ConnectionName). transit_to limits (place ∷ s.past) z (counted_at i s.connections) (held s.keeper (counted_at i s.connections))) over
             ∙ link_is limits (place ∷ s.past) None s.keeper (counted_at i s.connections)
             ∙ ap (λ v. link_as v (left_behind None (counted_at i s.connections)))
             (fresh.behind limits (place ∷ s.past) None ∙ ap (λ l. Some (l, false)) (new_comes limits place s.past c κ w o.good o.new ∙ full_sends limits s.past κ.name κ.name c)));

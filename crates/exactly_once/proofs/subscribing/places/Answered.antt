@@ -10,7 +10,7 @@ use Rattle.broker_base.specs.broker_spec.Entries.{Entry}
 use Rattle.broker_base.specs.broker_spec.Readings.{released_at}
 use Rattle.broker_base.specs.broker_spec.Times.{at_puback, at_pubrec}
 use Rattle.broker_base.proofs.NothingWaits.{IsFull}
-use Rattle.exactly_once.specs.Items.{Item, has_sent}
+use Rattle.exactly_once.specs.Items.{SenderItem, has_sent}
 use Rattle.client_base.proofs.of_lists.Tests.{or_right, or_left, eq_same}
 use Rattle.exactly_once.specs.Carried.{is_two}
 use Rattle.exactly_once.specs.Inside.AsSubscriber.{items_of, two_item}
@@ -35,27 +35,27 @@ two_not p e = by p.qos e
     by qualities.ExactlyOnce e = refl
 
 -- an item more in front
-one_more : (p : Publication) (x : Item Publication) (es fs : List (Item Publication)) → es ≡ fs → two_item p x es ≡ two_item p x fs
+one_more : (p : Publication) (x : SenderItem Publication) (es fs : List (SenderItem Publication)) → es ≡ fs → two_item p x es ≡ two_item p x fs
 one_more p x es fs e = ap (two_item p x) e
 
 -- PUBACK changes no item of QoS 2
 pub items_puback : (n i : ℕ) (es : List Entry) → items_of (map (at_puback n i) es) ≡ items_of es
 items_puback n i [] = refl
-items_puback n i (Entry.Waits made p ∷ es) = one_more p (Item.Waits p) (items_of (map (at_puback n i) es)) (items_of es) (items_puback n i es)
+items_puback n i (Entry.Waits made p ∷ es) = one_more p (SenderItem.Waits p) (items_of (map (at_puback n i) es)) (items_of es) (items_puback n i es)
 items_puback n i (Entry.Started made p id start ∷ es) = by (i == id) (cases_Bool (is_two p.qos)) (items_puback n i es)
   where
     pick : (b : Bool) → is_two p.qos ≡ false → items_of (map (at_puback n i) es) ≡ items_of es
-        → items_of ((if b then Entry.Finished made p id start None n else Entry.Started made p id start) ∷ map (at_puback n i) es) ≡ two_item p (Item.Sent p id) (items_of es)
+        → items_of ((if b then Entry.Finished made p id start None n else Entry.Started made p id start) ∷ map (at_puback n i) es) ≡ two_item p (SenderItem.Sent p id) (items_of es)
     pick true t ih = rw t ih
-    pick false t ih = one_more p (Item.Sent p id) (items_of (map (at_puback n i) es)) (items_of es) ih
+    pick false t ih = one_more p (SenderItem.Sent p id) (items_of (map (at_puback n i) es)) (items_of es) ih
 
     by : (b : Bool) → (is_two p.qos ≡ true) ⊎ (is_two p.qos ≡ false) → items_of (map (at_puback n i) es) ≡ items_of es
-        → items_of ((if b && is_acknowledged p.qos then Entry.Finished made p id start None n else Entry.Started made p id start) ∷ map (at_puback n i) es) ≡ two_item p (Item.Sent p id) (items_of es)
-    by false t ih = one_more p (Item.Sent p id) (items_of (map (at_puback n i) es)) (items_of es) ih
-    by true (inl t) ih = rw (two_not p t) (one_more p (Item.Sent p id) (items_of (map (at_puback n i) es)) (items_of es) ih)
+        → items_of ((if b && is_acknowledged p.qos then Entry.Finished made p id start None n else Entry.Started made p id start) ∷ map (at_puback n i) es) ≡ two_item p (SenderItem.Sent p id) (items_of es)
+    by false t ih = one_more p (SenderItem.Sent p id) (items_of (map (at_puback n i) es)) (items_of es) ih
+    by true (inl t) ih = rw (two_not p t) (one_more p (SenderItem.Sent p id) (items_of (map (at_puback n i) es)) (items_of es) ih)
     by true (inr t) ih = pick (is_acknowledged p.qos) t ih
-items_puback n i (Entry.Released made p id start release ∷ es) = one_more p (Item.Released p id) (items_of (map (at_puback n i) es)) (items_of es) (items_puback n i es)
-items_puback n i (Entry.Finished made p id start release finish ∷ es) = one_more p (Item.Finished p) (items_of (map (at_puback n i) es)) (items_of es) (items_puback n i es)
+items_puback n i (Entry.Released made p id start release ∷ es) = one_more p (SenderItem.Released p id) (items_of (map (at_puback n i) es)) (items_of es) (items_puback n i es)
+items_puback n i (Entry.Finished made p id start release finish ∷ es) = one_more p (SenderItem.Finished p) (items_of (map (at_puback n i) es)) (items_of es) (items_puback n i es)
 
 -- PUBREC leaves a full window full
 pub full_pubrec : (w k n i : ℕ) (es : List Entry) → IsFull w k es → IsFull w k (map (at_pubrec n i) es)
@@ -70,14 +70,14 @@ full_pubrec w k n i (Entry.Released made p id start release ∷ es) f = full_pub
 full_pubrec w k n i (Entry.Finished made p id start release finish ∷ es) f = full_pubrec w k n i es f
 
 -- an item in front that is not sent
-skipped : (i : ℕ) (b : Bool) (x : Item Publication) (items : List (Item Publication)) → (has_sent i (x ∷ items) ≡ true → has_sent i items ≡ true) → has_sent i (if b then x ∷ items else items) ≡ true → has_sent i items ≡ true
+skipped : (i : ℕ) (b : Bool) (x : SenderItem Publication) (items : List (SenderItem Publication)) → (has_sent i (x ∷ items) ≡ true → has_sent i items ≡ true) → has_sent i (if b then x ∷ items else items) ≡ true → has_sent i items ≡ true
 skipped i true x items f e = f e
 skipped i false x items f e = e
 
 -- a sent item is released by its PUBREC
 pub now_released : (n i : ℕ) (es : List Entry) → has_sent i (items_of es) ≡ true → has_id i (released_at n (map (at_pubrec n i) es)) ≡ true
 now_released n i [] e = absurd (both_ways false refl e)
-now_released n i (Entry.Waits made p ∷ es) e = now_released n i es (skipped i (is_two p.qos) (Item.Waits p) (items_of es) (λ e. e) e)
+now_released n i (Entry.Waits made p ∷ es) e = now_released n i es (skipped i (is_two p.qos) (SenderItem.Waits p) (items_of es) (λ e. e) e)
 now_released n i (Entry.Started made p id start ∷ es) e = by (cases_Bool (i == id)) (cases_Bool (is_two p.qos)) (now_released n i es)
   where
     rest : Entry → List ℕ
@@ -87,21 +87,21 @@ now_released n i (Entry.Started made p id start ∷ es) e = by (cases_Bool (i ==
     kept true h = rw (eq_same n) (or_right (i == id) (has_id i (released_at n (map (at_pubrec n i) es))) h)
     kept false h = h
 
-    drop_sent : (b : Bool) → (i == id) ≡ false → has_sent i (if b then Item.Sent p id ∷ items_of es else items_of es) ≡ true → has_sent i (items_of es) ≡ true
+    drop_sent : (b : Bool) → (i == id) ≡ false → has_sent i (if b then SenderItem.Sent p id ∷ items_of es else items_of es) ≡ true → has_sent i (items_of es) ≡ true
     drop_sent true n e = sym (ap (λ b. b || has_sent i (items_of es)) n) ∙ e
     drop_sent false n e = e
 
     by : ((i == id) ≡ true) ⊎ ((i == id) ≡ false) → (is_two p.qos ≡ true) ⊎ (is_two p.qos ≡ false) → (has_sent i (items_of es) ≡ true → has_id i (released_at n (map (at_pubrec n i) es)) ≡ true)
         → has_id i (rest (at_pubrec n i (Entry.Started made p id start))) ≡ true
     by (inl b) (inl t) ih = rw (b, two_not p t) (rw (eq_same n) (or_left (i == id) (has_id i (released_at n (map (at_pubrec n i) es))) b))
-    by (inl b) (inr t) ih = kept ((i == id) && not (is_acknowledged p.qos)) (ih (sym (ap (λ z. has_sent i (if z then Item.Sent p id ∷ items_of es else items_of es)) t) ∙ e))
+    by (inl b) (inr t) ih = kept ((i == id) && not (is_acknowledged p.qos)) (ih (sym (ap (λ z. has_sent i (if z then SenderItem.Sent p id ∷ items_of es else items_of es)) t) ∙ e))
     by (inr b) t ih = kept ((i == id) && not (is_acknowledged p.qos)) (ih (drop_sent (is_two p.qos) b e))
-now_released n i (Entry.Released made p id start release ∷ es) e = by (release == n) (now_released n i es (skipped i (is_two p.qos) (Item.Released p id) (items_of es) (λ e. e) e))
+now_released n i (Entry.Released made p id start release ∷ es) e = by (release == n) (now_released n i es (skipped i (is_two p.qos) (SenderItem.Released p id) (items_of es) (λ e. e) e))
   where
     by : (b : Bool) → has_id i (released_at n (map (at_pubrec n i) es)) ≡ true → has_id i (if b then id ∷ released_at n (map (at_pubrec n i) es) else released_at n (map (at_pubrec n i) es)) ≡ true
     by true h = or_right (i == id) (has_id i (released_at n (map (at_pubrec n i) es))) h
     by false h = h
-now_released n i (Entry.Finished made p id start release finish ∷ es) e = now_released n i es (skipped i (is_two p.qos) (Item.Finished p) (items_of es) (λ e. e) e)
+now_released n i (Entry.Finished made p id start release finish ∷ es) e = now_released n i es (skipped i (is_two p.qos) (SenderItem.Finished p) (items_of es) (λ e. e) e)
 
 -- identifiers after others
 pub has_after : (i : ℕ) (xs ys : List ℕ) → has_id i ys ≡ true → has_id i (xs ++ ys) ≡ true
