@@ -20,7 +20,7 @@ use Rattle.byte_world.proofs.of_exactly_once.Ends.{split_map}
 use Rattle.byte_world.proofs.of_exactly_once.keeping.StoryTrace.{told_stories_are_sound}
 use Rattle.byte_world.proofs.of_exactly_once.sessions.Beside.{beside}
 use Rattle.byte_world.proofs.of_exactly_once.sessions.LivesExact.{HasOneStory, first_has_story}
-use Rattle.headline.specs.Shown.{AreStillKept, at_two, kept_of}
+use Rattle.headline.specs.Shown.{AreUnacknowledged, at_two, unacknowledged_of}
 use Rattle.headline.proofs.NewNumbered.{same_some}
 use Rattle.headline.proofs.StillKept.{kept_both, kept_values, new_kept, some_of, two_kept, two_published}
 
@@ -60,7 +60,7 @@ module _ (s : Story) (state : ClientState) (lived : Lived usual_limits s.keeper.
       ∙ ap (map (slice_get qs)) (map-append value_of good.old good.new) ∙ map-append (slice_get qs) (map value_of good.old) (map value_of good.new)
       ∙ ap (λ (l : List (Option Publication)). l ++ rest) are
 
-  kept_parts : history.StandsFor s.keeper state → some_of (at_two (kept_of state)) ≡ map (slice_get qs) (kept_values good.old) ++ rest
+  kept_parts : history.StandsFor s.keeper state → some_of (at_two (unacknowledged_of state)) ≡ map (slice_get qs) (kept_values good.old) ++ rest
   kept_parts stands =
       sym (two_kept s.keeper state stands numbered) ∙ ap (λ (l : List (SenderItem ℕ)). map (slice_get qs) (kept_values l)) good.sides.is
       ∙ ap (map (slice_get qs)) (kept_both good.old good.new ∙ ap (λ (l : List ℕ). kept_values good.old ++ l) (new_kept _ good.new good.sides.news))
@@ -68,13 +68,13 @@ module _ (s : Story) (state : ClientState) (lived : Lived usual_limits s.keeper.
 
   pub first_kept : history.StandsFor s.keeper state → (new : List Publication)
       → map (slice_get (publications_of (all_own s.keeper))) (new_numbers s.connections s.past) ≡ some_of new
-      → AreStillKept (at_two (publications_of (all_own s.keeper))) new (at_two (kept_of state))
+      → AreUnacknowledged (at_two (publications_of (all_own s.keeper))) new (at_two (unacknowledged_of state))
   first_kept stands new are =
       let cut = split_map (λ (p : Publication). Some p) (at_two qs) (some_of new) rest (published_parts new (new_old new are)) in
-      let kept = split_map (λ (p : Publication). Some p) (at_two (kept_of state)) (map (slice_get qs) (kept_values good.old)) rest (kept_parts stands) in
+      let kept = split_map (λ (p : Publication). Some p) (at_two (unacknowledged_of state)) (map (slice_get qs) (kept_values good.old)) rest (kept_parts stands) in
       record {
         waiting = cut.behind;
         published_are = ap at_two all_said ∙ cut.is ∙ ap (λ (l : List Publication). l ++ cut.behind) (same_some cut.front new cut.front_is);
         again = kept.front;
-        kept_are = kept.is ∙ ap (λ (l : List Publication). kept.front ++ l) (same_some kept.behind cut.behind (kept.behind_is ∙ sym cut.behind_is));
+        unacknowledged_are = kept.is ∙ ap (λ (l : List Publication). kept.front ++ l) (same_some kept.behind cut.behind (kept.behind_is ∙ sym cut.behind_is));
       }

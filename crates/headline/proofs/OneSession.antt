@@ -43,12 +43,12 @@ module _ (c : Client) (published : List Publication) (past : Past) (state : Clie
 
   by_first : (first : IsFirstSession past c) → IsFirstSession past c → PromiseOfOne c published past state
   by_first first (inl none) =
-      let kept = p.kept first in
+      let kept = p.unacknowledged first in
       record {
         waiting = kept.waiting;
         in_order = kept.published_are;
         again = kept.again;
-        kept = kept.kept_are;
+        unacknowledged = kept.unacknowledged_are;
         prefix = [];
         others = [];
         entries = ap two_entries (no_entries usual_limits past c (none_there past c none));
@@ -56,13 +56,13 @@ module _ (c : Client) (published : List Publication) (past : Past) (state : Clie
         rest = tt;
       }
   by_first first (inr (start, are, e)) =
-      let kept = p.kept first in
+      let kept = p.unacknowledged first in
       let session = p.accepts.session start in
       record {
         waiting = kept.waiting;
         in_order = kept.published_are;
         again = kept.again;
-        kept = kept.kept_are;
+        unacknowledged = kept.unacknowledged_are;
         prefix = session.prefix;
         others = session.others;
         entries = sym (ap two_entries (entries_now usual_limits past c start e)) ∙ session.entries;

@@ -165,7 +165,7 @@ module _ (s : Story) (lived : Lived usual_limits s.keeper.client s) (step : IsIn
       (record {
         rises = record { numbers = new_numbers s.connections s.past; rise = exact.publishers.rises; are = new_all };
         in_order = λ one. new_in_order s carried.numbers (new_of c s.past) (exact.publishers.in_order one) new_all;
-        kept = λ first. first_kept s state lived step first stands (new_of c s.past) new_all;
+        unacknowledged = λ first. first_kept s state lived step first stands (new_of c s.past) new_all;
         answered = is_answered;
         acknowledged = is_acknowledged;
         accepts = accepted state shown exact;

@@ -11,7 +11,7 @@ use Rattle.byte_world.specs.client_base.State.{ClientState}
 use Rattle.byte_world.specs.exactly_once.Acceptance.{is_released, two_entries}
 use Rattle.byte_world.specs.exactly_once.InStep.{IsFirstSession}
 use Rattle.headline.specs.Promise.{PromiseInStep}
-use Rattle.headline.specs.Shown.{at_two, kept_of, new_of}
+use Rattle.headline.specs.Shown.{at_two, new_of, unacknowledged_of}
 use Rattle.byte_world.specs.Accepted.{accepted_once}
 
 -- for client c, by the places of the list
@@ -22,7 +22,7 @@ pub record PromiseOfOne (c : Client) (published : List Publication) (past : Past
   pub waiting : List Publication
   pub in_order : at_two published ≡ new_of c past ++ waiting
   pub again : List Publication
-  pub kept : at_two (kept_of state) ≡ again ++ waiting
+  pub unacknowledged : at_two (unacknowledged_of state) ≡ again ++ waiting
   -- what it accepted at QoS 2 is a prefix of the QoS 2 entries of its session, each once, with
   -- every one that is released
   pub prefix : List Entry

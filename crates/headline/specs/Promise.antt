@@ -20,18 +20,18 @@ use Rattle.byte_world.specs.broker_spec.Times.{entries_of}
 use Rattle.byte_world.specs.client_base.State.{ClientState}
 use Rattle.byte_world.specs.exactly_once.InStep.{AreWelcome, IsFirstSession, sessions_begun}
 use Rattle.byte_world.specs.exactly_once.Sides.{ClientConnection}
-use Rattle.headline.specs.Shown.{AcceptsInOrder, AreNewInOrder, AreStillKept, IsAnswered, at_two, kept_of, new_of}
+use Rattle.headline.specs.Shown.{AcceptsInOrder, AreNewInOrder, AreUnacknowledged, IsAnswered, at_two, new_of, unacknowledged_of}
 
 -- for client c, as long as it is in step, by the places of the list
 pub record PromiseInStep (c : Client) (published : List Publication) (past : Past)
     (state : ClientState) : Type 0 where
   -- its QoS 2 publications are new in the order in which it was asked for them, each once
   pub rises : AreNewInOrder published (new_of c past)
-  -- none is left out while it has had one session; and while that lasts, it still keeps those that
-  -- are not new yet
+  -- none is left out while it has had one session; and while that lasts, those that are not new yet
+  -- are unacknowledged
   pub in_order : sessions_begun past c ≤ 1 → IsPrefixOf (new_of c past) (at_two published)
-  pub kept : IsFirstSession past c →
-      AreStillKept (at_two published) (new_of c past) (at_two (kept_of state))
+  pub unacknowledged : IsFirstSession past c →
+      AreUnacknowledged (at_two published) (new_of c past) (at_two (unacknowledged_of state))
   -- one that is answered with PUBREC is new at that place or at an earlier one
   pub answered : (place : Place) (below : Past) (p : Publish) (id : ℕ) →
       IsAnswered past c (packets.Pubrec id) place below p →

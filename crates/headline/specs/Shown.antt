@@ -38,9 +38,9 @@ is_at_two p = is_two p.qos
 abbrev pub at_two : List Publication → List Publication
 at_two = filter is_at_two
 
--- the publications that the client keeps, the oldest first: no PUBACK or PUBREC came for them yet
-abbrev pub kept_of : ClientState → List Publication
-kept_of state = map (λ (k : KeptPublication). k.publication) (state.sent ++ state.unsent)
+-- the client's publications for which no PUBACK or PUBREC came yet, the oldest first
+abbrev pub unacknowledged_of : ClientState → List Publication
+unacknowledged_of state = map (λ (k : KeptPublication). k.publication) (state.sent ++ state.unsent)
 
 -- the publication that is new at a place, if there is one (MQTT 4.3.3)
 abbrev pub new_at : Client → Command → Mark → List Publication
@@ -68,13 +68,13 @@ pub record AreNewInOrder (published new : List Publication) : Type 0 where
   pub rise : IsRising numbers
   pub are : map (slice_get published) numbers ≡ map (λ (p : Publication). Some p) new
 
--- no publication is skipped: the client still keeps those that are not yet new, and besides them
--- only some that are new
-pub record AreStillKept (published new kept : List Publication) : Type 0 where
+-- no publication is skipped: those that are not yet new are unacknowledged, and besides them only
+-- some that are new
+pub record AreUnacknowledged (published new unacknowledged : List Publication) : Type 0 where
   pub waiting : List Publication
   pub published_are : published ≡ new ++ waiting
   pub again : List Publication
-  pub kept_are : kept ≡ again ++ waiting
+  pub unacknowledged_are : unacknowledged ≡ again ++ waiting
 
 -- ---- of what it accepted
 
