@@ -193,7 +193,7 @@ impl Cluster {
     /// taken, or calls [`Cluster::wake_urgent`], once it has released the lock.
     pub fn queue_given<J: NodeNaming, R: Wait>(&self, rt: &R, giver: &NodeState<J>, given: Given) {
         let _ = giver;
-        queue_all(rt, &mut Round { cluster: self }, given);
+        queue_all(rt, &mut NodesAndMaster { cluster: self }, given);
     }
 
     /// Wakes the own thread of each node for which something urgent waits.
@@ -281,11 +281,11 @@ fn peers_of(alloc: Global, numbers: &[u8]) -> Result<Vec<Peer>, Memory>
 
 // The nodes and the master, as receivers of messages.
 #[derive(Drop)]
-struct Round<'a> {
+struct NodesAndMaster<'a> {
     cluster: &'a Cluster,
 }
 
-impl<'a> Receivers for Round<'a> {
+impl<'a> Receivers for NodesAndMaster<'a> {
     // It queues in outboxes under their locks, of which no clause says anything: see `Outbox`.
     ghost queues = { λ _ _ _ _. Unit {0} };
 
