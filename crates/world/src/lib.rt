@@ -5,9 +5,9 @@ mod calling;
 mod carrying;
 mod connection_slot;
 mod gathering;
-mod going_on;
 mod laws;
 mod leading_out;
+mod node_events;
 mod reading;
 mod world;
 
