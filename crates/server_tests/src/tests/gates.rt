@@ -1,6 +1,6 @@
 // Nodes that are held at a gate.
 
-use super::lagging::{unbounded_bytes, unbounded_places};
+use super::lagging::{missed_of_bytes, missed_of_places};
 use super::nodes::{listen_all, opening};
 use super::row::{Missed, unless};
 use server::{Cluster, Gate, Listener, NodeReport, serve_gated};
@@ -266,8 +266,8 @@ impl Watched for Bar {
     {
         match self.load {
             Load::One => self.passes(rt, listener),
-            Load::Packets => unbounded_places(rt, self, cluster, listener),
-            Load::Bytes => unbounded_bytes(rt, self, cluster, listener),
+            Load::Packets => missed_of_places(rt, self, cluster, listener),
+            Load::Bytes => missed_of_bytes(rt, self, cluster, listener),
         }
     }
 }

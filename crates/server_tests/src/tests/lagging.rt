@@ -12,7 +12,7 @@ use std::time::{Clock, Duration};
 
 /// Returns the first step that is not so: of 98,304 PINGREQ that come while a member is held, no
 /// more than 37,000 become places until it continues, and all are answered then.
-pub(super) fn unbounded_places<R>(
+pub(super) fn missed_of_places<R>(
     rt: &R,
     bar: &Bar,
     cluster: &Cluster,
@@ -75,7 +75,7 @@ fn open_places<R: Wait + Clock>(rt: &R, cluster: &Cluster) -> Option<u64> {
 /// Returns the first step that is not so: of 150 MB that a client sends while a member is held, no
 /// more than 72 MB become places, 64 MiB and what was in transit, and the rest is not read. Once
 /// the member continues, another client is answered.
-pub(super) fn unbounded_bytes<R>(
+pub(super) fn missed_of_bytes<R>(
     rt: &R,
     bar: &Bar,
     cluster: &Cluster,
