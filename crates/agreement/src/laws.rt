@@ -21,16 +21,16 @@ pub fn has_agreed<M: Machine>()
     ensures { HasAgreed M.rules }
 {}
 
-/// States that the nodes agree on it: what is applied anywhere begins it, and each member of the
-/// active configuration holds it. Of two logs installed in one ballot one begins the other, and
-/// some node holds it. What left is the machine's outputs at places of it, each place at most once.
-/// All that one ballot gave left before all that a higher one gave, and in one ballot in rising
-/// order.
+/// States that the nodes agree on it: what is applied anywhere is a prefix of it, and each member
+/// of the active configuration holds it. Of two logs installed in one ballot one is a prefix of the
+/// other, and some node holds it. What left is the machine's outputs at places of it, each place at
+/// most once. All that one ballot gave left before all that a higher one gave, and in one ballot in
+/// rising order.
 pub fn nodes_agree<M: Machine>()
     ensures { NodesAgree M.rules }
 {}
 
-/// States that what is agreed begins what is agreed at the next moment, whatever happens in
+/// States that what is agreed is a prefix of what is agreed at the next moment, whatever happens in
 /// between.
 pub fn agreed_grows<M: Machine>()
     ensures { AgreedGrows M.rules }

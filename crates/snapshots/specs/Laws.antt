@@ -27,7 +27,7 @@ HasAgreed {S} {C} {O} rules =
     (xs : List C) × IsAgreed config (map whole_moment (a ∷ past)) xs
 
 -- the nodes agree on it, and a member of the active ballot holds it; what left is its answers in
--- order, and the record of places begins it
+-- order, and the record of places is a prefix of it
 abbrev pub NodesAgree : {S C O : Type 0} → Rules S C O → Type 0
 NodesAgree {S} {C} {O} rules =
     (config : Config) (a : Moment S C O) (past : List (Moment S C O)) (xs : List C) →

@@ -9,7 +9,8 @@ use Rattle.ways_out.specs.Deliveries.{way_out}
 use Rattle.ways_out.specs.Laws.{CanBeLed, IsLed, StartsGiveNothing}
 use Rattle.ways_out.specs.CutDeliveries.{Delivered, assigned_moment}
 
--- a past continues to a later moment, if this list is agreed; what was agreed before begins it
+-- a past continues to a later moment, if this list is agreed; what was agreed before is a
+-- prefix of it
 pub record GoesOnTo {S C O : Type 0} (rules : Rules S C O) (config : Config)
     (past : List (Moment S C O)) (b : Moment S C O) (agreed : List C) : Type 0 where
   pub between : List (Moment S C O)

@@ -39,7 +39,8 @@ pub record IsLed {S C O : Type 0} (ballot : ℕ) (new : Config) (log : List C)
   pub each : (m : ℕ) → In m (others new.primary new.members) →
       NodeIs (Follows ballot log) b.world.nodes m
 
--- a past continues to a later moment, if this list is agreed; what was agreed before begins it
+-- a past continues to a later moment, if this list is agreed; what was agreed before is a
+-- prefix of it
 pub record GoesOnTo {S C O : Type 0} (rules : Rules S C O) (config : Config)
     (past : List (Moment S C O)) (b : Moment S C O) (agreed : List C) : Type 0 where
   pub between : List (Moment S C O)

@@ -10,7 +10,7 @@ use machine::Machine;
 /// lead to the next ballot. This needs that the members of a new configuration run, and one member
 /// of the active one, and that a ballot and a place are left. The ballot is active then, and all
 /// its members hold the whole log of that member followed by the ballot's start. This is the agreed
-/// list, and what was agreed before begins it.
+/// list, and what was agreed before is a prefix of it.
 pub fn cut_groups_have_ways_out<M: Machine>()
     ensures { CutGroupsHaveWaysOut M.rules }
 {}

@@ -8,8 +8,8 @@ use machine::Machine;
 /// States that a group can always be led on: the messages of a list lead to the next ballot. This
 /// needs that the members of a new configuration run, and one member of the active one, and that a
 /// ballot and a place are left. The ballot is active then, and all its members hold the log of that
-/// member followed by the ballot's start. This is the agreed list, and what was agreed before
-/// begins it.
+/// member followed by the ballot's start. This is the agreed list, and what was agreed before is a
+/// prefix of it.
 pub fn has_way_out<M: Machine>()
     ensures { HasWayOut M.rules }
 {}
