@@ -1,7 +1,7 @@
 // A node crashes after an event of a script, each node after each event, and the script continues.
 
 use crate::tests::hand::text_of;
-use crate::tests::scripts::{SCRIPTS, SNAPSHOT_TRAVELS};
+use crate::tests::scripts::SCRIPTS;
 use play::{PlayError, play};
 use std::alloc::Global;
 
@@ -101,5 +101,4 @@ fn a_crash_anywhere_takes_nothing_back(rt: HostRuntime) {
     for row in &SCRIPTS {
         assert_eq!(rt; further_after(rt.alloc(), row), None, "{}", row[0]);
     }
-    assert_eq!(rt; further_after(rt.alloc(), &SNAPSHOT_TRAVELS), None);
 }

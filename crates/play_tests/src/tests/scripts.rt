@@ -332,13 +332,13 @@ pub const SNAPSHOT_TRAVELS: [&str; 2] = [
     end agreed=3 active=2\n",
 ];
 
-/// All of them. They have two nodes, except the last but one, which has three, and the last, which
-/// has one.
-pub const SCRIPTS: [&[&str; 2]; 6] = [
+/// All of them.
+pub const SCRIPTS: [&[&str; 2]; 7] = [
     &ANSWER_WAITS_FOR_THE_BACKUP,
     &CONFIGURATION_CHANGES,
     &PRIMARY_CRASHES,
     &STALE_PRIMARY,
     &BALLOT_IS_SUPERSEDED,
     &CLIENT_IS_EXPELLED,
+    &SNAPSHOT_TRAVELS,
 ];

@@ -1,7 +1,7 @@
 // Whole scripts, and their transcripts.
 
 use crate::tests::hand::{text_of, transcript_of};
-use crate::tests::scripts::{SCRIPTS, SNAPSHOT_TRAVELS};
+use crate::tests::scripts::SCRIPTS;
 
 // The messages of an answer come again in the reverse order: the backup acknowledges the place once
 // more, and nothing else happens.
@@ -116,11 +116,4 @@ const IDLE: [&str; 2] = [
 fn an_expel_that_cannot_happen_is_idle(rt: HostRuntime) {
     let played = transcript_of(rt.alloc(), IDLE[0]);
     assert_eq!(rt; text_of(&played), IDLE[1]);
-}
-
-// It is no script of `SCRIPTS`: a crash before its cuts makes them idle.
-#[test]
-fn snapshot_travels(rt: HostRuntime) {
-    let played = transcript_of(rt.alloc(), SNAPSHOT_TRAVELS[0]);
-    assert_eq!(rt; text_of(&played), SNAPSHOT_TRAVELS[1]);
 }
