@@ -8,7 +8,7 @@ use std::thread;
 use std::time::{Clock, Duration};
 use user_client::{Publisher, Servers, Subscriber};
 
-/// How long a client waits after a connection that was lost.
+/// How long a client waits after a connection that was lost, in milliseconds.
 const PAUSE_MILLIS: u64 = 200;
 
 // Servers at these addresses, one after another.

@@ -13,8 +13,8 @@ use std::thread::Threads;
 use std::time::Clock;
 use streams::{Closed, MAX_CONNECTIONS};
 
-/// A lane for the node's own thread, for each connection, and for the thread that closes surplus
-/// clients.
+/// A lane for the node's own thread, for each connection, and one more, so that an idle thread can
+/// close a surplus client.
 pub(crate) const LANES: u8 = MAX_CONNECTIONS + 2;
 
 /// How many threads a node has: one for each lane, and one that continues with full sockets.
