@@ -18,12 +18,12 @@ use Rattle.world.specs.World.{WorldState}
 use Rattle.world.specs.ClientCalls.{ClientDoes, Asks, LosesAsking, Leaves, LosesLeaving, Loses, CarriesDownWhere}
 use Rattle.world.specs.Opening.{OpensNone, OpensWhere}
 
--- the master gives a ballot, or answers an Activate
+-- the master gives a ballot, exactly or perhaps with losses
 abbrev pub Assigns : Bool → Config → NodesState → NodesState → Type 0
 Assigns true config old new = new ≡ after_giving config old
 Assigns false config old new = GivesIn config old new
 
--- a message comes to its receiver, exactly or perhaps with losses
+-- a message comes to its receiver, a node or the master, exactly or perhaps with losses
 abbrev pub Delivers : Bool → Option (ℕ × Message Command) → NodesState → NodesState → Type 0
 Delivers true message old new = Comes message old new
 Delivers false message old new = ComesIn message old new
