@@ -16,7 +16,7 @@ use Rattle.node_group.specs.node_moves.Moves.NodeCall.{takes}
 use Rattle.node_group.specs.Steps.{GroupTrace}
 use Rattle.node_group.specs.Steps.GroupTrace.{then_went}
 use Rattle.node_group.specs.Streams.{comes_up, goes_down}
-use Rattle.byte_world.specs.Steps.{Does, node_call_of}
+use Rattle.byte_world.specs.Steps.{DoesCall, node_call_of}
 use Rattle.byte_world.specs.World.{ClientPipes, HasPipe, Pipe, World, is_used, leads_to}
 use Rattle.byte_world.proofs.NodesGoOn.{IsOpened, carries_with}
 use Rattle.byte_world.proofs.PipesHold.{PipeHolds, apart_on}
@@ -54,14 +54,14 @@ opened_port _ = 0
 -- what holds if one is reported to a node there: each connection that was there has its pipe, and
 -- the pipes continue
 pub record OpensUnused {nodes : ℕ} {config : Config} (v : World) (went : GroupTrace nodes config v.group) (n : ℕ) (port : Port) (now : ℕ)
-    (d : Does v.group (Some (n, takes (Opened port now)))) : Type 0 where
+    (d : DoesCall v.group (Some (n, takes (Opened port now)))) : Type 0 where
   pub no_lead : Leads v n port → ⊥
   pub old_led : (m : ℕ) (old : CoreState) (e : NodesEnd) → slice_get v.group.nodes m ≡ Some old → IsOfOld old.connections e → Leads v m e.port
   pub opened_there : (m : ℕ) (old : CoreState) (e : NodesEnd) → IsOpened (node_call_of d.step) m old e → (m ≡ n) × (e.port.0 ≡ port.0)
   pub still_unheard : (x : ConnectionName) → IsUnheard went x → IsUnheard (then_went went d.step) x
   pub old_holds : (i : ℕ) (c : ClientPipes) (j : ℕ) (κ : ClientConnection) (p : Pipe) → HasPipe v i c j κ p → PipeHolds (then_went went d.step) κ p
 
-module _ {nodes : ℕ} {config : Config} (v : World) (went : GroupTrace nodes config v.group) (h : Holds v went) (n : ℕ) (port : Port) (now : ℕ) (d : Does v.group (Some (n, takes (Opened port now))))
+module _ {nodes : ℕ} {config : Config} (v : World) (went : GroupTrace nodes config v.group) (h : Holds v went) (n : ℕ) (port : Port) (now : ℕ) (d : DoesCall v.group (Some (n, takes (Opened port now))))
     (unused : is_used n port v.clients ≡ false) where
   no_lead : Leads v n port → ⊥
   no_lead l = both_ways (is_used n port v.clients) unused (leads_used v n port l)

@@ -50,7 +50,7 @@ module _ (P : Connection → Type 0) (follows : IsFollowed P) where
 
   -- what is done so keeps it
   abbrev Keeps : (CoreState → Account → Type 0) → Type 0
-  Keeps Does = (core : CoreState) (did : Account) → Does core did → All core → All did.core
+  Keeps DoesCall = (core : CoreState) (did : Account) → DoesCall core did → All core → All did.core
 
   becomes : (new : CoreState) (did : Account) → did ≡ without_effects new → All new → All did.core
   becomes new did is all = subst (λ (d : Account). All d.core) (sym is) all

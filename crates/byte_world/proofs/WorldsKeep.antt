@@ -34,7 +34,7 @@ use Rattle.node_group.specs.Group.{Group}
 use Rattle.node_group.specs.Steps.{GroupStep, GroupTrace}
 use Rattle.node_group.specs.Steps.GroupTrace.{then_went}
 use Rattle.node_group.specs.Streams.{comes_up, goes_down, went_down}
-use Rattle.byte_world.specs.Steps.{Does, node_call_of, is_apart}
+use Rattle.byte_world.specs.Steps.{DoesCall, node_call_of, is_apart}
 use Rattle.byte_world.specs.ClientSteps.{CanBeSpelled, after_packet}
 use Rattle.byte_world.specs.World.{ClientPipes, HasPipe, Pipe, World, after_writing, newly_written, packets_of, sent_up, with_client, with_pipe}
 use Rattle.byte_world.proofs.NodesGoOn.{IsOpened, carries_with, is_quiet, stood_as}
@@ -185,7 +185,7 @@ unheard_on : {nodes : ℕ} {config : Config} {g h : Group} (went : GroupTrace no
     → IsUnheard went x → IsUnheard (then_went went step) x
 unheard_on went step x quiet none = (ap (λ l. l ++ comes_up x step) none.0 ∙ quiet.0, ap (λ l. l ++ goes_down x step) none.1 ∙ quiet.1)
 
-pub group_holds : {nodes : ℕ} {config : Config} (v : World) (went : GroupTrace nodes config v.group) (node_call : Option (ℕ × NodeCall)) (d : Does v.group node_call) → is_apart node_call ≡ true → Holds v went
+pub group_holds : {nodes : ℕ} {config : Config} (v : World) (went : GroupTrace nodes config v.group) (node_call : Option (ℕ × NodeCall)) (d : DoesCall v.group node_call) → is_apart node_call ≡ true → Holds v went
     → Holds (record v { group = d.after }) (then_went went d.step)
 group_holds v went node_call d apart h =
     let quiet = is_quiet v.group d.after d.step d.faithful (ap is_apart d.is ∙ apart) in
@@ -256,7 +256,7 @@ same_core : (a b : CoreState) → (let o : Option CoreState = Some a in o) ≡ S
 same_core a b e = cc
 
 pub comes_holds : {nodes : ℕ} {config : Config} (v : World) (went : GroupTrace nodes config v.group) (i j : ℕ) (c : ClientPipes) (κ : ClientConnection) (p : Pipe) (piece rest : List ℕ) (now : ℕ)
-    (d : Does v.group (Some (p.node, takes (Bytes p.port piece now)))) → HasPipe v i c j κ p → p.up ≡ piece ++ rest → Holds v went
+    (d : DoesCall v.group (Some (p.node, takes (Bytes p.port piece now)))) → HasPipe v i c j κ p → p.up ≡ piece ++ rest → Holds v went
     → Holds (with_client i (with_pipe j (record p { up = rest }) c) (record v { group = d.after })) (then_went went d.step)
 comes_holds v went i j c κ p piece rest now d has cut h =
     let carried = carries_with v.group d.after d.step p.node (takes (Bytes p.port piece now)) d.faithful d.is in
@@ -273,7 +273,7 @@ comes_holds v went i j c κ p piece rest now d has cut h =
     }) h
 
 pub goes_holds : {nodes : ℕ} {config : Config} (v : World) (went : GroupTrace nodes config v.group) (i j : ℕ) (c : ClientPipes) (κ : ClientConnection) (p : Pipe)
-    (d : Does v.group (Some (p.node, gives p.port))) → HasPipe v i c j κ p → Holds v went
+    (d : DoesCall v.group (Some (p.node, gives p.port))) → HasPipe v i c j κ p → Holds v went
     → Holds (with_client i (with_pipe j (record p { down = p.down ++ goes_down κ.name d.step }) c) (record v { group = d.after })) (then_went went d.step)
 goes_holds v went i j c κ p d has h =
     let carried = carries_with v.group d.after d.step p.node (gives p.port) d.faithful d.is in

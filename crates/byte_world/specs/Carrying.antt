@@ -63,7 +63,7 @@ is_apart (Some (n, takes (Bytes port piece now))) = false
 is_apart (Some (n, gives port)) = false
 
 -- a step of the group with this call, in which just the bytes of the call are carried
-pub record Does (g : Group) (node_call : Option (ℕ × NodeCall)) : Type 0 where
+pub record DoesCall (g : Group) (node_call : Option (ℕ × NodeCall)) : Type 0 where
   pub after : Group
   pub step : GroupStep g after
   pub is : node_call_of step ≡ node_call

@@ -14,7 +14,7 @@ use Rattle.node_group.specs.Group.{Group, after_turn, replica_of, with_record}
 use Rattle.node_group.specs.Steps.{AllWasSent}
 use Rattle.node_group.specs.Putting.{recorded_in}
 use Rattle.node_group.specs.snapshots.World.{recorded}
-use Rattle.byte_world.specs.Steps.{CarriesItsBytes, Does}
+use Rattle.byte_world.specs.Steps.{CarriesItsBytes, DoesCall}
 
 -- what a node takes from others was sent to it, and the bytes to which it cuts its log thaw to its
 -- machine
@@ -51,7 +51,7 @@ NodeCallsCarryTheirBytes =
 -- a step of a group with this call of a node, after which the node is as its own turn leaves it,
 -- and the record as the call leaves it; the only other change are the outputs of the node
 pub record DoesNodeCall (g : Group) (n : ℕ) (node_call : NodeCall) (core : CoreState) : Type 0 where
-  pub does : Does g (Some (n, node_call))
+  pub does : DoesCall g (Some (n, node_call))
   pub given : List (Effect Command Output)
   pub is : does.after
       ≡ after_turn (with_record g (recorded_after g.archive core node_call)) n

@@ -21,7 +21,7 @@ use Rattle.node_group.specs.node_moves.Moves.{NodeCall}
 use Rattle.node_group.specs.node_moves.Moves.NodeCall.{takes, gives}
 use Rattle.node_group.specs.Streams.{goes_down as goes_down_in}
 use Rattle.byte_world.specs.ClientSteps.{story_alone, after_connecting, after_packet, CanBeSpelled}
-pub use Rattle.byte_world.specs.Carrying.{CarriesItsBytes, Does, IsFaithful, coming_with, node_call_of, going_with, is_apart}
+pub use Rattle.byte_world.specs.Carrying.{CarriesItsBytes, DoesCall, IsFaithful, coming_with, node_call_of, going_with, is_apart}
 use Rattle.byte_world.specs.World.{ClientPipes, HasPipe, Pipe, World, after_writing, is_used, opening, with_client, with_pipe}
 
 -- ---- the step
@@ -31,7 +31,7 @@ use Rattle.byte_world.specs.World.{ClientPipes, HasPipe, Pipe, World, after_writ
 pub data WorldStep (w : World) : World → Type 0 where
   -- the nodes and the master move by themselves: messages come late, again or never, a node ticks
   -- or crashes, a stream ends at its node, an administrator asks for a configuration
-  goes_on : (node_call : Option (ℕ × NodeCall)) (d : Does w.group node_call) →
+  goes_on : (node_call : Option (ℕ × NodeCall)) (d : DoesCall w.group node_call) →
       is_apart node_call ≡ true → WorldStep w (record w { group = d.after })
   -- a client calls, or loses its connection
   calls : (i : ℕ) (c : ClientPipes) (t : Story) (h : StoryStep usual_limits (story_alone c) t) →
@@ -41,7 +41,8 @@ pub data WorldStep (w : World) : World → Type 0 where
   -- a client opens a connection to a node, at a port that was never used there, and the node takes
   -- it
   connects : (i n : ℕ) (c : ClientPipes) (port : Port) (now : ℕ)
-      (d : Does w.group (Some (n, takes (Opened port now)))) (core : CoreState) (end : NodesEnd) →
+      (d : DoesCall w.group (Some (n, takes (Opened port now)))) (core : CoreState)
+      (end : NodesEnd) →
       slice_get w.clients i ≡ Some c → is_used n port w.clients ≡ false →
       slice_get d.after.nodes n ≡ Some core → listed_at port core ≡ Some end →
       IsPacket (packets.Connect
@@ -50,19 +51,19 @@ pub data WorldStep (w : World) : World → Type 0 where
       (record w { group = d.after }))
   -- the node does not take it, because memory ran out, and then the client has none
   is_taken_back : (n : ℕ) (port : Port) (now : ℕ)
-      (d : Does w.group (Some (n, takes (Opened port now)))) (core : CoreState) →
+      (d : DoesCall w.group (Some (n, takes (Opened port now)))) (core : CoreState) →
       is_used n port w.clients ≡ false →
       slice_get d.after.nodes n ≡ Some core → listed_at port core ≡ None →
       WorldStep w (record w { group = d.after })
   -- a prefix of the bytes in transit reaches the node
   comes_up : (i j : ℕ) (c : ClientPipes) (κ : ClientConnection) (p : Pipe) (piece rest : List ℕ)
-      (now : ℕ) (d : Does w.group (Some (p.node, takes (Bytes p.port piece now)))) →
+      (now : ℕ) (d : DoesCall w.group (Some (p.node, takes (Bytes p.port piece now)))) →
       HasPipe w i c j κ p → p.up ≡ piece ++ rest →
       WorldStep w
       (with_client i (with_pipe j (record p { up = rest }) c) (record w { group = d.after }))
   -- a node hands over what it queued
   goes_down : (i j : ℕ) (c : ClientPipes) (κ : ClientConnection) (p : Pipe)
-      (d : Does w.group (Some (p.node, gives p.port))) → HasPipe w i c j κ p →
+      (d : DoesCall w.group (Some (p.node, gives p.port))) → HasPipe w i c j κ p →
       WorldStep w (with_client i
       (with_pipe j (record p { down = p.down ++ goes_down_in κ.name d.step }) c)
       (record w { group = d.after }))

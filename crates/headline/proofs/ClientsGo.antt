@@ -35,7 +35,7 @@ use Rattle.byte_world.proofs.of_node_group.Placed.{get_mapped, set_mapped}
 use Rattle.byte_world.specs.node_group.Carried.{answers_to}
 use Rattle.byte_world.specs.world_base.declared.item.Item.TheVariants.{Opened}
 use Rattle.byte_world.specs.world_base.declared.Port.{Port}
-use Rattle.byte_world.specs.Steps.{Does}
+use Rattle.byte_world.specs.Steps.{DoesCall}
 use Rattle.byte_world.specs.ClientSteps.{after_connecting, after_packet, story_alone}
 use Rattle.byte_world.specs.World.{ClientPipes, HasPipe, Pipe, World, after_writing, newly_written, packets_of, sent_up, with_client}
 use Rattle.byte_world.proofs.WorldsHold.{Holds}
@@ -185,7 +185,7 @@ module _ {nodes : ℕ} {config : Config} (v : World) (g : Group) (i : ℕ) (c : 
       by k e there (inl some) = let z = named_at κ.name e.connections some in absurd (other_name k e z.0 z.1 there z.2 z.3)
 
 pub connects_so : {nodes : ℕ} {config : Config} {cs : List Client} → AreApart cs → (v : World) (went : GroupTrace nodes config v.group) (i n : ℕ) (c : ClientPipes) (x : ConnectionName) (port : Port) (now : ℕ)
-    (d : Does v.group (Some (n, takes (Opened port now)))) (s : GoesBeside nodes config cs v went) → slice_get v.clients i ≡ Some c
+    (d : DoesCall v.group (Some (n, takes (Opened port now)))) (s : GoesBeside nodes config cs v went) → slice_get v.clients i ≡ Some c
     → Holds (with_client i (after_connecting x n port c) (record v { group = d.after })) (then_went went d.step)
     → GoesBeside nodes config cs (with_client i (after_connecting x n port c) (record v { group = d.after })) (then_went went d.step)
 connects_so {cs = cs} apart v went i n c x port now d s at holds =

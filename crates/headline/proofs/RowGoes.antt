@@ -27,7 +27,7 @@ use Rattle.byte_world.specs.node_group.Steps.GroupStep.{node_acts}
 use Rattle.byte_world.proofs.of_node_group.Placed.{get_of_set}
 use Rattle.byte_world.specs.node_group.Streams.{goes_down}
 use Rattle.byte_world.specs.NodeCalls.{NodeCallWasSent}
-use Rattle.byte_world.specs.Steps.{Does, Reached, going_with}
+use Rattle.byte_world.specs.Steps.{DoesCall, Reached, going_with}
 use Rattle.byte_world.specs.ClientSteps.{CanBeSpelled, story_alone}
 use Rattle.byte_world.specs.Steps.Reached.{goes_on}
 use Rattle.byte_world.specs.Steps.WorldStep.{calls, comes_up, goes_down as step_down, arrives, handles}
@@ -38,7 +38,7 @@ use Rattle.headline.specs.Rows.{one_node}
 -- ---- a call of a node
 
 pub record Turned (g : Group) (n : ℕ) (node_call : NodeCall) (core later : CoreState) : Type 0 where
-  pub does : Does g (Some (n, node_call))
+  pub does : DoesCall g (Some (n, node_call))
   pub stands : slice_get does.after.nodes n ≡ Some later
   pub down : (x : ConnectionName) → goes_down x does.step ≡ going_with x node_call core
 

@@ -20,7 +20,7 @@ use Rattle.world_events.specs.world_pipes.Piped.{CarriesDown, Piped, broken, com
 use Rattle.world_events.specs.declared.event.Event.TheVariants as events
 use Rattle.world.specs.declared.connection_slot.ConnectionSlot.{ConnectionSlot}
 use Rattle.world.specs.declared.world.WorldClient.{WorldClient}
-use Rattle.world.specs.Doing.{Does}
+use Rattle.world.specs.Doing.{DoesEvent}
 use Rattle.world.specs.Found.{core_named, is_named, with_piped}
 use Rattle.world.specs.Trace.{LosesNothing}
 use Rattle.world.specs.Happening.{Run}
@@ -80,7 +80,7 @@ module _ (name : List ℕ) (i at number node : ℕ) (core : Core) (up down : Lis
             subst (λ (p : Piped). IsServed p.core) (sym is) (record { online = z.online; present = z.present })
         by (inr (lost, is)) = absurd (enough lost)
 
-  come : (new : WorldState) → Does true (events.CarryDown number 4) w new → IsOnline name w new
+  come : (new : WorldState) → DoesEvent true (events.CarryDown number 4) w new → IsOnline name w new
   come new (c, piped, (result, enough, carries), is) =
       let h = subst (λ (d : WorldClient). CarriesDown 4 d.piped result piped) (client_is i at number node core up down b w s positive c) carries in
       let z = hears_it piped result (enough refl) h in

@@ -28,7 +28,7 @@ use Rattle.escaping_nodes.proofs.of_world_nodes.Acts.{acts}
 use Rattle.escaping_nodes.proofs.of_world_nodes.MasterActs.{answers_exactly}
 use Rattle.world_events.specs.declared.event.Event.TheVariants as events
 use Rattle.world.specs.Cannot.{CannotHappen}
-use Rattle.world.specs.Doing.{Does, receiver_of}
+use Rattle.world.specs.Doing.{DoesEvent, receiver_of}
 use Rattle.world.specs.Gathering.{Gathers}
 use Rattle.world.specs.Trace.{LosesNothing}
 use Rattle.world.specs.Happening.{Run}
@@ -66,7 +66,7 @@ pub record AtNode (k at : ℕ) (message : Message Command) (old new : WorldState
   pub gathers : Gathers true (suc at) (with_nodes (after_node_call at node (takes (Peer message)) old.nodes) old) new
   pub passes : Passes (k ∷ []) old new
 
-pub at_node : (k at : ℕ) (message : Message Command) (old new : WorldState) → slice_get old.nodes.sent k ≡ Some (at + 1, message) → Does true (events.Deliver k) old new →
+pub at_node : (k at : ℕ) (message : Message Command) (old new : WorldState) → slice_get old.nodes.sent k ≡ Some (at + 1, message) → DoesEvent true (events.Deliver k) old new →
     SlotsAreValid (leads_of old.clients) old.connections → AtNode k at message old new
 at_node k at message old new came d housed =
     record {
@@ -103,7 +103,7 @@ at_node k at message old new came d housed =
 
 -- ---- to the master
 
-pub at_master_is : (k from asked : ℕ) (old new : WorldState) → slice_get old.nodes.sent k ≡ Some (0, record { from = from; body = Activate asked }) → Does true (events.Deliver k) old new →
+pub at_master_is : (k from asked : ℕ) (old new : WorldState) → slice_get old.nodes.sent k ≡ Some (0, record { from = from; body = Activate asked }) → DoesEvent true (events.Deliver k) old new →
     new ≡ with_nodes (after_answer from asked old.nodes) old
 at_master_is k from asked old new came d = gathers ∙ ap (λ (n : NodesState). with_nodes n old) is
   where
@@ -113,7 +113,7 @@ at_master_is k from asked old new came d = gathers ∙ ap (λ (n : NodesState). 
     gathers : new ≡ with_nodes d.0 old
     gathers = subst (λ (o : Option (ℕ × Message Command)). Gathers true (receiver_of o) (with_nodes d.0 old) new) came d.2
 
-pub at_master : (k from asked : ℕ) (old new : WorldState) → slice_get old.nodes.sent k ≡ Some (0, record { from = from; body = Activate asked }) → Does true (events.Deliver k) old new →
+pub at_master : (k from asked : ℕ) (old new : WorldState) → slice_get old.nodes.sent k ≡ Some (0, record { from = from; body = Activate asked }) → DoesEvent true (events.Deliver k) old new →
     SlotsAreValid (leads_of old.clients) old.connections → Passes (k ∷ []) old new
 at_master k from asked old new came d housed =
     subst (Passes (k ∷ []) old) (sym (at_master_is k from asked old new came d))

@@ -3,7 +3,7 @@ use Rattle.std.proofs.Common.{inl, inr, ◌≤◌, ◌-◌, ◌^◌, ℕ, true, 
 use Rattle.escaping_nodes.specs.master.declared.event.Idle.{Idle}
 use Rattle.world_events.specs.declared.event.Event.{Event}
 use Rattle.world.specs.Cannot.{CannotHappen}
-use Rattle.world.specs.Doing.{Does}
+use Rattle.world.specs.Doing.{DoesEvent}
 use Rattle.world.specs.Trace.{LosesNothing}
 use Rattle.world.specs.Happening.{Happens, Run}
 use Rattle.world.specs.World.{WorldState}
@@ -34,7 +34,7 @@ low_count old new none = let low = none.1 in omega (arith, low)
 -- the first event was done exactly, and the others lose nothing
 pub record First (event : Event) (events : List Event) (old new : WorldState) : Type 0 where
   pub after : WorldState
-  pub does : Does true event old after
+  pub does : DoesEvent true event old after
   pub rest : Run events after new
   pub whole : LosesNothing after new
 

@@ -24,7 +24,7 @@ use Rattle.world.specs.declared.world.WorldClient.{WorldClient}
 use Rattle.world.specs.Found.{Connected, is_named, slot_numbered, port_of, with_less, with_piped}
 use Rattle.world.specs.Gathering.{Gathers, TakesItem}
 use Rattle.world.specs.Cannot.{CannotHappen, IsClosed, IsNoPart, down_of, is_held, is_held_by, up_of}
-use Rattle.world.specs.Doing.{Does, LosesAtClient, receiver_of}
+use Rattle.world.specs.Doing.{DoesEvent, LosesAtClient, receiver_of}
 use Rattle.world.specs.ClientCalls.{CarriesDownWhere}
 use Rattle.world.specs.Happening.{Happens, HappensExactly, HappensLosing, Run}
 use Rattle.world.specs.SlotsAreValid.{SlotsAreValid, leads_of}
@@ -227,7 +227,7 @@ held_there number w c = ap (λ (o : Option ConnectionSlot). is_held o w.clients)
 
 pub carries_down : (number : ℕ) (place : ConnectionSlot) (count : ℕ) (had : Bool) (old : WorldState) (client : WorldClient) (piped : Piped) → SlotsAreValid (leads_of old.clients) old.connections
     → slice_get old.connections (number - 1) ≡ Some place → 0 < number → slice_get old.clients place.client ≡ Some client → CarriesDownOn had place.at count client.piped piped
-    → (CannotHappen (events.CarryDown number count) old → ⊥) × Does had (events.CarryDown number count) old (with_piped place.client client piped old)
+    → (CannotHappen (events.CarryDown number count) old → ⊥) × DoesEvent had (events.CarryDown number count) old (with_piped place.client client piped old)
     × (had ≡ false → LosesAtClient (events.CarryDown number count) old (with_piped place.client client piped old))
 carries_down number place count had old client piped housed at positive owned carries = (can, (c, piped, carries.carries, refl), (λ lost. (c, piped, carries.lost lost, refl)))
   where
@@ -269,7 +269,7 @@ carries_none_down number place count old client housed at positive owned cannot 
 carries_down_less : (count : ℕ) (old new : Piped) → CarriesDownWhere true count old new → CarriesDownWhere false count old new
 carries_down_less count old new h = (h.0, λ yes. absurd (both_ways false refl yes), h.2)
 
-does_less : (number count : ℕ) (old new : WorldState) → Does true (events.CarryDown number count) old new → Does false (events.CarryDown number count) old new
+does_less : (number count : ℕ) (old new : WorldState) → DoesEvent true (events.CarryDown number count) old new → DoesEvent false (events.CarryDown number count) old new
 does_less number count old new d = (d.0, d.1, carries_down_less count d.0.client.piped d.1 d.2, d.3)
 
 -- running out of memory is counted

@@ -10,7 +10,7 @@ use Rattle.world_events.specs.declared.event.Event.{Event}
 use Rattle.world_events.specs.declared.event.Event.TheVariants as events
 use Rattle.world.specs.declared.world.WorldClient.{WorldClient}
 use Rattle.world.specs.Cannot.{HoldsNone}
-use Rattle.world.specs.Doing.{Does}
+use Rattle.world.specs.Doing.{DoesEvent}
 use Rattle.world.specs.Found.{core_named, with_piped}
 use Rattle.world.specs.Trace.{LosesNothing}
 use Rattle.world.specs.Happening.{Run}
@@ -45,7 +45,7 @@ module _ (name : List ℕ) (core : Core) (more : List Event) (old new : WorldSta
   lost : (f : First (events.Abandon name) more old new) → HasLeft name core more old new
   lost f = by f.does
     where
-      by : Does true (events.Abandon name) old f.after → HasLeft name core more old new
+      by : DoesEvent true (events.Abandon name) old f.after → HasLeft name core more old new
       by (c, piped, loses, is) =
           record {
             after = f.after;

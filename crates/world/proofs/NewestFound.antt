@@ -20,7 +20,7 @@ use Rattle.world_events.specs.declared.event.Event.TheVariants as events
 use Rattle.world.specs.declared.connection_slot.ConnectionSlot.{ConnectionSlot}
 use Rattle.world.specs.declared.world.WorldClient.{WorldClient}
 use Rattle.world.specs.Cannot.{IsClosed, IsNoPart, down_of, is_held, is_held_by, up_of}
-use Rattle.world.specs.Doing.{Does}
+use Rattle.world.specs.Doing.{DoesEvent}
 use Rattle.world.specs.Found.{Connected, slot_numbered, port_of, way_at, way_in, way_of, with_less, with_piped}
 use Rattle.world.specs.Gathering.{Gathers, TakesItem}
 use Rattle.world.specs.SlotsAreValid.{SlotsAreValid, leads_of}
@@ -140,7 +140,7 @@ module _ (i at number place : ℕ) (core : Core) (up : List ℕ) (w : WorldState
   pub emptied_names : names_of emptied.clients ≡ names_of w.clients
   emptied_names = names_set w.clients i s.client client s.found refl
 
-  pub come_up : (after : WorldState) → Does true (events.CarryUp number count) w after →
+  pub come_up : (after : WorldState) → DoesEvent true (events.CarryUp number count) w after →
       Gathers true (suc place) (with_nodes (after_node_call place node (takes (Bytes (port_of number) up 0)) w.nodes) emptied) after
   come_up after (c, t) =
       subst (λ (n : NodesState). Gathers true (suc place) (with_nodes n emptied) after)

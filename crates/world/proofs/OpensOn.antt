@@ -25,7 +25,7 @@ use Rattle.world_events.specs.declared.event.Event.TheVariants as events
 use Rattle.world.specs.declared.world.WorldClient.{WorldClient}
 use Rattle.world.specs.declared.connection_slot.ConnectionSlot.{ConnectionSlot}
 use Rattle.world.specs.Found.{Named, core_named, is_named, port_of, with_piped}
-use Rattle.world.specs.Doing.{Does as HappenDoes}
+use Rattle.world.specs.Doing.{DoesEvent as HappenDoes}
 use Rattle.world.specs.Opening.{NoneOpens, OpensNone, OpensOne, OpensUnless, has_no_name_left, next_number, with_connection}
 use Rattle.world.specs.Happening.{HappensLosing}
 use Rattle.world.specs.Cannot.{CannotOpen, is_serving}

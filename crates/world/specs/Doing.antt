@@ -44,39 +44,39 @@ receiver_of None = 0
 receiver_of (Some (receiver, message)) = receiver
 
 -- what an event does to a world, kind by kind
-abbrev pub Does : Bool → Event → WorldState → WorldState → Type 0
-Does whole (events.Assign config) old new =
+abbrev pub DoesEvent : Bool → Event → WorldState → WorldState → Type 0
+DoesEvent whole (events.Assign config) old new =
     (between : NodesState) × Assigns whole config old.nodes between
     × (new ≡ record old { nodes = between })
-Does whole (events.Deliver number) old new =
+DoesEvent whole (events.Deliver number) old new =
     (between : NodesState) × Delivers whole (slice_get old.nodes.sent number) old.nodes between
     × Gathers whole (receiver_of (slice_get old.nodes.sent number))
     (record old { nodes = between }) new
-Does whole (events.Tick node) old new = TakesItem whole node (items.Tick 0) old new
-Does whole (events.Cut node) old new =
+DoesEvent whole (events.Tick node) old new = TakesItem whole node (items.Tick 0) old new
+DoesEvent whole (events.Cut node) old new =
     (between : NodesState) × CutsLog whole node old.nodes between
     × Gathers whole node (record old { nodes = between }) new
-Does whole (events.Expel name node) old new =
+DoesEvent whole (events.Expel name node) old new =
     (between : NodesState) × Proposes whole name node old.nodes between
     × Gathers whole node (record old { nodes = between }) new
-Does whole (events.Crash node) old new = TakesItem whole node items.Crash old new
-Does whole (events.Open name node) old new = OpensWhere whole name node old new
-Does whole (events.CarryUp number count) old new =
+DoesEvent whole (events.Crash node) old new = TakesItem whole node items.Crash old new
+DoesEvent whole (events.Open name node) old new = OpensWhere whole name node old new
+DoesEvent whole (events.CarryUp number count) old new =
     (c : Connected number old)
     × TakesItem whole c.slot.node (items.Bytes (port_of number) (take count c.way.up) 0)
     (with_piped c.slot.client c.client (with_less c.slot.at count c.way c.client.piped) old) new
-Does whole (events.CarryDown number count) old new =
+DoesEvent whole (events.CarryDown number count) old new =
     (c : Connected number old) × (piped : Piped) × CarriesDownWhere whole count c.client.piped piped
     × (new ≡ with_piped c.slot.client c.client piped old)
-Does whole (events.Abandon name) old new = ClientDoes name Loses old new
-Does whole (events.Disconnect name) old new = ClientDoes name (Leaves whole) old new
-Does whole (events.Notice number) old new =
+DoesEvent whole (events.Abandon name) old new = ClientDoes name Loses old new
+DoesEvent whole (events.Disconnect name) old new = ClientDoes name (Leaves whole) old new
+DoesEvent whole (events.Notice number) old new =
     (c : Connected number old) × TakesItem whole c.slot.node (items.Ended (port_of number)) old new
-Does whole (events.Publish name publication) old new =
+DoesEvent whole (events.Publish name publication) old new =
     ClientDoes name (Asks (Call.Publishes publication) whole) old new
-Does whole (events.Subscribe name filter qos) old new =
+DoesEvent whole (events.Subscribe name filter qos) old new =
     ClientDoes name (Asks (Call.Subscribes filter qos) whole) old new
-Does whole (events.Unsubscribe name filter) old new =
+DoesEvent whole (events.Unsubscribe name filter) old new =
     ClientDoes name (Asks (Call.Unsubscribes filter) whole) old new
 
 -- How memory runs out at a client and not at a node. A client makes its call, and its connection is

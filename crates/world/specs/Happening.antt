@@ -12,7 +12,7 @@ use Rattle.world_events.specs.declared.event.Event.{Event}
 use Rattle.world.specs.declared.world.WorldClient.{WorldClient}
 use Rattle.world.specs.World.{WorldState}
 use Rattle.world.specs.Cannot.{CannotHappen}
-use Rattle.world.specs.Doing.{Does, LosesAtClient}
+use Rattle.world.specs.Doing.{DoesEvent, LosesAtClient}
 use Rattle.world.specs.Quiet.{TakesNoMemory}
 
 -- ---- what events do
@@ -20,7 +20,7 @@ use Rattle.world.specs.Quiet.{TakesNoMemory}
 -- the event can happen, what it asks was done, and no loss is counted
 pub record HappensExactly (event : Event) (old new : WorldState) : Type 0 where
   pub can : CannotHappen event old → ⊥
-  pub does : Does true event old new
+  pub does : DoesEvent true event old new
   pub uncounted : new.losses ≡ old.losses
 
 -- The event can happen and takes memory; nothing was done, or what the event asks was done with
@@ -30,7 +30,7 @@ pub record HappensLosing (event : Event) (old new : WorldState) : Type 0 where
   pub can : CannotHappen event old → ⊥
   pub needs : TakesNoMemory event old → old.nodes.losses < greatest_count → ⊥
   pub done : WorldState
-  pub does : (done ≡ old) ⊎ Does false event old done
+  pub does : (done ≡ old) ⊎ DoesEvent false event old done
   pub lost : (done ≡ old) ⊎ LosesAtClient event old done
       ⊎ (NodesLoseNothing old.nodes done.nodes → ⊥)
   pub counted : new ≡ record done { losses = one_more old.losses }

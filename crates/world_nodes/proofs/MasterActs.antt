@@ -18,7 +18,7 @@ use Rattle.byte_world.specs.node_moves.Moves.NodeCall.{takes}
 use Rattle.byte_world.specs.node_group.Group.{Group, told_by_master, with_master}
 use Rattle.byte_world.specs.node_group.Steps.{GroupStep, after_assign}
 use Rattle.byte_world.specs.node_group.Steps.GroupStep.{master_assigns, master_hears, assigns_unheard, answers_unheard}
-use Rattle.byte_world.specs.Steps.{Does, IsFaithful, node_call_of}
+use Rattle.byte_world.specs.Steps.{DoesCall, IsFaithful, node_call_of}
 use Rattle.world_nodes.specs.Nodes.{NodesState, StandsFor}
 use Rattle.world_nodes.specs.ExactSteps.{Acts, Comes, GoesBy, HeardByMaster, after_answer, after_giving}
 use Rattle.world_nodes.specs.Steps.{ComesIn, GivesIn, HearsIn, LosesNothing, TakesIn, nodes_with_loss, unheard}
@@ -52,7 +52,7 @@ record ByMaster (g h : Group) : Type 0 where
   pub is : node_call_of step ≡ None
   pub faithful : IsFaithful step
 
-does_by : {g h : Group} → ByMaster g h → Does g None
+does_by : {g h : Group} → ByMaster g h → DoesCall g None
 does_by {h = h} b = record { after = h; step = b.step; is = b.is; faithful = b.faithful }
 
 assigns_by : (g : Group) (config : Config) → refusal g.master config ≡ None → ByMaster g (group_giving config g)

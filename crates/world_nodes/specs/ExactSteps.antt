@@ -17,7 +17,7 @@ use Rattle.byte_world.specs.world_base.Handing.{answer_of, bytes_of, listed_at}
 use Rattle.byte_world.specs.node_moves.Moves.{NodeCall, done}
 use Rattle.byte_world.specs.node_moves.Moves.NodeCall.{takes, gives}
 use Rattle.byte_world.specs.node_group.Group.{Group}
-use Rattle.byte_world.specs.Steps.{Does}
+use Rattle.byte_world.specs.Steps.{DoesCall}
 use Rattle.world_nodes.specs.Nodes.{NodesState, StandsFor}
 use Rattle.world_nodes.specs.Running.{running, node_of, cutting}
 
@@ -56,7 +56,7 @@ pub record GivesExactly (node : ℕ) (port : Port) (old new : NodesState) : Type
 -- a group does a call of a node, or of the master, exactly or with losses, and then corresponds to
 -- these nodes
 pub record GoesBy (node_call : Option (ℕ × NodeCall)) (g : Group) (new : NodesState) : Type 0 where
-  pub does : Does g node_call
+  pub does : DoesCall g node_call
   pub stands : StandsFor does.after new
 
 -- each group that corresponds to the nodes before does so: the node at this index does this call

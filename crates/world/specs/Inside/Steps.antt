@@ -10,7 +10,7 @@ use Rattle.world_events.specs.declared.event.Event.{Event}
 use Rattle.world.specs.Asking.{IsAsked}
 use Rattle.world.specs.Trace.{NodesGoOn}
 use Rattle.world.specs.Cannot.{CannotHappen}
-use Rattle.world.specs.Doing.{Does}
+use Rattle.world.specs.Doing.{DoesEvent}
 use Rattle.world.specs.Happening.{HappensLosing}
 use Rattle.world.specs.StandsFor.{FollowsModelAsking}
 use Rattle.world.specs.World.{WorldState}
@@ -40,8 +40,8 @@ NodesStay old new = (g : Group) → NodesStand g old → NodesStand g new
 -- an event was done, or nothing happened: it was done exactly, unless the nodes counted a loss
 pub record IsDone (event : Event) (old new : WorldState) : Type 0 where
   pub can : CannotHappen event old → ⊥
-  pub does : (new ≡ old) ⊎ Does false event old new
-  pub exact : NodesLoseNothing old.nodes new.nodes → Does true event old new
+  pub does : (new ≡ old) ⊎ DoesEvent false event old new
+  pub exact : NodesLoseNothing old.nodes new.nodes → DoesEvent true event old new
   pub uncounted : new.losses ≡ old.losses
 
 -- the result of an event, before the step counts what its nodes counted
