@@ -21,7 +21,7 @@ use Rattle.snapshots.specs.agreement.Inside.Ballots.Told.{told_as_primary}
 use Rattle.snapshots.specs.agreement.Inside.Chosen.{ChosenList, IsAgreedIn}
 use Rattle.snapshots.specs.agreement.Inside.Serves.{Serves}
 use Rattle.snapshots.specs.agreement.Inside.Sound.{IsSound}
-use Rattle.snapshots.specs.agreement.Inside.Saying.{Says}
+use Rattle.snapshots.specs.agreement.Inside.Saying.{SpeaksTruth}
 use Rattle.snapshots.specs.agreement.Inside.ToldLengths.{chosen_length, least_of, max_told, told_by, told_in, told_length}
 use Rattle.snapshots.proofs.of_agreement.Agreed.AgreedExists.{least_each, least_most, least_top, newest_agreed}
 use Rattle.snapshots.proofs.of_agreement.Agreed.MaxTold.{one_given, told_whole}
@@ -151,7 +151,7 @@ second_is told p top last least next (m ∷ ms) rising i none low bound =
     rising i none low bound
 
 -- a primary says nothing by messages
-primary_silent : {S C O : Type 0} (w : World S C O) (h : History C) (b : ℕ) (g : Given) (to from : ℕ) (body : Body C) → Says w h to from body →
+primary_silent : {S C O : Type 0} (w : World S C O) (h : History C) (b : ℕ) (g : Given) (to from : ℕ) (body : Body C) → SpeaksTruth w h to from body →
     h.given b ≡ Some g → (from ≡ g.primary) → told_by b body ≡ 0
 primary_silent w h b g to from (NewBallot x members a old) says given is = refl
 primary_silent w h b g to from (Join x a) says given is = refl

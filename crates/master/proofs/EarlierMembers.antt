@@ -23,7 +23,7 @@ use Rattle.ballot.specs.Taking.{taken}
 use Rattle.ballot.proofs.ChangeRows.{on_install-answers, on_install-stays, on_install-takes, on_install-unread, on_new_ballot-joins, on_new_ballot-stays, on_state-stays, on_state-takes, on_state-unread}
 use Rattle.ballot.proofs.MessageRows.{on_append-elsewhere, on_append-gap, on_append-takes}
 use Rattle.snapshots.specs.agreement.Inside.Ballots.{Given, History}
-use Rattle.snapshots.specs.agreement.Inside.Saying.{IsOf, Says}
+use Rattle.snapshots.specs.agreement.Inside.Saying.{IsOf, SpeaksTruth}
 use Rattle.snapshots.specs.agreement.Moments.{Moment as WholeMoment, Moments as WholeMoments}
 use Rattle.snapshots.specs.agreement.World.{World as WholeWorld}
 use Rattle.snapshots.specs.whole.Messages.Body.{NewBallot as whole_new_ballot}
@@ -43,7 +43,7 @@ some_in (x ∷ xs) i e = cc
 
 -- by what a NewBallot says about the ballots that were given
 said_some : {S C O : Type 0} (w : WholeWorld S C O) (h : History C) (to from b p : ℕ) (members old : List ℕ) →
-    ((a : ℕ) (g : Given) → h.given a ≡ Some g → In g.primary g.members) → Says w h to from (whole_new_ballot b members p old) → old ≡ [] → ⊥
+    ((a : ℕ) (g : Given) → h.given a ≡ Some g → In g.primary g.members) → SpeaksTruth w h to from (whole_new_ballot b members p old) → old ≡ [] → ⊥
 said_some w h to from b p members old led (g, is_of, master, primary, own, before, (earlier, given, same)) none =
     some_in earlier.members (led p earlier given) (sym same ∙ none)
 

@@ -12,7 +12,7 @@ use Rattle.agreement.specs.Agreement.{Agrees}
 use Rattle.agreement.specs.Leaving.{LeftInOrder, Segment}
 use Rattle.agreement.specs.Moments.{Moment, WasActive}
 use Rattle.agreement.specs.Inside.Ballots.{Line, History, IsChosenIn}
-use Rattle.agreement.specs.Inside.Keeps.{GoesOn}
+use Rattle.agreement.specs.Inside.Keeps.{HistoryGoesOn}
 use Rattle.agreement.specs.MasterState.{MasterState}
 use Rattle.agreement.specs.Inside.Masters.{IsMaster}
 use Rattle.agreement.specs.Inside.Sound.{IsSound}
@@ -68,7 +68,7 @@ sound_leaves {S = S} {C = C} {O = O} rules past w h xs s a active =
         (rising, omega (arith, p, z))
 
 -- the agreed list only grows
-pub agreed_grows : {S C O : Type 0} (rules : Rules S C O) (w v : World S C O) (h : History C) (xs ys : List C) → (g : GoesOn rules w h v) →
+pub agreed_grows : {S C O : Type 0} (rules : Rules S C O) (w v : World S C O) (h : History C) (xs ys : List C) → (g : HistoryGoesOn rules w h v) →
     IsAgreedIn w h xs → IsAgreedIn v g.history ys → IsPrefixOf xs ys
 agreed_grows {S = S} {C = C} rules w v h xs ys g a b = by_chosen a.chosen
   where

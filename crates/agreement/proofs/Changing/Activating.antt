@@ -19,7 +19,7 @@ use Rattle.agreement.specs.Inside.Ballots.{Given, History, Told}
 use Rattle.agreement.specs.Inside.Ballots.Applied.{in_ballot}
 use Rattle.agreement.specs.Inside.Keeps.{KeepsAdding}
 use Rattle.agreement.specs.Inside.Sound.{IsInstalling, IsSoundNode, IsSound}
-use Rattle.agreement.specs.Inside.Saying.{Says}
+use Rattle.agreement.specs.Inside.Saying.{SpeaksTruth}
 use Rattle.agreement.proofs.Frame.Adding.{adds_less}
 use Rattle.agreement.proofs.Frame.EqualLists.{prefix_of_same}
 use Rattle.agreement.proofs.Serving.CommandAdded.{keeps_added}
@@ -101,7 +101,7 @@ pub keeps_activated : {S C O : Type 0} (rules : Rules S C O) (w : World S C O) (
 keeps_activated {S = S} {C = C} {O = O} rules w h n r from b s stands ran sent =
     by_condition (cases_Bool ((r.joined == b && is_installing r.role) && (nat_le (length r.lacking) 0 && nat_lt (length r.log) max_places)))
   where
-    said : Says w h (n + 1) from (Activated b)
+    said : SpeaksTruth w h (n + 1) from (Activated b)
     said = s.said (n + 1) _ sent
 
     by_condition : (((r.joined == b && is_installing r.role) && (nat_le (length r.lacking) 0 && nat_lt (length r.log) max_places)) ≡ true)

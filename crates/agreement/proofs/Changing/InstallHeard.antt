@@ -15,7 +15,7 @@ use Rattle.agreement.specs.Inside.Ballots.{Given, Line, History}
 use Rattle.agreement.specs.Inside.Extending.{Extends}
 use Rattle.agreement.specs.Inside.MovesAt.{MovesAt}
 use Rattle.agreement.specs.Inside.Sound.{IsSound}
-use Rattle.agreement.specs.Inside.Saying.{Says, IsOf}
+use Rattle.agreement.specs.Inside.Saying.{SpeaksTruth, IsOf}
 use Rattle.whole.proofs.of_lists.Prefixes.{prefix_length, take_prefix}
 use Rattle.agreement.proofs.Effects.{thinned_messages, thinned_outputs}
 use Rattle.agreement.proofs.Frame.SaysLater.{of_kept}
@@ -47,7 +47,7 @@ pub record InstallHeard {S C O : Type 0} (w : World S C O) (h : History C) (n fr
   pub lined : h.line b ≡ Some line
   pub base : line.base ≡ log
 
-pub install_heard : {S C O : Type 0} (w : World S C O) (h : History C) (n from b : ℕ) (log : List C) → Says w h (n + 1) from (Install b log) →
+pub install_heard : {S C O : Type 0} (w : World S C O) (h : History C) (n from b : ℕ) (log : List C) → SpeaksTruth w h (n + 1) from (Install b log) →
     InstallHeard w h n from b log
 install_heard w h n from b log (g, o, f, other, (l, lined, base)) =
     record { ballot = g; is_of = o; sender = f; member = other.0; backup = other.1; line = l; lined = lined; base = base }
@@ -82,7 +82,7 @@ installed_sends {S = S} {C = C} {O = O} rules w h n from b log r new given s sta
 -- and says so rightly
 pub installed_says : {S C O : Type 0} (w v : World S C O) (h i : History C) (n from b id : ℕ) (log : List C) →
     InstallHeard w h n from b log → id ≡ n + 1 → Extends w h v i →
-    (to : ℕ) (m : Message C) → In (to, m) (messages (message_to O id (Installed b (length log)) from ∷ [])) → Says v i to m.from m.body
+    (to : ℕ) (m : Message C) → In (to, m) (messages (message_to O id (Installed b (length log)) from ∷ [])) → SpeaksTruth v i to m.from m.body
 installed_says w v h i n from b id log q is x to m (there j) = elim j [ ]
 installed_says w v h i n from b id log q is x to m here =
     let y = x.lines b q.line q.lined in (

@@ -15,7 +15,7 @@ use Rattle.agreement.specs.Inside.Ballots.Told.{told_by_installed}
 use Rattle.agreement.specs.Inside.Ballots.Applied.{nothing, in_ballot}
 use Rattle.agreement.specs.Inside.Keeps.{Keeps}
 use Rattle.agreement.specs.Inside.Sound.{IsInstalling, IsSoundNode, IsSound}
-use Rattle.agreement.specs.Inside.Saying.{Says}
+use Rattle.agreement.specs.Inside.Saying.{SpeaksTruth}
 use Rattle.agreement.proofs.Frame.Later.{told_kept}
 use Rattle.agreement.proofs.Frame.Joining.{IsSilent, MovesQuietly, quiet_extends}
 use Rattle.agreement.proofs.Frame.Quiet.{before_quiet, quiet_keeps}
@@ -49,7 +49,7 @@ installed_noted {S = S} {C = C} {O = O} rules w h n r from b held s stands sent 
     new : ReplicaState S C
     new = record r { lacking = others from r.lacking }
 
-    said : Says w h (n + 1) from (Installed b held)
+    said : SpeaksTruth w h (n + 1) from (Installed b held)
     said = s.said (n + 1) _ sent
 
     silent : (to : ℕ) (m : Message C) (ms : List ℕ) → In (to, m) (messages (activates O new ms)) → IsSilent m.body
@@ -115,7 +115,7 @@ installed_noted {S = S} {C = C} {O = O} rules w h n r from b held s stands sent 
             by_noted m (inr t) = inr t
 
     says : (given : List (Effect C O)) → MovesQuietly w n r new given → (to : ℕ) (m : Message C) (ms : List ℕ) →
-        others from r.lacking ≡ ms → In (to, m) (messages (activates O new ms)) → Says (moved w n new given) h to m.from m.body
+        others from r.lacking ≡ ms → In (to, m) (messages (activates O new ms)) → SpeaksTruth (moved w n new given) h to m.from m.body
     says given q to m [] none (there i) = elim i [ ]
     says given q to m [] none here =
         let t = node given q in

@@ -16,7 +16,7 @@ use Rattle.agreement.specs.Inside.Ballots.{Given, History, Applied, Sealed, AreL
 use Rattle.agreement.specs.Inside.Ballots.Applied.{nothing, in_ballot}
 use Rattle.agreement.specs.Inside.Keeps.{Keeps}
 use Rattle.agreement.specs.Inside.Sound.{IsSoundNode, IsSound}
-use Rattle.agreement.specs.Inside.Saying.{Says, IsOffered}
+use Rattle.agreement.specs.Inside.Saying.{SpeaksTruth, IsOffered}
 use Rattle.whole.proofs.of_lists.Places.{get_set}
 use Rattle.agreement.proofs.Frame.Framing.{within_of}
 use Rattle.agreement.proofs.Frame.SaysLater.{joined_kept}
@@ -80,7 +80,7 @@ answers_node {S = S} {C = C} {O = O} v h n r new b g (joins less) given old give
 
 -- a Join that is answered
 join_answered : {S C O : Type 0} (rules : Rules S C O) (w : World S C O) (h : History C) (n : ℕ) (r new : ReplicaState S C)
-    (from b a : ℕ) → IsSound rules w h → slice_get w.nodes n ≡ Some r → Says w h (n + 1) from (Join b a) →
+    (from b a : ℕ) → IsSound rules w h → slice_get w.nodes n ≡ Some r → SpeaksTruth w h (n + 1) from (Join b a) →
     r.joined ≤ b → Answers r b new →
     Keeps rules w h n (record { state = new; effects = message_to O r.id (State b r.log) from ∷ [] })
 join_answered {S = S} {C = C} {O = O} rules w h n r new from b a s stands (g, is_of, is_from, prev, joined, (old, given_a, member)) low way =
@@ -101,7 +101,7 @@ join_answered {S = S} {C = C} {O = O} rules w h n r new from b a s stands (g, is
         (before_quiet rules w h n r new given s q)
 
     says : (given : List (Effect C O)) → MovesQuietly w n r new given → (to : ℕ) (m : Message C) →
-        In (to, m) (messages (message_to O r.id (State b r.log) from ∷ [])) → Says (moved w n new given) h to m.from m.body
+        In (to, m) (messages (message_to O r.id (State b r.log) from ∷ [])) → SpeaksTruth (moved w n new given) h to m.from m.body
     says given q to m (there i) = elim i [ ]
     says given q to m here =
         let v = moved w n new given in

@@ -17,7 +17,7 @@ use Rattle.agreement.specs.Inside.Ballots.Told.{told_as_primary}
 use Rattle.agreement.specs.Inside.Ballots.Applied.{nothing, in_ballot}
 use Rattle.agreement.specs.Inside.Keeps.{Keeps}
 use Rattle.agreement.specs.Inside.Sound.{IsSoundNode, IsSound}
-use Rattle.agreement.specs.Inside.Saying.{Says}
+use Rattle.agreement.specs.Inside.Saying.{SpeaksTruth}
 use Rattle.whole.proofs.of_lists.Places.{get_set}
 use Rattle.agreement.proofs.Frame.Joining.{IsSilent, MovesQuietly}
 use Rattle.agreement.proofs.Frame.Quiet.{before_quiet, quiet_keeps, keeps_nothing}
@@ -46,7 +46,7 @@ no_line_yet rules w h n r b g s given primary low (Some l) e =
 -- a NewBallot that is taken
 new_ballot_taken : {S C O : Type 0} (rules : Rules S C O) (w : World S C O) (h : History C) (n : ℕ) (r : ReplicaState S C)
     (from b a : ℕ) (members old : List ℕ) → IsSound rules w h → slice_get w.nodes n ≡ Some r →
-    Says w h (n + 1) from (NewBallot b members a old) → r.joined < b →
+    SpeaksTruth w h (n + 1) from (NewBallot b members a old) → r.joined < b →
     Keeps rules w h n (record {
       state = record r {
         joined = b;
@@ -63,7 +63,7 @@ new_ballot_taken {S = S} {C = C} {O = O} rules w h n r from b a members old s st
     quiet_keeps rules w h n r _ s stands (omega (arith, low)) (omega arith)
     (said_to_each O (λ to m. IsSilent m.body) r.id (Join b a) old (λ to i. tt)) (outputs_to_each O r.id (Join b a) old)
     (λ given q. node given q)
-    (λ given q. said_to_each O (λ to m. Says (moved w n new given) h to m.from m.body) r.id (Join b a) old
+    (λ given q. said_to_each O (λ to m. SpeaksTruth (moved w n new given) h to m.from m.body) r.id (Join b a) old
     (λ to i. (
       g,
       is_of,

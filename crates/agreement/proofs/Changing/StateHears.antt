@@ -6,7 +6,7 @@ use Rattle.agreement.specs.World.{World}
 use Rattle.whole.specs.lists.Lists.{IsPrefixOf}
 use Rattle.agreement.specs.Inside.Ballots.{Given, Line, History, Sealed}
 use Rattle.agreement.specs.Inside.Sound.{IsFetching}
-use Rattle.agreement.specs.Inside.Saying.{Says, IsOf, IsOffered}
+use Rattle.agreement.specs.Inside.Saying.{SpeaksTruth, IsOf, IsOffered}
 
 -- what a fetching primary knows when a State of its ballot comes
 pub record StateHeard {S C O : Type 0} (w : World S C O) (h : History C) (n : ℕ) (r : ReplicaState S C) (xs : List C) : Type 0 where
@@ -22,7 +22,7 @@ pub record StateHeard {S C O : Type 0} (w : World S C O) (h : History C) (n : �
   pub front : IsPrefixOf xs before.list
 
 pub state_heard : {S C O : Type 0} (w : World S C O) (h : History C) (n : ℕ) (r : ReplicaState S C) (from b : ℕ) (xs : List C) →
-    r.joined ≡ b → IsFetching w h n r → Says w h (n + 1) from (State b xs) → StateHeard w h n r xs
+    r.joined ≡ b → IsFetching w h n r → SpeaksTruth w h (n + 1) from (State b xs) → StateHeard w h n r xs
 state_heard {S = S} {C = C} {O = O} w h n r from b xs same ((g0, given0, primary0, members0), below, unlined, q) (g, is_of, to, j1, j2, sealed, offered) =
     by_offer offered
   where

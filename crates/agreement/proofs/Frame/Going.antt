@@ -6,12 +6,12 @@ use Rattle.whole.specs.Replica.{ReplicaState}
 use Rattle.agreement.specs.World.{World}
 use Rattle.agreement.specs.Inside.Ballots.{History, Told}
 use Rattle.agreement.specs.Inside.Extending.{Extends}
-use Rattle.agreement.specs.Inside.Keeps.{GoesOn}
+use Rattle.agreement.specs.Inside.Keeps.{HistoryGoesOn}
 use Rattle.agreement.specs.Inside.Sound.{IsSound}
 use Rattle.whole.proofs.of_lists.Prefixes.{prefix_same, prefix_then}
 
 -- nothing happened
-abbrev pub goes_same : {S C O : Type 0} (rules : Rules S C O) (w : World S C O) (h : History C) → IsSound rules w h → GoesOn rules w h w
+abbrev pub goes_same : {S C O : Type 0} (rules : Rules S C O) (w : World S C O) (h : History C) → IsSound rules w h → HistoryGoesOn rules w h w
 goes_same rules w h s =
     record {
       history = h;
@@ -43,8 +43,8 @@ extends_then {S = S} {C = C} u w v g h i x y =
     by_second n b k r e q up (inl t) = x.told n b k r e t
     by_second n b k r e q up (inr low) = inr (omega (arith, up, low))
 
-abbrev pub goes_then : {S C O : Type 0} (rules : Rules S C O) (u w v : World S C O) (g : History C) → (a : GoesOn rules u g w) →
-    GoesOn rules w a.history v → GoesOn rules u g v
+abbrev pub goes_then : {S C O : Type 0} (rules : Rules S C O) (u w v : World S C O) (g : History C) → (a : HistoryGoesOn rules u g w) →
+    HistoryGoesOn rules w a.history v → HistoryGoesOn rules u g v
 goes_then rules u w v g a b =
     record {
       history = b.history;

@@ -11,7 +11,7 @@ use Rattle.whole.specs.lists.Lists.{In}
 use Rattle.agreement.specs.Inside.Ballots.{Line, History, AreBallots, IsChain}
 use Rattle.agreement.specs.Inside.MovesAt.{MovesAt, with_lines}
 use Rattle.agreement.specs.Inside.Sound.{IsSoundNode, LeftIs, IsSound}
-use Rattle.agreement.specs.Inside.Saying.{Says}
+use Rattle.agreement.specs.Inside.Saying.{SpeaksTruth}
 use Rattle.whole.proofs.of_lists.Places.{get_set, get_set_other}
 use Rattle.whole.proofs.of_lists.Members.{in_append}
 use Rattle.agreement.proofs.Frame.SaysLater.{says_kept}
@@ -41,7 +41,7 @@ ballots_same h line s =
 pub move_sound : {S C O : Type 0} (rules : Rules S C O) (w : World S C O) (h : History C) (line : ℕ → Option (Line C)) (n : ℕ)
     (old new : ReplicaState S C) (given : List (Effect C O)) → IsSound rules w h → MovesAt w h line n old new given →
     IsSoundNode (moved w n new given) (with_lines h line) n new →
-    ((to : ℕ) (m : Message C) → In (to, m) (messages given) → Says (moved w n new given) (with_lines h line) to m.from m.body) →
+    ((to : ℕ) (m : Message C) → In (to, m) (messages given) → SpeaksTruth (moved w n new given) (with_lines h line) to m.from m.body) →
     LeftIs rules (moved w n new given) (with_lines h line) →
     IsSound rules (moved w n new given) (with_lines h line)
 move_sound {S = S} {C = C} {O = O} rules w h line n old new given s q node says left =
@@ -55,7 +55,7 @@ move_sound {S = S} {C = C} {O = O} rules w h line n old new given s q node says 
     }
   where
     by_sent : (to : ℕ) (m : Message C) → In (to, m) w.sent ⊎ In (to, m) (messages given) →
-        Says (moved w n new given) (with_lines h line) to m.from m.body
+        SpeaksTruth (moved w n new given) (with_lines h line) to m.from m.body
     by_sent to m (inl j) =
         says_kept w (moved w n new given) h (with_lines h line) to m.from m.body (move_extends w h line n old new given q) (λ b k. k)
         (within_of rules w h s) (s.said to m j)

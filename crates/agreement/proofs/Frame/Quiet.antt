@@ -14,7 +14,7 @@ use Rattle.agreement.specs.Inside.Ballots.Applied.{nothing, in_ballot}
 use Rattle.agreement.specs.Inside.Keeps.LineAdds.{as_it_was}
 use Rattle.agreement.specs.Inside.Keeps.{Keeps}
 use Rattle.agreement.specs.Inside.Sound.{IsSoundNode, IsSound}
-use Rattle.agreement.specs.Inside.Saying.{Says}
+use Rattle.agreement.specs.Inside.Saying.{SpeaksTruth}
 use Rattle.agreement.proofs.Effects.{thinned_outputs, thinned_messages}
 use Rattle.agreement.proofs.Frame.Framing.{within_of}
 use Rattle.agreement.proofs.Frame.Joining.{told_back, AreSilent, MovesQuietly, quiet_extends, quiet_node}
@@ -32,7 +32,7 @@ pub quiet_keeps : {S C O : Type 0} (rules : Rules S C O) (w : World S C O) (h : 
     AreSilent (messages o.effects) → outputs o.effects ≡ [] →
     ((given : List (Effect C O)) → MovesQuietly w n old o.state given → IsSoundNode (moved w n o.state given) h n o.state) →
     ((given : List (Effect C O)) → MovesQuietly w n old o.state given → (to : ℕ) (m : Message C) → In (to, m) (messages o.effects) →
-    Says (moved w n o.state given) h to m.from m.body) →
+    SpeaksTruth (moved w n o.state given) h to m.from m.body) →
     Keeps rules w h n o
 quiet_keeps {S = S} {C = C} {O = O} rules w h n old o s stands rises committed silent dumb node says given thinned =
     record {

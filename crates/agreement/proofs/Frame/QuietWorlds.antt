@@ -11,7 +11,7 @@ use Rattle.whole.specs.lists.Lists.{In}
 use Rattle.agreement.specs.Inside.Ballots.{Given, History, AreLines}
 use Rattle.agreement.specs.Inside.Extending.{Extends, IsWithin}
 use Rattle.agreement.specs.Inside.Sound.{IsSoundNode, IsSound}
-use Rattle.agreement.specs.Inside.Saying.{Says}
+use Rattle.agreement.specs.Inside.Saying.{SpeaksTruth}
 use Rattle.agreement.specs.Leaving.{Segment}
 use Rattle.whole.proofs.of_lists.Places.{get_set, get_set_other}
 use Rattle.whole.proofs.of_lists.Members.{in_append}
@@ -39,7 +39,7 @@ quiet_lines w h n old new given q within s =
 pub quiet_sound : {S C O : Type 0} (rules : Rules S C O) (w : World S C O) (h : History C) (n : ℕ) (old new : ReplicaState S C)
     (given : List (Effect C O)) → IsSound rules w h → IsWithin w h → MovesQuietly w n old new given →
     IsSoundNode (moved w n new given) h n new →
-    ((to : ℕ) (m : Message C) → In (to, m) (messages given) → Says (moved w n new given) h to m.from m.body) →
+    ((to : ℕ) (m : Message C) → In (to, m) (messages given) → SpeaksTruth (moved w n new given) h to m.from m.body) →
     IsSound rules (moved w n new given) h
 quiet_sound {S = S} {C = C} {O = O} rules w h n old new given s within q node says =
     record {
@@ -71,7 +71,7 @@ quiet_sound {S = S} {C = C} {O = O} rules w h n old new given s within q node sa
     x = quiet_extends w h n old new given q
 
     by_sent : (to : ℕ) (m : Message C) → In (to, m) w.sent ⊎ In (to, m) (messages given) →
-        Says (moved w n new given) h to m.from m.body
+        SpeaksTruth (moved w n new given) h to m.from m.body
     by_sent to m (inl i) =
         says_kept w (moved w n new given) h h to m.from m.body (quiet_extends w h n old new given q) (λ b j. j) within (s.said to m i)
     by_sent to m (inr i) = says to m i

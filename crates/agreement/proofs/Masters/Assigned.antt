@@ -7,7 +7,7 @@ use Rattle.agreement.specs.World.{World}
 use Rattle.whole.specs.lists.Lists.{In}
 use Rattle.whole.specs.lists.Lists.In.{here, there}
 use Rattle.agreement.specs.Inside.Ballots.{Given, History, IsChain}
-use Rattle.agreement.specs.Inside.Keeps.{GoesOn}
+use Rattle.agreement.specs.Inside.Keeps.{HistoryGoesOn}
 use Rattle.agreement.specs.MasterState.{MasterState, MasterOutcome}
 use Rattle.agreement.specs.Inside.Masters.{IsMaster}
 use Rattle.agreement.specs.Steps.{tells_from_master}
@@ -49,12 +49,12 @@ ActivatedNow h k i = (b : ℕ) → In b i.activated → In b h.activated ⊎ (k.
 
 -- the master has given a ballot, and sends it to its primary
 pub record Assigned {S C O : Type 0} (rules : Rules S C O) (m : MasterState) (w : World S C O) (h : History C) (o : MasterOutcome C) : Type 0 where
-  pub goes_on : GoesOn rules w h (tells_from_master w o)
+  pub goes_on : HistoryGoesOn rules w h (tells_from_master w o)
   pub master : IsMaster o.state goes_on.history
   -- no list of a ballot changes
   pub lists : goes_on.history.line ≡ h.line
   -- and the same if its message is lost
-  pub lost : GoesOn rules w h w
+  pub lost : HistoryGoesOn rules w h w
   pub lost_master : IsMaster o.state lost.history
   pub lost_lists : lost.history.line ≡ h.line
   -- nothing more is acknowledged, and what is given or activated again is in the master's fields

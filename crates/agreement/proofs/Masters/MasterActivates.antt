@@ -14,7 +14,7 @@ use Rattle.agreement.specs.MasterState.{MasterState, MasterOutcome, activated}
 use Rattle.agreement.specs.Inside.Masters.{IsMaster}
 use Rattle.agreement.specs.Steps.{tells_from_master}
 use Rattle.agreement.specs.Inside.Sound.{IsSound}
-use Rattle.agreement.specs.Inside.Saying.{Says}
+use Rattle.agreement.specs.Inside.Saying.{SpeaksTruth}
 use Rattle.agreement.proofs.Masters.Assigned.{Assigned}
 use Rattle.agreement.proofs.Masters.MasterSends.{ToldBack, with_ballots, chain_more}
 use Rattle.agreement.proofs.Masters.MasterMoves.{master_goes_on, master_lost}
@@ -22,7 +22,7 @@ use Rattle.agreement.proofs.Masters.MasterAnswers.{answer_goes_on}
 
 -- the ballot that waits is activated
 waiting_goes_on : {S C O : Type 0} (rules : Rules S C O) (m : MasterState) (w : World S C O) (h : History C) (b from : ℕ) (config : Config) →
-    IsSound rules w h → IsMaster m h → Says w h 0 from (Activate b) → m.waiting ≡ Some (b, config) →
+    IsSound rules w h → IsMaster m h → SpeaksTruth w h 0 from (Activate b) → m.waiting ≡ Some (b, config) →
     Assigned rules m w h (record {
       state = record m { active = b; members = config.members; waiting = None };
       receiver = from;

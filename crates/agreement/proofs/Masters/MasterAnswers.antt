@@ -13,7 +13,7 @@ use Rattle.agreement.specs.MasterState.{MasterState, activated}
 use Rattle.agreement.specs.Inside.Masters.{IsMaster}
 use Rattle.agreement.specs.Steps.{tells_from_master}
 use Rattle.agreement.specs.Inside.Sound.{IsSound}
-use Rattle.agreement.specs.Inside.Saying.{Says}
+use Rattle.agreement.specs.Inside.Saying.{SpeaksTruth}
 use Rattle.agreement.proofs.Masters.Assigned.{Assigned}
 use Rattle.agreement.proofs.Frame.Joining.{IsSilent}
 use Rattle.agreement.proofs.Masters.MasterSends.{ToldBack}
@@ -21,7 +21,7 @@ use Rattle.agreement.proofs.Masters.MasterMoves.{master_goes_on, master_lost}
 
 -- a ballot that does not wait is answered
 pub answer_goes_on : {S C O : Type 0} (rules : Rules S C O) (m : MasterState) (w : World S C O) (h : History C) (b from : ℕ) →
-    IsSound rules w h → IsMaster m h → Says w h 0 from (Activate b) → Assigned rules m w h (activated C m b from None)
+    IsSound rules w h → IsMaster m h → SpeaksTruth w h 0 from (Activate b) → Assigned rules m w h (activated C m b from None)
 answer_goes_on {S = S} {C = C} {O = O} rules m w h b from s k (g, is_of, sender, (l, lined, chosen)) =
     record {
       goes_on = record { history = h; extends = whole.1; active = λ c j. j; sound = whole.0 };
@@ -42,7 +42,7 @@ answer_goes_on {S = S} {C = C} {O = O} rules m w h b from s k (g, is_of, sender,
     silent true = tt
     silent false = tt
 
-    says : (t : Bool) → (b == m.active) ≡ t → Says (tells_from_master w (activated C m b from None)) h from 0 (cond t (Activated b) (Superseded b))
+    says : (t : Bool) → (b == m.active) ≡ t → SpeaksTruth (tells_from_master w (activated C m b from None)) h from 0 (cond t (Activated b) (Superseded b))
     says true e = (
       g,
       is_of.given,

@@ -10,7 +10,7 @@ use Rattle.agreement.specs.Inside.Ballots.{Given, Line, History, Told, IsChosenI
 use Rattle.agreement.specs.Inside.Extending.{Extends, IsWithin}
 use Rattle.agreement.specs.Inside.Ballots.Told.{told_at_opening, told_by_held, told_by_installed, told_as_primary}
 use Rattle.agreement.specs.Inside.Sound.{IsSound}
-use Rattle.agreement.specs.Inside.Saying.{Says}
+use Rattle.agreement.specs.Inside.Saying.{SpeaksTruth}
 use Rattle.whole.proofs.of_lists.Prefixes.{prefix_same}
 use Rattle.whole.proofs.of_lists.Members.{in_left, in_append}
 use Rattle.agreement.proofs.Frame.Framing.{within_of}
@@ -50,7 +50,7 @@ pub master_sends : {S C O : Type 0} (rules : Rules S C O) (w : World S C O) (h :
     ((c : ℕ) → In c h.activated → In c activated) → AreBallots (with_ballots h given activated) →
     ((c : ℕ) → In c activated → (l : Line C) × (h.line c ≡ Some l) × IsChosenIn w h c (length l.base)) →
     ((to : ℕ) (m : Message C) → In (to, m) extra →
-    Says (record w { sent = w.sent ++ extra }) (with_ballots h given activated) to m.from m.body) →
+    SpeaksTruth (record w { sent = w.sent ++ extra }) (with_ballots h given activated) to m.from m.body) →
     IsSound rules (record w { sent = w.sent ++ extra }) (with_ballots h given activated)
     × Extends w h (record w { sent = w.sent ++ extra }) (with_ballots h given activated)
     × ToldBack w h (record w { sent = w.sent ++ extra }) (with_ballots h given activated)
@@ -134,7 +134,7 @@ master_sends {S = S} {C = C} {O = O} rules w h extra given activated s silent mo
     by_still c l (inr e) = inr e
 
     by_sent : (to : ℕ) (m : Message C) → In (to, m) w.sent ⊎ In (to, m) extra →
-        Says (record w { sent = w.sent ++ extra }) (with_ballots h given activated) to m.from m.body
+        SpeaksTruth (record w { sent = w.sent ++ extra }) (with_ballots h given activated) to m.from m.body
     by_sent to m (inl j) =
         says_kept w (record w { sent = w.sent ++ extra }) h (with_ballots h given activated) to m.from m.body extends active (within_of rules w h s) (s.said to m j)
     by_sent to m (inr j) = says to m j

@@ -13,7 +13,7 @@ use Rattle.whole.specs.lists.Lists.{In}
 use Rattle.agreement.specs.Inside.Ballots.{Line, History}
 use Rattle.agreement.specs.Inside.GroupSteps.{AddsBy}
 use Rattle.agreement.specs.Steps.{MayTake, tells_from_master}
-use Rattle.agreement.specs.Inside.Keeps.{GoesOn, NodeGoesOn, KeepsAdding}
+use Rattle.agreement.specs.Inside.Keeps.{HistoryGoesOn, NodeGoesOn, KeepsAdding}
 use Rattle.agreement.specs.Inside.Keeps.LineAdds.{as_it_was}
 use Rattle.agreement.specs.Inside.Own.{OwnLines}
 use Rattle.agreement.specs.MasterState.{MasterState, MasterOutcome}
@@ -67,7 +67,7 @@ keeps_step rules w h n r Ticks s e ran i =
 -- a group continues soundly
 pub record GroupGoesOn {S C O : Type 0} (rules : Rules S C O) (w : World S C O) (h : History C) (m : MasterState) (v : World S C O)
     (adds : List (ℕ × C)) : Type 0 where
-  pub goes_on : GoesOn rules w h v
+  pub goes_on : HistoryGoesOn rules w h v
   pub master : IsMaster m goes_on.history
   -- and the order of proposals, of which it adds at most its own
   pub own : (rows : List (ℕ × C)) → OwnLines rules.start_of h rows → OwnGoesOn rules.start_of goes_on.history rows adds

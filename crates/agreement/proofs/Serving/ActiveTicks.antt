@@ -16,7 +16,7 @@ use Rattle.agreement.specs.Inside.Ballots.{History, Told, IsChosenIn}
 use Rattle.agreement.specs.Inside.Ballots.Told.{told_as_primary}
 use Rattle.agreement.specs.Inside.Keeps.{Keeps}
 use Rattle.agreement.specs.Inside.Sound.{IsActive, IsSoundNode, IsSound}
-use Rattle.agreement.specs.Inside.Saying.{Says}
+use Rattle.agreement.specs.Inside.Saying.{SpeaksTruth}
 use Rattle.whole.proofs.of_lists.Members.{in_append}
 use Rattle.agreement.proofs.Effects.{messages-append, outputs-append, outputs_of_messages}
 use Rattle.agreement.proofs.Frame.Joining.{IsSilent}
@@ -104,8 +104,8 @@ keeps_tick_active {S = S} {C = C} {O = O} rules w h n r s stands a =
     (outputs-append (appends_after O r.id r.joined r.log r.progress) (message_to_followed O r.id (Commit r.joined r.committed) r.progress)
     ∙ ap (λ us. us ++ outputs {C = C} (message_to_followed O r.id (Commit r.joined r.committed) r.progress)) (silent_after O r.id r.joined r.log r.progress)
     ∙ outputs_of_messages r.id (Commit r.joined r.committed) r.progress)
-    (both (λ to m. Says w h to m.from m.body)
-    (said_after O (λ to m. Says w h to m.from m.body) r.id r.joined r.log r.progress
+    (both (λ to m. SpeaksTruth w h to m.from m.body)
+    (said_after O (λ to m. SpeaksTruth w h to m.from m.body) r.id r.joined r.log r.progress
     (λ reached i c e. (
       a.leads.0,
       a.leads.1,
@@ -114,7 +114,7 @@ keeps_tick_active {S = S} {C = C} {O = O} rules w h n r s stands a =
       a.activated,
       (a.line, a.lined, (a.followed reached i).1, subst (λ (us : List C). slice_get us reached.held ≡ Some c) (active_log w h n r t a) e),
     )))
-    (said_to_progress O (λ to m. Says w h to m.from m.body) r.id (Commit r.joined r.committed) r.progress
+    (said_to_progress O (λ to m. SpeaksTruth w h to m.from m.body) r.id (Commit r.joined r.committed) r.progress
     (λ reached i. (
       a.leads.0,
       a.leads.1,

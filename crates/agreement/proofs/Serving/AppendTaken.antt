@@ -17,7 +17,7 @@ use Rattle.agreement.specs.Inside.Keeps.LineAdds.{as_it_was}
 use Rattle.agreement.specs.Inside.Keeps.{Keeps}
 use Rattle.agreement.specs.Inside.MovesAt.{MovesAt, with_lines}
 use Rattle.agreement.specs.Inside.Sound.{IsSoundNode, IsSound}
-use Rattle.agreement.specs.Inside.Saying.{Says}
+use Rattle.agreement.specs.Inside.Saying.{SpeaksTruth}
 use Rattle.whole.proofs.of_lists.Prefixes.{prefix_then, prefix_length, take_prefix}
 use Rattle.agreement.proofs.Effects.{thinned_messages, thinned_outputs}
 use Rattle.agreement.proofs.Serving.Committing.{Follows}
@@ -32,7 +32,7 @@ use Rattle.agreement.proofs.Serving.Extending.{extended_front, extended_grows}
 
 -- an Append that is taken
 pub append_taken : {S C O : Type 0} (rules : Rules S C O) (w : World S C O) (h : History C) (n : ℕ) (r : ReplicaState S C)
-    (from b place : ℕ) (c : C) → IsSound rules w h → slice_get w.nodes n ≡ Some r → Says w h (n + 1) from (Append b place c) →
+    (from b place : ℕ) (c : C) → IsSound rules w h → slice_get w.nodes n ≡ Some r → SpeaksTruth w h (n + 1) from (Append b place c) →
     Follows r b → place ≤ length r.log →
     (g : Given) (l : Line C) → h.given b ≡ Some g → h.line b ≡ Some l → IsPrefixOf l.base r.log → IsPrefixOf r.log l.list →
     Keeps rules w h n (record {
@@ -89,7 +89,7 @@ append_taken {S = S} {C = C} {O = O} rules w h n r from b place c s stands (q, i
     x = move_extends w h h.line n r new given moves
 
     says : (to : ℕ) (m : Message C) → In (to, m) (messages (message_to O r.id (Held b (length (extended place c r.log))) from ∷ [])) →
-        Says (moved w n new given) (with_lines h h.line) to m.from m.body
+        SpeaksTruth (moved w n new given) (with_lines h h.line) to m.from m.body
     says to m (there i) = elim i [ ]
     says to m here = (
       q,

@@ -13,7 +13,7 @@ use Rattle.whole.specs.lists.Lists.{In, IsPrefixOf}
 use Rattle.agreement.specs.Inside.Ballots.{Given, Line, History}
 use Rattle.agreement.specs.Inside.Keeps.{Keeps}
 use Rattle.agreement.specs.Inside.Sound.{IsSound}
-use Rattle.agreement.specs.Inside.Saying.{Says}
+use Rattle.agreement.specs.Inside.Saying.{SpeaksTruth}
 use Rattle.agreement.proofs.Serving.Committing.{Follows, follows_is}
 use Rattle.agreement.proofs.Frame.Quiet.{keeps_nothing}
 use Rattle.agreement.proofs.Serving.AppendTaken.{append_taken}
@@ -24,7 +24,7 @@ pub keeps_append : {S C O : Type 0} (rules : Rules S C O) (w : World S C O) (h :
     In (n + 1, record { from = from; body = Append b place c }) w.sent → Keeps rules w h n (on_append O r from b place c)
 keeps_append {S = S} {C = C} {O = O} rules w h n r from b place c s stands sent = by_role (cases_Bool (follows r b))
   where
-    said : Says w h (n + 1) from (Append b place c)
+    said : SpeaksTruth w h (n + 1) from (Append b place c)
     said = s.said (n + 1) _ sent
 
     by_between : Follows r b → place ≤ length r.log →

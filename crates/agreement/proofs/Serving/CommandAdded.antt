@@ -13,7 +13,7 @@ use Rattle.agreement.specs.Inside.Ballots.{History}
 use Rattle.agreement.specs.Inside.Keeps.{KeepsAdding}
 use Rattle.agreement.specs.Inside.MovesAt.{with_lines, lined_at}
 use Rattle.agreement.specs.Inside.Sound.{IsSound}
-use Rattle.agreement.specs.Inside.Saying.{Says}
+use Rattle.agreement.specs.Inside.Saying.{SpeaksTruth}
 use Rattle.whole.proofs.of_lists.Prefixes.{prefix_push, take_prefix}
 use Rattle.whole.proofs.of_lists.Places.{get_pushed}
 use Rattle.agreement.proofs.Effects.{outputs_of_messages}
@@ -38,7 +38,7 @@ keeps_added {S = S} {C = C} {O = O} rules w h n old r c s stands q same_id same_
     (ran ∙ ap (replay rules) (sym (take_prefix r.committed (prefix_push r.log c) q.within)))
     (said_to_progress O (λ to m. (m.from ≡ n + 1) × IsSilent m.body) r.id (Append r.joined (length r.log) c) r.progress (λ reached j. (id, tt)))
     (λ k u given moves. said_to_progress O
-    (λ to m. Says (moved w n (record r { log = r.log ++ c ∷ []; committed = k; machine = u }) given)
+    (λ to m. SpeaksTruth (moved w n (record r { log = r.log ++ c ∷ []; committed = k; machine = u }) given)
     (with_lines h (lined_at r.joined (longer q.line c) h.line)) to m.from m.body)
     r.id (Append r.joined (length r.log) c) r.progress
     (λ reached j. (

@@ -17,7 +17,7 @@ use Rattle.agreement.specs.Inside.Ballots.{Line, History, IsChosenIn}
 use Rattle.agreement.specs.Inside.Keeps.{KeepsAdding}
 use Rattle.agreement.specs.Inside.MovesAt.{MovesAt, with_lines}
 use Rattle.agreement.specs.Inside.Sound.{IsActive, IsSoundNode, IsSound}
-use Rattle.agreement.specs.Inside.Saying.{Says}
+use Rattle.agreement.specs.Inside.Saying.{SpeaksTruth}
 use Rattle.whole.proofs.of_lists.Members.{in_append}
 use Rattle.agreement.proofs.Effects.{messages-append, outputs-append, outputs_of_messages, thinned_messages, thinned_outputs}
 use Rattle.agreement.proofs.Serving.ActiveTicks.{said_to_progress, active_chosen, active_log, followed_other}
@@ -37,7 +37,7 @@ pub ready_keeps : {S C O : Type 0} (rules : Rules S C O) (w : World S C O) (h : 
     ((to : ℕ) (m : Message C) → In (to, m) (messages firsts) → (m.from ≡ n + 1) × IsSilent m.body) →
     ((k : ℕ) (t : S) (given : List (Effect C O)) → MovesAt w h line n old (record r { committed = k; machine = t }) given →
     (to : ℕ) (m : Message C) → In (to, m) (messages firsts) →
-    Says (moved w n (record r { committed = k; machine = t }) given) (with_lines h line) to m.from m.body) →
+    SpeaksTruth (moved w n (record r { committed = k; machine = t }) given) (with_lines h line) to m.from m.body) →
     KeepsAdding rules w h n adds (sent_first firsts (commit_at rules r (least (length r.log) r.progress)))
 ready_keeps {S = S} {C = C} {O = O} rules w h line n old r adds firsts s q dumb id ran quiet says =
     by_order (cases_lt r.committed (least (length r.log) r.progress))
@@ -131,10 +131,10 @@ ready_keeps {S = S} {C = C} {O = O} rules w h line n old r adds firsts s q dumb 
 
         by_part : (to : ℕ) (m : Message C) →
             In (to, m) (messages firsts) ⊎ In (to, m) (messages (message_to_followed O r.id (Commit r.joined k) r.progress)) →
-            Says (moved w n new given) (with_lines h line) to m.from m.body
+            SpeaksTruth (moved w n new given) (with_lines h line) to m.from m.body
         by_part to m (inl i) = says k new.machine given moves to m i
         by_part to m (inr i) =
-            said_to_progress O (λ to m. Says (moved w n new given) (with_lines h line) to m.from m.body) r.id (Commit r.joined k) r.progress
+            said_to_progress O (λ to m. SpeaksTruth (moved w n new given) (with_lines h line) to m.from m.body) r.id (Commit r.joined k) r.progress
             (λ reached j. (
               a.leads.0,
               a.leads.1,

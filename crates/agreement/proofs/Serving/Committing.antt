@@ -16,7 +16,7 @@ use Rattle.agreement.specs.Inside.Ballots.{Given, Line, History, Applied}
 use Rattle.agreement.specs.Inside.Ballots.Applied.{nothing, in_ballot}
 use Rattle.agreement.specs.Inside.Keeps.{Keeps}
 use Rattle.agreement.specs.Inside.Sound.{IsSoundNode, IsSound}
-use Rattle.agreement.specs.Inside.Saying.{Says}
+use Rattle.agreement.specs.Inside.Saying.{SpeaksTruth}
 use Rattle.agreement.proofs.Frame.Later.{chosen_kept, takes}
 use Rattle.agreement.proofs.Frame.Joining.{MovesQuietly, quiet_extends}
 use Rattle.agreement.proofs.Frame.Quiet.{before_quiet, quiet_keeps, keeps_nothing}
@@ -36,7 +36,7 @@ follows_is r b e =
 
 -- a Commit that is taken
 commit_taken : {S C O : Type 0} (rules : Rules S C O) (w : World S C O) (h : History C) (n : ℕ) (r : ReplicaState S C)
-    (from b held : ℕ) → IsSound rules w h → slice_get w.nodes n ≡ Some r → Says w h (n + 1) from (Commit b held) →
+    (from b held : ℕ) → IsSound rules w h → slice_get w.nodes n ≡ Some r → SpeaksTruth w h (n + 1) from (Commit b held) →
     Follows r b → held ≤ length r.log →
     Keeps rules w h n (record { state = applied_to rules r (max r.committed held); effects = [] })
 commit_taken {S = S} {C = C} {O = O} rules w h n r from b held s stands said f within =

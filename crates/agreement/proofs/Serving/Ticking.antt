@@ -17,7 +17,7 @@ use Rattle.whole.specs.lists.Lists.In.{here, there}
 use Rattle.agreement.specs.Inside.Ballots.{Given, History}
 use Rattle.agreement.specs.Inside.Keeps.{Keeps}
 use Rattle.agreement.specs.Inside.Sound.{IsFetching, IsInstalling, IsActive, IsSound}
-use Rattle.agreement.specs.Inside.Saying.{Says}
+use Rattle.agreement.specs.Inside.Saying.{SpeaksTruth}
 use Rattle.agreement.proofs.Frame.Framing.{within_of}
 use Rattle.agreement.proofs.Frame.SaysLater.{says_kept}
 use Rattle.agreement.proofs.Frame.Joining.{IsSilent, AreSilent, quiet_extends}
@@ -28,7 +28,7 @@ use Rattle.agreement.proofs.Frame.Quiet.{before_quiet, quiet_keeps, keeps_nothin
 -- a step that changes no node, whose messages are so already and say nothing
 pub speaking_keeps : {S C O : Type 0} (rules : Rules S C O) (w : World S C O) (h : History C) (n : ℕ) (r : ReplicaState S C)
     (effects : List (Effect C O)) → IsSound rules w h → slice_get w.nodes n ≡ Some r → AreSilent (messages effects) →
-    outputs effects ≡ [] → ((to : ℕ) (m : Message C) → In (to, m) (messages effects) → Says w h to m.from m.body) →
+    outputs effects ≡ [] → ((to : ℕ) (m : Message C) → In (to, m) (messages effects) → SpeaksTruth w h to m.from m.body) →
     Keeps rules w h n (record { state = r; effects = effects })
 speaking_keeps rules w h n r effects s stands silent dumb says =
     quiet_keeps rules w h n r (record { state = r; effects = effects }) s stands (omega arith) (omega arith) silent dumb
@@ -47,7 +47,7 @@ keeps_tick_fetching {S = S} {C = C} {O = O} rules w h n r s stands (leads, low, 
     speaking_keeps rules w h n r (message_to_each O r.id (Join r.joined r.previous) r.previous_members) s stands
     (said_to_each O (λ to m. IsSilent m.body) r.id (Join r.joined r.previous) r.previous_members (λ to i. tt))
     (outputs_to_each O r.id (Join r.joined r.previous) r.previous_members)
-    (said_to_each O (λ to m. Says w h to m.from m.body) r.id (Join r.joined r.previous) r.previous_members
+    (said_to_each O (λ to m. SpeaksTruth w h to m.from m.body) r.id (Join r.joined r.previous) r.previous_members
     (λ to i. (
       g,
       is_of,
@@ -63,7 +63,7 @@ keeps_tick_fetching {S = S} {C = C} {O = O} rules w h n r s stands (leads, low, 
 -- what a new primary says whose log is being installed
 pub says_installs : {S C O : Type 0} (w : World S C O) (h : History C) (n : ℕ) (r : ReplicaState S C) → r.id ≡ n + 1 → IsInstalling w h n r →
     (ms : List ℕ) → r.lacking ≡ ms → (to : ℕ) (m : Message C) → In (to, m) (messages (installs O r ms)) →
-    Says w h to m.from m.body
+    SpeaksTruth w h to m.from m.body
 says_installs {S = S} {C = C} {O = O} w h n r id j [] none to m (there i) = elim i [ ]
 says_installs {S = S} {C = C} {O = O} w h n r id j [] none to m here =
     let g = j.later.0 in
@@ -71,7 +71,7 @@ says_installs {S = S} {C = C} {O = O} w h n r id j [] none to m here =
     ap (λ (x : Given). x.primary) (same_given (h.given r.joined) g j.leads.0 j.later.1.given j.leads.1) ∙ j.leads.2 in
     (g, j.later.1, id ∙ sym primary, (j.line, j.lined, all_installed w h n r j none))
 says_installs {S = S} {C = C} {O = O} w h n r id j (x ∷ ms) some to m i =
-    said_to_each O (λ to m. Says w h to m.from m.body) r.id (Install r.joined r.log) (x ∷ ms)
+    said_to_each O (λ to m. SpeaksTruth w h to m.from m.body) r.id (Install r.joined r.log) (x ∷ ms)
     (λ to i.
     let g = j.later.0 in
     let one : g ≡ j.leads.0 = same_given (h.given r.joined) g j.leads.0 j.later.1.given j.leads.1 in

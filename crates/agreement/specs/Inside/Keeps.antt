@@ -13,7 +13,7 @@ use Rattle.agreement.specs.Inside.Extending.{Extends}
 use Rattle.agreement.specs.Inside.Sound.{IsSound}
 
 -- a later world is sound, with a history that continues from the one before
-pub record GoesOn {S C O : Type 0} (rules : Rules S C O) (w : World S C O) (h : History C)
+pub record HistoryGoesOn {S C O : Type 0} (rules : Rules S C O) (w : World S C O) (h : History C)
     (v : World S C O) : Type 0 where
   pub history : History C
   pub extends : Extends w h v history

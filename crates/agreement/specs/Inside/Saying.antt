@@ -31,36 +31,36 @@ IsOther g m = In m g.members × (m ≡ g.primary → ⊥)
 
 -- what a message to a receiver says is true; a rejected ballot is below the active one, or was
 -- superseded
-abbrev pub Says : {S C O : Type 0} → World S C O → History C → ℕ → ℕ → Body C → Type 0
-Says w h to from (NewBallot b members a old_members) =
+abbrev pub SpeaksTruth : {S C O : Type 0} → World S C O → History C → ℕ → ℕ → Body C → Type 0
+SpeaksTruth w h to from (NewBallot b members a old_members) =
     (g : Given) × IsOf h b g × (from ≡ 0) × (to ≡ g.primary) × (members ≡ g.members)
     × (a ≡ g.previous)
     × ((old : Given) × (h.given a ≡ Some old) × (old_members ≡ old.members))
-Says w h to from (Join b a) =
+SpeaksTruth w h to from (Join b a) =
     (g : Given) × IsOf h b g × (from ≡ g.primary) × (a ≡ g.previous) × HasJoined w from b
     × ((old : Given) × (h.given a ≡ Some old) × In to old.members)
-Says w h to from (State b xs) =
+SpeaksTruth w h to from (State b xs) =
     (g : Given) × IsOf h b g × (to ≡ g.primary) × HasJoined w from b × HasJoined w to b
     × Sealed w h g.previous xs × IsOffered h b g xs
-Says {S} {C} w h to from (Install b xs) =
+SpeaksTruth {S} {C} w h to from (Install b xs) =
     (g : Given) × IsOf h b g × (from ≡ g.primary) × IsOther g to
     × ((l : Line C) × (h.line b ≡ Some l) × (l.base ≡ xs))
-Says {S} {C} w h to from (Installed b held) =
+SpeaksTruth {S} {C} w h to from (Installed b held) =
     (g : Given) × IsOf h b g × (to ≡ g.primary) × IsOther g from
     × ((l : Line C) × (h.line b ≡ Some l) × (held ≡ length l.base))
-Says {S} {C} w h to from (Activate b) =
+SpeaksTruth {S} {C} w h to from (Activate b) =
     (g : Given) × IsOf h b g × (from ≡ g.primary)
     × ((l : Line C) × (h.line b ≡ Some l) × IsChosenIn w h b (length l.base))
-Says w h to from (Activated b) = (g : Given) × (h.given b ≡ Some g) × (to ≡ g.primary)
+SpeaksTruth w h to from (Activated b) = (g : Given) × (h.given b ≡ Some g) × (to ≡ g.primary)
     × In b h.activated
-Says w h to from (Superseded b) = (g : Given) × (h.given b ≡ Some g) × (to ≡ g.primary)
-Says {S} {C} w h to from (Append b place command) =
+SpeaksTruth w h to from (Superseded b) = (g : Given) × (h.given b ≡ Some g) × (to ≡ g.primary)
+SpeaksTruth {S} {C} w h to from (Append b place command) =
     (g : Given) × (h.given b ≡ Some g) × (from ≡ g.primary) × IsOther g to × In b h.activated
     × ((l : Line C) × (h.line b ≡ Some l) × (length l.base ≤ place)
     × (slice_get l.list place ≡ Some command))
-Says {S} {C} w h to from (Held b held) =
+SpeaksTruth {S} {C} w h to from (Held b held) =
     (g : Given) × (h.given b ≡ Some g) × (to ≡ g.primary) × IsOther g from
     × ((l : Line C) × (h.line b ≡ Some l) × (length l.base ≤ held) × (held ≤ length l.list))
-Says w h to from (Commit b held) =
+SpeaksTruth w h to from (Commit b held) =
     (g : Given) × (h.given b ≡ Some g) × (from ≡ g.primary) × IsOther g to × In b h.activated
     × IsChosenIn w h b held

@@ -13,7 +13,7 @@ use Rattle.whole.specs.lists.Lists.{In, IsPrefixOf}
 use Rattle.agreement.specs.Inside.Ballots.{Given, Line, History, Told, IsChosenIn, AreBallots}
 use Rattle.agreement.specs.Inside.Ballots.{AreLines, IsPlaced, Applied}
 use Rattle.agreement.specs.Leaving.{AreInOrder, Segment}
-use Rattle.agreement.specs.Inside.Saying.{IsOf, Says}
+use Rattle.agreement.specs.Inside.Saying.{IsOf, SpeaksTruth}
 
 -- what a leader's fields are, by its role
 abbrev pub Leads : {S C O : Type 0} → World S C O → History C → ℕ → ReplicaState S C → Type 0
@@ -101,6 +101,6 @@ pub record IsSound {S C O : Type 0} (rules : Rules S C O) (w : World S C O)
   pub lines : AreLines w h
   pub within : (m b k : ℕ) → Told w h m b k → (k ≡ 0) ⊎ ((l : Line C) × (h.line b ≡ Some l)
       × (k ≤ length l.list))
-  pub said : (to : ℕ) (m : Message C) → In (to, m) w.sent → Says w h to m.from m.body
+  pub said : (to : ℕ) (m : Message C) → In (to, m) w.sent → SpeaksTruth w h to m.from m.body
   pub nodes : (n : ℕ) (r : ReplicaState S C) → slice_get w.nodes n ≡ Some r → IsSoundNode w h n r
   pub left : LeftIs rules w h
