@@ -23,15 +23,15 @@ MayTake w n (Proposes command) = Unit {0}
 MayTake w n Ticks = Unit {0}
 
 -- the world once the master has sent a message: it comes after those that were sent before
-abbrev pub tells_from_master : {S C O : Type 0} → World S C O → MasterOutcome C → World S C O
-tells_from_master w o =
+abbrev pub sends_from_master : {S C O : Type 0} → World S C O → MasterOutcome C → World S C O
+sends_from_master w o =
     record w { sent = w.sent ++ (o.receiver, record { from = master; body = o.body }) ∷ [] }
 
 -- the world after an Assign: its primary is sent the ballot
 abbrev pub world_after : {S C O : Type 0} →
     MasterState → World S C O → Config → Option AssignRefusal → World S C O
 world_after m w config (Some why) = w
-world_after {S = S} {C = C} m w config None = tells_from_master w (assigned C m config)
+world_after {S = S} {C = C} m w config None = sends_from_master w (assigned C m config)
 
 -- what may happen in a group whose master answers each Assign
 pub data MayHappen {S C O : Type 0} (rules : Rules S C O) :
@@ -53,7 +53,7 @@ pub data MayHappen {S C O : Type 0} (rules : Rules S C O) :
   master_hears : {m : MasterState} {w : World S C O} (from b : ℕ) →
       In (0, record { from = from; body = Activate b }) w.sent →
       MayHappen rules m w (activated C m b from m.waiting).state
-      (tells_from_master w (activated C m b from m.waiting))
+      (sends_from_master w (activated C m b from m.waiting))
   -- an Assign, if the master's NewBallot is lost
   assignment_lost : {m : MasterState} {w : World S C O} (config : Config) →
       MayHappen rules m w (master_after m config (refusal m config)) w

@@ -20,7 +20,7 @@ use Rattle.snapshots.specs.Moments.{Moment}
 use Rattle.ballot.specs.Config.{Config}
 use Rattle.ballot.specs.lists.Lists.{In}
 use Rattle.ballot.proofs.of_lists.Members.{in_at}
-use Rattle.snapshots.specs.Steps.{tells_from_master}
+use Rattle.snapshots.specs.Steps.{sends_from_master}
 use Rattle.snapshots.specs.Masters.{MasterOutcome, activated, assigned}
 use Rattle.snapshots.specs.agreement.MasterState.{MasterState, refusal}
 use Rattle.ballot.specs.Body.{Body}
@@ -106,7 +106,7 @@ pub steps_master : {S C O : Type 0} (rules : Rules S C O) (old new : GroupState 
 steps_master {S = S} {C = C} {O = O} rules old new event o e took =
     record { way = by_way took.way; freezes = inl (freezes_as rules (sym e) tt) }
   where
-    by_way : ((new.moment ≡ record { master = o.state; world = tells_from_master old.moment.world o }) × (new.losses ≡ old.losses))
+    by_way : ((new.moment ≡ record { master = o.state; world = sends_from_master old.moment.world o }) × (new.losses ≡ old.losses))
         ⊎ ((new.moment ≡ record old.moment { master = o.state }) × (new.losses ≡ one_more old.losses)) →
         ((new.moment ≡ group_step rules event old.moment) × (new.losses ≡ old.losses))
         ⊎ (Happens rules old.moment event new.moment × (new.losses ≡ one_more old.losses))

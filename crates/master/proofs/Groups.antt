@@ -20,7 +20,7 @@ use Rattle.snapshots.specs.agreement.MasterState.{MasterState, assigning, activa
 use Rattle.snapshots.specs.Masters.{assigned, activated}
 use Rattle.snapshots.specs.Moments.{Moment, Moments, opening_moment}
 use Rattle.snapshots.specs.Moments.Moments.{began, went_on}
-use Rattle.snapshots.specs.Steps.{tells_from_master}
+use Rattle.snapshots.specs.Steps.{sends_from_master}
 use Rattle.master.specs.ToldLengths.{max_told, told_by, told_in}
 use Rattle.master.proofs.Untold.{whole_untold}
 use Rattle.master.proofs.WholeTold.{max_told_whole}
@@ -135,7 +135,7 @@ front_of {X = X} n xs ys more is at =
 -- the master gave a ballot: it was sent to its primary, or not
 pub group_gives : {S C O : Type 0} (rules : Rules S C O) (a v : Moment S C O) (config : Config) (told next next' : ToldIn) → IsGroup rules a told next →
     refusal a.master config ≡ None → v.master ≡ assigning a.master config →
-    (v.world ≡ tells_from_master a.world (assigned C a.master config)) ⊎ (v.world ≡ a.world) →
+    (v.world ≡ sends_from_master a.world (assigned C a.master config)) ⊎ (v.world ≡ a.world) →
     next'.ballot ≡ a.master.given + 1 → ((m : ℕ) → get_or next'.held m 0 ≡ 0) → IsGroup rules v told next'
 group_gives {S = S} {C = C} {O = O} rules a v config told next next' g granted master world ballot none = by_world world
   where
@@ -169,9 +169,9 @@ group_gives {S = S} {C = C} {O = O} rules a v config told next next' g granted m
             ap (λ m. let u : Moment S C O = record { master = m; world = v.world } in u) master
             ∙ ap (λ x. let u : Moment S C O = record { master = assigning a.master config; world = x } in u) e
 
-    by_world : (v.world ≡ tells_from_master a.world (assigned C a.master config)) ⊎ (v.world ≡ a.world) → IsGroup rules v told next'
+    by_world : (v.world ≡ sends_from_master a.world (assigned C a.master config)) ⊎ (v.world ≡ a.world) → IsGroup rules v told next'
     by_world (inl e) =
-        made (tells_from_master a.world (assigned C a.master config)) (master_may rules a (assigned C a.master config) acts) e
+        made (sends_from_master a.world (assigned C a.master config)) (master_may rules a (assigned C a.master config) acts) e
         (counted_still a.world.sent _ told (λ m b. new_ballot_silent C config.primary 0 (a.master.given + 1) a.master.active config.members a.master.members m b) g.counted)
         (counted_still a.world.sent _ next' (λ m b. new_ballot_silent C config.primary 0 (a.master.given + 1) a.master.active config.members a.master.members m b) empty)
     by_world (inr e) = made a.world (master_turn_lost rules a (assigned C a.master config) acts) e g.counted empty
@@ -201,7 +201,7 @@ stays_or_turns m b (Some (x, config)) e = by_ballot (cases_Bool (b == x))
 -- is active now
 pub group_answers : {S C O : Type 0} (rules : Rules S C O) (a v : Moment S C O) (from b : ℕ) (told next told' next' : ToldIn) → IsGroup rules a told next →
     In (0, record { from = from; body = Activate b }) a.world.sent → v.master ≡ activating a.master b a.master.waiting →
-    (v.world ≡ tells_from_master a.world (activated C a.master b from a.master.waiting)) ⊎ (v.world ≡ a.world) →
+    (v.world ≡ sends_from_master a.world (activated C a.master b from a.master.waiting)) ⊎ (v.world ≡ a.world) →
     ((v.master.active ≡ a.master.active) × (told' ≡ told) × (next' ≡ next))
     ⊎ ((v.master.active ≡ a.master.active → ⊥) × (told' ≡ next) × (next' ≡ told)) →
     IsGroup rules v told' next'
@@ -261,9 +261,9 @@ group_answers {S = S} {C = C} {O = O} rules a v from b told next told' next' g s
             ap (λ m. let u : Moment S C O = record { master = m; world = v.world } in u) master
             ∙ ap (λ x. let u : Moment S C O = record { master = activating a.master b a.master.waiting; world = x } in u) e
 
-    by_world : (v.world ≡ tells_from_master a.world (activated C a.master b from a.master.waiting)) ⊎ (v.world ≡ a.world) → IsGroup rules v told' next'
+    by_world : (v.world ≡ sends_from_master a.world (activated C a.master b from a.master.waiting)) ⊎ (v.world ≡ a.world) → IsGroup rules v told' next'
     by_world (inl e) =
-        made (tells_from_master a.world (activated C a.master b from a.master.waiting)) (master_may rules a (activated C a.master b from a.master.waiting) acts) e
+        made (sends_from_master a.world (activated C a.master b from a.master.waiting)) (master_may rules a (activated C a.master b from a.master.waiting) acts) e
         (λ t h. counted_still a.world.sent _ t (λ m x. answer_silent C 0 b _ m x) h)
     by_world (inr e) = made a.world (master_turn_lost rules a (activated C a.master b from a.master.waiting) acts) e (λ t h. h)
 
@@ -292,7 +292,7 @@ in_item (x ∷ xs) (suc i) d below = there (in_item xs i d (omega (arith, below)
 pub master_sends : {S C O : Type 0} (archive : List C) (nodes : List (CountedReplica S C)) (sent more : List (ℕ × Message C)) (left : List (Effect C O)) (losses counted : ℕ) (o : MasterOutcome C)
     (body : Body C) (whole : Bool) → body ≡ o.body → OnTrue whole (more ≡ sent ++ (o.receiver, record { from = 0; body = body }) ∷ []) → OnFalse whole (more ≡ sent) →
     counted ≡ cond (whole && true) losses (one_more losses) →
-    ((world_of archive nodes more left ≡ tells_from_master (world_of archive nodes sent left) o) × (counted ≡ losses))
+    ((world_of archive nodes more left ≡ sends_from_master (world_of archive nodes sent left) o) × (counted ≡ losses))
     ⊎ ((world_of archive nodes more left ≡ world_of archive nodes sent left) × (counted ≡ one_more losses))
 master_sends {S = S} {C = C} {O = O} archive nodes sent more left losses counted o body true same told lost count =
     inl (ap (λ us. world_of archive nodes us left) (told ∙ ap (λ x. sent ++ (o.receiver, let z : Message C = record { from = 0; body = x } in z) ∷ []) same), count)
@@ -301,7 +301,7 @@ master_sends {S = S} {C = C} {O = O} archive nodes sent more left losses counted
 -- so it took its step
 pub master_took : {S C O : Type 0} (archive : List C) (m k : MasterState) (nodes : List (CountedReplica S C)) (sent more : List (ℕ × Message C)) (left : List (Effect C O)) (losses counted : ℕ)
     (o : MasterOutcome C) → k ≡ o.state →
-    ((world_of archive nodes more left ≡ tells_from_master (world_of archive nodes sent left) o) × (counted ≡ losses))
+    ((world_of archive nodes more left ≡ sends_from_master (world_of archive nodes sent left) o) × (counted ≡ losses))
     ⊎ ((world_of archive nodes more left ≡ world_of archive nodes sent left) × (counted ≡ one_more losses)) →
     MasterTook (record { moment = moment_of archive m nodes sent left; losses = losses }) o (record { moment = moment_of archive k nodes more left; losses = counted })
 master_took {S = S} {C = C} {O = O} archive m k nodes sent more left losses counted o is (inl (e, f)) =
@@ -415,7 +415,7 @@ group_stops {S = S} {C = C} {O = O} rules a v told next old new n r g is_old is_
 pub took_as_seen : {S C O : Type 0} (archive : List C) (m k : MasterState) (nodes : List (CountedReplica S C)) (sent more : List (ℕ × Message C)) (left : List (Effect C O)) (losses counted : ℕ)
     (o : MasterState → MasterOutcome C) (seen : GroupState S C O) → (let z : GroupState S C O = record { moment = moment_of archive m nodes sent left; losses = losses } in z) ≡ seen →
     k ≡ (o m).state →
-    ((world_of archive nodes more left ≡ tells_from_master (world_of archive nodes sent left) (o m)) × (counted ≡ losses))
+    ((world_of archive nodes more left ≡ sends_from_master (world_of archive nodes sent left) (o m)) × (counted ≡ losses))
     ⊎ ((world_of archive nodes more left ≡ world_of archive nodes sent left) × (counted ≡ one_more losses)) →
     MasterTook seen (o seen.moment.master) (record { moment = moment_of archive k nodes more left; losses = counted })
 took_as_seen {S = S} {C = C} {O = O} archive m k nodes sent more left losses counted o seen is state way =
@@ -426,7 +426,7 @@ took_as_seen {S = S} {C = C} {O = O} archive m k nodes sent more left losses cou
 pub took_given : {S C O : Type 0} (archive : List C) (m k : MasterState) (nodes : List (CountedReplica S C)) (sent more : List (ℕ × Message C)) (left : List (Effect C O)) (losses counted : ℕ)
     (config : Config) (seen : GroupState S C O) → (let z : GroupState S C O = record { moment = moment_of archive m nodes sent left; losses = losses } in z) ≡ seen →
     k ≡ assigning m config →
-    ((world_of archive nodes more left ≡ tells_from_master (world_of archive nodes sent left) (assigned C m config)) × (counted ≡ losses))
+    ((world_of archive nodes more left ≡ sends_from_master (world_of archive nodes sent left) (assigned C m config)) × (counted ≡ losses))
     ⊎ ((world_of archive nodes more left ≡ world_of archive nodes sent left) × (counted ≡ one_more losses)) →
     MasterTook seen (assigned C seen.moment.master config) (record { moment = moment_of archive k nodes more left; losses = counted })
 took_given {S = S} {C = C} {O = O} archive m k nodes sent more left losses counted config seen is state way =

@@ -18,7 +18,7 @@ use Rattle.ballot.proofs.ThinnedEffects.{Thinned-same}
 use Rattle.snapshots.specs.agreement.MasterState.{AssignRefusal, MasterState, refusal, master_after}
 use Rattle.snapshots.specs.Masters.{MasterOutcome, activated, assigned}
 use Rattle.snapshots.specs.Moments.{Moment}
-use Rattle.snapshots.specs.Steps.{MayHappen, tells_from_master, world_after}
+use Rattle.snapshots.specs.Steps.{MayHappen, sends_from_master, world_after}
 use Rattle.snapshots.specs.World.{MayTake}
 use Rattle.snapshots.specs.Steps.MayHappen.{node_goes as node_moves, master_assigns, master_hears, assignment_lost, answer_lost}
 use Rattle.snapshots.specs.World.{World, moved, recorded}
@@ -331,13 +331,13 @@ master_turn_is rules a (Crash node) o is = absurd (no_stop rules (node - 1) (run
 
 -- such an outcome may happen
 pub master_may : {S C O : Type 0} (rules : Rules S C O) (a : Moment S C O) (o : MasterOutcome C) → IsMasterTurn a o →
-    MayHappen rules a.master a.world o.state (tells_from_master a.world o)
+    MayHappen rules a.master a.world o.state (sends_from_master a.world o)
 master_may {S = S} {C = C} {O = O} rules a o (it_gives config granted is) =
-    subst (λ (x : MasterOutcome C). MayHappen rules a.master a.world x.state (tells_from_master a.world x)) (sym is)
+    subst (λ (x : MasterOutcome C). MayHappen rules a.master a.world x.state (sends_from_master a.world x)) (sym is)
     (subst (λ (why : Option AssignRefusal). MayHappen rules a.master a.world (master_after a.master config why) (world_after a.master a.world config why)) granted
     (master_assigns config))
 master_may {S = S} {C = C} {O = O} rules a o (it_answers from b sent is) =
-    subst (λ (x : MasterOutcome C). MayHappen rules a.master a.world x.state (tells_from_master a.world x)) (sym is) (master_hears from b sent)
+    subst (λ (x : MasterOutcome C). MayHappen rules a.master a.world x.state (sends_from_master a.world x)) (sym is) (master_hears from b sent)
 
 -- it may happen too if its message is lost
 pub master_turn_lost : {S C O : Type 0} (rules : Rules S C O) (a : Moment S C O) (o : MasterOutcome C) → IsMasterTurn a o →

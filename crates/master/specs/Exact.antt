@@ -10,7 +10,7 @@ use Rattle.ballot.specs.Protocol.Input.{Receives, Proposes, Ticks}
 use Rattle.snapshots.specs.agreement.MasterState.{AssignRefusal, MasterState, refusal}
 use Rattle.snapshots.specs.Masters.{activated, assigned}
 use Rattle.snapshots.specs.Moments.{Moment}
-use Rattle.snapshots.specs.Steps.{tells_from_master}
+use Rattle.snapshots.specs.Steps.{sends_from_master}
 use Rattle.snapshots.specs.World.{World, moved, recorded}
 use Rattle.master.specs.declared.event.Event.{Event}
 use Rattle.master.specs.declared.event.Event.TheVariants.{Propose, Assign, Deliver, Tick}
@@ -67,7 +67,7 @@ after a (Some (by_cut t)) =
         archive = recorded a.world.archive t.before;
       };
     }
-after a (Some (by_master o)) = record { master = o.state; world = tells_from_master a.world o }
+after a (Some (by_master o)) = record { master = o.state; world = sends_from_master a.world o }
 after a (Some unheeded) = a
 
 -- the moment after an event

@@ -16,7 +16,7 @@ use Rattle.snapshots.specs.Moments.Moments.{began, went_on}
 use Rattle.snapshots.specs.Giving.{given_in, given_of}
 use Rattle.snapshots.specs.Masters.{activated, assigned}
 use Rattle.snapshots.specs.Proposals.{proposal_of, proposals_of, taken_at, taken_in, taken_of, takes_at}
-use Rattle.snapshots.specs.Steps.{MayHappen, tells_from_master, world_after}
+use Rattle.snapshots.specs.Steps.{MayHappen, sends_from_master, world_after}
 use Rattle.snapshots.specs.Steps.MayHappen.{node_goes, master_assigns, master_hears, assignment_lost, answer_lost}
 use Rattle.snapshots.specs.Whole.{whole_body}
 use Rattle.snapshots.specs.World.{World, whole_sent, whole_world}
@@ -68,7 +68,7 @@ pub step_goes_on : {S C O : Type 0} (rules : Rules S C O) (config : Config) (m k
 step_goes_on rules config m k w v earlier q (node_goes goes) = node_goes_on rules config m w v earlier q goes
 step_goes_on rules config m k w v earlier q (master_assigns c) = assigns_on rules config m w earlier c (refusal m c) refl q
 step_goes_on {S = S} {C = C} {O = O} rules config m k w v earlier q (master_hears from b sent) =
-    on_by_one rules config (activating m b m.waiting) (tells_from_master w (activated C m b from m.waiting)) (moment m w ∷ earlier) q.came (nothing_added C O)
+    on_by_one rules config (activating m b m.waiting) (sends_from_master w (activated C m b from m.waiting)) (moment m w ∷ earlier) q.came (nothing_added C O)
     (master_kept rules config m (activating m b m.waiting) w earlier from (activated C m b from m.waiting).body q (answer_plain C b (is_granted m b m.waiting))
     (subst (λ (body : WholeBody C). StepAdds rules m (whole_world w) (activating m b m.waiting)
     (record (whole_world w) { sent = (whole_world w).sent ++ (from, record { from = 0; body = body }) ∷ [] }) (nothing_added C O))

@@ -11,7 +11,7 @@ use Rattle.snapshots.specs.ballot_base.Replica.{ReplicaState}
 use Rattle.snapshots.specs.ballot_base.Sending.{Outcome}
 use Rattle.snapshots.specs.Masters.{activated, assigned}
 use Rattle.snapshots.specs.Moments.{Moment}
-use Rattle.snapshots.specs.Steps.{tells_from_master}
+use Rattle.snapshots.specs.Steps.{sends_from_master}
 use Rattle.snapshots.specs.World.{moved, outputs}
 
 -- the moment after a step of the node at index n
@@ -23,7 +23,7 @@ abbrev pub after_activate : {S C O : Type 0} → ℕ → ℕ → Moment S C O �
 after_activate {C = C} from ballot a =
     record {
       master = (activated C a.master ballot from a.master.waiting).state;
-      world = tells_from_master a.world (activated C a.master ballot from a.master.waiting);
+      world = sends_from_master a.world (activated C a.master ballot from a.master.waiting);
     }
 
 -- the moment after an Assign that is not refused
@@ -31,7 +31,7 @@ abbrev pub assigned_moment : {S C O : Type 0} → Config → Moment S C O → Mo
 assigned_moment {C = C} config a =
     record {
       master = assigning a.master config;
-      world = tells_from_master a.world (assigned C a.master config);
+      world = sends_from_master a.world (assigned C a.master config);
     }
 
 -- messages come, one after another, to nodes that run, give no outputs then, and have joined the

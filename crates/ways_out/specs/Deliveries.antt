@@ -12,7 +12,7 @@ use Rattle.snapshots.specs.whole.Sending.{Outcome}
 use Rattle.snapshots.specs.agreement.MasterState.{activated, assigned, assigning}
 use Rattle.snapshots.specs.agreement.Moments.{Moment}
 use Rattle.snapshots.specs.agreement.World.{moved, outputs}
-use Rattle.snapshots.specs.agreement.Steps.{tells_from_master}
+use Rattle.snapshots.specs.agreement.Steps.{sends_from_master}
 
 -- the moment after a step of the node at index n
 abbrev pub after_outcome : {S C O : Type 0} → ℕ → Outcome S C O → Moment S C O → Moment S C O
@@ -23,7 +23,7 @@ abbrev pub after_activate : {S C O : Type 0} → ℕ → ℕ → Moment S C O �
 after_activate {C = C} from ballot a =
     record {
       master = (activated C a.master ballot from a.master.waiting).state;
-      world = tells_from_master a.world (activated C a.master ballot from a.master.waiting);
+      world = sends_from_master a.world (activated C a.master ballot from a.master.waiting);
     }
 
 -- the moment after an Assign that is not refused
@@ -31,7 +31,7 @@ abbrev pub assigned_moment : {S C O : Type 0} → Config → Moment S C O → Mo
 assigned_moment {C = C} config a =
     record {
       master = assigning a.master config;
-      world = tells_from_master a.world (assigned C a.master config);
+      world = sends_from_master a.world (assigned C a.master config);
     }
 
 -- messages come, one after another, to nodes that run, give no outputs then, and have joined the

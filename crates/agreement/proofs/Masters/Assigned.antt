@@ -10,7 +10,7 @@ use Rattle.agreement.specs.Inside.Ballots.{Given, History, IsChain}
 use Rattle.agreement.specs.Inside.Keeps.{HistoryGoesOn}
 use Rattle.agreement.specs.MasterState.{MasterState, MasterOutcome}
 use Rattle.agreement.specs.Inside.Masters.{IsMaster}
-use Rattle.agreement.specs.Steps.{tells_from_master}
+use Rattle.agreement.specs.Steps.{sends_from_master}
 use Rattle.agreement.specs.Inside.MovesAt.{given_at}
 use Rattle.agreement.proofs.Masters.MasterSends.{ToldBack}
 use Rattle.agreement.proofs.Frame.Taking.{chain_falls}
@@ -49,7 +49,7 @@ ActivatedNow h k i = (b : ℕ) → In b i.activated → In b h.activated ⊎ (k.
 
 -- the master has given a ballot, and sends it to its primary
 pub record Assigned {S C O : Type 0} (rules : Rules S C O) (m : MasterState) (w : World S C O) (h : History C) (o : MasterOutcome C) : Type 0 where
-  pub goes_on : HistoryGoesOn rules w h (tells_from_master w o)
+  pub goes_on : HistoryGoesOn rules w h (sends_from_master w o)
   pub master : IsMaster o.state goes_on.history
   -- no list of a ballot changes
   pub lists : goes_on.history.line ≡ h.line
@@ -58,7 +58,7 @@ pub record Assigned {S C O : Type 0} (rules : Rules S C O) (m : MasterState) (w 
   pub lost_master : IsMaster o.state lost.history
   pub lost_lists : lost.history.line ≡ h.line
   -- nothing more is acknowledged, and what is given or activated again is in the master's fields
-  pub told : ToldBack w h (tells_from_master w o) goes_on.history
+  pub told : ToldBack w h (sends_from_master w o) goes_on.history
   pub gives : GivenNow h o.state goes_on.history
   pub activates : ActivatedNow h o.state goes_on.history
   pub lost_told : ToldBack w h w lost.history

@@ -9,7 +9,7 @@ use Rattle.agreement.specs.Inside.Ballots.{Given, History, IsChain, AreBallots}
 use Rattle.agreement.specs.Inside.Extending.{Extends}
 use Rattle.agreement.specs.MasterState.{MasterState, assigned}
 use Rattle.agreement.specs.Inside.Masters.{IsMaster}
-use Rattle.agreement.specs.Steps.{tells_from_master}
+use Rattle.agreement.specs.Steps.{sends_from_master}
 use Rattle.agreement.specs.Inside.MovesAt.{given_at}
 use Rattle.agreement.specs.Inside.Sound.{IsSound}
 use Rattle.agreement.proofs.Masters.MasterSends.{ToldBack, with_ballots, chain_more}
@@ -133,9 +133,9 @@ assign_goes_on {S = S} {C = C} {O = O} rules m w h config s k member =
     gone = master_lost rules w h (given_at (m.given + 1) new h.given) h.activated s more
         (λ c g e. (numbered c g e).0) (λ c j. j) ballots s.lines.told
 
-    whole : IsSound rules (tells_from_master w (assigned C m config)) (with_ballots h (given_at (m.given + 1) new h.given) h.activated)
-        × Extends w h (tells_from_master w (assigned C m config)) (with_ballots h (given_at (m.given + 1) new h.given) h.activated)
-        × ToldBack w h (tells_from_master w (assigned C m config)) (with_ballots h (given_at (m.given + 1) new h.given) h.activated)
+    whole : IsSound rules (sends_from_master w (assigned C m config)) (with_ballots h (given_at (m.given + 1) new h.given) h.activated)
+        × Extends w h (sends_from_master w (assigned C m config)) (with_ballots h (given_at (m.given + 1) new h.given) h.activated)
+        × ToldBack w h (sends_from_master w (assigned C m config)) (with_ballots h (given_at (m.given + 1) new h.given) h.activated)
     whole = master_goes_on rules w h (assigned C m config) (given_at (m.given + 1) new h.given) h.activated s tt more
         (λ c g e. (numbered c g e).0) (λ c j. j) ballots s.lines.told (
           new,

@@ -12,7 +12,7 @@ use Rattle.agreement.specs.Inside.Ballots.{Given, Line, History, IsChosenIn, IsC
 use Rattle.agreement.specs.Inside.Extending.{Extends}
 use Rattle.agreement.specs.MasterState.{MasterState, MasterOutcome, activated}
 use Rattle.agreement.specs.Inside.Masters.{IsMaster}
-use Rattle.agreement.specs.Steps.{tells_from_master}
+use Rattle.agreement.specs.Steps.{sends_from_master}
 use Rattle.agreement.specs.Inside.Sound.{IsSound}
 use Rattle.agreement.specs.Inside.Saying.{SpeaksTruth}
 use Rattle.agreement.proofs.Masters.Assigned.{Assigned}
@@ -105,9 +105,9 @@ waiting_goes_on {S = S} {C = C} {O = O} rules m w h b from config s k (g, is_of,
         × ToldBack w h w (with_ballots h h.given (b ∷ h.activated))
     gone = master_lost rules w h h.given (b ∷ h.activated) s (λ c y e. e) (λ c y e. (k.numbered c y e).0) (λ c j. there j) ballots told
 
-    whole : IsSound rules (tells_from_master w outcome) (with_ballots h h.given (b ∷ h.activated))
-        × Extends w h (tells_from_master w outcome) (with_ballots h h.given (b ∷ h.activated))
-        × ToldBack w h (tells_from_master w outcome) (with_ballots h h.given (b ∷ h.activated))
+    whole : IsSound rules (sends_from_master w outcome) (with_ballots h h.given (b ∷ h.activated))
+        × Extends w h (sends_from_master w outcome) (with_ballots h h.given (b ∷ h.activated))
+        × ToldBack w h (sends_from_master w outcome) (with_ballots h h.given (b ∷ h.activated))
     whole = master_goes_on rules w h outcome h.given (b ∷ h.activated) s tt (λ c y e. e) (λ c y e. (k.numbered c y e).0) (λ c j. there j) ballots told
         (g, is_of.given, sender, here)
 

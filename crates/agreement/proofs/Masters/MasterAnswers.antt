@@ -11,7 +11,7 @@ use Rattle.agreement.specs.Inside.Ballots.{History}
 use Rattle.agreement.specs.Inside.Extending.{Extends}
 use Rattle.agreement.specs.MasterState.{MasterState, activated}
 use Rattle.agreement.specs.Inside.Masters.{IsMaster}
-use Rattle.agreement.specs.Steps.{tells_from_master}
+use Rattle.agreement.specs.Steps.{sends_from_master}
 use Rattle.agreement.specs.Inside.Sound.{IsSound}
 use Rattle.agreement.specs.Inside.Saying.{SpeaksTruth}
 use Rattle.agreement.proofs.Masters.Assigned.{Assigned}
@@ -42,7 +42,7 @@ answer_goes_on {S = S} {C = C} {O = O} rules m w h b from s k (g, is_of, sender,
     silent true = tt
     silent false = tt
 
-    says : (t : Bool) → (b == m.active) ≡ t → SpeaksTruth (tells_from_master w (activated C m b from None)) h from 0 (cond t (Activated b) (Superseded b))
+    says : (t : Bool) → (b == m.active) ≡ t → SpeaksTruth (sends_from_master w (activated C m b from None)) h from 0 (cond t (Activated b) (Superseded b))
     says true e = (
       g,
       is_of.given,
@@ -54,7 +54,7 @@ answer_goes_on {S = S} {C = C} {O = O} rules m w h b from s k (g, is_of, sender,
     gone : IsSound rules w h × Extends w h w h × ToldBack w h w h
     gone = master_lost rules w h h.given h.activated s (λ c x e. e) (λ c x e. (k.numbered c x e).0) (λ c j. j) s.ballots s.lines.told
 
-    whole : IsSound rules (tells_from_master w (activated C m b from None)) h × Extends w h (tells_from_master w (activated C m b from None)) h
-        × ToldBack w h (tells_from_master w (activated C m b from None)) h
+    whole : IsSound rules (sends_from_master w (activated C m b from None)) h × Extends w h (sends_from_master w (activated C m b from None)) h
+        × ToldBack w h (sends_from_master w (activated C m b from None)) h
     whole = master_goes_on rules w h (activated C m b from None) h.given h.activated s (silent (b == m.active)) (λ c x e. e)
         (λ c x e. (k.numbered c x e).0) (λ c j. j) s.ballots s.lines.told (says (b == m.active) refl)

@@ -9,7 +9,7 @@ use Rattle.whole.specs.lists.Lists.In.{here, there}
 use Rattle.agreement.specs.Inside.Ballots.{Given, Line, History, IsChosenIn, AreBallots}
 use Rattle.agreement.specs.Inside.Extending.{Extends}
 use Rattle.agreement.specs.MasterState.{MasterOutcome}
-use Rattle.agreement.specs.Steps.{tells_from_master}
+use Rattle.agreement.specs.Steps.{sends_from_master}
 use Rattle.agreement.specs.Inside.Sound.{IsSound}
 use Rattle.agreement.specs.Inside.Saying.{SpeaksTruth}
 use Rattle.agreement.proofs.Frame.Joining.{IsSilent, AreSilent}
@@ -22,10 +22,10 @@ pub master_goes_on : {S C O : Type 0} (rules : Rules S C O) (w : World S C O) (h
     ((c : ℕ) (g : Given) → given c ≡ Some g → 0 < c) →
     ((c : ℕ) → In c h.activated → In c activated) → AreBallots (with_ballots h given activated) →
     ((c : ℕ) → In c activated → (l : Line C) × (h.line c ≡ Some l) × IsChosenIn w h c (length l.base)) →
-    SpeaksTruth (tells_from_master w o) (with_ballots h given activated) o.receiver 0 o.body →
-    IsSound rules (tells_from_master w o) (with_ballots h given activated)
-    × Extends w h (tells_from_master w o) (with_ballots h given activated)
-    × ToldBack w h (tells_from_master w o) (with_ballots h given activated)
+    SpeaksTruth (sends_from_master w o) (with_ballots h given activated) o.receiver 0 o.body →
+    IsSound rules (sends_from_master w o) (with_ballots h given activated)
+    × Extends w h (sends_from_master w o) (with_ballots h given activated)
+    × ToldBack w h (sends_from_master w o) (with_ballots h given activated)
 master_goes_on {S = S} {C = C} rules w h o given activated s silent more positive active ballots told says =
     master_sends rules w h ((o.receiver, record { from = 0; body = o.body }) ∷ []) given activated s by_silent more positive active ballots told by_says
   where
@@ -34,7 +34,7 @@ master_goes_on {S = S} {C = C} rules w h o given activated s silent more positiv
     by_silent to m (there i) = elim i [ ]
 
     by_says : (to : ℕ) (m : Message C) → In {X = ℕ × Message C} (to, m) ((o.receiver, record { from = 0; body = o.body }) ∷ []) →
-        SpeaksTruth (tells_from_master w o) (with_ballots h given activated) to m.from m.body
+        SpeaksTruth (sends_from_master w o) (with_ballots h given activated) to m.from m.body
     by_says to m here = says
     by_says to m (there i) = elim i [ ]
 

@@ -14,7 +14,7 @@ use Rattle.whole.specs.lists.Lists.{In}
 use Rattle.whole.specs.lists.Lists.In.{here, there}
 use Rattle.whole.proofs.of_lists.Members.{in_append}
 use Rattle.agreement.specs.MasterState.{MasterState, MasterOutcome, AssignRefusal, activated, assigned, refusal, master_after}
-use Rattle.agreement.specs.Steps.{MayHappen, tells_from_master, world_after}
+use Rattle.agreement.specs.Steps.{MayHappen, sends_from_master, world_after}
 use Rattle.agreement.specs.Steps.MayHappen.{node_takes, node_stops, master_assigns, master_hears, assignment_lost, answer_lost}
 use Rattle.agreement.specs.Inside.Ballots.{Given, History}
 use Rattle.agreement.specs.Inside.Extending.{Extends}
@@ -57,7 +57,7 @@ from_one : {C : Type 0} (receiver from : ℕ) (body : Body C) (to : ℕ) (m : Me
 from_one receiver from body to m here = refl
 from_one receiver from body to m (there j) = elim j [ ]
 
-master_senders : {S C O : Type 0} (w : World S C O) (o : MasterOutcome C) → AreSenders w → AreSenders (tells_from_master w o)
+master_senders : {S C O : Type 0} (w : World S C O) (o : MasterOutcome C) → AreSenders w → AreSenders (sends_from_master w o)
 master_senders {C = C} w o senders to m i = by_age (in_append w.sent _ i)
   where
     by_age : In (to, m) w.sent ⊎ In {X = ℕ × Message C} (to, m) ((o.receiver, record { from = 0; body = o.body }) ∷ []) → (m.from ≡ 0) ⊎ IsNode (length w.nodes) m.from

@@ -12,7 +12,7 @@ use Rattle.agreement.specs.World.{World}
 use Rattle.whole.specs.lists.Lists.{In}
 use Rattle.agreement.specs.Inside.Ballots.{Line, History}
 use Rattle.agreement.specs.Inside.GroupSteps.{AddsBy}
-use Rattle.agreement.specs.Steps.{MayTake, tells_from_master}
+use Rattle.agreement.specs.Steps.{MayTake, sends_from_master}
 use Rattle.agreement.specs.Inside.Keeps.{HistoryGoesOn, NodeGoesOn, KeepsAdding}
 use Rattle.agreement.specs.Inside.Keeps.LineAdds.{as_it_was}
 use Rattle.agreement.specs.Inside.Own.{OwnLines}
@@ -90,7 +90,7 @@ by_history {S = S} {C = C} rules w v h m adds news k g own =
 
 -- after a message of the master
 abbrev pub by_master : {S C O : Type 0} (rules : Rules S C O) (w : World S C O) (h : History C) (m : MasterState) (o : MasterOutcome C) →
-    Assigned rules m w h o → GroupGoesOn rules w h o.state (tells_from_master w o) []
+    Assigned rules m w h o → GroupGoesOn rules w h o.state (sends_from_master w o) []
 by_master {S = S} {C = C} rules w h m o a =
     record {
       goes_on = a.goes_on;

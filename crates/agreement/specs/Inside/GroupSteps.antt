@@ -12,7 +12,7 @@ use Rattle.agreement.specs.Proposals.{proposal_by}
 use Rattle.agreement.specs.World.{World, moved}
 use Rattle.whole.specs.lists.Lists.{In}
 use Rattle.agreement.specs.MasterState.{MasterState, assigned, activated}
-use Rattle.agreement.specs.Steps.{tells_from_master, MayTake}
+use Rattle.agreement.specs.Steps.{sends_from_master, MayTake}
 
 -- what a step may add to the list of a ballot: a proposal to that of its primary, and otherwise the
 -- start of the ballot
@@ -39,11 +39,11 @@ pub data GroupStep {S C O : Type 0} (rules : Rules S C O) : MasterState → Worl
   -- the master gives a ballot
   assigns : {m : MasterState} {w : World S C O} (config : Config) →
       In config.primary config.members →
-      GroupStep rules m w (assigned C m config).state (tells_from_master w (assigned C m config))
+      GroupStep rules m w (assigned C m config).state (sends_from_master w (assigned C m config))
   -- the master answers an Activate
   hears : {m : MasterState} {w : World S C O} (from b : ℕ) →
       In (0, record { from = from; body = Activate b }) w.sent →
-      GroupStep rules m w (activated C m b from m.waiting).state (tells_from_master w
+      GroupStep rules m w (activated C m b from m.waiting).state (sends_from_master w
       (activated C m b from m.waiting))
   -- the master gives a ballot, and its message is lost
   assigns_unheard : {m : MasterState} {w : World S C O} (config : Config) →

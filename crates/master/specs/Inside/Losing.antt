@@ -10,7 +10,7 @@ use Rattle.ballot.specs.Protocol.Input.{Receives, Proposes, Ticks}
 use Rattle.ballot.specs.Replica.{ReplicaState, CountedReplica}
 use Rattle.ballot.specs.Unread.{is_unread}
 use Rattle.snapshots.specs.Masters.{MasterOutcome}
-use Rattle.snapshots.specs.Steps.{tells_from_master}
+use Rattle.snapshots.specs.Steps.{sends_from_master}
 use Rattle.snapshots.specs.World.{messages, outputs, moved}
 use Rattle.master.specs.declared.inputs.Input.{Input as InputInCode}
 use Rattle.master.specs.declared.inputs.Input.TheVariants.{Received, Proposed, Ticked}
@@ -98,7 +98,7 @@ pub record TookCut {S C O : Type 0} (rules : Rules S C O) (old : GroupState S C 
 pub record MasterTook {S C O : Type 0} (old : GroupState S C O) (o : MasterOutcome C)
     (new : GroupState S C O) : Type 0 where
   pub way : ((new.moment
-      ≡ record { master = o.state; world = tells_from_master old.moment.world o })
+      ≡ record { master = o.state; world = sends_from_master old.moment.world o })
       × (new.losses ≡ old.losses))
       ⊎ ((new.moment ≡ record old.moment { master = o.state })
       × (new.losses ≡ one_more old.losses))
