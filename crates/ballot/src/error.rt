@@ -105,7 +105,7 @@ impl fmt::Display for ProposeError {
             ProposeError::NotActive => "no active primary",
             ProposeError::LogFull => "the log is full",
             ProposeError::Memory => "out of memory",
-            ProposeError::Halted => "halted: out of memory",
+            ProposeError::Halted => "the replica stopped",
         };
         write!(f, "{text}")
     }

@@ -18,7 +18,7 @@ const PROPOSING: &[(ProposeError, u8, &str)] = &[
     (ProposeError::NotActive, 18, "no active primary"),
     (ProposeError::LogFull, 19, "the log is full"),
     (ProposeError::Memory, 12, "out of memory"),
-    (ProposeError::Halted, 17, "halted: out of memory"),
+    (ProposeError::Halted, 17, "the replica stopped"),
 ];
 
 #[test]
