@@ -11,7 +11,7 @@ use Rattle.agreement.specs.World.{World, moved}
 use Rattle.whole.specs.lists.Lists.{In, IsPrefixOf}
 use Rattle.agreement.specs.Inside.Ballots.{Given, Line, History}
 use Rattle.agreement.specs.Inside.Keeps.LineAdds.{as_it_was}
-use Rattle.agreement.specs.Inside.Keeps.{Keeps}
+use Rattle.agreement.specs.Inside.Keeps.{KeepsSoundness}
 use Rattle.agreement.specs.Inside.MovesAt.{MovesAt, with_lines}
 use Rattle.agreement.specs.Inside.Sound.{IsSoundNode, IsSound}
 use Rattle.whole.proofs.of_lists.Prefixes.{prefix_length}
@@ -30,7 +30,7 @@ use Rattle.agreement.proofs.Changing.SameNode.{same_node}
 install_answered : {S C O : Type 0} (rules : Rules S C O) (w : World S C O) (h : History C) (n : ℕ) (r : ReplicaState S C)
     (from b : ℕ) (log : List C) → IsSound rules w h → slice_get w.nodes n ≡ Some r → InstallHeard w h n from b log →
     r.joined ≡ b → r.held_in ≡ b →
-    Keeps rules w h n (record { state = r; effects = message_to O r.id (Installed b (length log)) from ∷ [] })
+    KeepsSoundness rules w h n (record { state = r; effects = message_to O r.id (Installed b (length log)) from ∷ [] })
 install_answered {S = S} {C = C} {O = O} rules w h n r from b log s stands q joined held given thinned =
     record {
       history = with_lines h h.line;
@@ -69,7 +69,7 @@ install_answered {S = S} {C = C} {O = O} rules w h n r from b log s stands q joi
 -- an Install that comes
 pub keeps_install : {S C O : Type 0} (rules : Rules S C O) (w : World S C O) (h : History C) (n : ℕ) (r : ReplicaState S C)
     (from b : ℕ) (log : List C) → IsSound rules w h → slice_get w.nodes n ≡ Some r →
-    In (n + 1, record { from = from; body = Install b log }) w.sent → Keeps rules w h n (on_install O r from b log)
+    In (n + 1, record { from = from; body = Install b log }) w.sent → KeepsSoundness rules w h n (on_install O r from b log)
 keeps_install {S = S} {C = C} {O = O} rules w h n r from b log s stands sent =
     by_condition (cases_Bool ((nat_lt r.joined b || (r.joined == b && nat_lt r.held_in b)) && nat_le r.committed (length log)))
     (cases_Bool (r.joined == b && r.held_in == b))
@@ -88,14 +88,14 @@ keeps_install {S = S} {C = C} {O = O} rules w h n r from b log s stands sent =
     by_condition : (((nat_lt r.joined b || (r.joined == b && nat_lt r.held_in b)) && nat_le r.committed (length log)) ≡ true)
         ⊎ (((nat_lt r.joined b || (r.joined == b && nat_lt r.held_in b)) && nat_le r.committed (length log)) ≡ false) →
         ((r.joined == b && r.held_in == b) ≡ true) ⊎ ((r.joined == b && r.held_in == b) ≡ false) →
-        Keeps rules w h n (on_install O r from b log)
+        KeepsSoundness rules w h n (on_install O r from b log)
     by_condition (inl e) f =
         let p = and_parts (nat_lt r.joined b || (r.joined == b && nat_lt r.held_in b)) (nat_le r.committed (length log)) e in
         let z = below (or_cases (nat_lt r.joined b) (r.joined == b && nat_lt r.held_in b) p.0) in
-        subst (λ (o : Outcome S C O). Keeps rules w h n o) (sym (on_install-takes O r from b log e))
+        subst (λ (o : Outcome S C O). KeepsSoundness rules w h n o) (sym (on_install-takes O r from b log e))
         (install_taken rules w h n r from b log s stands heard z.0 z.1 (leb-true r.committed (length log) p.1))
     by_condition (inr e) (inl f) =
         let p = and_parts (r.joined == b) (r.held_in == b) f in
-        subst (λ (o : Outcome S C O). Keeps rules w h n o) (sym (on_install-answers O r from b log e f))
+        subst (λ (o : Outcome S C O). KeepsSoundness rules w h n o) (sym (on_install-answers O r from b log e f))
         (install_answered rules w h n r from b log s stands heard (eqb-true r.joined b p.0) (eqb-true r.held_in b p.1))
     by_condition (inr e) (inr f) = keeps_nothing rules w h n r _ s stands (on_install-stays O r from b log e f)

@@ -13,7 +13,7 @@ use Rattle.agreement.specs.Inside.Ballots.{Given, Line, History, Told, Applied}
 use Rattle.agreement.specs.Inside.Extending.{Extends}
 use Rattle.agreement.specs.Inside.Ballots.Told.{told_by_installed}
 use Rattle.agreement.specs.Inside.Ballots.Applied.{nothing, in_ballot}
-use Rattle.agreement.specs.Inside.Keeps.{Keeps}
+use Rattle.agreement.specs.Inside.Keeps.{KeepsSoundness}
 use Rattle.agreement.specs.Inside.Sound.{IsInstalling, IsSoundNode, IsSound}
 use Rattle.agreement.specs.Inside.Saying.{SpeaksTruth}
 use Rattle.agreement.proofs.Frame.Later.{told_kept}
@@ -36,7 +36,7 @@ all_installed w h n r i none =
 pub installed_noted : {S C O : Type 0} (rules : Rules S C O) (w : World S C O) (h : History C) (n : ℕ) (r : ReplicaState S C)
     (from b held : ℕ) → IsSound rules w h → slice_get w.nodes n ≡ Some r →
     In (n + 1, record { from = from; body = Installed b held }) w.sent → r.joined ≡ b → is_installing r.role ≡ true →
-    Keeps rules w h n (record {
+    KeepsSoundness rules w h n (record {
       state = record r { lacking = others from r.lacking };
       effects = activates O (record r { lacking = others from r.lacking }) (others from r.lacking);
     })

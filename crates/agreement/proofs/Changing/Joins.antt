@@ -14,7 +14,7 @@ use Rattle.whole.specs.lists.Lists.{In}
 use Rattle.whole.specs.lists.Lists.In.{here, there}
 use Rattle.agreement.specs.Inside.Ballots.{Given, History, Applied, Sealed, AreLines}
 use Rattle.agreement.specs.Inside.Ballots.Applied.{nothing, in_ballot}
-use Rattle.agreement.specs.Inside.Keeps.{Keeps}
+use Rattle.agreement.specs.Inside.Keeps.{KeepsSoundness}
 use Rattle.agreement.specs.Inside.Sound.{IsSoundNode, IsSound}
 use Rattle.agreement.specs.Inside.Saying.{SpeaksTruth, IsOffered}
 use Rattle.whole.proofs.of_lists.Places.{get_set}
@@ -82,7 +82,7 @@ answers_node {S = S} {C = C} {O = O} v h n r new b g (joins less) given old give
 join_answered : {S C O : Type 0} (rules : Rules S C O) (w : World S C O) (h : History C) (n : ℕ) (r new : ReplicaState S C)
     (from b a : ℕ) → IsSound rules w h → slice_get w.nodes n ≡ Some r → SpeaksTruth w h (n + 1) from (Join b a) →
     r.joined ≤ b → Answers r b new →
-    Keeps rules w h n (record { state = new; effects = message_to O r.id (State b r.log) from ∷ [] })
+    KeepsSoundness rules w h n (record { state = new; effects = message_to O r.id (State b r.log) from ∷ [] })
 join_answered {S = S} {C = C} {O = O} rules w h n r new from b a s stands (g, is_of, is_from, prev, joined, (old, given_a, member)) low way =
     quiet_keeps rules w h n r (record { state = new; effects = message_to O r.id (State b r.log) from ∷ [] }) s stands
     (let e = answers_joined r new b way in omega (arith, e, low)) (let e = answers_committed r new b way in omega (arith, e))
@@ -124,15 +124,15 @@ join_answered {S = S} {C = C} {O = O} rules w h n r new from b a s stands (g, is
 -- a Join that comes
 pub keeps_join : {S C O : Type 0} (rules : Rules S C O) (w : World S C O) (h : History C) (n : ℕ) (r : ReplicaState S C)
     (from b a : ℕ) → IsSound rules w h → slice_get w.nodes n ≡ Some r →
-    In (n + 1, record { from = from; body = Join b a }) w.sent → Keeps rules w h n (on_join O r from b a)
+    In (n + 1, record { from = from; body = Join b a }) w.sent → KeepsSoundness rules w h n (on_join O r from b a)
 keeps_join {S = S} {C = C} {O = O} rules w h n r from b a s stands sent = by_condition (cases_Bool (nat_le r.joined b && nat_le a r.held_in))
   where
     by_condition : ((nat_le r.joined b && nat_le a r.held_in) ≡ true) ⊎ ((nat_le r.joined b && nat_le a r.held_in) ≡ false) →
-        Keeps rules w h n (on_join O r from b a)
+        KeepsSoundness rules w h n (on_join O r from b a)
     by_condition (inl e) =
         let p = and_parts (nat_le r.joined b) (nat_le a r.held_in) e in
         let low = leb-true r.joined b p.0 in
-        subst (λ (o : Outcome S C O). Keeps rules w h n o) (sym (on_join-answers O r from b a e))
+        subst (λ (o : Outcome S C O). KeepsSoundness rules w h n o) (sym (on_join-answers O r from b a e))
         (join_answered rules w h n r _ from b a s stands (s.said (n + 1) _ sent) low
         (answers_of r b low (nat_lt r.joined b) refl))
     by_condition (inr e) = keeps_nothing rules w h n r _ s stands (on_join-stays O r from b a e)

@@ -15,7 +15,7 @@ use Rattle.whole.specs.lists.Lists.In.{here, there}
 use Rattle.agreement.specs.Inside.Ballots.{Given, Line, History, Applied}
 use Rattle.agreement.specs.Inside.Ballots.Told.{told_as_primary}
 use Rattle.agreement.specs.Inside.Ballots.Applied.{nothing, in_ballot}
-use Rattle.agreement.specs.Inside.Keeps.{Keeps}
+use Rattle.agreement.specs.Inside.Keeps.{KeepsSoundness}
 use Rattle.agreement.specs.Inside.Sound.{IsSoundNode, IsSound}
 use Rattle.agreement.specs.Inside.Saying.{SpeaksTruth}
 use Rattle.whole.proofs.of_lists.Places.{get_set}
@@ -47,7 +47,7 @@ no_line_yet rules w h n r b g s given primary low (Some l) e =
 new_ballot_taken : {S C O : Type 0} (rules : Rules S C O) (w : World S C O) (h : History C) (n : ℕ) (r : ReplicaState S C)
     (from b a : ℕ) (members old : List ℕ) → IsSound rules w h → slice_get w.nodes n ≡ Some r →
     SpeaksTruth w h (n + 1) from (NewBallot b members a old) → r.joined < b →
-    Keeps rules w h n (record {
+    KeepsSoundness rules w h n (record {
       state = record r {
         joined = b;
         role = Fetching;
@@ -123,11 +123,11 @@ new_ballot_taken {S = S} {C = C} {O = O} rules w h n r from b a members old s st
 pub keeps_new_ballot : {S C O : Type 0} (rules : Rules S C O) (w : World S C O) (h : History C) (n : ℕ) (r : ReplicaState S C)
     (from b a : ℕ) (members old : List ℕ) → IsSound rules w h → slice_get w.nodes n ≡ Some r →
     In (n + 1, record { from = from; body = NewBallot b members a old }) w.sent →
-    Keeps rules w h n (on_new_ballot O r b members a old)
+    KeepsSoundness rules w h n (on_new_ballot O r b members a old)
 keeps_new_ballot {S = S} {C = C} {O = O} rules w h n r from b a members old s stands sent = by_order (cases_lt r.joined b)
   where
-    by_order : (r.joined < b) ⊎ (b ≤ r.joined) → Keeps rules w h n (on_new_ballot O r b members a old)
+    by_order : (r.joined < b) ⊎ (b ≤ r.joined) → KeepsSoundness rules w h n (on_new_ballot O r b members a old)
     by_order (inl low) =
-        subst (λ (o : Outcome S C O). Keeps rules w h n o) (sym (on_new_ballot-joins O r b members a old low))
+        subst (λ (o : Outcome S C O). KeepsSoundness rules w h n o) (sym (on_new_ballot-joins O r b members a old low))
         (new_ballot_taken rules w h n r from b a members old s stands (s.said (n + 1) _ sent) low)
     by_order (inr high) = keeps_nothing rules w h n r _ s stands (on_new_ballot-stays O r b members a old high)

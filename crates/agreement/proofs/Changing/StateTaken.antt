@@ -11,7 +11,7 @@ use Rattle.agreement.specs.Inside.Ballots.{Given, Line, History, Told, Applied}
 use Rattle.agreement.specs.Inside.Extending.{Extends}
 use Rattle.agreement.specs.Inside.Ballots.Applied.{nothing, in_ballot}
 use Rattle.agreement.specs.Inside.Ballots.Told.{told_as_primary}
-use Rattle.agreement.specs.Inside.Keeps.{Keeps, LineAdds}
+use Rattle.agreement.specs.Inside.Keeps.{KeepsSoundness, LineAdds}
 use Rattle.agreement.specs.Inside.Keeps.LineAdds.{as_it_was, begins_after}
 use Rattle.agreement.specs.Inside.MovesAt.{MovesAt, with_lines, lined_at}
 use Rattle.agreement.specs.Inside.MovesAt.LineGoesOn.{begins}
@@ -36,7 +36,7 @@ use Rattle.agreement.proofs.Serving.Ticking.{says_installs, silent_installs, dum
 -- a State that is taken
 pub state_taken : {S C O : Type 0} (rules : Rules S C O) (w : World S C O) (h : History C) (n : ℕ) (r : ReplicaState S C) (xs : List C) →
     IsSound rules w h → slice_get w.nodes n ≡ Some r → StateHeard w h n r xs → r.committed ≤ length xs →
-    Keeps rules w h n (record {
+    KeepsSoundness rules w h n (record {
       state = record r { held_in = r.joined; log = xs; role = Installing; lacking = others r.id r.members };
       effects = installs O (record r { held_in = r.joined; log = xs; role = Installing; lacking = others r.id r.members }) (others r.id r.members);
     })

@@ -11,7 +11,7 @@ use Rattle.whole.specs.Changing.{installs, on_state}
 use Rattle.agreement.specs.World.{World}
 use Rattle.whole.specs.lists.Lists.{In}
 use Rattle.agreement.specs.Inside.Ballots.{History}
-use Rattle.agreement.specs.Inside.Keeps.{Keeps}
+use Rattle.agreement.specs.Inside.Keeps.{KeepsSoundness}
 use Rattle.agreement.specs.Inside.Sound.{IsSound}
 use Rattle.agreement.proofs.Frame.Quiet.{keeps_nothing}
 use Rattle.agreement.proofs.Frame.Roles.{role_fetching}
@@ -22,19 +22,19 @@ use Rattle.agreement.proofs.Changing.StateTaken.{state_taken}
 -- a State that comes
 pub keeps_state : {S C O : Type 0} (rules : Rules S C O) (w : World S C O) (h : History C) (n : ℕ) (r : ReplicaState S C)
     (from b : ℕ) (xs : List C) → IsSound rules w h → slice_get w.nodes n ≡ Some r →
-    In (n + 1, record { from = from; body = State b xs }) w.sent → Keeps rules w h n (on_state O r b xs)
+    In (n + 1, record { from = from; body = State b xs }) w.sent → KeepsSoundness rules w h n (on_state O r b xs)
 keeps_state {S = S} {C = C} {O = O} rules w h n r from b xs s stands sent =
     by_condition (cases_Bool (r.joined == b && (is_fetching r.role && nat_le r.committed (length xs))))
   where
     by_condition : ((r.joined == b && (is_fetching r.role && nat_le r.committed (length xs))) ≡ true)
         ⊎ ((r.joined == b && (is_fetching r.role && nat_le r.committed (length xs))) ≡ false) →
-        Keeps rules w h n (on_state O r b xs)
+        KeepsSoundness rules w h n (on_state O r b xs)
     by_condition (inl e) =
         let p = and_parts (r.joined == b) (is_fetching r.role && nat_le r.committed (length xs)) e in
         let z = and_parts (is_fetching r.role) (nat_le r.committed (length xs)) p.1 in
         let same = eqb-true r.joined b p.0 in
-        subst (λ (o : Outcome S C O). Keeps rules w h n o) (sym (on_state-takes O r b xs e))
-        (subst (λ c. Keeps rules w h n (record {
+        subst (λ (o : Outcome S C O). KeepsSoundness rules w h n o) (sym (on_state-takes O r b xs e))
+        (subst (λ c. KeepsSoundness rules w h n (record {
           state = record r { held_in = c; log = xs; role = Installing; lacking = others r.id r.members };
           effects = installs O (record r { held_in = c; log = xs; role = Installing; lacking = others r.id r.members }) (others r.id r.members);
         })) same

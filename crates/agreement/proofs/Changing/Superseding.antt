@@ -11,7 +11,7 @@ use Rattle.whole.specs.Activating.{on_superseded}
 use Rattle.agreement.specs.World.{World, moved}
 use Rattle.agreement.specs.Inside.Ballots.{History, Applied}
 use Rattle.agreement.specs.Inside.Ballots.Applied.{nothing, in_ballot}
-use Rattle.agreement.specs.Inside.Keeps.{Keeps}
+use Rattle.agreement.specs.Inside.Keeps.{KeepsSoundness}
 use Rattle.agreement.specs.Inside.Sound.{IsSoundNode, IsSound}
 use Rattle.agreement.proofs.Frame.Joining.{MovesQuietly}
 use Rattle.agreement.proofs.Frame.Quiet.{before_quiet, quiet_keeps, keeps_nothing}
@@ -19,7 +19,7 @@ use Rattle.whole.proofs.ChangeRows.{on_superseded-stays, on_superseded-leaves}
 
 -- a Superseded that comes; nothing that it says is needed
 pub keeps_superseded : {S C O : Type 0} (rules : Rules S C O) (w : World S C O) (h : History C) (n : ℕ) (r : ReplicaState S C) (b : ℕ) →
-    IsSound rules w h → slice_get w.nodes n ≡ Some r → Keeps rules w h n (on_superseded O r b)
+    IsSound rules w h → slice_get w.nodes n ≡ Some r → KeepsSoundness rules w h n (on_superseded O r b)
 keeps_superseded {S = S} {C = C} {O = O} rules w h n r b s stands = by_role (cases_Bool (r.joined == b && is_installing r.role))
   where
     new : ReplicaState S C
@@ -45,9 +45,9 @@ keeps_superseded {S = S} {C = C} {O = O} rules w h n r b s stands = by_role (cas
         by_applied (in_ballot c k l i up e chosen front) = in_ballot c k l i up e chosen front
 
     by_role : ((r.joined == b && is_installing r.role) ≡ true) ⊎ ((r.joined == b && is_installing r.role) ≡ false) →
-        Keeps rules w h n (on_superseded O r b)
+        KeepsSoundness rules w h n (on_superseded O r b)
     by_role (inl e) =
-        subst (λ (o : Outcome S C O). Keeps rules w h n o) (sym (on_superseded-leaves O r b e))
+        subst (λ (o : Outcome S C O). KeepsSoundness rules w h n o) (sym (on_superseded-leaves O r b e))
         (quiet_keeps rules w h n r (record { state = new; effects = [] }) s stands (omega arith) (omega arith) (λ to m i. elim i [ ]) refl
         (λ given q. node given q) (λ given q to m i. elim i [ ]))
     by_role (inr e) = keeps_nothing rules w h n r _ s stands (on_superseded-stays O r b e)

@@ -12,7 +12,7 @@ use Rattle.whole.specs.lists.Lists.{In}
 use Rattle.agreement.specs.Inside.Ballots.{History, Applied}
 use Rattle.agreement.specs.Inside.Ballots.Applied.{nothing, in_ballot}
 use Rattle.agreement.specs.Inside.Keeps.LineAdds.{as_it_was}
-use Rattle.agreement.specs.Inside.Keeps.{Keeps}
+use Rattle.agreement.specs.Inside.Keeps.{KeepsSoundness}
 use Rattle.agreement.specs.Inside.Sound.{IsSoundNode, IsSound}
 use Rattle.agreement.specs.Inside.Saying.{SpeaksTruth}
 use Rattle.agreement.proofs.Effects.{thinned_outputs, thinned_messages}
@@ -33,7 +33,7 @@ pub quiet_keeps : {S C O : Type 0} (rules : Rules S C O) (w : World S C O) (h : 
     ((given : List (Effect C O)) → MovesQuietly w n old o.state given → IsSoundNode (moved w n o.state given) h n o.state) →
     ((given : List (Effect C O)) → MovesQuietly w n old o.state given → (to : ℕ) (m : Message C) → In (to, m) (messages o.effects) →
     SpeaksTruth (moved w n o.state given) h to m.from m.body) →
-    Keeps rules w h n o
+    KeepsSoundness rules w h n o
 quiet_keeps {S = S} {C = C} {O = O} rules w h n old o s stands rises committed silent dumb node says given thinned =
     record {
       history = h;
@@ -57,15 +57,15 @@ quiet_keeps {S = S} {C = C} {O = O} rules w h n old o s stands rises committed s
 
 -- a step that does nothing
 pub keeps_nothing : {S C O : Type 0} (rules : Rules S C O) (w : World S C O) (h : History C) (n : ℕ) (old : ReplicaState S C) (o : Outcome S C O) →
-    IsSound rules w h → slice_get w.nodes n ≡ Some old → o ≡ nothing_done O old → Keeps rules w h n o
+    IsSound rules w h → slice_get w.nodes n ≡ Some old → o ≡ nothing_done O old → KeepsSoundness rules w h n o
 keeps_nothing {S = S} {C = C} {O = O} rules w h n old o s stands e =
-    subst (λ (x : Outcome S C O). Keeps rules w h n x) (sym e)
+    subst (λ (x : Outcome S C O). KeepsSoundness rules w h n x) (sym e)
     (quiet_keeps rules w h n old (nothing_done O old) s stands (omega arith) (omega arith) (λ to m i. elim i [ ]) refl
     (λ given q. before_quiet rules w h n old old given s q) (λ given q to m i. elim i [ ]))
 
 -- a node that stops
 pub keeps_halted : {S C O : Type 0} (rules : Rules S C O) (w : World S C O) (h : History C) (n : ℕ) (old : ReplicaState S C) →
-    IsSound rules w h → slice_get w.nodes n ≡ Some old → Keeps rules w h n (record { state = halted rules old; effects = [] })
+    IsSound rules w h → slice_get w.nodes n ≡ Some old → KeepsSoundness rules w h n (record { state = halted rules old; effects = [] })
 keeps_halted {S = S} {C = C} {O = O} rules w h n old s stands =
     quiet_keeps rules w h n old (record { state = halted rules old; effects = [] }) s stands (omega arith) (omega arith)
     (λ to m i. elim i [ ]) refl (λ given q. node given q) (λ given q to m i. elim i [ ])

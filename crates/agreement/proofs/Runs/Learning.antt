@@ -15,7 +15,7 @@ use Rattle.whole.specs.lists.Lists.{In, IsPrefixOf}
 use Rattle.whole.proofs.of_lists.Prefixes.{prefix_take, prefix_then}
 use Rattle.agreement.specs.Inside.Ballots.{History, Applied}
 use Rattle.agreement.specs.Inside.Ballots.Applied.{nothing, in_ballot}
-use Rattle.agreement.specs.Inside.Keeps.{Keeps}
+use Rattle.agreement.specs.Inside.Keeps.{KeepsSoundness}
 use Rattle.agreement.specs.Inside.Serves.{IsLed, Serves}
 use Rattle.agreement.specs.Inside.Sound.{IsSound, IsSoundNode}
 use Rattle.agreement.specs.MasterState.{MasterState}
@@ -53,7 +53,7 @@ learned_applied {S = S} {C = C} {O = O} rules w h r t k y = by_way y.applied
 -- a node that learns
 pub keeps_learned : {S C O : Type 0} (rules : Rules S C O) (w : World S C O) (h : History C) (n : ℕ) (r t : ReplicaState S C) (k : ℕ) →
     IsSound rules w h → slice_get w.nodes n ≡ Some r → is_active r.role ≡ false → r.committed ≤ k → k ≤ length r.log → Teaches w h r t k →
-    Keeps rules w h n (record { state = applied_to rules r k; effects = [] })
+    KeepsSoundness rules w h n (record { state = applied_to rules r k; effects = [] })
 keeps_learned {S = S} {C = C} {O = O} rules w h n r t k s stands passive up within y =
     quiet_keeps rules w h n r (record { state = new; effects = [] }) s stands (omega arith) up (λ to m i. elim i [ ]) refl
     (λ given q. node given q) (λ given q to m i. elim i [ ])

@@ -14,7 +14,7 @@ use Rattle.agreement.specs.Inside.Ballots.{Given, Line, History, Applied}
 use Rattle.agreement.specs.Inside.Extending.{Extends}
 use Rattle.agreement.specs.Inside.Ballots.Applied.{nothing, in_ballot}
 use Rattle.agreement.specs.Inside.Keeps.LineAdds.{as_it_was}
-use Rattle.agreement.specs.Inside.Keeps.{Keeps}
+use Rattle.agreement.specs.Inside.Keeps.{KeepsSoundness}
 use Rattle.agreement.specs.Inside.MovesAt.{MovesAt, with_lines}
 use Rattle.agreement.specs.Inside.Sound.{IsSoundNode, IsSound}
 use Rattle.agreement.specs.Inside.Saying.{SpeaksTruth}
@@ -35,7 +35,7 @@ pub append_taken : {S C O : Type 0} (rules : Rules S C O) (w : World S C O) (h :
     (from b place : ℕ) (c : C) → IsSound rules w h → slice_get w.nodes n ≡ Some r → SpeaksTruth w h (n + 1) from (Append b place c) →
     Follows r b → place ≤ length r.log →
     (g : Given) (l : Line C) → h.given b ≡ Some g → h.line b ≡ Some l → IsPrefixOf l.base r.log → IsPrefixOf r.log l.list →
-    Keeps rules w h n (record {
+    KeepsSoundness rules w h n (record {
       state = record r { log = extended place c r.log };
       effects = message_to O r.id (Held b (length (extended place c r.log))) from ∷ [];
     })

@@ -11,7 +11,7 @@ use Rattle.whole.proofs.MessageRows.{on_append-elsewhere, on_append-gap, on_appe
 use Rattle.agreement.specs.World.{World}
 use Rattle.whole.specs.lists.Lists.{In, IsPrefixOf}
 use Rattle.agreement.specs.Inside.Ballots.{Given, Line, History}
-use Rattle.agreement.specs.Inside.Keeps.{Keeps}
+use Rattle.agreement.specs.Inside.Keeps.{KeepsSoundness}
 use Rattle.agreement.specs.Inside.Sound.{IsSound}
 use Rattle.agreement.specs.Inside.Saying.{SpeaksTruth}
 use Rattle.agreement.proofs.Serving.Committing.{Follows, follows_is}
@@ -21,7 +21,7 @@ use Rattle.agreement.proofs.Serving.AppendTaken.{append_taken}
 -- an Append that comes
 pub keeps_append : {S C O : Type 0} (rules : Rules S C O) (w : World S C O) (h : History C) (n : ℕ) (r : ReplicaState S C)
     (from b place : ℕ) (c : C) → IsSound rules w h → slice_get w.nodes n ≡ Some r →
-    In (n + 1, record { from = from; body = Append b place c }) w.sent → Keeps rules w h n (on_append O r from b place c)
+    In (n + 1, record { from = from; body = Append b place c }) w.sent → KeepsSoundness rules w h n (on_append O r from b place c)
 keeps_append {S = S} {C = C} {O = O} rules w h n r from b place c s stands sent = by_role (cases_Bool (follows r b))
   where
     said : SpeaksTruth w h (n + 1) from (Append b place c)
@@ -30,7 +30,7 @@ keeps_append {S = S} {C = C} {O = O} rules w h n r from b place c s stands sent 
     by_between : Follows r b → place ≤ length r.log →
         (g : Given) × (h.given r.held_in ≡ Some g) × ((l : Line C) × (h.line r.held_in ≡ Some l)
         × IsPrefixOf l.base r.log × IsPrefixOf r.log l.list) →
-        Keeps rules w h n (record {
+        KeepsSoundness rules w h n (record {
           state = record r { log = extended place c r.log };
           effects = message_to O r.id (Held b (length (extended place c r.log))) from ∷ [];
         })
@@ -38,14 +38,14 @@ keeps_append {S = S} {C = C} {O = O} rules w h n r from b place c s stands sent 
         append_taken rules w h n r from b place c s stands said f within g l (ap h.given (sym f.held) ∙ is_given)
         (ap h.line (sym f.held) ∙ lined) base list
 
-    by_length : follows r b ≡ true → (length r.log < place) ⊎ (place ≤ length r.log) → Keeps rules w h n (on_append O r from b place c)
+    by_length : follows r b ≡ true → (length r.log < place) ⊎ (place ≤ length r.log) → KeepsSoundness rules w h n (on_append O r from b place c)
     by_length e (inl gap) = keeps_nothing rules w h n r _ s stands (on_append-gap O r from b place c e gap)
     by_length e (inr within) =
         let f = follows_is r b e in
-        subst (λ (o : Outcome S C O). Keeps rules w h n o) (sym (on_append-takes O r from b place c e within))
+        subst (λ (o : Outcome S C O). KeepsSoundness rules w h n o) (sym (on_append-takes O r from b place c e within))
         (by_between f within ((s.nodes n r stands).placed.between
         (let z = (s.ballots.were_given b said.4).2 in let y = f.held in omega (arith, z, y))))
 
-    by_role : (follows r b ≡ true) ⊎ (follows r b ≡ false) → Keeps rules w h n (on_append O r from b place c)
+    by_role : (follows r b ≡ true) ⊎ (follows r b ≡ false) → KeepsSoundness rules w h n (on_append O r from b place c)
     by_role (inl e) = by_length e (cases_lt (length r.log) place)
     by_role (inr e) = keeps_nothing rules w h n r _ s stands (on_append-elsewhere O r from b place c e)

@@ -14,7 +14,7 @@ use Rattle.agreement.specs.World.{World, moved}
 use Rattle.whole.specs.lists.Lists.{In, IsPrefixOf}
 use Rattle.agreement.specs.Inside.Ballots.{Given, Line, History, Applied}
 use Rattle.agreement.specs.Inside.Ballots.Applied.{nothing, in_ballot}
-use Rattle.agreement.specs.Inside.Keeps.{Keeps}
+use Rattle.agreement.specs.Inside.Keeps.{KeepsSoundness}
 use Rattle.agreement.specs.Inside.Sound.{IsSoundNode, IsSound}
 use Rattle.agreement.specs.Inside.Saying.{SpeaksTruth}
 use Rattle.agreement.proofs.Frame.Later.{chosen_kept, takes}
@@ -38,7 +38,7 @@ follows_is r b e =
 commit_taken : {S C O : Type 0} (rules : Rules S C O) (w : World S C O) (h : History C) (n : ℕ) (r : ReplicaState S C)
     (from b held : ℕ) → IsSound rules w h → slice_get w.nodes n ≡ Some r → SpeaksTruth w h (n + 1) from (Commit b held) →
     Follows r b → held ≤ length r.log →
-    Keeps rules w h n (record { state = applied_to rules r (max r.committed held); effects = [] })
+    KeepsSoundness rules w h n (record { state = applied_to rules r (max r.committed held); effects = [] })
 commit_taken {S = S} {C = C} {O = O} rules w h n r from b held s stands said f within =
     quiet_keeps rules w h n r (record { state = new; effects = [] }) s stands (omega arith) (omega arith) (λ to m i. elim i [ ]) refl
     (λ given q. node given q) (λ given q to m i. elim i [ ])
@@ -83,15 +83,15 @@ commit_taken {S = S} {C = C} {O = O} rules w h n r from b held s stands said f w
 -- a Commit that comes
 pub keeps_commit : {S C O : Type 0} (rules : Rules S C O) (w : World S C O) (h : History C) (n : ℕ) (r : ReplicaState S C)
     (from b held : ℕ) → IsSound rules w h → slice_get w.nodes n ≡ Some r →
-    In (n + 1, record { from = from; body = Commit b held }) w.sent → Keeps rules w h n (on_commit rules r b held)
+    In (n + 1, record { from = from; body = Commit b held }) w.sent → KeepsSoundness rules w h n (on_commit rules r b held)
 keeps_commit {S = S} {C = C} {O = O} rules w h n r from b held s stands sent = by_role (cases_Bool (follows r b))
   where
-    by_length : follows r b ≡ true → (length r.log < held) ⊎ (held ≤ length r.log) → Keeps rules w h n (on_commit rules r b held)
+    by_length : follows r b ≡ true → (length r.log < held) ⊎ (held ≤ length r.log) → KeepsSoundness rules w h n (on_commit rules r b held)
     by_length e (inl past) = keeps_nothing rules w h n r _ s stands (on_commit-past rules r b held e past)
     by_length e (inr within) =
-        subst (λ (o : Outcome S C O). Keeps rules w h n o) (sym (on_commit-takes rules r b held e within))
+        subst (λ (o : Outcome S C O). KeepsSoundness rules w h n o) (sym (on_commit-takes rules r b held e within))
         (commit_taken rules w h n r from b held s stands (s.said (n + 1) _ sent) (follows_is r b e) within)
 
-    by_role : (follows r b ≡ true) ⊎ (follows r b ≡ false) → Keeps rules w h n (on_commit rules r b held)
+    by_role : (follows r b ≡ true) ⊎ (follows r b ≡ false) → KeepsSoundness rules w h n (on_commit rules r b held)
     by_role (inl e) = by_length e (cases_lt (length r.log) held)
     by_role (inr e) = keeps_nothing rules w h n r _ s stands (on_commit-elsewhere rules r b held e)

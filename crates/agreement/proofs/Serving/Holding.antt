@@ -17,7 +17,7 @@ use Rattle.agreement.specs.Inside.Ballots.{History, Told, Applied}
 use Rattle.agreement.specs.Inside.Ballots.Told.{told_by_held}
 use Rattle.agreement.specs.Inside.Ballots.Applied.{nothing, in_ballot}
 use Rattle.agreement.specs.Inside.Keeps.LineAdds.{as_it_was}
-use Rattle.agreement.specs.Inside.Keeps.{Keeps}
+use Rattle.agreement.specs.Inside.Keeps.{KeepsSoundness}
 use Rattle.agreement.specs.Inside.MovesAt.{MovesAt, with_lines}
 use Rattle.agreement.specs.Inside.Sound.{IsActive, IsSoundNode, IsSound}
 use Rattle.agreement.proofs.Frame.Framing.{within_of, move_extends}
@@ -125,16 +125,16 @@ raised_ready {S = S} {C = C} {O = O} rules w h n r from held s stands role heard
 -- a Held that comes
 pub keeps_held : {S C O : Type 0} (rules : Rules S C O) (w : World S C O) (h : History C) (n : ℕ) (r : ReplicaState S C)
     (from b held : ℕ) → IsSound rules w h → slice_get w.nodes n ≡ Some r → r.machine ≡ replay rules (take r.committed r.log) →
-    In (n + 1, record { from = from; body = Held b held }) w.sent → Keeps rules w h n (on_held rules r from b held)
+    In (n + 1, record { from = from; body = Held b held }) w.sent → KeepsSoundness rules w h n (on_held rules r from b held)
 keeps_held {S = S} {C = C} {O = O} rules w h n r from b held s stands ran sent = by_role (cases_Bool (leads r b))
   where
-    by_role : (leads r b ≡ true) ⊎ (leads r b ≡ false) → Keeps rules w h n (on_held rules r from b held)
+    by_role : (leads r b ≡ true) ⊎ (leads r b ≡ false) → KeepsSoundness rules w h n (on_held rules r from b held)
     by_role (inl e) =
         let p = and_parts (r.joined == b) (is_active r.role) e in
         let heard : Told w h from r.joined held =
         told_by_held (n + 1) held (subst (λ c. In (n + 1, record { from = from; body = Held c held }) w.sent)
         (sym (eqb-true r.joined b p.0)) sent) (omega arith) in
-        subst (λ (o : Outcome S C O). Keeps rules w h n o) (sym (on_held-raises rules r from b held e))
+        subst (λ (o : Outcome S C O). KeepsSoundness rules w h n o) (sym (on_held-raises rules r from b held e))
         (ready_keeps rules w h h.line n r (record r { progress = raised from held r.progress }) (λ b c. ⊥) [] s
         (raised_ready rules w h n r from held s stands (role_active r.role p.1) heard) refl (s.nodes n r stands).id ran
         (λ to m i. elim i [ ]) (λ k u given moves to m i. elim i [ ]))

@@ -57,6 +57,7 @@ KeepsAdding {S = S} {C = C} {O = O} rules w h n adds o =
     NodeGoesOn rules w h adds (moved w n o.state given)
 
 -- whichever of its messages are lost, the outcome of a node's step is sound, and adds nothing
-abbrev pub Keeps : {S C O : Type 0} → Rules S C O → World S C O → History C → ℕ → Outcome S C O →
+abbrev pub KeepsSoundness : {S C O : Type 0} → Rules S C O → World S C O → History C → ℕ →
+    Outcome S C O →
     Type 0
-Keeps rules w h n o = KeepsAdding rules w h n (λ b c. ⊥) o
+KeepsSoundness rules w h n o = KeepsAdding rules w h n (λ b c. ⊥) o
