@@ -21,7 +21,7 @@ use Rattle.ballot_base.specs.Activating.{on_activated}
 use Rattle.ballot_base.proofs.ChangeRows.{on_activated-adds}
 use Rattle.ballot_base.proofs.StepRows.{added-commits, added-log, commit-stopped}
 use Rattle.ballot_base.specs.Sends.{Sends}
-use Rattle.ballot.specs.Inside.{Begins, Went}
+use Rattle.ballot.specs.Inside.{BecomesActive, Went}
 use Rattle.ballot.proofs.MessagesTaken.{went_sent, went_ignored, went_halted}
 use Rattle.ballot_base.proofs.SendsJoin.{Sends-then}
 
@@ -113,10 +113,10 @@ Begun rules active new committed waiting before after old = (after ≡ before) �
 pub activated_begun : {S C O T E : Type 0} (rules : Rules S C O) (result : Result T E) (old active new : CountedReplica S C) (b committed : ℕ)
     (waiting : List Progress) (before after : List (Effect C O)) →
     may_begin old.state b ≡ true → active ≡ begun_of rules old b → committed ≡ old.state.committed → waiting ≡ old.state.progress →
-    MatchResult result (λ _. Begins rules active new before after) (λ _. Begun rules active new committed waiting before after old) →
+    MatchResult result (λ _. BecomesActive rules active new before after) (λ _. Begun rules active new committed waiting before after old) →
     Went rules old (on_activated rules old.state b) new before after
 activated_begun {S = S} {C = C} {O = O} rules (Ok x) old active new b committed waiting before after may a m w begins =
-    let y : Begins rules (begun_of rules old b) new before after = subst (λ (z : CountedReplica S C). Begins rules z new before after) a begins in
+    let y : BecomesActive rules (begun_of rules old b) new before after = subst (λ (z : CountedReplica S C). BecomesActive rules z new before after) a begins in
     subst (λ (o : Outcome S C O). Went rules old o new before after) (sym (on_activated-adds rules old.state b may
     ∙ added-commits rules (active_of rules old.state) (rules.start_of b)))
     (went_sent old _ new before after y.whole (y.sends old.state.log (rules.start_of b) refl) y.state y.counted)
@@ -160,7 +160,7 @@ activated_begun {S = S} {C = C} {O = O} rules (Err x) old active new b committed
 pub begun_runs : {S C O T E : Type 0} (rules : Rules S C O) (result : Result T E) (old active new : CountedReplica S C) (b committed : ℕ)
     (waiting : List Progress) (before after : List (Effect C O)) →
     active ≡ begun_of rules old b → old.state.stopped ≡ false →
-    MatchResult result (λ _. Begins rules active new before after) (λ _. Begun rules active new committed waiting before after old) →
+    MatchResult result (λ _. BecomesActive rules active new before after) (λ _. Begun rules active new committed waiting before after old) →
     OnOk result (new.state.stopped ≡ false) × OnErr result ((new.state.stopped ≡ true) × (after ≡ before))
 begun_runs {S = S} {C = C} {O = O} rules (Ok x) old active new b committed waiting before after a running begins =
     (ap (λ (r : ReplicaState S C). r.stopped) begins.state ∙ commit-stopped rules active.state ∙ ap (λ (z : CountedReplica S C). z.state.stopped) a ∙ running, tt)

@@ -48,7 +48,7 @@ Lacks rules Halted old new =
 
 -- a primary that has become active sends the others the last place of its log, and commits what all
 -- hold; messages that were lost are counted
-pub record Begins {S C O : Type 0} (rules : Rules S C O) (old new : CountedReplica S C)
+pub record BecomesActive {S C O : Type 0} (rules : Rules S C O) (old new : CountedReplica S C)
     (before after : List (Effect C O)) : Type 0 where
   pub whole : Bool
   pub state : new.state ≡ (commit rules old.state).state

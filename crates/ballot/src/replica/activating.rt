@@ -3,7 +3,7 @@
 ghost use Rattle.std.specs.Prelude.{◌≡◌, ◌++◌, ◌&&◌, ◌==◌, nat_lt, nat_le, true, false, ◌-◌, ◌<◌};
 ghost use Rattle.std.specs.Prelude.{◌≤◌, length, IfOk, OnOk, OnErr, MatchResult};
 ghost use Rattle.ballot_base.specs.Sends.{Sends};
-ghost use Rattle.ballot.specs.Inside.{Begins, Went};
+ghost use Rattle.ballot.specs.Inside.{BecomesActive, Went};
 ghost use Rattle.ballot_base.specs.Activating.{on_activated};
 ghost use Rattle.ballot_base.specs.Logs.{Log, places, popped, pushed};
 ghost use Rattle.ballot_base.specs.Replica.{is_installing, others, progress_at};
@@ -131,7 +131,7 @@ impl<M: Machine> Replica<M> {
         requires applied { self.old.state.log.base ≤ committed }
         requires after { committed < places self.old.state.log }
         ensures outcome { MatchResult result
-            (λ _. Begins M.rules self.old self.new out.old.items out.new.items)
+            (λ _. BecomesActive M.rules self.old self.new out.old.items out.new.items)
             (λ _. (out.new.items ≡ out.old.items) × (self.new ≡ record {
               state = record self.old.state {
                 log = popped self.old.state.log;
