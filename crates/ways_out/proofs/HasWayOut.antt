@@ -13,7 +13,7 @@ use Rattle.snapshots.specs.agreement.Moments.{Moment, Moments, IsAgreed}
 use Rattle.snapshots.proofs.of_agreement.Changing.OtherMembers.{in_others, not_others, others_in}
 use Rattle.snapshots.proofs.of_agreement.Masters.Assigns.{lawful_is, not_refused}
 use Rattle.ways_out.specs.Deliveries.{Delivered, NodeIs, assigned_moment, way_out}
-use Rattle.ways_out.specs.Following.{Runs, RunsWith, Serves}
+use Rattle.ways_out.specs.Following.{IsRunning, RunsWith, Serves}
 use Rattle.ways_out.specs.Inside.{CanTake}
 use Rattle.ways_out.specs.Laws.{CanBeLed, HasWayOut, LeadsOut, StartsGiveNothing}
 use Rattle.ways_out.proofs.Activating.{with_active}
@@ -32,7 +32,7 @@ module _ {S C O : Type 0} (rules : Rules S C O) (silent : StartsGiveNothing rule
   led : In new.primary new.members
   led = (lawful_is new lawful).0
 
-  first : NodeIs Runs a.world.nodes new.primary
+  first : NodeIs IsRunning a.world.nodes new.primary
   first = can.live new.primary led
 
   count : length (others new.primary new.members) ≡ length new.members - 1
@@ -65,7 +65,7 @@ module _ {S C O : Type 0} (rules : Rules S C O) (silent : StartsGiveNothing rule
           subst (λ (l : List C). CanTake (a.master.given + 1) (length l) (n + 1) r) gives_log.is.log_is
           (can_take rules config a past came n gives_log.index r gives_log.replica stands gives_log.stands asked_member runs)
 
-      each : (m : ℕ) → NodeIs Runs a.world.nodes m → NodeIs (CanTake (a.master.given + 1) (length log)) a.world.nodes m
+      each : (m : ℕ) → NodeIs IsRunning a.world.nodes m → NodeIs (CanTake (a.master.given + 1) (length log)) a.world.nodes m
       each m z =
           record {
             index = z.index;

@@ -8,7 +8,7 @@ abbrev pub whole_log : {S C : Type 0} → ReplicaState S C → List C
 whole_log r = r.log
 
 -- the node of a number runs
-pub record Runs {S C : Type 0} (m : ℕ) (r : ReplicaState S C) : Type 0 where
+pub record IsRunning {S C : Type 0} (m : ℕ) (r : ReplicaState S C) : Type 0 where
   pub runs : r.stopped ≡ false
 
 -- the node runs, and its whole log is this one

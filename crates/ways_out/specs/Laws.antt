@@ -11,7 +11,7 @@ use Rattle.snapshots.specs.whole.Serving.{max_places}
 use Rattle.snapshots.specs.agreement.MasterState.{refusal}
 use Rattle.snapshots.specs.agreement.Moments.{Moment, Moments, IsAgreed}
 use Rattle.ways_out.specs.Deliveries.{Delivered, NodeIs, assigned_moment, way_out}
-use Rattle.ways_out.specs.Following.{Follows, Runs, RunsWith, Serves}
+use Rattle.ways_out.specs.Following.{Follows, IsRunning, RunsWith, Serves}
 
 -- the machine outputs nothing at the start of a ballot
 abbrev pub StartsGiveNothing : {S C O : Type 0} → Rules S C O → Type 0
@@ -23,7 +23,7 @@ StartsGiveNothing {S = S} rules = (s : S) (b : ℕ) → rules.gives s (rules.sta
 pub record CanBeLed {S C O : Type 0} (a : Moment S C O) (new : Config) (index source : ℕ)
     (log : List C) : Type 0 where
   pub granted : refusal a.master new ≡ None
-  pub live : (m : ℕ) → In m new.members → NodeIs Runs a.world.nodes m
+  pub live : (m : ℕ) → In m new.members → NodeIs IsRunning a.world.nodes m
   pub asked : slice_get a.master.members index ≡ Some source
   pub gives : NodeIs (RunsWith log) a.world.nodes source
   pub room : length log < max_places

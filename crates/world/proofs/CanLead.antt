@@ -14,7 +14,7 @@ use Rattle.headline.specs.broker_spec.Place.{Client}
 use Rattle.headline.specs.broker_base.State.{State}
 use Rattle.escaping_nodes.specs.Coming.{IsSeen}
 use Rattle.escaping_nodes.specs.ways_out.Deliveries.{NodeIs}
-use Rattle.escaping_nodes.specs.ways_out.Following.{Runs}
+use Rattle.escaping_nodes.specs.ways_out.Following.{IsRunning}
 use Rattle.escaping_nodes.specs.ways_out.Laws.{CanBeLed}
 use Rattle.escaping_nodes.proofs.NodesFollow.{replica_at}
 use Rattle.headline.specs.node_group.Group.{Group, moment_of, replica_of}
@@ -120,7 +120,7 @@ module _ (config : Config) (g : Group) (past : List (Moment State Command Output
       in_members [] m i = i
       in_members (x ∷ ms) m i = i
 
-      live : (m : ℕ) → is_running w.nodes.nodes m ≡ true → NodeIs Runs (whole_moment a).world.nodes m
+      live : (m : ℕ) → is_running w.nodes.nodes m ≡ true → NodeIs IsRunning (whole_moment a).world.nodes m
       live m e =
           let r = runs_here w.nodes.nodes m e in
           record { index = r.at; number = r.number; replica = whole g.archive (replica_of r.node.core); stands = whole_at r.at r.node r.stands; is = record { runs = r.runs } }
