@@ -4,10 +4,10 @@ use Rattle.cutter.specs.packet.declared.packet.Packet.{Packet}
 use Rattle.client_base.specs.declared.error.ClientError.{ClientError}
 use Rattle.client_base.specs.declared.error.ClientError.TheVariants as errors
 use Rattle.client.specs.Core.{Core}
-use Rattle.client.specs.Reading.{Reads, outcome_of}
+use Rattle.client.specs.Reading.{ReadsPacket, outcome_of}
 use Rattle.client.specs.Inside.Handling.{Tries, ReadsOne}
 
-pub handling_fails : (old mid new : Core) (packet : Packet) (error : ClientError) → Reads old packet mid
+pub handling_fails : (old mid new : Core) (packet : Packet) (error : ClientError) → ReadsPacket old packet mid
     → Tries (outcome_of packet mid) mid (Err error) new → ReadsOne old (Err error) new
 handling_fails old mid new packet errors.Memory r t =
     (ap (λ (c : Core). c.state) t ∙ r.1, ap (λ (c : Core). c.out) t ∙ r.2)

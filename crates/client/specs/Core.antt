@@ -38,29 +38,29 @@ IsDone outcome old new =
     × (new.unread ≡ old.unread)
 
 -- A call is its whole step; it is refused if the step is, and if memory runs out nothing changes.
-abbrev pub Does : ClientOutcome → Core → Result (Unit {0}) ClientError → Core → Type 0
-Does outcome old (Ok done) new = (outcome.refusal ≡ None) × IsDone outcome old new
-Does outcome old (Err errors.Memory) new = new ≡ old
-Does outcome old (Err cause) new = (outcome.refusal ≡ Some cause) × (new ≡ old)
+abbrev pub AnswersCall : ClientOutcome → Core → Result (Unit {0}) ClientError → Core → Type 0
+AnswersCall outcome old (Ok done) new = (outcome.refusal ≡ None) × IsDone outcome old new
+AnswersCall outcome old (Err errors.Memory) new = new ≡ old
+AnswersCall outcome old (Err cause) new = (outcome.refusal ≡ Some cause) × (new ≡ old)
 
 -- the client loses its connection: what it wrote stays, what it has not read is dropped
 abbrev pub gone : Core → Core
 gone core = record core { state = lost core.state; unread = nothing_read }
 
 -- the client opens a connection: CONNECT is the first that is written on it
-abbrev pub Opens : ClientOutcome → Core → Result (Unit {0}) ClientError → Core → Type 0
-Opens outcome old (Ok done) new =
+abbrev pub OpensConnection : ClientOutcome → Core → Result (Unit {0}) ClientError → Core → Type 0
+OpensConnection outcome old (Ok done) new =
     (new.state ≡ outcome.state) × AppendsAll [] new.out outcome.writes × (new.unread ≡ nothing_read)
-Opens outcome old (Err cause) new = (cause ≡ errors.Memory) × (new ≡ old)
+OpensConnection outcome old (Err cause) new = (cause ≡ errors.Memory) × (new ≡ old)
 
 -- the client disconnects: like a call, and what it has not read is dropped
-abbrev pub Leaves : ClientOutcome → Core → Result (Unit {0}) ClientError → Core → Type 0
-Leaves outcome old (Ok done) new =
+abbrev pub LeavesServer : ClientOutcome → Core → Result (Unit {0}) ClientError → Core → Type 0
+LeavesServer outcome old (Ok done) new =
     (outcome.refusal ≡ None) × (new.state ≡ outcome.state)
     × AppendsAll old.out new.out outcome.writes
     × (new.unread ≡ nothing_read)
-Leaves outcome old (Err errors.Memory) new = new ≡ old
-Leaves outcome old (Err cause) new = (outcome.refusal ≡ Some cause) × (new ≡ old)
+LeavesServer outcome old (Err errors.Memory) new = new ≡ old
+LeavesServer outcome old (Err cause) new = (outcome.refusal ≡ Some cause) × (new ≡ old)
 
 -- what the client accepted is taken out
 abbrev pub without_accepted : Core → Core

@@ -18,8 +18,8 @@ abbrev pub outcome_of : Packet → Core → ClientOutcome
 outcome_of packet core = received packet core.state.stage core.state
 
 -- the first whole packet that is not yet read, and the client without it
-abbrev pub Reads : Core → Packet → Core → Type 0
-Reads old packet new =
+abbrev pub ReadsPacket : Core → Packet → Core → Type 0
+ReadsPacket old packet new =
     Takes old.unread (Ok (Some packet)) new.unread × (new.state ≡ old.state) × (new.out ≡ old.out)
 
 -- Packets, each whole, and none of them refused, lead from the first client to the second.
@@ -27,7 +27,7 @@ pub data Handles (start : Core) : Core → Type 0 where
   -- no packet
   none : Handles start start
   -- one more packet, which is not refused
-  more : {s t u : Core} (packet : Packet) → Handles start s → Reads s packet t
+  more : {s t u : Core} (packet : Packet) → Handles start s → ReadsPacket s packet t
       → (outcome_of packet t).refusal ≡ None
       → IsDone (outcome_of packet t) t u → Handles start u
 
@@ -42,7 +42,7 @@ abbrev pub StopsFor : ClientError → Core → Type 0
 StopsFor cause core =
     ((fault : DecodeFault) × (rest : Stream) × Takes core.unread (Err (cuts.Decode fault)) rest
     × (cause ≡ cause_of fault))
-    ⊎ ((packet : Packet) × (next : Core) × Reads core packet next
+    ⊎ ((packet : Packet) × (next : Core) × ReadsPacket core packet next
     × ((outcome_of packet next).refusal ≡ Some cause))
 
 -- How the call ends. The connection survives a lost session, and what comes after its CONNACK is
@@ -51,7 +51,7 @@ abbrev pub EndsWith : Core → Result (Unit {0}) ClientError → Core → Type 0
 EndsWith core (Ok done) new = Takes core.unread (Ok None) core.unread × (new ≡ core)
 EndsWith core (Err errors.Memory) new = new ≡ gone core
 EndsWith core (Err errors.SessionLost) new =
-    (packet : Packet) × (next : Core) × Reads core packet next
+    (packet : Packet) × (next : Core) × ReadsPacket core packet next
     × ((outcome_of packet next).refusal ≡ Some errors.SessionLost)
     × IsDone (outcome_of packet next) next new
 EndsWith core (Err cause) new = StopsFor cause core × (new ≡ gone core)

@@ -4,7 +4,7 @@ ghost use Rattle.std.specs.Prelude.{◌≡◌, [], ◌∷◌, IfOk, OnOk, OnErr,
 ghost use Rattle.cutter.specs.packet.Spelling.{AppendsSpelling};
 ghost use Rattle.cutter.specs.packet.declared.packet.Packet.TheVariants as packets;
 ghost use Rattle.client_base.specs.Steps.{Call, keeper_step};
-ghost use Rattle.client.specs.Core.{Does};
+ghost use Rattle.client.specs.Core.{AnswersCall};
 ghost use Rattle.client.specs.Inside.Ids.{RequestId};
 
 use crate::client_core::ClientCore;
@@ -19,7 +19,7 @@ impl ClientCore {
     /// offline, otherwise `WindowFull` if no identifier is free, otherwise `Memory` if memory runs
     /// out; a refusal changes nothing.
     pub fn subscribe(&mut self, filter: Filter, qos: QoS) -> Result<(), ClientError>
-        ensures { Does (keeper_step (Call.Subscribes filter qos) self.old.state)
+        ensures { AnswersCall (keeper_step (Call.Subscribes filter qos) self.old.state)
             self.old result self.new }
     {
         let id = self.request_id()?;
@@ -31,7 +31,7 @@ impl ClientCore {
 
     /// Unsubscribes from a filter. It is refused as `subscribe` is.
     pub fn unsubscribe(&mut self, filter: Filter) -> Result<(), ClientError>
-        ensures { Does (keeper_step (Call.Unsubscribes filter) self.old.state)
+        ensures { AnswersCall (keeper_step (Call.Unsubscribes filter) self.old.state)
             self.old result self.new }
     {
         let id = self.request_id()?;

@@ -5,7 +5,7 @@ ghost use Rattle.std.specs.Prelude.{OnErr, IsErrOf};
 ghost use Rattle.client_base.specs.State.{resent, is_online};
 ghost use Rattle.client_base.specs.Calls.{opened, confirmed, discarded, numbered};
 ghost use Rattle.client_base.specs.Steps.{Call, keeper_step};
-ghost use Rattle.client.specs.Core.{Opens, Leaves, AppendsAll};
+ghost use Rattle.client.specs.Core.{OpensConnection, LeavesServer, AppendsAll};
 ghost use Rattle.client.specs.Inside.Handling.{Tries, with_state, all_sent};
 
 use crate::client_core::ClientCore;
@@ -19,7 +19,7 @@ impl ClientCore {
     /// connection. A connection that is still open is lost first. `Memory` is the only error, and
     /// changes nothing.
     pub fn open(&mut self) -> Result<(), ClientError>
-        ensures { Opens (keeper_step Call.Opens self.old.state) self.old result self.new }
+        ensures { OpensConnection (keeper_step Call.Opens self.old.state) self.old result self.new }
     {
         let mut out = Vec::new(self.alloc);
         write_connect(&self.client, self.keep_alive, &mut out)?;
@@ -32,7 +32,8 @@ impl ClientCore {
     /// Ends the connection: writes DISCONNECT if the server has accepted it, and then it is lost.
     /// `NotActive` comes exactly if there is no connection; after `Memory` nothing has changed.
     pub fn disconnect(&mut self) -> Result<(), ClientError>
-        ensures { Leaves (keeper_step Call.Disconnects self.old.state) self.old result self.new }
+        ensures { LeavesServer
+            (keeper_step Call.Disconnects self.old.state) self.old result self.new }
     {
         match self.stage {
             Stage::Closed => return Err(ClientError::NotActive),

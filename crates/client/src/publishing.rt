@@ -8,7 +8,7 @@ ghost use Rattle.client_base.specs.session_base.Publication.{is_answered};
 ghost use Rattle.client_base.specs.State.{publish_kept};
 ghost use Rattle.client_base.specs.Publishing.{is_over_limit};
 ghost use Rattle.client_base.specs.Steps.{Call, keeper_step};
-ghost use Rattle.client.specs.Core.{Does, publication_with};
+ghost use Rattle.client.specs.Core.{AnswersCall, publication_with};
 ghost use Rattle.client.specs.Inside.Ids.{PublicationId};
 ghost use Rattle.client.specs.Inside.Handling.{keeping, sending};
 
@@ -37,7 +37,7 @@ impl ClientCore {
         payload: Payload,
     ) -> Result<(), ClientError>
         ensures { let call = Call.Publishes (publication_with retain qos topic payload) in
-            Does (keeper_step call self.old.state) self.old result self.new }
+            AnswersCall (keeper_step call self.old.state) self.old result self.new }
     {
         let publication = Publication {
             retain,
@@ -54,7 +54,7 @@ impl ClientCore {
     // Publishes at QoS 0.
     fn publish_once(&mut self, publication: Publication) -> Result<(), ClientError>
         requires { publication.qos ≡ qualities.AtMostOnce }
-        ensures { Does (keeper_step (Call.Publishes publication) self.old.state)
+        ensures { AnswersCall (keeper_step (Call.Publishes publication) self.old.state)
             self.old result self.new }
     {
         if self.stage != Stage::Online {
@@ -71,7 +71,7 @@ impl ClientCore {
     // Publishes at QoS 1 or 2.
     fn publish_kept(&mut self, publication: Publication) -> Result<(), ClientError>
         requires { is_answered publication.qos ≡ true }
-        ensures { Does (keeper_step (Call.Publishes publication) self.old.state)
+        ensures { AnswersCall (keeper_step (Call.Publishes publication) self.old.state)
             self.old result self.new }
     {
         let id = self.publication_id()?;
@@ -80,7 +80,7 @@ impl ClientCore {
 
     // Keeps a publication, and sends it if the client is online.
     fn keep(&mut self, kept: KeptPublication) -> Result<(), ClientError>
-        ensures { Does (keeping kept self.old.state) self.old result self.new }
+        ensures { AnswersCall (keeping kept self.old.state) self.old result self.new }
     {
         if is_too_large(&kept)? {
             return Err(ClientError::TooLarge);
@@ -94,7 +94,7 @@ impl ClientCore {
 
     // Sends a publication, and keeps it as sent.
     fn send(&mut self, kept: KeptPublication) -> Result<(), ClientError>
-        ensures { Does (sending kept self.old.state) self.old result self.new }
+        ensures { AnswersCall (sending kept self.old.state) self.old result self.new }
     {
         self.sent.reserve(1)?;
         write_publish(&kept, false, &mut self.out)?;

@@ -3,7 +3,7 @@
 ghost use Rattle.std.specs.Prelude.{◌≡◌, ◌<◌, length, true, Ok};
 ghost use Rattle.client_base.specs.Calls.{on_first, on_later};
 ghost use Rattle.client.specs.Reading.{outcome_of, cause_of, OnBytes};
-ghost use Rattle.client.specs.Inside.Handling.{Tries, ReadsOne, FeedsAndReads, TakesNext, Feeds, ReadsAll};
+ghost use Rattle.client.specs.Inside.Handling.{Tries, ReadsOne, FeedsAndReads, TakesNext, Feeds, HandlesPackets};
 ghost use Rattle.client.specs.Inside.Handling.{cut_cause, is_fatal};
 
 use crate::client_core::ClientCore;
@@ -54,7 +54,7 @@ impl ClientCore {
 
     // Handles each whole packet, up to the first that ends the call.
     fn read_all(&mut self) -> Result<(), ClientError>
-        ensures { ReadsAll self.old result self.new }
+        ensures { HandlesPackets self.old result self.new }
     {
         while self.read_one()? {}
         Ok(())

@@ -1,7 +1,7 @@
 -- A client that handles a CONNACK 0 with session present is online then.
 use Rattle.std.proofs.Common.{◌≡◌, ◌⊎◌, inl, inr, ℕ, true, List, [], ◌++◌, Option, Some, None, Result, Ok, Err, refl, sym, ap, ◌∙◌, subst}
 use Rattle.client.specs.Core.{Core, nothing_read}
-use Rattle.client.specs.Reading.{EndsWith, Handles, OnBytes, Reads, StopsFor, fed, outcome_of}
+use Rattle.client.specs.Reading.{EndsWith, Handles, OnBytes, ReadsPacket, StopsFor, fed, outcome_of}
 use Rattle.client.specs.Reading.Handles.{none, more}
 use Rattle.client.specs.Answered.{ClientOutcome}
 use Rattle.client.specs.Calls.{received}
@@ -60,11 +60,11 @@ module _ (piece : List ℕ) (old : Core) (whole : verdict piece ≡ Ok (connack,
     read : core.unread.bytes ≡ []
 
   -- the next packet is the CONNACK
-  reads_it : (packet : Packet) (next : Core) → Reads (fed piece old) packet next → (packet ≡ connack) × (next.unread.bytes ≡ []) × (next.state ≡ old.state)
+  reads_it : (packet : Packet) (next : Core) → ReadsPacket (fed piece old) packet next → (packet ≡ connack) × (next.unread.bytes ≡ []) × (next.state ≡ old.state)
   reads_it packet next reads =
       let z = same_packet (verdict (fed piece old).unread.bytes) packet connack next.unread.bytes [] reads.0.1 stands in (z.0, z.1, reads.1)
 
-  turn_is : (packet : Packet) (next : Core) → Reads (fed piece old) packet next → outcome_of packet next ≡ received connack stages.Opened old.state
+  turn_is : (packet : Packet) (next : Core) → ReadsPacket (fed piece old) packet next → outcome_of packet next ≡ received connack stages.Opened old.state
   turn_is packet next reads =
       let z = reads_it packet next reads in
       ap (λ (p : Packet). outcome_of p next) z.0 ∙ ap (λ (s : ClientState). received connack s.stage s) z.2 ∙ ap (λ (s : Stage). received connack s old.state) opened
@@ -78,7 +78,7 @@ module _ (piece : List ℕ) (old : Core) (whole : verdict piece ≡ Ok (connack,
     where
       by : (s ≡ fed piece old) ⊎ After s → (last ≡ fed piece old) ⊎ After last
       by (inl same) =
-          let r : Reads (fed piece old) packet t = subst (λ (x : Core). Reads x packet t) same reads in
+          let r : ReadsPacket (fed piece old) packet t = subst (λ (x : Core). ReadsPacket x packet t) same reads in
           let turn = turn_is packet t r in
           let state = done.0 ∙ ap (λ (u : ClientOutcome). u.state) turn in
           inr (record {
@@ -114,7 +114,7 @@ module _ (piece : List ℕ) (old : Core) (whole : verdict piece ≡ Ok (connack,
   ends last new (Ok done) memory (inr after) z = (refl, subst IsServed (sym z.1) after.served)
   ends last new (Err errors.Memory) memory either z = absurd (memory refl)
   ends last new (Err errors.SessionLost) memory (inl same) (packet, next, reads, refused, done) =
-      absurd (none_stops errors.SessionLost (inr (packet, next, subst (λ (x : Core). Reads x packet next) same reads, refused)))
+      absurd (none_stops errors.SessionLost (inr (packet, next, subst (λ (x : Core). ReadsPacket x packet next) same reads, refused)))
   ends last new (Err errors.SessionLost) memory (inr after) (packet, next, reads, refused, done) =
       absurd (none_stops_after errors.SessionLost last after.read (inr (packet, next, reads, refused)))
   ends last new (Err cause) memory (inl same) z = absurd (none_stops cause (subst (λ (k : Core). StopsFor cause k) same z.0))

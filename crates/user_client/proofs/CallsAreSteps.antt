@@ -9,7 +9,7 @@ use Rattle.client.specs.client_base.declared.stage.Stage.{Stage}
 use Rattle.client.specs.client_base.declared.stage.Stage.TheVariants as stages
 use Rattle.client.specs.client_base.Steps.{Call, keeper_step, disconnected}
 use Rattle.client.specs.session_base.declared.publication.Publication.{Publication}
-use Rattle.client.specs.Core.{Core, Does, Leaves, without_accepted}
+use Rattle.client.specs.Core.{Core, AnswersCall, LeavesServer, without_accepted}
 use Rattle.client.specs.Reading.{OnBytes}
 use Rattle.user_client.specs.Tracing.{Called, IsAsked, Step, Trace, IsFirst}
 use Rattle.user_client.proofs.TracesJoin.{one_step, steps_to, stays, taken_as}
@@ -36,12 +36,12 @@ no_step core was new is same = subst (λ (s : Called). Trace s [] (parts new was
 
 -- it took a publication
 pub asked : (p : Publication) (core : Core) (was : Bool) {seen : Called} (new : Core) → parts core was ≡ seen
-    → Does (keeper_step (Call.Publishes p) core.state) core (Ok tt) new → IsAsked p seen (parts new was)
+    → AnswersCall (keeper_step (Call.Publishes p) core.state) core (Ok tt) new → IsAsked p seen (parts new was)
 asked p core was new is does = subst (λ (s : Called). IsAsked p s (parts new was)) is (does, refl)
 
 -- the client disconnected, or did not because memory ran out, or had no connection
 pub left : (core : Core) (was : Bool) {seen : Called} (new : Core) (result : Result (Unit {0}) ClientError)
-    → parts core was ≡ seen → Leaves (keeper_step Call.Disconnects core.state) core result new
+    → parts core was ≡ seen → LeavesServer (keeper_step Call.Disconnects core.state) core result new
     → Trace seen [] (parts new was)
 left core was new (Ok tt) is leaves = step_of core was (parts new was) is (Step.leaves new leaves)
 left core was new (Err errors.Memory) is same = no_step core was new is same
@@ -68,7 +68,7 @@ disconnected_keeps stages.Opened state = refl
 disconnected_keeps stages.Online state = refl
 
 pub left_keeps : (core : Core) (new : Core) (result : Result (Unit {0}) ClientError)
-    → Leaves (keeper_step Call.Disconnects core.state) core result new
+    → LeavesServer (keeper_step Call.Disconnects core.state) core result new
     → kept_count new.state ≡ kept_count core.state
 left_keeps core new (Ok tt) leaves = ap kept_count leaves.1 ∙ disconnected_keeps core.state.stage core.state
 left_keeps core new (Err errors.Memory) same = ap (λ (c : Core). kept_count c.state) same

@@ -5,7 +5,7 @@ use Rattle.client.specs.client_base.declared.error.ClientError.{ClientError}
 use Rattle.client.specs.client_base.declared.error.ClientError.TheVariants as errors
 use Rattle.client.specs.client_base.Answered.{ClientOutcome}
 use Rattle.client.specs.client_base.Steps.{Call, keeper_step}
-use Rattle.client.specs.Core.{Core, Does}
+use Rattle.client.specs.Core.{Core, AnswersCall}
 use Rattle.user_client.specs.declared.user_client_error.UserClientError.{UserClientError}
 use Rattle.user_client.specs.Refusals.{IsRefusedFor, fault_of_call}
 use Rattle.user_client.specs.Tracing.{Called}
@@ -18,7 +18,7 @@ caused outcome cause it is refused = inl (ap (option_map fault_of_call) refused 
 
 -- the fault says why
 refused_for : (outcome : ClientOutcome) (old new : Core) (cause : ClientError) (it : UserClientError) → it ≡ fault_of_call cause
-    → Does outcome old (Err cause) new → IsRefusedFor outcome.refusal it
+    → AnswersCall outcome old (Err cause) new → IsRefusedFor outcome.refusal it
 refused_for outcome old new errors.Memory it is same = inr is
 refused_for outcome old new (errors.Malformed kind) it is refused = caused outcome (errors.Malformed kind) it is refused.0
 refused_for outcome old new errors.Protocol it is refused = caused outcome errors.Protocol it is refused.0
@@ -28,7 +28,7 @@ refused_for outcome old new errors.WindowFull it is refused = caused outcome err
 refused_for outcome old new errors.SessionLost it is refused = caused outcome errors.SessionLost it is refused.0
 
 -- nothing changed
-unchanged : (outcome : ClientOutcome) (old new : Core) (cause : ClientError) → Does outcome old (Err cause) new → new ≡ old
+unchanged : (outcome : ClientOutcome) (old new : Core) (cause : ClientError) → AnswersCall outcome old (Err cause) new → new ≡ old
 unchanged outcome old new errors.Memory same = same
 unchanged outcome old new (errors.Malformed kind) refused = refused.1
 unchanged outcome old new errors.Protocol refused = refused.1
@@ -39,14 +39,14 @@ unchanged outcome old new errors.SessionLost refused = refused.1
 
 -- the same of a client that is seen as this one
 pub refused_seen : (call : Call) (core : Core) (was : Bool) {seen : Called} (new : Core) (cause : ClientError) (it : UserClientError)
-    → parts core was ≡ seen → it ≡ fault_of_call cause → Does (keeper_step call core.state) core (Err cause) new
+    → parts core was ≡ seen → it ≡ fault_of_call cause → AnswersCall (keeper_step call core.state) core (Err cause) new
     → IsRefusedFor (keeper_step call seen.core.state).refusal it
 refused_seen call core was new cause it seen_so is does =
     subst (λ (s : Called). IsRefusedFor (keeper_step call s.core.state).refusal it) seen_so
     (refused_for (keeper_step call core.state) core new cause it is does)
 
 pub unchanged_seen : (call : Call) (core : Core) (was : Bool) {seen : Called} (new : Core) (cause : ClientError)
-    → parts core was ≡ seen → Does (keeper_step call core.state) core (Err cause) new → parts new was ≡ seen
+    → parts core was ≡ seen → AnswersCall (keeper_step call core.state) core (Err cause) new → parts new was ≡ seen
 unchanged_seen call core was new cause seen_so does =
     ap (λ (c : Core). parts c was) (unchanged (keeper_step call core.state) core new cause does) ∙ seen_so
 

@@ -8,7 +8,7 @@ use Rattle.client.specs.client_base.declared.error.ClientError.{ClientError}
 use Rattle.client.specs.client_base.declared.error.ClientError.TheVariants as errors
 use Rattle.client.specs.client_base.State.{is_online}
 use Rattle.client.specs.client_base.Steps.{Call, keeper_step}
-use Rattle.client.specs.Core.{Core, Does, Opens, Leaves, new_core, publication_with, without_accepted}
+use Rattle.client.specs.Core.{Core, AnswersCall, OpensConnection, LeavesServer, new_core, publication_with, without_accepted}
 use Rattle.client.specs.Reading.{OnBytes}
 
 -- a client, and whether a server has accepted one of its connections
@@ -36,23 +36,24 @@ IsFirst called core = called.was_accepted ≡ false → core.state.present ≡ f
 -- the client was asked for this publication and took it, and nothing changed except its keeper
 abbrev pub IsAsked : Publication → Called → Called → Type 0
 IsAsked p old new =
-    Does (keeper_step (Call.Publishes p) old.core.state) old.core (Ok tt) new.core
+    AnswersCall (keeper_step (Call.Publishes p) old.core.state) old.core (Ok tt) new.core
     × (new.was_accepted ≡ old.was_accepted)
 
 -- One step. There is no step for bytes of a server that lost the session.
 pub data Step (old : Called) : Called → Type 0 where
   -- it opens a connection and writes CONNECT
-  opens : (core : Core) → Opens (keeper_step Call.Opens old.core.state) old.core (Ok tt) core
+  opens : (core : Core) →
+      OpensConnection (keeper_step Call.Opens old.core.state) old.core (Ok tt) core
       → Step old (with_core core old)
   -- it publishes
   publishes : (retain : Bool) (qos : QoS) (topic payload : List ℕ) (core : Core)
-      → Does
+      → AnswersCall
       (keeper_step (Call.Publishes (publication_with retain qos topic payload)) old.core.state)
       old.core (Ok tt) core
       → Step old (with_core core old)
   -- it subscribes
   subscribes : (filter : List ℕ) (qos : QoS) (core : Core)
-      → Does (keeper_step (Call.Subscribes filter qos) old.core.state) old.core (Ok tt) core
+      → AnswersCall (keeper_step (Call.Subscribes filter qos) old.core.state) old.core (Ok tt) core
       → Step old (with_core core old)
   -- what it wrote is handed over
   writes : Step old (with_core (record old.core { out = [] }) old)
@@ -63,7 +64,7 @@ pub data Step (old : Called) : Called → Type 0 where
       → Step old (after_bytes core old)
   -- it disconnects
   leaves : (core : Core)
-      → Leaves (keeper_step Call.Disconnects old.core.state) old.core (Ok tt) core
+      → LeavesServer (keeper_step Call.Disconnects old.core.state) old.core (Ok tt) core
       → Step old (with_core core old)
 
 -- Steps one after another, and what was accepted and taken out in them, in order.

@@ -10,7 +10,7 @@ use Rattle.client.specs.client_base.declared.error.ClientError.TheVariants as er
 use Rattle.client.specs.client_base.State.{ClientState, is_open}
 use Rattle.client.specs.client_base.Answered.{ClientOutcome}
 use Rattle.client.specs.client_base.Steps.{Call, keeper_step}
-use Rattle.client.specs.Core.{Core, Does, Leaves}
+use Rattle.client.specs.Core.{Core, AnswersCall, LeavesServer}
 use Rattle.world_pipes.specs.declared.sending.Sending.{Sending}
 use Rattle.world_pipes.specs.declared.sending.Sending.TheVariants as sendings
 use Rattle.world_pipes.specs.Following.{CallingFollows, FollowsBy}
@@ -27,7 +27,7 @@ use Rattle.world_pipes.proofs.StaysOpen.{publishing_stays, subscribing_stays, un
 
 -- ---- a refusal changes nothing
 
-same_core : (outcome : ClientOutcome) (old new : Core) (cause : ClientError) → Does outcome old (Err cause) new → new ≡ old
+same_core : (outcome : ClientOutcome) (old new : Core) (cause : ClientError) → AnswersCall outcome old (Err cause) new → new ≡ old
 same_core outcome old new errors.Memory does = does
 same_core outcome old new errors.NotActive does = does.1
 same_core outcome old new errors.WindowFull does = does.1
@@ -39,7 +39,7 @@ same_core outcome old new (errors.Malformed kind) does = does.1
 pub call_refused : (outcome : ClientOutcome) (old new : Piped) (cause : ClientError) → Calls outcome old (Err cause) new → new ≡ old
 call_refused outcome old new cause calls = ap₂ piped (same_core outcome old.core new.core cause calls.0) calls.1
 
-same_left : (outcome : ClientOutcome) (old new : Core) (cause : ClientError) → Leaves outcome old (Err cause) new → new ≡ old
+same_left : (outcome : ClientOutcome) (old new : Core) (cause : ClientError) → LeavesServer outcome old (Err cause) new → new ≡ old
 same_left outcome old new errors.Memory leaves = leaves
 same_left outcome old new errors.NotActive leaves = leaves.1
 same_left outcome old new errors.WindowFull leaves = leaves.1

@@ -14,7 +14,7 @@ use Rattle.client.specs.client_base.Handled as handling
 use Rattle.client.specs.client_base.History as history
 use Rattle.client.specs.client_base.Keeper.{Keeper}
 use Rattle.client.specs.client_base.Steps.{Call, keeper_step}
-use Rattle.client.specs.Core.{AppendsAll, Core, Opens}
+use Rattle.client.specs.Core.{AppendsAll, Core, OpensConnection}
 use Rattle.byte_world.specs.node_moves.Puts.{spelled}
 use Rattle.byte_world.specs.world_base.declared.Port.{Port}
 use Rattle.byte_world.specs.World.{ClientPipes, new_client}
@@ -88,7 +88,7 @@ opened_fits : (state : ClientState) → CanGoOut state → CanGoOut (keeper_step
 opened_fits state fits = record { keep_alive = fits.keep_alive; client = fits.client; released = fits.released; sent = fits.sent; unsent = fits.unsent }
 
 connected : (node : ℕ) (port : Port) (old : Piped) (core : Core) (m : ClientPipes) (x : ConnectionName) → StandsFor old m →
-    Opens (keeper_step Call.Opens old.core.state) old.core (Ok tt) core → StandsFor (sent_up core old.ways (new_way node port)) (after_connecting x node port m)
+    OpensConnection (keeper_step Call.Opens old.core.state) old.core (Ok tt) core → StandsFor (sent_up core old.ways (new_way node port)) (after_connecting x node port m)
 connected node port old core m x s opens =
     let client : old.core.state.client ≡ m.keeper.client = s.keeper.client in
     let is : packets.Connect (record { client = old.core.state.client; clean = false; keep_alive = old.core.state.keep_alive })

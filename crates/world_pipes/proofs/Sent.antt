@@ -10,7 +10,7 @@ use Rattle.client.specs.client_base.declared.stage.Stage.{Stage}
 use Rattle.client.specs.client_base.declared.stage.Stage.TheVariants as stages
 use Rattle.client.specs.client_base.Steps.{Call, keeper_step, disconnected}
 use Rattle.client.specs.client_base.Answered.{ClientOutcome}
-use Rattle.client.specs.Core.{Core, Does, Leaves}
+use Rattle.client.specs.Core.{Core, AnswersCall, LeavesServer}
 use Rattle.world_pipes.specs.declared.way.Way.{Way}
 use Rattle.world_pipes.specs.declared.sending.Sending.{Sending}
 use Rattle.world_pipes.specs.declared.sending.Sending.TheVariants as sendings
@@ -40,7 +40,7 @@ goes_up true core left ways after sendings.Sent holding leads s = moved_is_sent 
 goes_up true core left ways after sendings.Lost holding leads s = ap₂ piped s.1 s.2
 
 pub called_so : (outcome : ClientOutcome) (old : Piped) (core left : Core) (after : List Way) (sending : Sending) (holds holding : Bool) → IsHeld holds old.core old.ways
-    → Does outcome old.core (Ok tt) core → SendsUp holds core old.ways sending holding left after → Calls outcome old (Ok sending) (piped left after)
+    → AnswersCall outcome old.core (Ok tt) core → SendsUp holds core old.ways sending holding left after → Calls outcome old (Ok sending) (piped left after)
 called_so outcome old core left after sending holds holding held does s = (
   core,
   does,
@@ -77,7 +77,7 @@ held_after true core left ways after sendings.Lost holding known leads s =
 
 -- a call that ends no connection
 pub held_so : (outcome : ClientOutcome) (before core left : Core) (ways after : List Way) (sending : Sending) (holds holding : Bool) → IsHeld holds before ways
-    → outcome.state.stage ≡ before.state.stage → Does outcome before (Ok tt) core → SendsUp holds core ways sending holding left after → IsHeld holding left after
+    → outcome.state.stage ≡ before.state.stage → AnswersCall outcome before (Ok tt) core → SendsUp holds core ways sending holding left after → IsHeld holding left after
 held_so outcome before core left ways after sending holds holding held stays does s =
     held_after holds core left ways after sending holding
     (held.known ∙ ap is_open (sym stays) ∙ ap (λ (state : ClientState). is_open state.stage) (sym does.1.0))
@@ -91,7 +91,7 @@ leaves_open stages.Opened state none = refl
 leaves_open stages.Online state none = refl
 
 pub left_so : (old : Piped) (core left : Core) (after : List Way) (sending : Sending) (holds holding : Bool) → IsHeld holds old.core old.ways
-    → Leaves (keeper_step Call.Disconnects old.core.state) old.core (Ok tt) core → SendsUp holds core old.ways sending holding left after
+    → LeavesServer (keeper_step Call.Disconnects old.core.state) old.core (Ok tt) core → SendsUp holds core old.ways sending holding left after
     → TakesLeave (keeper_step Call.Disconnects old.core.state) old (Ok sending) (piped left after)
 left_so old core left after sending holds holding held leaves s =
     let up : holds ≡ true = held.known ∙ leaves_open old.core.state.stage old.core.state leaves.0 in (

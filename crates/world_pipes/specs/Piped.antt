@@ -6,7 +6,7 @@ use Rattle.client.specs.client_base.declared.error.ClientError.{ClientError}
 use Rattle.client.specs.client_base.declared.error.ClientError.TheVariants as errors
 use Rattle.client.specs.client_base.State.{is_open}
 use Rattle.client.specs.client_base.Answered.{ClientOutcome}
-use Rattle.client.specs.Core.{Core, Does, Leaves, Opens, gone, new_core}
+use Rattle.client.specs.Core.{Core, AnswersCall, LeavesServer, OpensConnection, gone, new_core}
 use Rattle.client.specs.Reading.{OnBytes}
 use Rattle.world_pipes.specs.declared.way.Way.{Way}
 use Rattle.world_pipes.specs.declared.sending.Sending.{Sending}
@@ -60,28 +60,28 @@ GoesUpWhere false core ways sending new = (sending ≡ sendings.Sent) × (new �
 -- A call is the client's, and what it writes goes up; one that the client refuses changes nothing.
 abbrev pub Calls : ClientOutcome → Piped → Result Sending ClientError → Piped → Type 0
 Calls outcome old (Ok sending) new =
-    (core : Core) × Does outcome old.core (Ok tt) core
+    (core : Core) × AnswersCall outcome old.core (Ok tt) core
     × GoesUpWhere (is_holding old) core old.ways sending new
 Calls outcome old (Err cause) new =
-    Does outcome old.core (Err cause) new.core × (new.ways ≡ old.ways)
+    AnswersCall outcome old.core (Err cause) new.core × (new.ways ≡ old.ways)
 
 -- disconnecting is a call like the others
 abbrev pub TakesLeave : ClientOutcome → Piped → Result Sending ClientError → Piped → Type 0
 TakesLeave outcome old (Ok sending) new =
-    (core : Core) × Leaves outcome old.core (Ok tt) core × GoesUp core old.ways sending new
+    (core : Core) × LeavesServer outcome old.core (Ok tt) core × GoesUp core old.ways sending new
 TakesLeave outcome old (Err cause) new =
-    Leaves outcome old.core (Err cause) new.core × (new.ways ≡ old.ways)
+    LeavesServer outcome old.core (Err cause) new.core × (new.ways ≡ old.ways)
 
 -- a client's CONNECT is all that is in transit on a new connection; only memory may run out, and
 -- then there is no connection
 abbrev pub Connects :
     ℕ → Port → ClientOutcome → Piped → Result (Unit {0}) ClientError → Piped → Type 0
 Connects node port outcome old (Ok done) new =
-    (core : Core) × Opens outcome old.core (Ok tt) core
+    (core : Core) × OpensConnection outcome old.core (Ok tt) core
     × (new ≡ sent_up core old.ways (new_way node port))
 Connects node port outcome old (Err cause) new = (cause ≡ errors.Memory) × (new.ways ≡ old.ways)
     × ((new.core ≡ old.core)
-    ⊎ ((core : Core) × Opens outcome old.core (Ok tt) core × (new.core ≡ gone core)))
+    ⊎ ((core : Core) × OpensConnection outcome old.core (Ok tt) core × (new.core ≡ gone core)))
 
 -- a connection that its node does not take is removed: nothing is left of it
 abbrev pub taken_back : Piped → Piped

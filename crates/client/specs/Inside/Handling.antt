@@ -14,7 +14,7 @@ use Rattle.client_base.specs.Answered.{ClientOutcome, going_on}
 use Rattle.client_base.specs.Calls.{refused}
 use Rattle.client_base.specs.Publishing.{is_over_limit}
 use Rattle.client.specs.Core.{Core, IsDone}
-use Rattle.client.specs.Reading.{Reads, outcome_of, StopsFor, Handles, cause_of, fed}
+use Rattle.client.specs.Reading.{ReadsPacket, outcome_of, StopsFor, Handles, cause_of, fed}
 
 -- the whole outcome comes about; one that ends the connection changes nothing here
 abbrev pub Tries : ClientOutcome → Core → Result (Unit {0}) ClientError → Core → Type 0
@@ -28,12 +28,12 @@ Tries outcome old (Err cause) new = (outcome.refusal ≡ Some cause) × (new ≡
 abbrev pub ReadsOne : Core → Result Bool ClientError → Core → Type 0
 ReadsOne old (Ok false) new = Takes old.unread (Ok None) old.unread × (new ≡ old)
 ReadsOne old (Ok true) new =
-    (packet : Packet) × (next : Core) × Reads old packet next
+    (packet : Packet) × (next : Core) × ReadsPacket old packet next
     × ((outcome_of packet next).refusal ≡ None)
     × IsDone (outcome_of packet next) next new
 ReadsOne old (Err errors.Memory) new = (new.state ≡ old.state) × (new.out ≡ old.out)
 ReadsOne old (Err errors.SessionLost) new =
-    (packet : Packet) × (next : Core) × Reads old packet next
+    (packet : Packet) × (next : Core) × ReadsPacket old packet next
     × ((outcome_of packet next).refusal ≡ Some errors.SessionLost)
     × IsDone (outcome_of packet next) next new
 ReadsOne old (Err cause) new = StopsFor cause old × (new.state ≡ old.state) × (new.out ≡ old.out)
@@ -65,14 +65,14 @@ abbrev pub StopsAt : Core → Result (Unit {0}) ClientError → Core → Type 0
 StopsAt core (Ok done) new = Takes core.unread (Ok None) core.unread × (new ≡ core)
 StopsAt core (Err errors.Memory) new = (new.state ≡ core.state) × (new.out ≡ core.out)
 StopsAt core (Err errors.SessionLost) new =
-    (packet : Packet) × (next : Core) × Reads core packet next
+    (packet : Packet) × (next : Core) × ReadsPacket core packet next
     × ((outcome_of packet next).refusal ≡ Some errors.SessionLost)
     × IsDone (outcome_of packet next) next new
 StopsAt core (Err cause) new = StopsFor cause core × (new.state ≡ core.state) × (new.out ≡ core.out)
 
 -- whole packets are handled, and then it ends
-abbrev pub ReadsAll : Core → Result (Unit {0}) ClientError → Core → Type 0
-ReadsAll old result new = (last : Core) × Handles old last × StopsAt last result new
+abbrev pub HandlesPackets : Core → Result (Unit {0}) ClientError → Core → Type 0
+HandlesPackets old result new = (last : Core) × Handles old last × StopsAt last result new
 
 -- a piece is appended to what is not yet read
 abbrev pub Feeds : List ℕ → Core → Result (Unit {0}) ClientError → Core → Type 0
@@ -81,7 +81,7 @@ Feeds piece old (Err cause) new = (cause ≡ errors.Memory) × (new ≡ old)
 
 -- a piece is appended and handled
 abbrev pub FeedsAndReads : List ℕ → Core → Result (Unit {0}) ClientError → Core → Type 0
-FeedsAndReads piece old result new = ReadsAll (fed piece old) result new
+FeedsAndReads piece old result new = HandlesPackets (fed piece old) result new
 
 -- whether the connection is lost after this answer to a piece
 abbrev pub is_fatal : Result (Unit {0}) ClientError → Bool
@@ -91,7 +91,7 @@ is_fatal (Err cause) = true
 
 -- the next whole packet, if there is one
 abbrev pub TakesNext : Core → Result (Option Packet) ClientError → Core → Type 0
-TakesNext old (Ok (Some packet)) new = Reads old packet new
+TakesNext old (Ok (Some packet)) new = ReadsPacket old packet new
 TakesNext old (Ok None) new = Takes old.unread (Ok None) old.unread × (new ≡ old)
 TakesNext old (Err errors.Memory) new = (new.state ≡ old.state) × (new.out ≡ old.out)
 TakesNext old (Err cause) new =
