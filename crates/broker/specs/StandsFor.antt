@@ -35,21 +35,21 @@ broker_rules =
     }
 
 -- the state is the one that this list of commands means, if the window was this one at first
-abbrev pub StandsFor : ℕ → State → List Command → Type 0
-StandsFor first state commands =
+abbrev pub StateStandsFor : ℕ → State → List Command → Type 0
+StateStandsFor first state commands =
     state ≡ state_of (limits_from first) (past_of (limits_from first) commands)
 
 -- a new broker's state is that of no command, with the wide window
 abbrev pub BeginsEmpty : Type 0
-BeginsEmpty = StandsFor wide_window (empty_state wide_window) []
+BeginsEmpty = StateStandsFor wide_window (empty_state wide_window) []
 
 -- after one more command the state corresponds to the list with that command, and its answers are
 -- those that the list means
 abbrev pub GoesOnStanding : Type 0
 GoesOnStanding =
     (first : ℕ) → (state : State) → (commands : List Command) → (command : Command) →
-    StandsFor first state commands →
-    StandsFor first (after state command) (commands ++ command ∷ [])
+    StateStandsFor first state commands →
+    StateStandsFor first (after state command) (commands ++ command ∷ [])
     × (answers state command
     ≡ answers_of (limits_from first) (past_of (limits_from first) commands) command)
 
@@ -59,10 +59,10 @@ abbrev pub GoesOnFromFormOne : Type 0
 GoesOnFromFormOne =
     (state : State) → (commands : List Command) → IsUsualState state →
     state.window ≡ narrow_window →
-    StandsFor narrow_window state commands →
+    StateStandsFor narrow_window state commands →
     (read : State)
     × (thawed (frozen_before state) ≡ Some read)
-    × StandsFor narrow_window read commands
+    × StateStandsFor narrow_window read commands
 
 -- with the wide window at first, every window is wide
 abbrev pub UsualIsWide : Type 0

@@ -23,7 +23,7 @@ use Rattle.client_base.specs.HistoryLaws.{CallsFollow}
 use Rattle.client_base.specs.Written.{plain, writes}
 use Rattle.client_base.specs.Keeper.{Side, ids_in_use}
 use Rattle.client_base.specs.Handled as handling
-use Rattle.client_base.specs.History.{StandsFor}
+use Rattle.client_base.specs.History.{KeeperStandsFor}
 use Rattle.client_base.proofs.FollowsPackets.{Same, silent, one_written}
 use Rattle.client_base.proofs.FollowsCalls.{side_of, publish_follows}
 use Rattle.client_base.proofs.FreeIds.{next_same}
@@ -31,19 +31,19 @@ use Rattle.client_base.proofs.FollowsHandled.{lost_stands, requests_stand, handl
 
 -- ---- requests, and the end of a connection
 
-asks_follow : (request : Request) (packet : Packet) (side : Side ℕ) (state : ClientState) → StandsFor side.keeper state
+asks_follow : (request : Request) (packet : Packet) (side : Side ℕ) (state : ClientState) → KeeperStandsFor side.keeper state
     → Same side
     (record { keeper = asks request side.keeper; connection = writes (plain packet ∷ []) side.connection })
     (asked request packet state)
 asks_follow request packet side state s =
     record {
-      stands = subst (λ (requests : List Request). StandsFor (asks request side.keeper) (record state { requests = requests }))
+      stands = subst (λ (requests : List Request). KeeperStandsFor (asks request side.keeper) (record state { requests = requests }))
           (ap (λ l. l ++ request ∷ []) (sym s.requests)) (requests_stand side.keeper state (side.keeper.requests ++ request ∷ []) s);
       writes = one_written side.connection packet;
     }
 
 -- a request that is not refused, with one identifier on both sides
-request_follows : (refusal : Option ClientError) (make : ℕ → Request) (write : ℕ → Packet) (law : IsLeastFree) (side : Side ℕ) (state : ClientState) → StandsFor side.keeper state
+request_follows : (refusal : Option ClientError) (make : ℕ → Request) (write : ℕ → Packet) (law : IsLeastFree) (side : Side ℕ) (state : ClientState) → KeeperStandsFor side.keeper state
     → (unless_refused refusal (asked (make (next_id state)) (write (next_id state)) state) state).refusal ≡ None
     → Same side
     (record {
@@ -58,7 +58,7 @@ request_follows None make write law side state s taken =
     (asked (make (next_id state)) (write (next_id state)) state))
     (next_same side.keeper state law s) (asks_follow (make (next_id state)) (write (next_id state)) side state s)
 
-leaves_follow : (stage : Stage) (online : Bool) (side : Side ℕ) (state : ClientState) → StandsFor side.keeper state → is_online stage ≡ online
+leaves_follow : (stage : Stage) (online : Bool) (side : Side ℕ) (state : ClientState) → KeeperStandsFor side.keeper state → is_online stage ≡ online
     → (disconnected stage state).refusal ≡ None
     → Same side
     (record { keeper = handling.lost side.keeper; connection = writes (if online then plain packets.Disconnect ∷ [] else []) side.connection })
@@ -80,7 +80,7 @@ online_or_answered false true other large e f = refl
 online_or_answered false false other large e f = absurd (both_ways true (ap is_some e) refl)
 
 publishes_follow : (p : Publication) (law : IsLeastFree) (side : Side ℕ) (state : ClientState) (refusal : Option ClientError) → publish_refusal p state ≡ refusal
-    → StandsFor side.keeper state → (unless_refused refusal (published p state) state).refusal ≡ None
+    → KeeperStandsFor side.keeper state → (unless_refused refusal (published p state) state).refusal ≡ None
     → Same side (keeper_goes 0 (Call.Publishes p) side) (unless_refused refusal (published p state) state)
 publishes_follow p law side state (Some cause) e s taken = absurd (both_ways true (ap is_some taken) refl)
 publishes_follow p law side state None e s taken =
@@ -91,10 +91,10 @@ publishes_follow p law side state None e s taken =
 
 -- ---- every call
 
-opens_follow : (fresh : ℕ) (side : Side ℕ) (state : ClientState) → state.keep_alive ≡ 0 → StandsFor side.keeper state
-    → StandsFor (called.opened 0 fresh side.keeper).keeper (opened state).state
+opens_follow : (fresh : ℕ) (side : Side ℕ) (state : ClientState) → state.keep_alive ≡ 0 → KeeperStandsFor side.keeper state
+    → KeeperStandsFor (called.opened 0 fresh side.keeper).keeper (opened state).state
 opens_follow fresh side state e s =
-    let t : StandsFor (handling.lost side.keeper) (lost state) = lost_stands side.keeper state s in
+    let t : KeeperStandsFor (handling.lost side.keeper) (lost state) = lost_stands side.keeper state s in
     record {
       client = s.client;
       released = s.released;

@@ -10,7 +10,7 @@ use Rattle.client_base.specs.State.{ClientState}
 use Rattle.client_base.specs.Answered.{ClientOutcome}
 use Rattle.client_base.specs.Keeper.{Own, Keeper, Side, next_number}
 use Rattle.client_base.specs.Written.{publishes}
-use Rattle.client_base.specs.History.{StandsFor, sent_of, unsent_of, released_of, IsSentFirst}
+use Rattle.client_base.specs.History.{KeeperStandsFor, sent_of, unsent_of, released_of, IsSentFirst}
 use Rattle.client_base.proofs.SentAll.{sent_more, unsent_more, released_more}
 use Rattle.client_base.proofs.FollowsPackets.{Same}
 
@@ -63,10 +63,10 @@ publish_outcome p id state answered online =
     else record { state = record state { unsent = state.unsent ++ kept_of p id ∷ [] }; writes = []; refusal = None }
 
 -- with one more of its own
-own_stands : (keeper : Keeper) (state : ClientState) (o : Own) (sent unsent : List KeptPublication) → StandsFor keeper state
+own_stands : (keeper : Keeper) (state : ClientState) (o : Own) (sent unsent : List KeptPublication) → KeeperStandsFor keeper state
     → sent ≡ sent_of (o ∷ []) → unsent ≡ unsent_of (o ∷ []) → released_of (o ∷ []) ≡ [] → IsSentFirst (keeper.own ++ o ∷ [])
     → (keeper.is_online ≡ true → unsent ≡ [])
-    → StandsFor (record keeper { own = keeper.own ++ o ∷ [] }) (record state { sent = state.sent ++ sent; unsent = state.unsent ++ unsent })
+    → KeeperStandsFor (record keeper { own = keeper.own ++ o ∷ [] }) (record state { sent = state.sent ++ sent; unsent = state.unsent ++ unsent })
 own_stands keeper state o sent unsent s is_sent is_unsent released first online =
     record {
       client = s.client;
@@ -86,7 +86,7 @@ own_stands keeper state o sent unsent s is_sent is_unsent released first online 
 
 -- nothing more is nothing
 none_more : (state : ClientState) (sent unsent : List KeptPublication) (keeper : Keeper) → state.sent ≡ sent → state.unsent ≡ unsent
-    → StandsFor keeper (record state { sent = sent; unsent = unsent }) → StandsFor keeper state
+    → KeeperStandsFor keeper (record state { sent = sent; unsent = unsent }) → KeeperStandsFor keeper state
 none_more state sent unsent keeper e f s =
     record {
       client = s.client;
@@ -103,26 +103,26 @@ none_more state sent unsent keeper e f s =
       online_sent = s.online_sent;
     }
 
-sent_stands : (p : Publication) (id n : ℕ) (keeper : Keeper) (state : ClientState) → StandsFor keeper state → keeper.is_online ≡ true
-    → StandsFor (record keeper { own = keeper.own ++ Own.Sent n p id ∷ [] }) (record state { sent = state.sent ++ kept_of p id ∷ [] })
+sent_stands : (p : Publication) (id n : ℕ) (keeper : Keeper) (state : ClientState) → KeeperStandsFor keeper state → keeper.is_online ≡ true
+    → KeeperStandsFor (record keeper { own = keeper.own ++ Own.Sent n p id ∷ [] }) (record state { sent = state.sent ++ kept_of p id ∷ [] })
 sent_stands p id n keeper state s online =
     none_more (record state { sent = state.sent ++ kept_of p id ∷ [] }) (state.sent ++ kept_of p id ∷ []) (state.unsent ++ []) _ refl (sym (append-nil state.unsent))
     (own_stands keeper state (Own.Sent n p id) (kept_of p id ∷ []) [] s refl refl refl (first_sent keeper.own n p id (s.online_sent online)) (λ e. refl))
 
-unsent_stands : (p : Publication) (id n : ℕ) (keeper : Keeper) (state : ClientState) → StandsFor keeper state → keeper.is_online ≡ false
-    → StandsFor (record keeper { own = keeper.own ++ Own.Unsent n p id ∷ [] }) (record state { unsent = state.unsent ++ kept_of p id ∷ [] })
+unsent_stands : (p : Publication) (id n : ℕ) (keeper : Keeper) (state : ClientState) → KeeperStandsFor keeper state → keeper.is_online ≡ false
+    → KeeperStandsFor (record keeper { own = keeper.own ++ Own.Unsent n p id ∷ [] }) (record state { unsent = state.unsent ++ kept_of p id ∷ [] })
 unsent_stands p id n keeper state s offline =
     none_more (record state { unsent = state.unsent ++ kept_of p id ∷ [] }) (state.sent ++ []) (state.unsent ++ kept_of p id ∷ []) _ (sym (append-nil state.sent)) refl
     (own_stands keeper state (Own.Unsent n p id) [] (kept_of p id ∷ []) s refl refl refl (first_after keeper.own (Own.Unsent n p id) refl (refl, tt) s.sent_first)
     (λ e. absurd (both_ways keeper.is_online offline e)))
 
-done_stands : (p : Publication) (n : ℕ) (keeper : Keeper) (state : ClientState) → StandsFor keeper state
-    → StandsFor (record keeper { own = keeper.own ++ Own.Done n p ∷ [] }) state
+done_stands : (p : Publication) (n : ℕ) (keeper : Keeper) (state : ClientState) → KeeperStandsFor keeper state
+    → KeeperStandsFor (record keeper { own = keeper.own ++ Own.Done n p ∷ [] }) state
 done_stands p n keeper state s =
     none_more state (state.sent ++ []) (state.unsent ++ []) _ (sym (append-nil state.sent)) (sym (append-nil state.unsent))
     (own_stands keeper state (Own.Done n p) [] [] s refl refl refl (first_after keeper.own (Own.Done n p) refl tt s.sent_first) (λ e. refl))
 
-pub publish_follows : (p : Publication) (id : ℕ) (side : Side ℕ) (state : ClientState) (answered online up : Bool) → StandsFor side.keeper state → online ≡ up
+pub publish_follows : (p : Publication) (id : ℕ) (side : Side ℕ) (state : ClientState) (answered online up : Bool) → KeeperStandsFor side.keeper state → online ≡ up
     → side.keeper.is_online ≡ up → (answered ≡ false → online ≡ true) → Same side (side_of p id side answered up) (publish_outcome p id state answered online)
 publish_follows p id side state true true true s e f g =
     record { stands = sent_stands p id (next_number side.keeper) side.keeper state s f; writes = (publishes false (next_number side.keeper) id p ∷ [], refl, refl) }

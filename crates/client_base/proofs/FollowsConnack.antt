@@ -13,7 +13,7 @@ use Rattle.client_base.specs.Keeper.{Written, Keeper, Side}
 use Rattle.client_base.specs.Written.{plain, sent_all, sent_again, sent_first}
 use Rattle.client_base.specs.Written as history
 use Rattle.client_base.specs.Handled as handling
-use Rattle.client_base.specs.History.{StandsFor}
+use Rattle.client_base.specs.History.{KeeperStandsFor}
 use Rattle.client_base.proofs.SentAll.{all_unsent, all_released, all_first, all_sent, packets_in, again_same, first_same}
 use Rattle.client_base.proofs.FollowsPackets.{Same}
 
@@ -33,7 +33,7 @@ counted : (n : ℕ) → nat_lt 0 (if n == 0 then 1 else n) ≡ true
 counted n = grind arith
 
 -- what is sent again
-resent_same : (keeper : Keeper) (state : ClientState) → StandsFor keeper state → packets_in (history.resent keeper) ≡ resent state
+resent_same : (keeper : Keeper) (state : ClientState) → KeeperStandsFor keeper state → packets_in (history.resent keeper) ≡ resent state
 resent_same keeper state s =
     joined_packets (map (λ id. plain (packets.Pubrel id)) keeper.releases ++ sent_again keeper.own) (sent_first keeper.own)
     ∙ ap₂ (λ x y. x ++ y)
@@ -43,8 +43,8 @@ resent_same keeper state s =
     (first_same keeper.own ∙ ap (map (publish_kept false)) (sym s.unsent))
 
 -- all of it is sent then
-all_stand : (keeper : Keeper) (state : ClientState) (present : Bool) → StandsFor keeper state → nat_lt 0 state.session ≡ true → keeper.is_open ≡ true
-    → StandsFor (record keeper { own = sent_all keeper.own; is_online = true; was_served = true })
+all_stand : (keeper : Keeper) (state : ClientState) (present : Bool) → KeeperStandsFor keeper state → nat_lt 0 state.session ≡ true → keeper.is_open ≡ true
+    → KeeperStandsFor (record keeper { own = sent_all keeper.own; is_online = true; was_served = true })
     (record state { sent = state.sent ++ state.unsent; unsent = []; stage = stages.Online; present = present })
 all_stand keeper state present s served up =
     record {
@@ -62,8 +62,8 @@ all_stand keeper state present s served up =
       online_sent = λ e. all_unsent keeper.own;
     }
 
-discarded_stands : (keeper : Keeper) (state : ClientState) → StandsFor keeper state → nat_lt 0 state.session ≡ true
-    → StandsFor (handling.discarded keeper) (discarded state)
+discarded_stands : (keeper : Keeper) (state : ClientState) → KeeperStandsFor keeper state → nat_lt 0 state.session ≡ true
+    → KeeperStandsFor (handling.discarded keeper) (discarded state)
 discarded_stands keeper state s served =
     record {
       client = s.client;
@@ -80,8 +80,8 @@ discarded_stands keeper state s served =
       online_sent = λ e. refl;
     }
 
-numbered_stands : (keeper : Keeper) (state : ClientState) → StandsFor keeper state
-    → StandsFor (record keeper { was_served = true }) (numbered state)
+numbered_stands : (keeper : Keeper) (state : ClientState) → KeeperStandsFor keeper state
+    → KeeperStandsFor (record keeper { was_served = true }) (numbered state)
 numbered_stands keeper state s =
     record {
       client = s.client;
@@ -115,7 +115,7 @@ settled_turn present kept refusal =
       refusal = refusal;
     }
 
-settles : (present : Bool) (side : Side ℕ) (keeper : Keeper) (state : ClientState) (refusal : Option ClientError) → StandsFor keeper state
+settles : (present : Bool) (side : Side ℕ) (keeper : Keeper) (state : ClientState) (refusal : Option ClientError) → KeeperStandsFor keeper state
     → nat_lt 0 state.session ≡ true → keeper.is_open ≡ true → Same side (settled_side side keeper) (settled_turn present state refusal)
 settles present side keeper state refusal s served up =
     record { stands = all_stand keeper state present s served up; writes = (history.resent keeper, refl, resent_same keeper state s) }
@@ -124,7 +124,7 @@ second : (b c : Bool) → (not b && c) ≡ true → c ≡ true
 second true c e = absurd (both_ways false refl e)
 second false c e = e
 
-pub confirmed_follows : (present : Bool) (side : Side ℕ) (state : ClientState) → StandsFor side.keeper state → side.keeper.is_open ≡ true
+pub confirmed_follows : (present : Bool) (side : Side ℕ) (state : ClientState) → KeeperStandsFor side.keeper state → side.keeper.is_open ≡ true
     → Same side (handling.confirmed present side) (confirmed present state)
 confirmed_follows present side state s up =
     by (not present && nat_lt 0 state.session) (not present && side.keeper.was_served) (ap (λ b. not present && b) s.was_served)

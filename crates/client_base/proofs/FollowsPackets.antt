@@ -17,13 +17,13 @@ use Rattle.session_base.specs.Identifiers.{without_id}
 use Rattle.client_base.specs.Keeper.{Own, ClientConnection, Keeper, Side}
 use Rattle.client_base.specs.Written.{plain, writing}
 use Rattle.client_base.specs.Handshakes.{at_puback, takes_in}
-use Rattle.client_base.specs.History.{StandsFor, WritesMore, IsSentFirst}
+use Rattle.client_base.specs.History.{KeeperStandsFor, WritesMore, IsSentFirst}
 use Rattle.client_base.proofs.Readings.{puback_sent, puback_unsent, puback_released}
 use Rattle.client_base.proofs.Released.{has_without}
 
 -- what follows: the state corresponds to the client, and the same is written
 pub record Same (before after : Side ℕ) (outcome : ClientOutcome) : Type 0 where
-  pub stands : StandsFor after.keeper outcome.state
+  pub stands : KeeperStandsFor after.keeper outcome.state
   pub writes : WritesMore before.connection after.connection outcome.writes
 
 -- nothing is written
@@ -37,8 +37,8 @@ one_written connection packet = (plain packet ∷ [], refl, refl)
 -- ---- received identifiers
 
 -- with other received identifiers, and others accepted
-pub received_stands : (keeper : Keeper) (state : ClientState) (xs ys : List ℕ) (accepted : List Accepted) → StandsFor keeper state → ((j : ℕ) → has_id j xs ≡ has_id j ys)
-    → StandsFor (record keeper { received = ys }) (record state { received = xs; accepted = accepted })
+pub received_stands : (keeper : Keeper) (state : ClientState) (xs ys : List ℕ) (accepted : List Accepted) → KeeperStandsFor keeper state → ((j : ℕ) → has_id j xs ≡ has_id j ys)
+    → KeeperStandsFor (record keeper { received = ys }) (record state { received = xs; accepted = accepted })
 received_stands keeper state xs ys accepted s same =
     record {
       client = s.client;
@@ -64,7 +64,7 @@ either_end j id xs ys same = has_append j xs (id ∷ []) ∙ ap (λ b. b || has_
     swap false true = refl
     swap false false = refl
 
-publish_two : (p : Publish) (dup : Bool) (id : ℕ) (side : Side ℕ) (state : ClientState) → StandsFor side.keeper state
+publish_two : (p : Publish) (dup : Bool) (id : ℕ) (side : Side ℕ) (state : ClientState) → KeeperStandsFor side.keeper state
     → Same side (takes_in (deliveries.ExactlyOnce dup id) (publication_of p) side) (on_publish p (deliveries.ExactlyOnce dup id) state)
 publish_two p dup id side state s = by (has_id id state.received) (has_id id side.keeper.received) (s.received id)
   where
@@ -94,7 +94,7 @@ publish_two p dup id side state s = by (has_id id state.received) (has_id id sid
     by true false e = absurd (both_ways false refl (sym e))
     by false true e = absurd (both_ways false refl e)
 
-pub publish_follows : (p : Publish) (delivery : Delivery) (side : Side ℕ) (state : ClientState) → StandsFor side.keeper state
+pub publish_follows : (p : Publish) (delivery : Delivery) (side : Side ℕ) (state : ClientState) → KeeperStandsFor side.keeper state
     → Same side (takes_in delivery (publication_of p) side) (on_publish p delivery state)
 publish_follows p deliveries.AtMostOnce side state s =
     record { stands = received_stands side.keeper state state.received side.keeper.received _ s s.received; writes = silent side.connection }
@@ -102,7 +102,7 @@ publish_follows p (deliveries.AtLeastOnce dup id) side state s =
     record { stands = received_stands side.keeper state state.received side.keeper.received _ s s.received; writes = one_written side.connection (packets.Puback id) }
 publish_follows p (deliveries.ExactlyOnce dup id) side state s = publish_two p dup id side state s
 
-pub pubrel_follows : (id : ℕ) (side : Side ℕ) (state : ClientState) → StandsFor side.keeper state
+pub pubrel_follows : (id : ℕ) (side : Side ℕ) (state : ClientState) → KeeperStandsFor side.keeper state
     → Same side (writing (plain (packets.Pubcomp id) ∷ []) (record side { keeper = record side.keeper { received = without_id id side.keeper.received } })) (on_pubrel id state)
 pubrel_follows id side state s =
     record {
@@ -125,7 +125,7 @@ first_puback i (Own.Sent k p id ∷ own) first = by ((i == id) && is_acknowledge
 first_puback i (Own.Released k p id ∷ own) first = first_puback i own first
 first_puback i (Own.Done k p ∷ own) first = first_puback i own first
 
-pub puback_follows : (i : ℕ) (side : Side ℕ) (state : ClientState) → StandsFor side.keeper state
+pub puback_follows : (i : ℕ) (side : Side ℕ) (state : ClientState) → KeeperStandsFor side.keeper state
     → Same side (record side { keeper = record side.keeper { own = map (at_puback i) side.keeper.own } }) (on_puback i state)
 puback_follows i side state s =
     record {

@@ -13,7 +13,7 @@ use Rattle.session_base.specs.Identifiers.{without_id}
 use Rattle.client_base.specs.Keeper.{Own, Keeper, Side}
 use Rattle.client_base.specs.Written.{plain, writing}
 use Rattle.client_base.specs.Handshakes.{at_pubrec, at_pubcomp, is_sent_with, releasing}
-use Rattle.client_base.specs.History.{StandsFor, released_of, IsSentFirst}
+use Rattle.client_base.specs.History.{KeeperStandsFor, released_of, IsSentFirst}
 use Rattle.client_base.proofs.Readings.{pubrec_sent, pubrec_unsent, pubrec_waits, pubcomp_sent, pubcomp_unsent, pubcomp_released}
 use Rattle.client_base.proofs.Released.{has_without, pubrec_released}
 use Rattle.client_base.proofs.FollowsPackets.{Same, silent, one_written}
@@ -33,8 +33,8 @@ first_pubrec i (Own.Released k p id ∷ own) first = first_pubrec i own first
 first_pubrec i (Own.Done k p ∷ own) first = first_pubrec i own first
 
 -- the released one comes last
-released_last : (i : ℕ) (keeper : Keeper) (state : ClientState) → StandsFor keeper state → is_sent_with i keeper.own ≡ true
-    → StandsFor (record keeper { own = map (at_pubrec i) keeper.own; releases = keeper.releases ++ i ∷ [] })
+released_last : (i : ℕ) (keeper : Keeper) (state : ClientState) → KeeperStandsFor keeper state → is_sent_with i keeper.own ≡ true
+    → KeeperStandsFor (record keeper { own = map (at_pubrec i) keeper.own; releases = keeper.releases ++ i ∷ [] })
     (record state { released = state.released ++ i ∷ []; sent = filter (λ one. not (awaits_pubrec i one)) state.sent })
 released_last i keeper state s waits =
     record {
@@ -58,7 +58,7 @@ released_last i keeper state s waits =
     alone true = refl
     alone false = refl
 
-pub pubrec_follows : (i : ℕ) (side : Side ℕ) (state : ClientState) → StandsFor side.keeper state → Same side (releasing i side) (on_pubrec i state)
+pub pubrec_follows : (i : ℕ) (side : Side ℕ) (state : ClientState) → KeeperStandsFor side.keeper state → Same side (releasing i side) (on_pubrec i state)
 pubrec_follows i side state s =
     by (list_any (awaits_pubrec i) state.sent) (is_sent_with i side.keeper.own)
     (ap (λ l. list_any (awaits_pubrec i) l) s.sent ∙ pubrec_waits i side.keeper.own) refl
@@ -99,7 +99,7 @@ first_pubcomp i (Own.Released k p id ∷ own) first = by (i == id) (first_pubcom
     by false ih = ih
 first_pubcomp i (Own.Done k p ∷ own) first = first_pubcomp i own first
 
-pub pubcomp_follows : (i : ℕ) (side : Side ℕ) (state : ClientState) → StandsFor side.keeper state
+pub pubcomp_follows : (i : ℕ) (side : Side ℕ) (state : ClientState) → KeeperStandsFor side.keeper state
     → Same side (record side { keeper = record side.keeper { own = map (at_pubcomp i) side.keeper.own; releases = without_id i side.keeper.releases } }) (on_pubcomp i state)
 pubcomp_follows i side state s =
     record {

@@ -7,7 +7,7 @@ use Rattle.session_base.specs.Identifiers.{least_free}
 use Rattle.session_base.specs.Laws.{IsLeastFree}
 use Rattle.client_base.specs.State.{ClientState, ids_of_kept, id_of_request, used_ids}
 use Rattle.client_base.specs.Keeper.{Own, Keeper, ids_of_own, ids_in_use}
-use Rattle.client_base.specs.History.{StandsFor, sent_of, unsent_of, released_of}
+use Rattle.client_base.specs.History.{KeeperStandsFor, sent_of, unsent_of, released_of}
 
 -- while each below is used, the least free one is not below
 pub least_past : (busy : List ℕ) (n : ℕ) → IsLeastFree → ((j : ℕ) → 1 ≤ j → j < n → has_id j busy ≡ true) → n ≤ least_free busy
@@ -59,7 +59,7 @@ own_parts j (Own.Released k p id ∷ own) = ap (λ b. (j == id) || b) (own_parts
 own_parts j (Own.Done k p ∷ own) = own_parts j own
 
 -- a state uses the identifiers of the client that it corresponds to
-used_same : (keeper : Keeper) (state : ClientState) → StandsFor keeper state → (j : ℕ) → has_id j (used_ids state) ≡ has_id j (ids_in_use keeper)
+used_same : (keeper : Keeper) (state : ClientState) → KeeperStandsFor keeper state → (j : ℕ) → has_id j (used_ids state) ≡ has_id j (ids_in_use keeper)
 used_same keeper state stands j =
     has_append j ((state.released ++ ids_of_kept state.sent) ++ ids_of_kept state.unsent) (map id_of_request state.requests)
     ∙ ap₂ (λ x y. x || y)
@@ -73,5 +73,5 @@ used_same keeper state stands j =
     ∙ sym (has_append j (ids_of_own keeper.own) (map id_of_request keeper.requests))
 
 -- so the next identifier is the same
-pub next_same : (keeper : Keeper) (state : ClientState) → IsLeastFree → StandsFor keeper state → least_free (used_ids state) ≡ least_free (ids_in_use keeper)
+pub next_same : (keeper : Keeper) (state : ClientState) → IsLeastFree → KeeperStandsFor keeper state → least_free (used_ids state) ≡ least_free (ids_in_use keeper)
 next_same keeper state law stands = same_least (used_ids state) (ids_in_use keeper) law (used_same keeper state stands)

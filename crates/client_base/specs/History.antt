@@ -35,7 +35,7 @@ IsSentFirst [] = Unit {0}
 -- ---- what corresponds to what
 
 -- a client without history keeps what the one with history says is kept
-pub record StandsFor (keeper : Keeper) (state : ClientState) : Type 0 where
+pub record KeeperStandsFor (keeper : Keeper) (state : ClientState) : Type 0 where
   pub client : state.client ≡ keeper.client
   pub released : state.released ≡ keeper.releases
   pub sent : state.sent ≡ sent_of keeper.own

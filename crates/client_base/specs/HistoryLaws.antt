@@ -5,7 +5,7 @@ use Rattle.client_base.specs.State.{ClientState, is_open}
 use Rattle.client_base.specs.Keeper.{ClientConnection, Side}
 use Rattle.client_base.specs.Steps.{Call, keeper_step}
 use Rattle.client_base.specs.Called.{keeper_goes}
-use Rattle.client_base.specs.History.{StandsFor, WritesMore}
+use Rattle.client_base.specs.History.{KeeperStandsFor, WritesMore}
 
 -- whether a call has an effect: one that is refused changes nothing, and a packet comes on an open
 -- connection
@@ -23,7 +23,7 @@ WritesSo call before after packets = WritesMore before after packets
 abbrev pub CallsFollow : Type 0
 CallsFollow =
     (call : Call) (fresh : ℕ) (side : Side ℕ) (state : ClientState) →
-    state.keep_alive ≡ 0 → StandsFor side.keeper state → HasEffect call state →
+    state.keep_alive ≡ 0 → KeeperStandsFor side.keeper state → HasEffect call state →
     let after = keeper_goes fresh call side in
-    StandsFor after.keeper (keeper_step call state).state
+    KeeperStandsFor after.keeper (keeper_step call state).state
     × WritesSo call side.connection after.connection (keeper_step call state).writes

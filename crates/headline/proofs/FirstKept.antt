@@ -60,13 +60,13 @@ module _ (s : Story) (state : ClientState) (lived : Lived usual_limits s.keeper.
       ∙ ap (map (slice_get qs)) (map-append value_of good.old good.new) ∙ map-append (slice_get qs) (map value_of good.old) (map value_of good.new)
       ∙ ap (λ (l : List (Option Publication)). l ++ rest) are
 
-  kept_parts : history.StandsFor s.keeper state → some_of (at_two (unacknowledged_of state)) ≡ map (slice_get qs) (kept_values good.old) ++ rest
+  kept_parts : history.KeeperStandsFor s.keeper state → some_of (at_two (unacknowledged_of state)) ≡ map (slice_get qs) (kept_values good.old) ++ rest
   kept_parts stands =
       sym (two_kept s.keeper state stands numbered) ∙ ap (λ (l : List (SenderItem ℕ)). map (slice_get qs) (kept_values l)) good.sides.is
       ∙ ap (map (slice_get qs)) (kept_both good.old good.new ∙ ap (λ (l : List ℕ). kept_values good.old ++ l) (new_kept _ good.new good.sides.news))
       ∙ map-append (slice_get qs) (kept_values good.old) (map value_of good.new)
 
-  pub first_kept : history.StandsFor s.keeper state → (new : List Publication)
+  pub first_kept : history.KeeperStandsFor s.keeper state → (new : List Publication)
       → map (slice_get (publications_of (all_own s.keeper))) (new_numbers s.connections s.past) ≡ some_of new
       → AreUnacknowledged (at_two (publications_of (all_own s.keeper))) new (at_two (unacknowledged_of state))
   first_kept stands new are =

@@ -158,7 +158,7 @@ module _ (s : Story) (lived : Lived usual_limits s.keeper.client s) (step : IsIn
             ∙ flat_map_same (λ start. accepted_in s.past c start s.connections) (λ start. map publication_in (exact.subscribers start).prefix) (λ start. (exact.subscribers start).accepted) (starts_of s.past c);
       }
 
-  pub kept_in_step : (published : List Publication) (state : ClientState) → ps ≡ published → history.StandsFor s.keeper state
+  pub kept_in_step : (published : List Publication) (state : ClientState) → ps ≡ published → history.KeeperStandsFor s.keeper state
       → accepted_once state.accepted ≡ accepted_on s.connections → ExactlyOnceOverSessions usual_limits s → PromiseInStep c published s.past state
   kept_in_step published state same stands shown exact =
       subst (λ (l : List Publication). PromiseInStep c l s.past state) same
@@ -174,7 +174,7 @@ module _ (s : Story) (lived : Lived usual_limits s.keeper.client s) (step : IsIn
 -- ---- every life
 
 pub promise_kept : (s : Story) → Lived usual_limits s.keeper.client s → (published : List Publication) (state : ClientState) → publications_of (all_own s.keeper) ≡ published
-    → history.StandsFor s.keeper state → accepted_once state.accepted ≡ accepted_on s.connections → ((x : ConnectionName) → connects_of x s.past ≤ 1)
+    → history.KeeperStandsFor s.keeper state → accepted_once state.accepted ≡ accepted_on s.connections → ((x : ConnectionName) → connects_of x s.past ≤ 1)
     → EndsWithTheSession usual_limits s.past → PromiseBy s.keeper.client s.connections published s.past state
 promise_kept s lived published state same stands shown names ended =
     record {

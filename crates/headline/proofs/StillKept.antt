@@ -68,7 +68,7 @@ kept_in_order (Own.Sent k p id ∷ own) first = ap (λ (l : List Publication). p
 kept_in_order (Own.Released k p id ∷ own) first = kept_in_order own first
 kept_in_order (Own.Done k p ∷ own) first = kept_in_order own first
 
-kept_is : (keeper : Keeper) (state : ClientState) → history.StandsFor keeper state → unacknowledged_of state ≡ kept_own keeper.own
+kept_is : (keeper : Keeper) (state : ClientState) → history.KeeperStandsFor keeper state → unacknowledged_of state ≡ kept_own keeper.own
 kept_is keeper state s = ap₂ (λ (a b : List KeptPublication). map publication_kept (a ++ b)) s.sent s.unsent ∙ kept_in_order keeper.own s.sent_first
 
 -- ---- by number
@@ -148,7 +148,7 @@ whole_stands own j = let same : 0 + j ≡ j = omega arith in ap (slice_get (publ
 pub two_published : (own : List Own) → AreNumbered 0 own → map (slice_get (publications_of own)) (map value_of (items_of_own own)) ≡ some_of (at_two (publications_of own))
 two_published own numbered = two_numbered (publications_of own) 0 own numbered (whole_stands own)
 
-pub two_kept : (keeper : Keeper) (state : ClientState) → history.StandsFor keeper state → AreNumbered 0 keeper.own
+pub two_kept : (keeper : Keeper) (state : ClientState) → history.KeeperStandsFor keeper state → AreNumbered 0 keeper.own
     → map (slice_get (publications_of keeper.own)) (kept_values (items_of_own keeper.own)) ≡ some_of (at_two (unacknowledged_of state))
 two_kept keeper state s numbered =
     kept_numbered (publications_of keeper.own) 0 keeper.own numbered (whole_stands keeper.own) ∙ ap (λ (l : List Publication). some_of (at_two l)) (sym (kept_is keeper state s))

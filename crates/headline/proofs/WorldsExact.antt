@@ -94,7 +94,7 @@ promised apart w went s agreed is published i c state at said shown =
     subst (λ (d : Client). PromiseBy d c.connections published (past_of usual_limits agreed) state) (ap (λ (k : Keeper). k.client) h.keeper ∙ sym shown.keeper.client)
     (subst (λ (past : Past). PromiseBy h.story.keeper.client c.connections published past state) h.past
     (promise_untaken h.story.keeper.client h.story.connections c.connections published h.story.past state h.connections
-    (promise_kept h.story h.lived published state (ap (λ (k : Keeper). publications_of (all_own k)) h.keeper ∙ said) (subst (λ (k : Keeper). history.StandsFor k state) (sym h.keeper) shown.keeper)
+    (promise_kept h.story h.lived published state (ap (λ (k : Keeper). publications_of (all_own k)) h.keeper ∙ said) (subst (λ (k : Keeper). history.KeeperStandsFor k state) (sym h.keeper) shown.keeper)
     (shown.accepted ∙ sym (same_accepted_on h.story.connections c.connections h.connections))
     (λ x. subst (λ (past : Past). connects_of x past ≤ 1) (sym h.past) (exact.names x)) (subst (EndsWithTheSession usual_limits) (sym h.past) exact.sessions))))
 

@@ -46,7 +46,7 @@ IsInOneSession agreed c =
 
 -- the parts that a client without history shows
 pub record IsShownBy (c : ClientPipes) (state : ClientState) : Type 0 where
-  pub keeper : history.StandsFor c.keeper state
+  pub keeper : history.KeeperStandsFor c.keeper state
   pub accepted : accepted_once state.accepted ≡ accepted_on c.connections
 
 -- what a world is promised if this is the list on which its nodes agree

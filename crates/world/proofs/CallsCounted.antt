@@ -10,7 +10,7 @@ use Rattle.world_events.specs.world_pipes.declared.sending.Sending.TheVariants a
 use Rattle.world_events.specs.world_pipes.Following.{CallingFollows, FollowsAll}
 use Rattle.world_events.specs.world_pipes.Steps.{ClientGoes}
 use Rattle.world_events.specs.world_pipes.Piped.{Piped}
-use Rattle.world_events.specs.world_pipes.StandsFor.{StandsFor}
+use Rattle.world_events.specs.world_pipes.StandsFor.{ClientStandsFor}
 use Rattle.world_events.proofs.of_world_pipes.CallingFollows.{calling_goes}
 use Rattle.world.specs.declared.world.WorldClient.{WorldClient}
 use Rattle.world.specs.Inside.Calling.{Counts, with_loss}
@@ -73,4 +73,4 @@ carrying_counted old i client piped false new found follows rises is = subst (λ
 
 -- one that receives nothing stays as it is
 pub stays_all : (old new : Piped) → new ≡ old → FollowsAll old new
-stays_all old new same m s = record { next = m; goes = ClientGoes.stays; publishes = refl; stands = subst (λ p. StandsFor p m) (sym same) s }
+stays_all old new same m s = record { next = m; goes = ClientGoes.stays; publishes = refl; stands = subst (λ p. ClientStandsFor p m) (sym same) s }

@@ -28,12 +28,12 @@ use Rattle.escaping_client.specs.lists.Lists.In.{here, there}
 use Rattle.headline.specs.world_base.Core.{CountedCore, rules}
 use Rattle.escaping_nodes.specs.world_nodes.Asking.{log_in, log_of}
 use Rattle.escaping_nodes.specs.world_nodes.Running.{is_running, is_up, node_of}
-use Rattle.escaping_nodes.specs.world_nodes.Nodes.{NodesState, StandsFor}
+use Rattle.escaping_nodes.specs.world_nodes.Nodes.{NodesState, NodesStandFor}
 use Rattle.world.specs.Escaping.{CanEscape, configuration_of, held_in}
 use Rattle.world.specs.World.{WorldState}
 
 -- nodes that a group corresponds to are seen as its moment
-pub seen_as : (g : Group) (n : NodesState) → StandsFor g n → IsSeen (moment_of g) n
+pub seen_as : (g : Group) (n : NodesState) → NodesStandFor g n → IsSeen (moment_of g) n
 seen_as g n s = record { master = s.master; nodes = ap (map replica_of) s.nodes; sent = s.sent; archive = s.archive }
 
 -- ---- tests on lists
@@ -70,7 +70,7 @@ runs_here nodes (suc at) e = by (slice_get nodes at) refl e
 
 -- ---- what a way out asks for
 
-module _ (config : Config) (g : Group) (past : List (Moment State Command Output)) (came : Moments rules config (moment_of g ∷ past)) (w : WorldState) (s : StandsFor g w.nodes)
+module _ (config : Config) (g : Group) (past : List (Moment State Command Output)) (came : Moments rules config (moment_of g ∷ past)) (w : WorldState) (s : NodesStandFor g w.nodes)
     (members : List ℕ) (name : Client) (can : CanEscape members name w) where
   abbrev a : Moment State Command Output
   a = moment_of g

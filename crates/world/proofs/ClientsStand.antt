@@ -3,7 +3,7 @@ use Rattle.std.proofs.Common.{◌≡◌, ℕ, zero, suc, List, [], ◌∷◌, So
 use Rattle.std.proofs.lemmas.Option.{same_Some, none-some}
 use Rattle.headline.specs.byte_world.World.{ClientPipes}
 use Rattle.world_events.specs.world_pipes.Piped.{Piped}
-use Rattle.world_events.specs.world_pipes.StandsFor.{StandsFor as ClientStands}
+use Rattle.world_events.specs.world_pipes.StandsFor.{ClientStandsFor as ClientStands}
 use Rattle.world.specs.declared.world.WorldClient.{WorldClient}
 use Rattle.world.specs.StandsFor.{ClientsStand}
 

@@ -16,7 +16,7 @@ use Rattle.world.specs.declared.world.WorldClient.{WorldClient}
 use Rattle.world.specs.SlotsAreValid.{LeadsThere, leads_of}
 use Rattle.world.specs.Found.{with_less}
 use Rattle.world.specs.Inside.Carrying.{CarriesUp}
-use Rattle.world.specs.StandsFor.{ModelStepsTo, StandsFor, FollowsModel}
+use Rattle.world.specs.StandsFor.{ModelStepsTo, WorldStandsFor, FollowsModel}
 use Rattle.world.specs.StandsFor.Steps.{rests, goes_on}
 use Rattle.world.specs.World.{WorldState}
 use Rattle.world.proofs.ClientsStand.{StandsAt, client_at, stand_set}
@@ -24,7 +24,7 @@ use Rattle.world.proofs.GoesDown.{put_down}
 use Rattle.world.proofs.LeadsKept.{led}
 use Rattle.world.proofs.WaysStand.{PipeAt, pipe_at, way_changes}
 
-taken_up : (old : WorldState) (m : World) (s : StandsFor m old) (place : ConnectionSlot) (client : WorldClient) (one : StandsAt m.clients place.client client.piped) (way : Way)
+taken_up : (old : WorldState) (m : World) (s : WorldStandsFor m old) (place : ConnectionSlot) (client : WorldClient) (one : StandsAt m.clients place.client client.piped) (way : Way)
     (x : PipeAt client.piped one.c place.at way) (new : NodesState) (count : ℕ) → count ≤ length way.up
     → Acts x.p.node (takes (Bytes x.p.port (take count way.up) 0)) old.nodes new → ModelStepsTo [] m (put_down place.client client (with_less place.at count way client.piped) new old)
 taken_up old m s place client one way x new count part acts =

@@ -17,7 +17,7 @@ use Rattle.headline.specs.byte_world.ClientSteps.{after_connecting}
 use Rattle.headline.specs.byte_world.Steps.WorldStep.{connects}
 use Rattle.escaping_nodes.specs.world_nodes.ExactSteps.{Acts}
 use Rattle.escaping_nodes.specs.world_nodes.Running.{node_of}
-use Rattle.escaping_nodes.specs.world_nodes.Nodes.{NodesState, StandsFor as NodesStand}
+use Rattle.escaping_nodes.specs.world_nodes.Nodes.{NodesState, NodesStandFor as NodesStand}
 use Rattle.world_events.specs.world_pipes.declared.way.Way.{Way}
 use Rattle.world_events.specs.world_pipes.Following.{ConnectingFollows}
 use Rattle.world_events.specs.world_pipes.StandsFor.{AreWays}

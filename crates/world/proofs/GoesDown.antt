@@ -32,7 +32,7 @@ use Rattle.world.specs.SlotsAreValid.{LeadsThere, leads_of}
 use Rattle.world.specs.Found.{with_down}
 use Rattle.world.specs.Inside.Handing.{MayHandDown, MayPutDown}
 use Rattle.world.specs.Inside.Steps.{NodesStay}
-use Rattle.world.specs.StandsFor.{ModelStepsTo, StandsFor, FollowsModel}
+use Rattle.world.specs.StandsFor.{ModelStepsTo, WorldStandsFor, FollowsModel}
 use Rattle.world.specs.StandsFor.Steps.{rests, goes_on}
 use Rattle.world.specs.World.{WorldState}
 use Rattle.world.proofs.ClientsStand.{StandsAt, client_at, stand_set}
@@ -56,7 +56,7 @@ all_named x port core ports = by (listed_at port core) refl
 abbrev pub put_down : ℕ → WorldClient → Piped → NodesState → WorldState → WorldState
 put_down i client later new old = record old { nodes = new; clients = set old.clients i (record client { piped = later }) }
 
-module _ {nodes : ℕ} {config : Config} {cs : List Client} (m : World) (trail : Reached nodes config cs m) (old : WorldState) (s : StandsFor m old) (place : ConnectionSlot) (client : WorldClient)
+module _ {nodes : ℕ} {config : Config} {cs : List Client} (m : World) (trail : Reached nodes config cs m) (old : WorldState) (s : WorldStandsFor m old) (place : ConnectionSlot) (client : WorldClient)
     (one : StandsAt m.clients place.client client.piped) (way : Way) (x : PipeAt client.piped one.c place.at way) (new : NodesState) where
   has : HasPipe m place.client one.c x.turned.place x.κ x.p
   has = record { client = one.at; connection = x.connection; pipe = x.pipe }

@@ -15,7 +15,7 @@ use Rattle.headline.specs.node_group.Group.{Group}
 use Rattle.headline.specs.byte_world.World.{World}
 use Rattle.headline.specs.byte_world.Steps.{is_apart}
 use Rattle.headline.specs.byte_world.Steps.WorldStep.{goes_on as group_goes}
-use Rattle.escaping_nodes.specs.world_nodes.Nodes.{NodesState, StandsFor as NodesStand}
+use Rattle.escaping_nodes.specs.world_nodes.Nodes.{NodesState, NodesStandFor as NodesStand}
 use Rattle.escaping_nodes.specs.world_nodes.ExactSteps.{Acts, GoesBy}
 use Rattle.escaping_nodes.specs.world_nodes.Steps.{nodes_with_loss}
 use Rattle.escaping_nodes.specs.world_nodes.GroupSteps.{ActsOrRests, ComesOrRests, MasterGoesOrRests, MasterHears}

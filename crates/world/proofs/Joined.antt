@@ -11,11 +11,11 @@ use Rattle.headline.specs.byte_world.World.{World}
 use Rattle.headline.specs.byte_world.Steps.{Reached}
 use Rattle.headline.specs.byte_world.Steps.Reached.{goes_on as reached_more}
 use Rattle.headline.specs.byte_world.Published.{published_in, published_on}
-use Rattle.escaping_nodes.specs.world_nodes.Nodes.{NodesState, StandsFor as NodesStand}
+use Rattle.escaping_nodes.specs.world_nodes.Nodes.{NodesState, NodesStandFor as NodesStand}
 use Rattle.world.specs.Trace.{LosesNothing, KeepsGroup}
 use Rattle.world.specs.Inside.Steps.{IsTrace, IsTraceAsking}
 use Rattle.world.specs.declared.world.WorldClient.{WorldClient}
-use Rattle.world.specs.StandsFor.{ClientsStand, ModelStepsTo, IsReached, KeepsReached, StandsFor, Steps, FollowsModel, FollowsModelAsking, asked_on, published_along}
+use Rattle.world.specs.StandsFor.{ClientsStand, ModelStepsTo, IsReached, KeepsReached, WorldStandsFor, Steps, FollowsModel, FollowsModelAsking, asked_on, published_along}
 use Rattle.world.specs.StandsFor.Steps.{rests, goes_on}
 use Rattle.world.specs.World.{WorldState}
 use Rattle.world.proofs.NodesGoOn.{nodes_go_join, nodes_join, nodes_rest}
@@ -46,7 +46,7 @@ reached_asked trail (goes_on steps step) =
 -- ---- worlds in code
 
 -- only the nodes and the clients of a world matter for its correspondence to one of the model
-pub stands_as : (m : World) (a b : WorldState) → b.nodes ≡ a.nodes → b.clients ≡ a.clients → StandsFor m a → StandsFor m b
+pub stands_as : (m : World) (a b : WorldState) → b.nodes ≡ a.nodes → b.clients ≡ a.clients → WorldStandsFor m a → WorldStandsFor m b
 stands_as m a b nodes clients s =
     record {
       nodes = subst (λ (n : NodesState). NodesStand m.group n) (sym nodes) s.nodes;
@@ -124,11 +124,11 @@ world_on_join a b c one two =
 
 -- ---- what is promised
 
-pub is_reached : (nodes : ℕ) (config : Config) (cs : List Client) (m : World) (w : WorldState) → AreApart cs → Reached nodes config cs m → StandsFor m w → IsReached nodes config cs w
+pub is_reached : (nodes : ℕ) (config : Config) (cs : List Client) (m : World) (w : WorldState) → AreApart cs → Reached nodes config cs m → WorldStandsFor m w → IsReached nodes config cs w
 is_reached nodes config cs m w apart trail stands =
     record { apart = apart; world = m; trail = trail; stands = stands; exact = worlds_are_exact nodes config cs m apart trail }
 
-pub is_reached_asked : (nodes : ℕ) (config : Config) (cs : List Client) (m : World) (w : WorldState) (apart : AreApart cs) (trail : Reached nodes config cs m) (stands : StandsFor m w)
+pub is_reached_asked : (nodes : ℕ) (config : Config) (cs : List Client) (m : World) (w : WorldState) (apart : AreApart cs) (trail : Reached nodes config cs m) (stands : WorldStandsFor m w)
     → asked_on (is_reached nodes config cs m w apart trail stands) ≡ published_on trail
 unfolding is_reached
 is_reached_asked nodes config cs m w apart trail stands = refl

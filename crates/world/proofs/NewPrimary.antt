@@ -36,7 +36,7 @@ use Rattle.escaping_nodes.specs.world_nodes.Running.{is_running}
 use Rattle.world_events.specs.declared.event.Event.{Event}
 use Rattle.world.specs.Escaping.{CanEscape}
 use Rattle.world.specs.Found.{port_of}
-use Rattle.world.specs.StandsFor.{ModelStepsTo, StandsFor}
+use Rattle.world.specs.StandsFor.{ModelStepsTo, WorldStandsFor}
 use Rattle.world.specs.World.{WorldState}
 use Rattle.world.proofs.CanLead.{each_passes, runs_here, seen_as}
 use Rattle.world.proofs.Joined.{reached_on}
@@ -71,7 +71,7 @@ module _ (first : ℕ) (os : List ℕ) (lawful : is_lawful (first ∷ os) first 
 
 -- ---- the new primary
 
-module _ (config : Config) {nodes : ℕ} {cs : List Client} (m : World) (trail : Reached nodes config cs m) (w : WorldState) (s : StandsFor m w)
+module _ (config : Config) {nodes : ℕ} {cs : List Client} (m : World) (trail : Reached nodes config cs m) (w : WorldState) (s : WorldStandsFor m w)
     (past : List (Moment State Command Output)) (came : Moments rules config (moment_of m.group ∷ past)) (first : ℕ) (os : List ℕ) (name : Client)
     (can : CanEscape (first ∷ os) name w) (more : List Event) (new : WorldState)
     (l : LedTo config m.group past (first ∷ os) can.index (log_of w.nodes can.source) more w new)

@@ -7,7 +7,7 @@ use Rattle.headline.specs.node_group.Group.{Group, moment_of}
 use Rattle.headline.specs.node_group.Steps.{GroupTrace}
 use Rattle.headline.specs.node_group.Steps.GroupTrace.{then_went}
 use Rattle.headline.proofs.of_node_group.Ordered.{groups_keep_the_order}
-use Rattle.escaping_nodes.specs.world_nodes.Nodes.{NodesState, StandsFor}
+use Rattle.escaping_nodes.specs.world_nodes.Nodes.{NodesState, NodesStandFor}
 use Rattle.escaping_nodes.specs.world_nodes.Steps.{LosesNothing as NodesLoseNothing, nodes_with_loss}
 use Rattle.world.specs.Trace.{AreReached, StepsOfGroup, NodesGo, NodesGoOn, StaysReached}
 use Rattle.world.specs.Trace.StepsOfGroup.{rests, goes_on}
@@ -16,11 +16,11 @@ use Rattle.world.specs.Inside.Steps.{NodesStay}
 -- ---- nothing happens
 
 pub nodes_stay : (old new : NodesState) → new ≡ old → NodesStay old new
-nodes_stay old new same g s = subst (λ (n : NodesState). StandsFor g n) (sym same) s
+nodes_stay old new same g s = subst (λ (n : NodesState). NodesStandFor g n) (sym same) s
 
 -- but that a loss is counted
 pub nodes_forget : (old new : NodesState) → new ≡ nodes_with_loss old → NodesStay old new
-nodes_forget old new is g s = subst (λ (n : NodesState). StandsFor g n) (sym is) (record { master = s.master; nodes = s.nodes; sent = s.sent; archive = s.archive })
+nodes_forget old new is g s = subst (λ (n : NodesState). NodesStandFor g n) (sym is) (record { master = s.master; nodes = s.nodes; sent = s.sent; archive = s.archive })
 
 pub staying_goes : (old new : NodesState) → NodesStay old new → NodesGo old new
 staying_goes old new stay g s = record { after = g; goes = rests; stands = stay g s }
@@ -58,7 +58,7 @@ nodes_split a b c x y none =
 
 -- ---- agreement
 
-pub are_reached : (nodes : ℕ) (config : Config) (g : Group) (new : NodesState) → GroupTrace nodes config g → StandsFor g new → AreReached nodes config new
+pub are_reached : (nodes : ℕ) (config : Config) (g : Group) (new : NodesState) → GroupTrace nodes config g → NodesStandFor g new → AreReached nodes config new
 are_reached nodes config g new went stands =
     let order = groups_keep_the_order nodes config g went in
     let list = has_agreed rules config (moment_of g) order.of.earlier order.of.past in

@@ -21,7 +21,7 @@ use Rattle.headline.specs.world_base.declared.Port.{Port}
 use Rattle.headline.specs.world_base.Connections.{is_at, is_open_named, is_over}
 use Rattle.headline.specs.world_base.Core.{CoreState, CountedCore}
 use Rattle.world.specs.Found.{port_of}
-use Rattle.world.specs.StandsFor.{StandsFor}
+use Rattle.world.specs.StandsFor.{WorldStandsFor}
 use Rattle.world.specs.World.{WorldState}
 use Rattle.world.specs.SlotsAreValid.{SlotsAreValid, leads_of}
 use Rattle.world.proofs.Connects.{unused}
@@ -43,7 +43,7 @@ at_none test (y ∷ xs) (suc i) x none e = at_none test xs i x (or_parts (test y
 
 -- ---- its ports and its names
 
-module _ {nodes : ℕ} {config : Config} {cs : List Client} (m : World) (trail : Reached nodes config cs m) (w : WorldState) (s : StandsFor m w)
+module _ {nodes : ℕ} {config : Config} {cs : List Client} (m : World) (trail : Reached nodes config cs m) (w : WorldState) (s : WorldStandsFor m w)
     (housed : SlotsAreValid (leads_of w.clients) w.connections) (at : ℕ) (node : CountedCore) (stands : slice_get w.nodes.nodes at ≡ Some node) where
   in_model : slice_get m.group.nodes at ≡ Some node.core
   in_model = ap (λ (l : List CoreState). slice_get l at) s.nodes.nodes ∙ get_mapped (λ (c : CountedCore). c.core) w.nodes.nodes at node stands

@@ -11,13 +11,13 @@ use Rattle.headline.specs.node_group.Group.{opening_group}
 use Rattle.headline.specs.world_base.declared.Port.{Port}
 use Rattle.headline.specs.byte_world.World.{ClientPipes, Pipe, new_client, opening}
 use Rattle.headline.specs.byte_world.Steps.Reached.{begins}
-use Rattle.escaping_nodes.specs.world_nodes.Nodes.{StandsFor as NodesStand}
+use Rattle.escaping_nodes.specs.world_nodes.Nodes.{NodesStandFor as NodesStand}
 use Rattle.world_events.specs.world_pipes.declared.way.Way.{Way}
-use Rattle.world_events.specs.world_pipes.StandsFor.{StandsFor as ClientStands}
+use Rattle.world_events.specs.world_pipes.StandsFor.{ClientStandsFor as ClientStands}
 use Rattle.world.specs.declared.world.WorldClient.{WorldClient}
 use Rattle.world.specs.Happening.{new_world_client}
 use Rattle.world.specs.SlotsAreValid.{SlotsAreValid, leads, leads_of}
-use Rattle.world.specs.StandsFor.{ClientsStand, IsReached, StandsFor, asked_on, identifiers}
+use Rattle.world.specs.StandsFor.{ClientsStand, IsReached, WorldStandsFor, asked_on, identifiers}
 use Rattle.world.specs.World.{WorldState}
 use Rattle.world.proofs.ClientsStand.{client_at}
 use Rattle.world.proofs.Joined.{is_reached, is_reached_asked}
@@ -73,5 +73,5 @@ housed_none clients ids all =
 pub opens_reached : (nodes : ℕ) (config : Config) (ids : List Client) (w : WorldState) → can_open nodes config ≡ true → NodesStand (opening_group nodes config) w.nodes
     → ClientsStand w.clients (map new_client ids) → AreApart ids → (reached : IsReached nodes config ids w) × (asked_on reached ≡ [])
 opens_reached nodes config ids w can stands clients apart =
-    let so : StandsFor (opening nodes config ids) w = record { nodes = stands; clients = clients } in
+    let so : WorldStandsFor (opening nodes config ids) w = record { nodes = stands; clients = clients } in
     (is_reached nodes config ids (opening nodes config ids) w apart (begins can) so, is_reached_asked nodes config ids (opening nodes config ids) w apart (begins can) so)

@@ -6,7 +6,7 @@ use Rattle.headline.specs.exactly_once.Sides.{ClientConnection}
 use Rattle.headline.specs.byte_world.World.{ClientPipes, Pipe, with_pipe}
 use Rattle.world_events.specs.world_pipes.declared.way.Way.{Way}
 use Rattle.world_events.specs.world_pipes.Piped.{Piped}
-use Rattle.world_events.specs.world_pipes.StandsFor.{AreWays, IsHolding, IsWay, StandsFor}
+use Rattle.world_events.specs.world_pipes.StandsFor.{AreWays, IsHolding, IsWay, ClientStandsFor}
 use Rattle.world.proofs.Turned.{IsTurned, beside, last_turned, turned_at, turned_last}
 
 -- ---- all connections of a client
@@ -40,7 +40,7 @@ pub record PipeAt (client : Piped) (m : ClientPipes) (at : ℕ) (way : Way) : Ty
   pub pipe : slice_get m.pipes turned.place ≡ Some p
   pub is : IsWay way p
 
-pub pipe_at : (client : Piped) (m : ClientPipes) (at : ℕ) (way : Way) → StandsFor client m → slice_get client.ways at ≡ Some way → PipeAt client m at way
+pub pipe_at : (client : Piped) (m : ClientPipes) (at : ℕ) (way : Way) → ClientStandsFor client m → slice_get client.ways at ≡ Some way → PipeAt client m at way
 pipe_at client m at way s found =
     let t = turned_at client.ways at way found in
     let w = way_at (reverse client.ways) m.pipes t.place way s.ways t.found in
@@ -91,8 +91,8 @@ holds_on client m at way later p q t (suc k) here found up came h =
       sent = h.sent;
     }
 
-pub way_changes : (client : Piped) (m : ClientPipes) (at : ℕ) (way later : Way) (x : PipeAt client m at way) (q : Pipe) → StandsFor client m → IsWay later q
-    → (x.p.up ≡ way.up → q.up ≡ later.up) → q.came ≡ x.p.came → StandsFor (with_way at later client) (with_pipe x.turned.place q m)
+pub way_changes : (client : Piped) (m : ClientPipes) (at : ℕ) (way later : Way) (x : PipeAt client m at way) (q : Pipe) → ClientStandsFor client m → IsWay later q
+    → (x.p.up ≡ way.up → q.up ≡ later.up) → q.came ≡ x.p.came → ClientStandsFor (with_way at later client) (with_pipe x.turned.place q m)
 way_changes client m at way later x q s is up came =
     record {
       keeper = s.keeper;

@@ -5,7 +5,7 @@ use Rattle.headline.specs.ballot.Losses.{greatest_count, one_more}
 use Rattle.headline.specs.broker_spec.Place.{Client}
 use Rattle.headline.specs.node_group.Group.{opening_group}
 use Rattle.escaping_nodes.specs.master.declared.event.Idle.{Idle}
-use Rattle.escaping_nodes.specs.world_nodes.Nodes.{StandsFor}
+use Rattle.escaping_nodes.specs.world_nodes.Nodes.{NodesStandFor}
 use Rattle.escaping_nodes.specs.world_nodes.Steps.{LosesNothing as NodesLoseNothing}
 use Rattle.world_events.specs.world_pipes.Piped.{new_piped}
 use Rattle.world_events.specs.declared.event.Event.{Event}
@@ -57,7 +57,7 @@ new_world_client name = record { name = name; piped = new_piped name }
 -- a world as it opens: no client was ever connected
 pub record WorldOpens (nodes : ℕ) (config : Config) (clients : List Client)
     (w : WorldState) : Type 0 where
-  pub group : StandsFor (opening_group nodes config) w.nodes
+  pub group : NodesStandFor (opening_group nodes config) w.nodes
   pub whole : w.nodes.losses ≡ 0
   pub is : w ≡ record {
     nodes = w.nodes;

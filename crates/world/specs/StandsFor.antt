@@ -9,8 +9,8 @@ use Rattle.headline.specs.Exact.{IsExact}
 use Rattle.headline.specs.byte_world.World.{ClientPipes, World}
 use Rattle.headline.specs.byte_world.Steps.{Reached, WorldStep}
 use Rattle.headline.specs.byte_world.Published.{published_in, published_on}
-use Rattle.escaping_nodes.specs.world_nodes.Nodes.{StandsFor as NodesStand}
-use Rattle.world_events.specs.world_pipes.StandsFor.{StandsFor as ClientStands}
+use Rattle.escaping_nodes.specs.world_nodes.Nodes.{NodesStandFor as NodesStand}
+use Rattle.world_events.specs.world_pipes.StandsFor.{ClientStandsFor as ClientStands}
 use Rattle.world.specs.World.{WorldState}
 use Rattle.world.specs.declared.world.WorldClient.{WorldClient}
 
@@ -22,7 +22,7 @@ ClientsStand _ _ = ⊥
 
 -- A world in code corresponds to one of the model: its nodes to the group, its clients to the
 -- clients. What was written, handled and agreed before is history: no field keeps it.
-pub record StandsFor (m : World) (w : WorldState) : Type 0 where
+pub record WorldStandsFor (m : World) (w : WorldState) : Type 0 where
   pub nodes : NodesStand m.group w.nodes
   pub clients : ClientsStand w.clients m.clients
 
@@ -47,14 +47,14 @@ pub record ModelStepsTo (asked : List (ℕ × Publication)) (m : World) (new : W
   pub after : World
   pub steps : Steps m after
   pub asked_is : published_along steps ≡ asked
-  pub stands : StandsFor after new
+  pub stands : WorldStandsFor after new
 
 -- each reachable world of the model that corresponded before steps to one that corresponds after
 -- (`ModelStepsTo`)
 abbrev pub FollowsModelAsking : List (ℕ × Publication) → WorldState → WorldState → Type 0
 FollowsModelAsking asked old new =
     (nodes : ℕ) (config : Config) (cs : List Client) (m : World) → Reached nodes config cs m →
-    StandsFor m old → ModelStepsTo asked m new
+    WorldStandsFor m old → ModelStepsTo asked m new
 
 -- nothing is published
 abbrev pub FollowsModel : WorldState → WorldState → Type 0
@@ -70,7 +70,7 @@ pub record IsReached (nodes : ℕ) (config : Config) (cs : List Client)
   pub apart : AreApart cs
   pub world : World
   pub trail : Reached nodes config cs world
-  pub stands : StandsFor world w
+  pub stands : WorldStandsFor world w
   pub exact : IsExact trail
 
 -- what its clients published until then: each publication with the index of its client

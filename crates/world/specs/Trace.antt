@@ -10,7 +10,7 @@ use Rattle.headline.specs.world_base.Core.{rules}
 use Rattle.headline.specs.node_group.Group.{Group, moment_of}
 use Rattle.headline.specs.node_group.Steps.{GroupStep, GroupTrace, all_put, groups_of}
 use Rattle.headline.specs.node_group.Order.{KeepsOrder}
-use Rattle.escaping_nodes.specs.world_nodes.Nodes.{NodesState, StandsFor}
+use Rattle.escaping_nodes.specs.world_nodes.Nodes.{NodesState, NodesStandFor}
 use Rattle.world.specs.World.{WorldState}
 
 -- ---- steps of a group, one after another
@@ -26,11 +26,11 @@ pub data StepsOfGroup (g : Group) : Group → Type 0 where
 pub record GroupStepsTo (g : Group) (new : NodesState) : Type 0 where
   pub after : Group
   pub goes : StepsOfGroup g after
-  pub stands : StandsFor after new
+  pub stands : NodesStandFor after new
 
 -- each group that corresponds to the nodes before moves, and corresponds to the nodes after
 abbrev pub NodesGo : NodesState → NodesState → Type 0
-NodesGo old new = (g : Group) → StandsFor g old → GroupStepsTo g new
+NodesGo old new = (g : Group) → NodesStandFor g old → GroupStepsTo g new
 
 -- the count of the nodes' losses never falls, and each group that corresponds to them moves
 pub record NodesGoOn (old new : NodesState) : Type 0 where
@@ -61,7 +61,7 @@ pub record KeepsGroup (old new : WorldState) : Type 0 where
 pub record AreReached (nodes : ℕ) (config : Config) (new : NodesState) : Type 0 where
   pub group : Group
   pub went : GroupTrace nodes config group
-  pub stands : StandsFor group new
+  pub stands : NodesStandFor group new
   pub order : KeepsOrder config group (groups_of went) (all_put went)
   pub list : List Command
   pub agreed : IsAgreed config (moment_of group ∷ order.of.earlier) list

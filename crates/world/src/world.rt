@@ -6,7 +6,7 @@ ghost use Rattle.headline.specs.agreement.World.{can_open};
 ghost use Rattle.headline.specs.ballot.Losses.{greatest_count, one_more};
 ghost use Rattle.headline.specs.packet_world.World.{AreApart};
 ghost use Rattle.headline.specs.byte_world.World.{new_client};
-ghost use Rattle.world_events.specs.world_pipes.StandsFor.{StandsFor};
+ghost use Rattle.world_events.specs.world_pipes.StandsFor.{ClientStandsFor};
 ghost use Rattle.world.specs.Trace.{AgreedGrows, AreReached, CountsOnce, StaysReached, KeepsGroup};
 ghost use Rattle.world.specs.Asking.{IsAsked, RunAsks};
 ghost use Rattle.world.specs.Happening.{Happens, Run, WorldOpens, new_world_client};
@@ -271,7 +271,7 @@ fn new_clients(alloc: Global, clients: &[ClientId]) -> Result<Vec<WorldClient>, 
 
 // Returns a client that was never connected.
 fn new_one(alloc: Global, client: &ClientId) -> Result<WorldClient, Memory>
-    ensures stands { IfOk result (λ made. StandsFor made.piped (new_client client.now)) }
+    ensures stands { IfOk result (λ made. ClientStandsFor made.piped (new_client client.now)) }
     ensures named { IfOk result (λ made. made.name ≡ client.now) }
     ensures new { IfOk result (λ made. made ≡ new_world_client client.now) }
 {

@@ -23,7 +23,7 @@ use Rattle.byte_world.specs.node_group.Steps.GroupStep.{node_acts}
 use Rattle.byte_world.specs.NodeCalls.{NodeCallWasSent, recorded_after}
 use Rattle.byte_world.proofs.NodeCallsCarry.{node_calls_carry_their_bytes}
 use Rattle.byte_world.proofs.of_node_group.Placed.{get_mapped, set_mapped}
-use Rattle.world_nodes.specs.Nodes.{NodesState, StandsFor}
+use Rattle.world_nodes.specs.Nodes.{NodesState, NodesStandFor}
 use Rattle.world_nodes.specs.ExactSteps.{Acts, after_node_call}
 use Rattle.world_nodes.specs.Steps.{TakesIn}
 use Rattle.world_nodes.specs.Inside.{RunsAt, TookItem, WasSent}
@@ -34,7 +34,7 @@ core_in c = c.core
 -- ---- a call
 
 pub acts : (old : NodesState) (at : ℕ) (node : CountedCore) (node_call : NodeCall) → slice_get old.nodes at ≡ Some node
-    → ((g : Group) → StandsFor g old → NodeCallWasSent g at node.core node_call)
+    → ((g : Group) → NodesStandFor g old → NodeCallWasSent g at node.core node_call)
     → Acts at node_call old (record (after_node_call at node node_call old) { archive = recorded_after old.archive node.core node_call })
 acts old at node node_call there sent g s =
     let r = node_calls_carry_their_bytes g at node_call node.core (sent g s) in
@@ -72,7 +72,7 @@ not_one_more losses low e = omega (arith, low, e)
 
 -- what was sent to the node of a number was sent to the one at its index
 pub node_call_sent : (old : NodesState) (node at : ℕ) (core : CoreState) (item : Item) → at ≡ node - 1 → 0 < node → WasSent node item old.sent
-    → (g : Group) → StandsFor g old → NodeCallWasSent g at core (takes item)
+    → (g : Group) → NodesStandFor g old → NodeCallWasSent g at core (takes item)
 node_call_sent old zero at core item place positive sent g s = absurd (omega (arith, positive))
 node_call_sent old (suc n) at core (Peer message) place positive sent g s =
     subst (λ (l : List (ℕ × Message Command)). In (at + 1, message) l) (sym s.sent)

@@ -18,7 +18,7 @@ use Rattle.byte_world.specs.node_group.Losing.{WereSent, all_given, recorded_in}
 use Rattle.byte_world.specs.NodeCalls.{NodeCallWasSent}
 use Rattle.byte_world.proofs.of_node_group.Placed.{get_mapped, set_mapped}
 use Rattle.byte_world.proofs.of_node_group.Recorded.{records_none, records_to}
-use Rattle.world_nodes.specs.Nodes.{NodesState, StandsFor}
+use Rattle.world_nodes.specs.Nodes.{NodesState, NodesStandFor}
 use Rattle.world_nodes.specs.ExactSteps.{Acts}
 use Rattle.world_nodes.specs.Inside.{RunsAt, TookItem, WasSent}
 use Rattle.world_nodes.specs.Steps.{recorded_if_cut}
@@ -34,7 +34,7 @@ run_of {core = core} {new = new} {item = item} t = losses_are_moves item core.co
 
 -- a node that took an item in, whether memory sufficed or not; the record has what the moves of its step add
 loses_so : (old : NodesState) (at : ℕ) (core new : CountedCore) (item : Item) (more : List (ℕ × Message Command)) (archive : List Command) (whole : Bool) (losses : ℕ)
-    → slice_get old.nodes at ≡ Some core → (t : TookItem core item new old.sent more whole) → ((g : Group) → StandsFor g old → WereSent g at (heard_with item))
+    → slice_get old.nodes at ≡ Some core → (t : TookItem core item new old.sent more whole) → ((g : Group) → NodesStandFor g old → WereSent g at (heard_with item))
     → recorded_in old.archive (run_of t).run ≡ archive → Acts at (takes item) old (after_turn_with at new more archive losses old)
 loses_so old at core new item more archive whole losses there t sent records g s =
     let by = run_of t in

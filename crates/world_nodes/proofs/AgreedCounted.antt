@@ -17,7 +17,7 @@ use Rattle.master.proofs.Counting.{get_past, get_there}
 use Rattle.master.proofs.Groups.{in_item}
 use Rattle.master.proofs.Lawful.{rising_above}
 use Rattle.master.proofs.Viewed.{agreed_read, agreed_read_on, counted_as_seen, group_lawful, sole_as_seen, some_as_seen, within_of}
-use Rattle.world_nodes.specs.Nodes.{NodesState, StandsFor, cores_of}
+use Rattle.world_nodes.specs.Nodes.{NodesState, NodesStandFor, cores_of}
 use Rattle.world_nodes.specs.Agreed.{AgreeOn, AgreeOnSoMany}
 use Rattle.world_nodes.specs.Inside.{HaveCounted, held_at, replicas_of}
 use Rattle.world_nodes.proofs.Acts.{core_in}
@@ -41,7 +41,7 @@ several_agree n told next c range several config g earlier stands came list agre
     (λ e. several (ap (λ (m : MasterState). length m.members) same ∙ e))
 
 -- the replica of a member, by nodes and by a group that corresponds to them
-same_nodes : (n : NodesState) (g : Group) → StandsFor g n → replicas_of n.nodes ≡ map replica_of g.nodes
+same_nodes : (n : NodesState) (g : Group) → NodesStandFor g n → replicas_of n.nodes ≡ map replica_of g.nodes
 same_nodes n g stands = ap (λ (l : List CoreState). map replica_of l) (sym stands.nodes)
 
 -- of a sole member, how long its log is
@@ -59,7 +59,7 @@ some_agrees n count list many short config g earlier stands came =
     (short m (subst (λ (k : MasterState). In m k.members) stands.master i))))
 
 -- .. which is the same one in a group that corresponds to the nodes
-holds_in : (n : NodesState) (g : Group) (count at : ℕ) → StandsFor g n → HoldsAt (replicas_of n.nodes) n.master.members count at
+holds_in : (n : NodesState) (g : Group) (count at : ℕ) → NodesStandFor g n → HoldsAt (replicas_of n.nodes) n.master.members count at
     → HoldsAt (map replica_of g.nodes) g.master.members count at
 holds_in n g count at stands h =
     record {

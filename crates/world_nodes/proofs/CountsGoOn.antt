@@ -11,14 +11,14 @@ use Rattle.byte_world.specs.node_group.Steps.GroupTrace.{opened}
 use Rattle.byte_world.proofs.of_node_group.GroupsArePasts.{goes_on, groups_are_pasts}
 use Rattle.master.specs.Inside.{HasCounted, ToldIn}
 use Rattle.master.proofs.Groups.{front_of}
-use Rattle.world_nodes.specs.Nodes.{NodesState, StandsFor}
+use Rattle.world_nodes.specs.Nodes.{NodesState, NodesStandFor}
 use Rattle.world_nodes.specs.ExactSteps.{Acts}
 use Rattle.world_nodes.specs.Inside.{HaveCounted}
 
 abbrev pub Sent : Type 0
 Sent = List (ℕ × Message Command)
 
-pub opens_counting : (nodes : ℕ) (config : Config) (n : NodesState) (told next : ToldIn) → can_open nodes config ≡ true → StandsFor (opening_group nodes config) n
+pub opens_counting : (nodes : ℕ) (config : Config) (n : NodesState) (told next : ToldIn) → can_open nodes config ≡ true → NodesStandFor (opening_group nodes config) n
     → told.ballot ≡ 1 → ((m : ℕ) → get_or told.held m 0 ≡ 0) → ((m : ℕ) → get_or next.held m 0 ≡ 0) → HaveCounted n told next
 opens_counting nodes config n told next can stands one untold untold_next =
     let so_far = groups_are_pasts nodes config (opening_group nodes config) (opened can) in

@@ -19,7 +19,7 @@ use Rattle.byte_world.specs.node_group.Group.{Group, told_by_master, with_master
 use Rattle.byte_world.specs.node_group.Steps.{GroupStep, after_assign}
 use Rattle.byte_world.specs.node_group.Steps.GroupStep.{master_assigns, master_hears, assigns_unheard, answers_unheard}
 use Rattle.byte_world.specs.Steps.{DoesCall, IsFaithful, node_call_of}
-use Rattle.world_nodes.specs.Nodes.{NodesState, StandsFor}
+use Rattle.world_nodes.specs.Nodes.{NodesState, NodesStandFor}
 use Rattle.world_nodes.specs.ExactSteps.{Acts, Comes, GoesBy, HeardByMaster, after_answer, after_giving}
 use Rattle.world_nodes.specs.Steps.{ComesIn, GivesIn, HearsIn, LosesNothing, TakesIn, nodes_with_loss, unheard}
 use Rattle.world_nodes.specs.GroupSteps.{ActsOrRests, ComesOrRests, MasterGoes, MasterHears}
@@ -45,7 +45,7 @@ group_answer from ballot g =
 -- each group that corresponds to the nodes before continues so, and then corresponds to the nodes
 -- after
 abbrev pub MasterActs : (Group → Group) → NodesState → NodesState → Type 0
-MasterActs next old new = (g : Group) → StandsFor g old → (goes : GoesBy None g new) × (goes.does.after ≡ next g)
+MasterActs next old new = (g : Group) → NodesStandFor g old → (goes : GoesBy None g new) × (goes.does.after ≡ next g)
 
 record ByMaster (g h : Group) : Type 0 where
   pub step : GroupStep g h

@@ -16,7 +16,7 @@ use Rattle.master.specs.declared.error.AssignError.{AssignError}
 use Rattle.master.specs.declared.error.AssignError.TheVariants.{BadMembers, BallotsSpent}
 use Rattle.master.specs.Inside.{ToldIn}
 use Rattle.master.proofs.Groups.{group_answers, group_gives}
-use Rattle.world_nodes.specs.Nodes.{NodesState, StandsFor}
+use Rattle.world_nodes.specs.Nodes.{NodesState, NodesStandFor}
 use Rattle.world_nodes.specs.Inside.{HaveCounted}
 use Rattle.world_nodes.proofs.CountsGoOn.{Sent}
 use Rattle.world_nodes.proofs.MasterActs.{answers_exactly, gives_exactly, group_answer, group_giving, master_turn, told_to}
@@ -38,7 +38,7 @@ gives_counting old config state body more true losses t next next' c none state_
     let g = c.group in
     let given = gives_exactly old config none g c.stands in
     let message : Body Command = NewBallot (old.master.given + 1) config.members old.master.active old.master.members in
-    let s = subst (λ (h : Group). StandsFor h (told_to (assigning old.master config) config.primary message old)) given.1 given.0.stands in
+    let s = subst (λ (h : Group). NodesStandFor h (told_to (assigning old.master config) config.primary message old)) given.1 given.0.stands in
     record {
       group = group_giving config g;
       stands = record {
@@ -72,7 +72,7 @@ abbrev pub TurnsOver : ToldIn → ToldIn → ToldIn → ToldIn → MasterState �
 TurnsOver t next t' next' m k =
     ((k.active ≡ m.active) × (t' ≡ t) × (next' ≡ next)) ⊎ ((k.active ≡ m.active → ⊥) × (t' ≡ next) × (next' ≡ t))
 
-turns_in : (g : Group) (old : NodesState) (state : MasterState) (ballot : ℕ) (t next t' next' : ToldIn) → StandsFor g old
+turns_in : (g : Group) (old : NodesState) (state : MasterState) (ballot : ℕ) (t next t' next' : ToldIn) → NodesStandFor g old
     → state ≡ activating old.master ballot old.master.waiting → TurnsOver t next t' next' old.master state
     → TurnsOver t next t' next' g.master (activating g.master ballot g.master.waiting)
 turns_in g old state ballot t next t' next' s state_is turns =
@@ -88,7 +88,7 @@ answers_counting old from ballot state body more true losses t next t' next' c s
     let g = c.group in
     let answered = answers_exactly old from ballot sent g c.stands in
     let message : Body Command = if is_granted old.master ballot old.master.waiting then Activated ballot else Superseded ballot in
-    let s = subst (λ (h : Group). StandsFor h (told_to (activating old.master ballot old.master.waiting) from message old)) answered.1 answered.0.stands in
+    let s = subst (λ (h : Group). NodesStandFor h (told_to (activating old.master ballot old.master.waiting) from message old)) answered.1 answered.0.stands in
     record {
       group = group_answer from ballot g;
       stands = record {

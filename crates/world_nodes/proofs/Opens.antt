@@ -7,7 +7,7 @@ use Rattle.master.specs.ballot.Message.{Message}
 use Rattle.byte_world.specs.broker_spec.declared.command.Command.{Command}
 use Rattle.byte_world.specs.world_base.Core.{CoreState, CountedCore, opening_core}
 use Rattle.byte_world.specs.node_group.Group.{opening_cores, opening_group}
-use Rattle.world_nodes.specs.Nodes.{StandsFor, cores_of}
+use Rattle.world_nodes.specs.Nodes.{NodesStandFor, cores_of}
 
 pub opened_more : (config : Config) (at : ℕ) (opened later : List CountedCore) (node : CountedCore) → cores_of opened ≡ opening_cores at config
     → node ≡ record { core = opening_core (at + 1) config; losses = 0 } → later ≡ opened ++ node ∷ [] → cores_of later ≡ opening_cores (at + 1) config
@@ -19,7 +19,7 @@ opened_more config at opened later node before fresh is =
 
 pub opened_all : (config : Config) (nodes at : ℕ) (master : MasterState) (opened : List CountedCore) (sent : List (ℕ × Message Command)) (archive : List Command) (losses : ℕ)
     → master ≡ opening_master config → cores_of opened ≡ opening_cores at config → at ≡ nodes → sent ≡ [] → archive ≡ []
-    → StandsFor (opening_group nodes config) (record { master = master; nodes = opened; sent = sent; archive = archive; losses = losses })
+    → NodesStandFor (opening_group nodes config) (record { master = master; nodes = opened; sent = sent; archive = archive; losses = losses })
 opened_all config nodes at master opened sent archive losses m cores same none bare =
     record {
       master = sym m;

@@ -18,7 +18,7 @@ use Rattle.byte_world.specs.node_moves.Moves.{NodeCall, done}
 use Rattle.byte_world.specs.node_moves.Moves.NodeCall.{takes, gives}
 use Rattle.byte_world.specs.node_group.Group.{Group}
 use Rattle.byte_world.specs.Steps.{DoesCall}
-use Rattle.world_nodes.specs.Nodes.{NodesState, StandsFor}
+use Rattle.world_nodes.specs.Nodes.{NodesState, NodesStandFor}
 use Rattle.world_nodes.specs.Running.{running, node_of, cutting}
 
 -- ---- a call of a node
@@ -57,11 +57,11 @@ pub record GivesExactly (node : ℕ) (port : Port) (old new : NodesState) : Type
 -- these nodes
 pub record GoesBy (node_call : Option (ℕ × NodeCall)) (g : Group) (new : NodesState) : Type 0 where
   pub does : DoesCall g node_call
-  pub stands : StandsFor does.after new
+  pub stands : NodesStandFor does.after new
 
 -- each group that corresponds to the nodes before does so: the node at this index does this call
 abbrev pub Acts : ℕ → NodeCall → NodesState → NodesState → Type 0
-Acts at node_call old new = (g : Group) → StandsFor g old → GoesBy (Some (at, node_call)) g new
+Acts at node_call old new = (g : Group) → NodesStandFor g old → GoesBy (Some (at, node_call)) g new
 
 -- ---- what is handed over
 

@@ -10,7 +10,7 @@ use Rattle.byte_world.specs.node_moves.Moves.{NodeCall}
 use Rattle.byte_world.specs.node_moves.Moves.NodeCall.{takes}
 use Rattle.byte_world.specs.node_group.Group.{Group}
 use Rattle.world_nodes.specs.ExactSteps.{Acts, GoesBy}
-use Rattle.world_nodes.specs.Nodes.{NodesState, StandsFor}
+use Rattle.world_nodes.specs.Nodes.{NodesState, NodesStandFor}
 use Rattle.world_nodes.specs.Steps.{nodes_with_loss}
 
 -- by a call of the node at this index; or nothing happened
@@ -19,7 +19,7 @@ ActsOrRests at node_call old new = Acts at node_call old new ⊎ (new ≡ nodes_
 
 -- by a step of the master, whose message may be lost; or nothing happened
 abbrev pub MasterGoes : NodesState → NodesState → Type 0
-MasterGoes old new = (g : Group) → StandsFor g old → GoesBy None g new
+MasterGoes old new = (g : Group) → NodesStandFor g old → GoesBy None g new
 
 -- the master answers; or memory ran out, and that is counted
 abbrev pub MasterGoesOrRests : NodesState → NodesState → Type 0

@@ -20,7 +20,7 @@ use Rattle.byte_world.specs.world_base.Step.{node_step}
 use Rattle.master.specs.Inside.{IsGroup, ToldIn, held_by}
 use Rattle.byte_world.specs.node_group.Group.{Group, moment_of, replica_of}
 use Rattle.world_nodes.specs.Running.{running}
-use Rattle.world_nodes.specs.Nodes.{NodesState, StandsFor, cores_of}
+use Rattle.world_nodes.specs.Nodes.{NodesState, NodesStandFor, cores_of}
 
 -- messages were kept after those that were sent, except some that were lost
 pub record Keeps (given : List (Effect Command Output)) (sent more : List (ℕ × Message Command))
@@ -74,7 +74,7 @@ pub record TookItem (old : CountedCore) (item : Item) (new : CountedCore)
 -- active ballot, and in the one that waits.
 pub record HaveCounted (n : NodesState) (told next : ToldIn) : Type 0 where
   pub group : Group
-  pub stands : StandsFor group n
+  pub stands : NodesStandFor group n
   pub counts : IsGroup rules (moment_of group) told next
 
 -- the replicas of nodes

@@ -22,7 +22,7 @@ cores_of nodes = map (λ (c : CountedCore). c.core) nodes
 
 -- A group corresponds to nodes: it has their master, what each of them keeps, their messages and
 -- their record. Which outputs its replicas gave before is history: no field keeps it.
-pub record StandsFor (g : Group) (n : NodesState) : Type 0 where
+pub record NodesStandFor (g : Group) (n : NodesState) : Type 0 where
   pub master : g.master ≡ n.master
   pub nodes : g.nodes ≡ cores_of n.nodes
   pub sent : g.sent ≡ n.sent

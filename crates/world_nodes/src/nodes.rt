@@ -6,7 +6,7 @@ ghost use Rattle.master.specs.agreement.MasterState.{refusal};
 ghost use Rattle.master.specs.agreement.World.{can_open};
 ghost use Rattle.byte_world.specs.node_group.Group.{Group, opening_group};
 ghost use Rattle.byte_world.specs.node_moves.Moves.NodeCall.{takes};
-ghost use Rattle.world_nodes.specs.Nodes.{NodesState, StandsFor};
+ghost use Rattle.world_nodes.specs.Nodes.{NodesState, NodesStandFor};
 ghost use Rattle.world_nodes.specs.ExactSteps.{Acts, AnswersFor, Comes, ComesToNobody, CutsExactly, GivesExactly, HandsOver, TakesExactly, after_giving};
 ghost use Rattle.world_nodes.specs.Running.{cutting, is_running, node_of, proposing, running};
 ghost use Rattle.world_nodes.specs.Quiet.{ComesUnheeded, RestsAt, WaitsAtNone};
@@ -80,7 +80,7 @@ impl Nodes {
     /// Opens nodes 1 to `nodes` in ballot 1. [`OpeningError::BadMembers`] comes for more than 15
     /// nodes, for a configuration that no ballot may have, and for a member over `nodes`.
     pub fn opening(alloc: Global, nodes: u8, config: Config) -> Result<Nodes, OpeningError>
-        ensures opens { IfOk result (λ opened. StandsFor (opening_group nodes config) opened) }
+        ensures opens { IfOk result (λ opened. NodesStandFor (opening_group nodes config) opened) }
         ensures losses { IfOk result (λ opened. opened.losses ≡ 0) }
         ensures can { OnOk result (can_open nodes config ≡ true) }
         ensures bad { IsErrOf result OpeningError.BadMembers ↔ (can_open nodes config ≡ false) }

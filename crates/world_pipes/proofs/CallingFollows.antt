@@ -16,7 +16,7 @@ use Rattle.world_pipes.specs.declared.sending.Sending.TheVariants as sendings
 use Rattle.world_pipes.specs.Following.{CallingFollows, FollowsBy}
 use Rattle.world_pipes.specs.Steps.{ClientGoes, ClientStep}
 use Rattle.world_pipes.specs.Piped.{Calls, Piped, TakesLeave, is_holding, piped}
-use Rattle.world_pipes.specs.StandsFor.{StandsFor}
+use Rattle.world_pipes.specs.StandsFor.{ClientStandsFor}
 use Rattle.byte_world.specs.World.{after_writing}
 use Rattle.world_pipes.proofs.CallsFollow.{up_follows}
 use Rattle.world_pipes.proofs.CallsOffline.{call_follows, publishing_offline, subscribing_offline, unsubscribing_offline}
@@ -132,4 +132,4 @@ calling_goes published old (Ok sendings.Sent) new follows = λ m s.
       stands = f.stands;
     }
 calling_goes published old (Ok sendings.Lost) new follows = follows
-calling_goes published old (Err cause) new same = λ m s. record { next = m; goes = ClientGoes.stays; publishes = refl; stands = subst (λ p. StandsFor p m) (sym same) s }
+calling_goes published old (Err cause) new same = λ m s. record { next = m; goes = ClientGoes.stays; publishes = refl; stands = subst (λ p. ClientStandsFor p m) (sym same) s }

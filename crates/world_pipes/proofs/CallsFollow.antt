@@ -25,7 +25,7 @@ use Rattle.world_pipes.specs.Steps.{ClientGoes, ClientStep}
 use Rattle.world_pipes.specs.Piped.{Calls, GoesUp, GoesUpWhere, Piped, TakesLeave, broken, is_holding, piped}
 use Rattle.world_pipes.specs.Piped as pipings
 use Rattle.byte_world.specs.exactly_once.Acceptance.{accepted_on}
-use Rattle.world_pipes.specs.StandsFor.{AreWays, CanGoOut, StandsFor}
+use Rattle.world_pipes.specs.StandsFor.{AreWays, CanGoOut, ClientStandsFor}
 use Rattle.byte_world.specs.Accepted.{accepted_once}
 use Rattle.world_pipes.proofs.CarryingFollows.{IsLeft, finished, left_lost, way_up}
 use Rattle.world_pipes.proofs.ModelsCalls.{IsCalled}
@@ -46,7 +46,7 @@ record HasCalled (outcome : ClientOutcome) (core : Core) (older : List Way) (way
   pub ways : AreWays (reverse older) further
   pub spelled : CanBeSpelled m.connections c.connections
 
-has_called : (outcome : ClientOutcome) (old : Piped) (core : Core) (older : List Way) (way : Way) (m : ClientPipes) (c : IsCalled outcome m) → StandsFor old m →
+has_called : (outcome : ClientOutcome) (old : Piped) (core : Core) (older : List Way) (way : Way) (m : ClientPipes) (c : IsCalled outcome m) → ClientStandsFor old m →
     is_holding old ≡ true → old.ways ≡ older ++ way ∷ [] → AllSpelled outcome → core.state ≡ outcome.state → AppendsAll old.core.out core.out outcome.writes →
     (is_open core.state.stage ≡ true → core.unread ≡ old.core.unread) → outcome.state.accepted ≡ old.core.state.accepted → HasCalled outcome core older way m c
 has_called outcome old core older way m c s up splits whole same appends unread none =
@@ -67,7 +67,7 @@ has_called outcome old core older way m c s up splits whole same appends unread 
       pipe = p;
       further = held.further;
       left = record {
-        keeper = subst (history.StandsFor c.keeper) (sym same) c.stands;
+        keeper = subst (history.KeeperStandsFor c.keeper) (sym same) c.stands;
         fits = subst CanGoOut (sym same) whole.left;
         accepted = ap (λ (state : ClientState). accepted_once state.accepted) same ∙ ap accepted_once none ∙ s.accepted ∙ ap accepted_on held.connections ∙ sym (ap accepted_on first);
         connection = writes c.more κ;
@@ -86,7 +86,7 @@ has_called outcome old core older way m c s up splits whole same appends unread 
 
 -- it went up
 sent_stands : (outcome : ClientOutcome) (core : Core) (older : List Way) (way : Way) (m : ClientPipes) (c : IsCalled outcome m) → HasCalled outcome core older way m c →
-    StandsFor (pipings.sent_up core older way) (after_writing c.keeper c.connections m)
+    ClientStandsFor (pipings.sent_up core older way) (after_writing c.keeper c.connections m)
 sent_stands outcome core older way m c h =
     let up = way.up ++ core.out in
     finished older way way.up core (record core { out = [] }) (after_writing c.keeper c.connections m) h.others h.pipe h.further up [] h.left refl h.many h.ways
@@ -96,7 +96,7 @@ sent_stands outcome core older way m c h =
 
 -- or the connection was lost
 lost_stands : (outcome : ClientOutcome) (core : Core) (older : List Way) (way : Way) (m : ClientPipes) (c : IsCalled outcome m) → HasCalled outcome core older way m c →
-    StandsFor (broken core (older ++ way ∷ [])) (after_losing (after_writing c.keeper c.connections m))
+    ClientStandsFor (broken core (older ++ way ∷ [])) (after_losing (after_writing c.keeper c.connections m))
 lost_stands outcome core older way m c h =
     let m₁ = after_writing c.keeper c.connections m in
     let left = left_lost way.up core m₁ h.others h.pipe h.further h.left in
@@ -113,7 +113,7 @@ pub record HasCall (published : List Publication) (outcome : ClientOutcome) (old
   pub unread : is_open core.state.stage ≡ true → core.unread ≡ old.core.unread
   pub fits : CanGoOut old.core.state → AllSpelled outcome
   pub accepts_none : outcome.state.accepted ≡ old.core.state.accepted
-  pub too : (m : ClientPipes) → history.StandsFor m.keeper old.core.state → old.core.state.keep_alive ≡ 0 → (c : IsCalled outcome m) × (published_by c.call ≡ published)
+  pub too : (m : ClientPipes) → history.KeeperStandsFor m.keeper old.core.state → old.core.state.keep_alive ≡ 0 → (c : IsCalled outcome m) × (published_by c.call ≡ published)
 
 -- a call of a client that holds a connection
 pub up_follows : (published : List Publication) (outcome : ClientOutcome) (old : Piped) (core : Core) (sending : Sending) (new : Piped) → is_holding old ≡ true → HasCall published outcome old core →
@@ -128,7 +128,7 @@ up_follows published outcome old core sendings.Sent new up has (older, way, spli
       is_one = c.is_one;
       publishes = called.1;
       spelled = h.spelled;
-      stands = subst (λ p. StandsFor p (after_writing c.keeper c.connections m)) (sym is) (sent_stands outcome core older way m c h);
+      stands = subst (λ p. ClientStandsFor p (after_writing c.keeper c.connections m)) (sym is) (sent_stands outcome core older way m c h);
     }
 up_follows published outcome old core sendings.Lost new up has is = λ m s.
     let held = s.held up in
@@ -141,6 +141,6 @@ up_follows published outcome old core sendings.Lost new up has is = λ m s.
       next = after_losing m₁;
       goes = ClientGoes.goes_on (ClientGoes.goes_on ClientGoes.stays step) (losing m₁);
       publishes = ap (λ l. published_by c.call ++ l) (losing_silent m₁) ∙ append-nil (published_by c.call) ∙ called.1;
-      stands = subst (λ p. StandsFor p (after_losing m₁)) (sym (is ∙ ap (λ l. broken core l) held.ways))
+      stands = subst (λ p. ClientStandsFor p (after_losing m₁)) (sym (is ∙ ap (λ l. broken core l) held.ways))
           (lost_stands outcome core held.older held.way m c h);
     }

@@ -28,7 +28,7 @@ use Rattle.world_pipes.specs.declared.sending.Sending.TheVariants as sendings
 use Rattle.world_pipes.specs.Following.{CallingFollows}
 use Rattle.world_pipes.specs.Piped.{GoesUpWhere, Piped, is_holding, piped}
 use Rattle.byte_world.specs.exactly_once.Acceptance.{accepted_on}
-use Rattle.world_pipes.specs.StandsFor.{AreWays, CanGoOut, StandsFor}
+use Rattle.world_pipes.specs.StandsFor.{AreWays, CanGoOut, ClientStandsFor}
 use Rattle.byte_world.specs.Accepted.{accepted_once}
 use Rattle.world_pipes.proofs.CallsFollow.{HasCall, up_follows}
 use Rattle.world_pipes.proofs.Ways.{none_sent}
@@ -97,9 +97,9 @@ idle_follows published outcome old core new closed stays none has is = λ m s.
       is_one = c.is_one;
       publishes = called.1;
       spelled = subst (Each IsPacket) (sym newly) tt;
-      stands = subst (λ p. StandsFor p (after_writing c.keeper c.connections m)) (sym is)
+      stands = subst (λ p. ClientStandsFor p (after_writing c.keeper c.connections m)) (sym is)
           (record {
-            keeper = subst (history.StandsFor c.keeper) (sym has.state) c.stands;
+            keeper = subst (history.KeeperStandsFor c.keeper) (sym has.state) c.stands;
             fits = subst CanGoOut (sym has.state) (has.fits s.fits).left;
             accepted = ap (λ (state : ClientState). accepted_once state.accepted) has.state ∙ ap accepted_once has.accepts_none ∙ s.accepted
                 ∙ sym (ap accepted_on c.on_first ∙ same_accepted c.more m.connections);

@@ -19,7 +19,7 @@ use Rattle.world_pipes.specs.Following.{Follows, CarryingFollows, after_losing}
 use Rattle.world_pipes.specs.Steps.{ClientGoes, ClientStep, published_along, published_with}
 use Rattle.world_pipes.specs.Piped.{CarriesDown, Piped, broken, come_down, piped, sent_up}
 use Rattle.byte_world.specs.exactly_once.Acceptance.{accepted_on}
-use Rattle.world_pipes.specs.StandsFor.{AreWays, CanGoOut, IsWay, StandsFor}
+use Rattle.world_pipes.specs.StandsFor.{AreWays, CanGoOut, IsWay, ClientStandsFor}
 use Rattle.byte_world.specs.Accepted.{accepted_once}
 use Rattle.world_pipes.proofs.PacketsHandled.{GoFar, IsInMidst, all_go, one_goes}
 use Rattle.world_pipes.proofs.StaysOpen.{handled_stays}
@@ -29,7 +29,7 @@ use Rattle.world_pipes.proofs.Ways.{last_same, losing, losing_silent, lost_fits,
 
 -- As in the midst of it, but that the connection may be lost.
 pub record IsLeft (before : List ℕ) (core : Core) (m : ClientPipes) (others : List ClientConnection) (p₀ : Pipe) (further : List Pipe) : Type 0 where
-  pub keeper : history.StandsFor m.keeper core.state
+  pub keeper : history.KeeperStandsFor m.keeper core.state
   pub fits : CanGoOut core.state
   pub accepted : accepted_once core.state.accepted ≡ accepted_on m.connections
   pub connection : ClientConnection
@@ -131,10 +131,10 @@ pub finished : (older : List Way) (way : Way) (before : List ℕ) (core shown : 
     (l : IsLeft before core m others p₀ further) → shown.state ≡ core.state → length others ≡ length further → AreWays (reverse older) further →
     IsWay (record way { up = up }) l.pipe →
     (is_open core.state.stage ≡ true → (l.pipe.up ≡ up) × (shown.out ≡ []) × (shown.unread ≡ core.unread)) →
-    StandsFor (piped shown (older ++ record way { up = up } ∷ [])) m
+    ClientStandsFor (piped shown (older ++ record way { up = up } ∷ [])) m
 finished older way before core shown m others p₀ further up rest l same many ways one on =
     record {
-      keeper = subst (history.StandsFor m.keeper) (sym same) l.keeper;
+      keeper = subst (history.KeeperStandsFor m.keeper) (sym same) l.keeper;
       fits = subst CanGoOut (sym same) l.fits;
       accepted = ap (λ (state : ClientState). accepted_once state.accepted) same ∙ l.accepted;
       many = ap length l.connections ∙ ap suc many ∙ sym (ap length l.pipes);
@@ -219,7 +219,7 @@ carrying_follows count old new result m s up h =
           next = l.last;
           goes = first_then coming l.steps;
           publishes = then_silent coming l.steps silent l.silent;
-          stands = subst (λ q. StandsFor q l.last) (sym end.1)
+          stands = subst (λ q. ClientStandsFor q l.last) (sym end.1)
               (finished h.older (come_down count h.way) h.way.up h.core (record h.core { out = [] }) l.last others p₁ further up [] l.left refl many ways
               (way_up h.older (come_down count h.way) h.way.up h.core l.last others p₁ further up [] l.left node port down (sym (append-nil up)))
               (λ on. (l.left.up, refl, refl)));
@@ -230,7 +230,7 @@ carrying_follows count old new result m s up h =
           next = gone-now.last;
           goes = first_then coming gone-now.steps;
           publishes = then_silent coming gone-now.steps silent gone-now.silent;
-          stands = subst (λ q. StandsFor q gone-now.last) (sym end.1)
+          stands = subst (λ q. ClientStandsFor q gone-now.last) (sym end.1)
               (finished h.older (come_down count h.way) h.way.up (gone h.core) (gone h.core) gone-now.last others p₁ further h.way.up h.core.out gone-now.left
               refl many ways
               (way_up h.older (come_down count h.way) h.way.up (gone h.core) gone-now.last others p₁ further h.way.up h.core.out gone-now.left node port down refl)

@@ -24,7 +24,7 @@ use Rattle.world_pipes.specs.Following.{ConnectingFollows, FollowsAll}
 use Rattle.world_pipes.specs.Steps.{ClientGoes}
 use Rattle.world_pipes.specs.Piped.{Connects, Piped, is_holding, new_piped, new_way, piped, sent_up}
 use Rattle.byte_world.specs.exactly_once.Acceptance.{accepted_on}
-use Rattle.world_pipes.specs.StandsFor.{AreWays, CanGoOut, StandsFor}
+use Rattle.world_pipes.specs.StandsFor.{AreWays, CanGoOut, ClientStandsFor}
 use Rattle.byte_world.specs.Accepted.{accepted_once}
 use Rattle.world_pipes.proofs.PacketsHandled.{appended}
 use Rattle.world_pipes.proofs.TakenBack.{opened_and_lost}
@@ -32,7 +32,7 @@ use Rattle.world_pipes.proofs.Ways.{with_newest}
 
 -- ---- a client that was never connected
 
-pub new_stands : (client : List ℕ) → IsTrue (is_client client) → StandsFor (new_piped client) (new_client client)
+pub new_stands : (client : List ℕ) → IsTrue (is_client client) → ClientStandsFor (new_piped client) (new_client client)
 new_stands client fits =
     record {
       keeper = record {
@@ -61,8 +61,8 @@ new_stands client fits =
 connect_is_packet : (client : List ℕ) → IsTrue (is_client client) → IsPacket (packets.Connect (record { client = client; clean = false; keep_alive = 0 }))
 connect_is_packet client fits = ((omega arith, fits), tt, (let short = client_short client fits in omega (arith, short)))
 
-opened_stands : (keeper : Keeper) (state : ClientState) → history.StandsFor keeper state →
-    history.StandsFor (record (handling.lost keeper) { is_open = true }) (keeper_step Call.Opens state).state
+opened_stands : (keeper : Keeper) (state : ClientState) → history.KeeperStandsFor keeper state →
+    history.KeeperStandsFor (record (handling.lost keeper) { is_open = true }) (keeper_step Call.Opens state).state
 opened_stands keeper state s =
     record {
       client = s.client;
@@ -87,8 +87,8 @@ not_there client m closed up = both_ways (is_holding client) closed up
 opened_fits : (state : ClientState) → CanGoOut state → CanGoOut (keeper_step Call.Opens state).state
 opened_fits state fits = record { keep_alive = fits.keep_alive; client = fits.client; released = fits.released; sent = fits.sent; unsent = fits.unsent }
 
-connected : (node : ℕ) (port : Port) (old : Piped) (core : Core) (m : ClientPipes) (x : ConnectionName) → StandsFor old m →
-    OpensConnection (keeper_step Call.Opens old.core.state) old.core (Ok tt) core → StandsFor (sent_up core old.ways (new_way node port)) (after_connecting x node port m)
+connected : (node : ℕ) (port : Port) (old : Piped) (core : Core) (m : ClientPipes) (x : ConnectionName) → ClientStandsFor old m →
+    OpensConnection (keeper_step Call.Opens old.core.state) old.core (Ok tt) core → ClientStandsFor (sent_up core old.ways (new_way node port)) (after_connecting x node port m)
 connected node port old core m x s opens =
     let client : old.core.state.client ≡ m.keeper.client = s.keeper.client in
     let is : packets.Connect (record { client = old.core.state.client; clean = false; keep_alive = old.core.state.keep_alive })
@@ -100,7 +100,7 @@ connected node port old core m x s opens =
     (subst (λ p. AppendsAll [] core.out (p ∷ [])) is opens.1) in
     let way : Way = record (new_way node port) { up = core.out } in
     record {
-      keeper = subst (history.StandsFor (record (handling.lost m.keeper) { is_open = true })) (sym opens.0) (opened_stands m.keeper old.core.state s.keeper);
+      keeper = subst (history.KeeperStandsFor (record (handling.lost m.keeper) { is_open = true })) (sym opens.0) (opened_stands m.keeper old.core.state s.keeper);
       fits = subst CanGoOut (sym opens.0) (opened_fits old.core.state s.fits);
       accepted = ap (λ (state : ClientState). accepted_once state.accepted) opens.0 ∙ s.accepted ∙ sym (append-nil (accepted_on m.connections));
       many = ap suc s.many;
@@ -131,10 +131,10 @@ connected node port old core m x s opens =
 pub connecting_follows : (node : ℕ) (port : Port) (old new : Piped) (result : Result (Unit {0}) ClientError) → is_holding old ≡ false →
     Connects node port (keeper_step Call.Opens old.core.state) old result new → ConnectingFollows node port old result new
 connecting_follows node port old new (Ok done) closed (core, opens, is) = λ m x s. (
-  subst (λ p. StandsFor p (after_connecting x node port m)) (sym is) (connected node port old core m x s opens),
+  subst (λ p. ClientStandsFor p (after_connecting x node port m)) (sym is) (connected node port old core m x s opens),
   connect_is_packet m.keeper.client (subst (λ c. IsTrue (is_client c)) s.keeper.client s.fits.client),
 )
 connecting_follows node port old new (Err cause) closed (memory, ways, inl same) = λ m s.
-    record { next = m; goes = ClientGoes.stays; publishes = refl; stands = subst (λ p. StandsFor p m) (sym (ap₂ piped same ways)) s }
+    record { next = m; goes = ClientGoes.stays; publishes = refl; stands = subst (λ p. ClientStandsFor p m) (sym (ap₂ piped same ways)) s }
 connecting_follows node port old new (Err cause) closed (memory, ways, inr (core, opens, lost)) =
     subst (λ p. FollowsAll old p) (sym (ap₂ piped lost ways)) (opened_and_lost old core opens.0)

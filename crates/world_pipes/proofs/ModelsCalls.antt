@@ -36,7 +36,7 @@ pub record IsCalled (outcome : ClientOutcome) (m : ClientPipes) : Type 0 where
   pub connections : List ClientConnection
   pub call : StoryStep usual_limits (story_alone m) (record { past = []; connections = connections; keeper = keeper })
   pub is_one : is_call call ≡ true
-  pub stands : history.StandsFor keeper outcome.state
+  pub stands : history.KeeperStandsFor keeper outcome.state
   pub more : List Written
   pub on_first : connections ≡ writes_first more m.connections
   pub writes : packets_of more ≡ outcome.writes
@@ -47,7 +47,7 @@ alone keeper = record { keeper = keeper; connection = record { name = 0; written
 
 -- ---- publishing
 
-pub publishes_too : (p : Publication) (m : ClientPipes) (state : ClientState) → history.StandsFor m.keeper state → state.keep_alive ≡ 0 →
+pub publishes_too : (p : Publication) (m : ClientPipes) (state : ClientState) → history.KeeperStandsFor m.keeper state → state.keep_alive ≡ 0 →
     (keeper_step (Call.Publishes p) state).refusal ≡ None → IsCalled (keeper_step (Call.Publishes p) state) m
 publishes_too p m state s zero taken =
     let f = calls_follow least_free_is (Call.Publishes p) 0 (alone m.keeper) state zero s taken in
@@ -63,14 +63,14 @@ publishes_too p m state s zero taken =
       writes = ap packets_of f.1.1 ∙ f.1.2;
     }
 
-pub publishes_it : (p : Publication) (m : ClientPipes) (state : ClientState) (s : history.StandsFor m.keeper state) (zero : state.keep_alive ≡ 0)
+pub publishes_it : (p : Publication) (m : ClientPipes) (state : ClientState) (s : history.KeeperStandsFor m.keeper state) (zero : state.keep_alive ≡ 0)
     (taken : (keeper_step (Call.Publishes p) state).refusal ≡ None) → published_by (publishes_too p m state s zero taken).call ≡ p ∷ []
 unfolding publishes_too
 publishes_it p m state s zero taken = refl
 
 -- ---- asking
 
-pub subscribes_too : (filter : List ℕ) (qos : QoS) (m : ClientPipes) (state : ClientState) → history.StandsFor m.keeper state → state.keep_alive ≡ 0 →
+pub subscribes_too : (filter : List ℕ) (qos : QoS) (m : ClientPipes) (state : ClientState) → history.KeeperStandsFor m.keeper state → state.keep_alive ≡ 0 →
     (keeper_step (Call.Subscribes filter qos) state).refusal ≡ None → IsCalled (keeper_step (Call.Subscribes filter qos) state) m
 subscribes_too filter qos m state s zero taken =
     let f = calls_follow least_free_is (Call.Subscribes filter qos) 0 (alone m.keeper) state zero s taken in
@@ -87,12 +87,12 @@ subscribes_too filter qos m state s zero taken =
       writes = ap packets_of f.1.1 ∙ f.1.2;
     }
 
-pub subscribes_silently : (filter : List ℕ) (qos : QoS) (m : ClientPipes) (state : ClientState) (s : history.StandsFor m.keeper state) (zero : state.keep_alive ≡ 0)
+pub subscribes_silently : (filter : List ℕ) (qos : QoS) (m : ClientPipes) (state : ClientState) (s : history.KeeperStandsFor m.keeper state) (zero : state.keep_alive ≡ 0)
     (taken : (keeper_step (Call.Subscribes filter qos) state).refusal ≡ None) → published_by (subscribes_too filter qos m state s zero taken).call ≡ []
 unfolding subscribes_too
 subscribes_silently filter qos m state s zero taken = refl
 
-pub unsubscribes_too : (filter : List ℕ) (m : ClientPipes) (state : ClientState) → history.StandsFor m.keeper state → state.keep_alive ≡ 0 →
+pub unsubscribes_too : (filter : List ℕ) (m : ClientPipes) (state : ClientState) → history.KeeperStandsFor m.keeper state → state.keep_alive ≡ 0 →
     (keeper_step (Call.Unsubscribes filter) state).refusal ≡ None → IsCalled (keeper_step (Call.Unsubscribes filter) state) m
 unsubscribes_too filter m state s zero taken =
     let f = calls_follow least_free_is (Call.Unsubscribes filter) 0 (alone m.keeper) state zero s taken in
@@ -108,7 +108,7 @@ unsubscribes_too filter m state s zero taken =
       writes = ap packets_of f.1.1 ∙ f.1.2;
     }
 
-pub unsubscribes_silently : (filter : List ℕ) (m : ClientPipes) (state : ClientState) (s : history.StandsFor m.keeper state) (zero : state.keep_alive ≡ 0)
+pub unsubscribes_silently : (filter : List ℕ) (m : ClientPipes) (state : ClientState) (s : history.KeeperStandsFor m.keeper state) (zero : state.keep_alive ≡ 0)
     (taken : (keeper_step (Call.Unsubscribes filter) state).refusal ≡ None) → published_by (unsubscribes_too filter m state s zero taken).call ≡ []
 unfolding unsubscribes_too
 unsubscribes_silently filter m state s zero taken = refl
@@ -123,7 +123,7 @@ written_where true connections = refl
 written_where false [] = refl
 written_where false (κ ∷ others) = ap (λ (written : List Written). record κ { written = written } ∷ others) (sym (append-nil κ.written))
 
-pub leaves_too : (m : ClientPipes) (state : ClientState) → history.StandsFor m.keeper state → state.keep_alive ≡ 0 →
+pub leaves_too : (m : ClientPipes) (state : ClientState) → history.KeeperStandsFor m.keeper state → state.keep_alive ≡ 0 →
     (keeper_step Call.Disconnects state).refusal ≡ None → IsCalled (keeper_step Call.Disconnects state) m
 leaves_too m state s zero taken =
     let f = calls_follow least_free_is Call.Disconnects 0 (alone m.keeper) state zero s taken in
@@ -138,7 +138,7 @@ leaves_too m state s zero taken =
       writes = ap packets_of f.1.1 ∙ f.1.2;
     }
 
-pub leaves_silently : (m : ClientPipes) (state : ClientState) (s : history.StandsFor m.keeper state) (zero : state.keep_alive ≡ 0)
+pub leaves_silently : (m : ClientPipes) (state : ClientState) (s : history.KeeperStandsFor m.keeper state) (zero : state.keep_alive ≡ 0)
     (taken : (keeper_step Call.Disconnects state).refusal ≡ None) → published_by (leaves_too m state s zero taken).call ≡ []
 unfolding leaves_too
 leaves_silently m state s zero taken = refl

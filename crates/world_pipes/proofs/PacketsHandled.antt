@@ -44,7 +44,7 @@ appended old new (p ∷ packets) fits (between, (bytes, spells, is), more) =
 -- The client corresponds to the model's, whose newest connection has this pipe: what was in transit
 -- before, and after it what the client wrote.
 pub record IsInMidst (before : List ℕ) (core : Core) (m : ClientPipes) (others : List ClientConnection) (p₀ : Pipe) (further : List Pipe) : Type 0 where
-  pub keeper : history.StandsFor m.keeper core.state
+  pub keeper : history.KeeperStandsFor m.keeper core.state
   pub fits : CanGoOut core.state
   pub accepted : accepted_once core.state.accepted ≡ accepted_on m.connections
   pub connection : ClientConnection
@@ -74,7 +74,7 @@ one_goes before core next after m others p₀ further packet up s reads done =
     let side : Side = record { keeper = m.keeper; connection = κ } in
     let later : Side = handled packet side in
     let outcome : ClientOutcome = outcome_of packet next in
-    let stands : history.StandsFor m.keeper next.state = subst (history.StandsFor m.keeper) (sym reads.1) s.keeper in
+    let stands : history.KeeperStandsFor m.keeper next.state = subst (history.KeeperStandsFor m.keeper) (sym reads.1) s.keeper in
     let opened : is_open next.state.stage ≡ true = ap (λ (state : ClientState). is_open state.stage) reads.1 ∙ up in
     let whole : AllSpelled outcome =
     received_fits packet next.state.stage next.state (taken_fits core.unread next.unread packet reads.0).0 (subst CanGoOut (sym reads.1) s.fits) in
@@ -93,7 +93,7 @@ one_goes before core next after m others p₀ further packet up s reads done =
           (subst (Each IsPacket) (sym newly) whole.writes);
       silent = refl;
       stands = record {
-        keeper = subst (history.StandsFor later.keeper) (sym done.0) same.stands;
+        keeper = subst (history.KeeperStandsFor later.keeper) (sym done.0) same.stands;
         fits = subst CanGoOut (sym done.0) whole.left;
         accepted = ap (λ (state : ClientState). accepted_once state.accepted) done.0
             ∙ accepts_alike (accepted_on others) packet next.state.stage side next.state opened stands.is_online stands.received

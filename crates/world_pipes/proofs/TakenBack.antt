@@ -25,7 +25,7 @@ opened_and_lost old core opens m s =
       goes = losing_goes m;
       publishes = losing_publishes m;
       stands = record {
-        keeper = subst (λ state. history.StandsFor (lost m.keeper) (closing.lost state)) (sym opens) (lost_stands m.keeper old.core.state s.keeper);
+        keeper = subst (λ state. history.KeeperStandsFor (lost m.keeper) (closing.lost state)) (sym opens) (lost_stands m.keeper old.core.state s.keeper);
         fits = subst (λ state. CanGoOut (closing.lost state)) (sym opens)
             (record { keep_alive = s.fits.keep_alive; client = s.fits.client; released = s.fits.released; sent = s.fits.sent; unsent = s.fits.unsent });
         accepted = ap (λ (state : ClientState). accepted_once state.accepted) opens ∙ s.accepted;

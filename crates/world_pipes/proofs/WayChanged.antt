@@ -7,7 +7,7 @@ use Rattle.byte_world.specs.World.{ClientPipes, Pipe, with_pipe}
 use Rattle.world_pipes.specs.declared.way.Way.{Way}
 use Rattle.world_pipes.specs.FollowingBytes.{FollowsDown, FollowsUp, HasWay, SwappingFollows, TakingUpFollows, index_in_model}
 use Rattle.world_pipes.specs.Piped.{Piped}
-use Rattle.world_pipes.specs.StandsFor.{AreWays, IsHolding, IsWay, StandsFor}
+use Rattle.world_pipes.specs.StandsFor.{AreWays, IsHolding, IsWay, ClientStandsFor}
 use Rattle.world_pipes.proofs.Newest.{last_splits}
 use Rattle.world_pipes.proofs.Ways.{last_same}
 use Rattle.world_pipes.proofs.WaysApart.{get_seam, parted, pipes_joined, pipes_parted, reverse_seam, stands_below}
@@ -69,9 +69,9 @@ held_with old m front (next ∷ back) way later (one ∷ ahead) behind p q h way
 pub record MayChange (at : ℕ) (old : Piped) (way : Way) (m : ClientPipes) : Type 0 where
   pub there : HasWay at old way m
   pub stands : (later : Way) (q : Pipe) → IsWay later q → q.came ≡ there.pipe.came → (there.pipe.up ≡ way.up → q.up ≡ later.up) →
-      StandsFor (record old { ways = set old.ways at later }) (with_pipe (index_in_model at old) q m)
+      ClientStandsFor (record old { ways = set old.ways at later }) (with_pipe (index_in_model at old) q m)
 
-pub may_change : (at : ℕ) (old : Piped) (way : Way) (m : ClientPipes) → StandsFor old m → slice_get old.ways at ≡ Some way → MayChange at old way m
+pub may_change : (at : ℕ) (old : Piped) (way : Way) (m : ClientPipes) → ClientStandsFor old m → slice_get old.ways at ≡ Some way → MayChange at old way m
 may_change at old way m s found =
     let w = parted old.ways at way found in
     let q = pipes_parted (reverse w.back) way (reverse w.front) m.pipes
@@ -92,8 +92,8 @@ may_change at old way m s found =
           let ways : set old.ways at later ≡ w.front ++ later ∷ w.back = ap (λ l. set l at later) w.is ∙ set_at w.front way w.back later at w.counted in
           let set_so : set m.pipes (index_in_model at old) p ≡ q.ahead ++ p ∷ q.behind =
           ap (λ l. set l (index_in_model at old) p) q.is ∙ set_at q.ahead q.pipe q.behind p (index_in_model at old) index in
-          subst (λ l. StandsFor (record old { ways = l }) (with_pipe (index_in_model at old) p m)) (sym ways)
-          (subst (λ l. StandsFor (record old { ways = w.front ++ later ∷ w.back }) (record m { pipes = l })) (sym set_so)
+          subst (λ l. ClientStandsFor (record old { ways = l }) (with_pipe (index_in_model at old) p m)) (sym ways)
+          (subst (λ l. ClientStandsFor (record old { ways = w.front ++ later ∷ w.back }) (record m { pipes = l })) (sym set_so)
           (record {
             keeper = s.keeper;
             fits = s.fits;
@@ -127,7 +127,7 @@ taking_up_follows at count old new is m s = by (slice_get old.ways at) refl is
           there = c.there;
           rest = rest;
           up = w.up.is ∙ ap (λ l. l ++ w.up.rest) (sym (take-append-drop count way.up)) ∙ append_assoc (take count way.up) (drop count way.up) w.up.rest;
-          stands = subst (λ p. StandsFor p (with_pipe (index_in_model at old) (record c.there.pipe { up = rest }) m)) (sym is)
+          stands = subst (λ p. ClientStandsFor p (with_pipe (index_in_model at old) (record c.there.pipe { up = rest }) m)) (sym is)
               (c.stands (record way { up = drop count way.up }) (record c.there.pipe { up = rest })
               (record { node = w.node; port = w.port; up = record { rest = w.up.rest; is = refl }; down = w.down }) refl (left_up count way c.there.pipe w));
         }
@@ -144,6 +144,6 @@ swapping_follows at bytes old new is m s = by (slice_get old.ways at) refl is
         let w = c.there.is_way in
         record {
           there = c.there;
-          stands = subst (λ p. StandsFor p (with_pipe (index_in_model at old) (record c.there.pipe { down = bytes }) m)) (sym is)
+          stands = subst (λ p. ClientStandsFor p (with_pipe (index_in_model at old) (record c.there.pipe { down = bytes }) m)) (sym is)
               (c.stands (record way { down = bytes }) (record c.there.pipe { down = bytes }) (record { node = w.node; port = w.port; up = w.up; down = refl }) refl (λ e. e));
         }

@@ -17,7 +17,7 @@ use Rattle.world_pipes.specs.declared.sending.Sending.{Sending}
 use Rattle.world_pipes.specs.declared.sending.Sending.TheVariants as sendings
 use Rattle.world_pipes.specs.Steps.{ClientGoes, published_along}
 use Rattle.world_pipes.specs.Piped.{CarriesDown, Piped, is_holding}
-use Rattle.world_pipes.specs.StandsFor.{StandsFor}
+use Rattle.world_pipes.specs.StandsFor.{ClientStandsFor}
 
 -- the model's client moves by steps in which it publishes this, and the client in code corresponds
 -- to the one after them
@@ -25,11 +25,11 @@ pub record Follows (published : List Publication) (m : ClientPipes) (new : Piped
   pub next : ClientPipes
   pub goes : ClientGoes m next
   pub publishes : published_along goes ≡ published
-  pub stands : StandsFor new next
+  pub stands : ClientStandsFor new next
 
 -- each client of the model that corresponded to it before follows, and publishes this
 abbrev pub FollowsBy : List Publication → Piped → Piped → Type 0
-FollowsBy published old new = (m : ClientPipes) → StandsFor old m → Follows published m new
+FollowsBy published old new = (m : ClientPipes) → ClientStandsFor old m → Follows published m new
 
 -- each client of the model that corresponded to it before follows, and publishes nothing
 abbrev pub FollowsAll : Piped → Piped → Type 0
@@ -44,8 +44,8 @@ after_losing m = after_writing (lost m.keeper) m.connections m
 -- the model's client loses its connection, and publishes nothing
 abbrev pub FollowsLosing : Piped → Piped → Type 0
 FollowsLosing old new =
-    (m : ClientPipes) → StandsFor old m →
-    StandsFor new (after_losing m) × (goes : ClientGoes m (after_losing m))
+    (m : ClientPipes) → ClientStandsFor old m →
+    ClientStandsFor new (after_losing m) × (goes : ClientGoes m (after_losing m))
     × (published_along goes ≡ [])
 
 -- ---- a new connection: the model's, under any name that its node gives it
@@ -53,8 +53,8 @@ FollowsLosing old new =
 -- the model's client gets a new connection, or moves without one after an error
 abbrev pub ConnectingFollows : ℕ → Port → Piped → Result (Unit {0}) ClientError → Piped → Type 0
 ConnectingFollows node port old (Ok done) new =
-    (m : ClientPipes) (x : ConnectionName) → StandsFor old m →
-    StandsFor new (after_connecting x node port m)
+    (m : ClientPipes) (x : ConnectionName) → ClientStandsFor old m →
+    ClientStandsFor new (after_connecting x node port m)
     × IsPacket (packets.Connect
     (record { client = m.keeper.client; clean = false; keep_alive = 0 }))
 ConnectingFollows node port old (Err cause) new = FollowsAll old new
@@ -70,13 +70,13 @@ pub record FollowsCalling (published : List Publication) (m : ClientPipes)
   pub is_one : is_call call ≡ true
   pub publishes : published_by call ≡ published
   pub spelled : CanBeSpelled m.connections story.connections
-  pub stands : StandsFor new (after_writing story.keeper story.connections m)
+  pub stands : ClientStandsFor new (after_writing story.keeper story.connections m)
 
 -- A refusal changes nothing, and nothing is published. If there was no memory for what was written,
 -- the model's client lost its connection after its call.
 abbrev pub CallingFollows : List Publication → Piped → Result Sending ClientError → Piped → Type 0
 CallingFollows published old (Ok sendings.Sent) new =
-    (m : ClientPipes) → StandsFor old m → FollowsCalling published m new
+    (m : ClientPipes) → ClientStandsFor old m → FollowsCalling published m new
 CallingFollows published old (Ok sendings.Lost) new = FollowsBy published old new
 CallingFollows published old (Err cause) new = new ≡ old
 
@@ -86,5 +86,5 @@ CallingFollows published old (Err cause) new = new ≡ old
 abbrev pub CarryingFollows : Type 0
 CarryingFollows =
     (count : ℕ) (old new : Piped) (result : Result (Unit {0}) ClientError) (m : ClientPipes) →
-    StandsFor old m → is_holding old ≡ true →
+    ClientStandsFor old m → is_holding old ≡ true →
     CarriesDown count old result new → Follows [] m new

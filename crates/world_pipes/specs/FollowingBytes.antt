@@ -4,7 +4,7 @@ use Rattle.byte_world.specs.exactly_once.Sides.{ClientConnection}
 use Rattle.byte_world.specs.World.{ClientPipes, Pipe, with_pipe}
 use Rattle.world_pipes.specs.declared.way.Way.{Way}
 use Rattle.world_pipes.specs.Piped.{Piped}
-use Rattle.world_pipes.specs.StandsFor.{IsWay, StandsFor}
+use Rattle.world_pipes.specs.StandsFor.{IsWay, ClientStandsFor}
 
 -- the index in the model of the connection at this index: the model has the newest first
 abbrev pub index_in_model : ℕ → Piped → ℕ
@@ -24,23 +24,24 @@ pub record FollowsUp (count at : ℕ) (old : Piped) (way : Way) (new : Piped)
   pub there : HasWay at old way m
   pub rest : List ℕ
   pub up : there.pipe.up ≡ take count way.up ++ rest
-  pub stands : StandsFor new (with_pipe (index_in_model at old) (record there.pipe { up = rest }) m)
+  pub stands : ClientStandsFor new
+      (with_pipe (index_in_model at old) (record there.pipe { up = rest }) m)
 
 -- each client of the model that corresponded to it before follows, with bytes taken up
 abbrev pub TakingUpFollows : ℕ → ℕ → Piped → Piped → Type 0
 TakingUpFollows at count old new =
-    (m : ClientPipes) → StandsFor old m →
+    (m : ClientPipes) → ClientStandsFor old m →
     IfSome (slice_get old.ways at) (λ way. FollowsUp count at old way new m)
 
 -- these bytes are in transit down on the model's connection
 pub record FollowsDown (bytes : List ℕ) (at : ℕ) (old : Piped) (way : Way) (new : Piped)
     (m : ClientPipes) : Type 0 where
   pub there : HasWay at old way m
-  pub stands : StandsFor new
+  pub stands : ClientStandsFor new
       (with_pipe (index_in_model at old) (record there.pipe { down = bytes }) m)
 
 -- each client of the model that corresponded to it before follows, with its bytes exchanged
 abbrev pub SwappingFollows : ℕ → List ℕ → Piped → Piped → Type 0
 SwappingFollows at bytes old new =
-    (m : ClientPipes) → StandsFor old m →
+    (m : ClientPipes) → ClientStandsFor old m →
     IfSome (slice_get old.ways at) (λ way. FollowsDown bytes at old way new m)

@@ -53,8 +53,8 @@ pub record CanGoOut (state : ClientState) : Type 0 where
   pub unsent : Each (λ (kept : KeptPublication). IsPacket (publish_kept false kept)) state.unsent
 
 -- the client in code corresponds to this one of the model
-pub record StandsFor (client : Piped) (m : ClientPipes) : Type 0 where
-  pub keeper : history.StandsFor m.keeper client.core.state
+pub record ClientStandsFor (client : Piped) (m : ClientPipes) : Type 0 where
+  pub keeper : history.KeeperStandsFor m.keeper client.core.state
   pub fits : CanGoOut client.core.state
   -- at QoS 2 it shows what the model's client accepted, connection by connection
   pub accepted : accepted_once client.core.state.accepted ≡ accepted_on m.connections

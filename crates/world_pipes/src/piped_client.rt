@@ -6,7 +6,7 @@ ghost use Rattle.byte_world.specs.World.{new_client};
 ghost use Rattle.world_pipes.specs.Following.{FollowsLosing};
 ghost use Rattle.world_pipes.specs.FollowingBytes.{SwappingFollows, TakingUpFollows};
 ghost use Rattle.world_pipes.specs.Piped.{is_holding, new_piped};
-ghost use Rattle.world_pipes.specs.StandsFor.{StandsFor};
+ghost use Rattle.world_pipes.specs.StandsFor.{ClientStandsFor};
 
 use crate::way::Way;
 use client::ClientCore;
@@ -52,7 +52,7 @@ impl PipedClient {
     /// Returns a client of this identifier that was never connected. Its keep alive is 0.
     pub fn new(alloc: Global, client: ClientId) -> PipedClient
         ensures new { result ≡ new_piped client }
-        ensures stands { StandsFor result (new_client client) }
+        ensures stands { ClientStandsFor result (new_client client) }
     {
         let _known = client.as_str();
         PipedClient {

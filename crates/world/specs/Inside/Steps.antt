@@ -4,7 +4,7 @@ use Rattle.headline.specs.ballot.Losses.{greatest_count, one_more}
 use Rattle.escaping_nodes.specs.master.declared.event.Idle.{Idle}
 use Rattle.headline.specs.node_group.Group.{Group}
 use Rattle.escaping_client.specs.session_base.declared.publication.Publication.{Publication}
-use Rattle.escaping_nodes.specs.world_nodes.Nodes.{NodesState, StandsFor as NodesStand}
+use Rattle.escaping_nodes.specs.world_nodes.Nodes.{NodesState, NodesStandFor as NodesStand}
 use Rattle.escaping_nodes.specs.world_nodes.Steps.{LosesNothing as NodesLoseNothing}
 use Rattle.world_events.specs.declared.event.Event.{Event}
 use Rattle.world.specs.Asking.{IsAsked}
