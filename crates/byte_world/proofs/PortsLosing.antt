@@ -22,13 +22,13 @@ use Rattle.node_group.specs.world_base.declared.Port.{Port}
 use Rattle.node_group.specs.world_base.Connections.{noted_proposed, closed, failing, has_failed, holding, is_at, left_with, put_out}
 use Rattle.node_group.specs.world_base.Core.{CoreState}
 use Rattle.node_group.specs.world_base.Failing.{closes_failed}
-use Rattle.node_group.specs.world_base.Lossy.{Account, HandlesAll, Drives, Repeated, Performs, Takes, Then, without_effects}
-use Rattle.node_group.specs.world_base.LossyProposals.{Declines, Proposes}
+use Rattle.node_group.specs.world_base.Lossy.{Account, HandlesAll, Drives, Repeated, Performs, TakesCommand, Then, without_effects}
+use Rattle.node_group.specs.world_base.LossyProposals.{Declines, ProposesCommand}
 use Rattle.node_group.specs.world_base.LossyProposals.Declines.{no_room, forgets, stops}
 use Rattle.node_group.specs.world_base.Lossy.HandlesAll.{nothing, does, sends, loses}
-use Rattle.node_group.specs.world_base.LossyStep.{ActsOn, Holds, LosesAllFailed, Opens, ReadsAll, RunsOn, DoesItem}
-use Rattle.node_group.specs.world_base.LossyReading.{TakesOr, TakesFirstPacket, Closes, Ends, EndsSilent, LosesFailed, ReadsNext, Shuts}
-use Rattle.node_group.specs.world_base.LossyReading.Ends.{none_open, unproposed, proposed}
+use Rattle.node_group.specs.world_base.LossyStep.{ActsOn, HoldsBytes, LosesAllFailed, AcceptsConnection, ReadsPackets, RunsOn, DoesItem}
+use Rattle.node_group.specs.world_base.LossyReading.{TakesOr, TakesFirstPacket, ClosesConnection, EndsConnection, EndsSilent, LosesFailed, ReadsNext, Shuts}
+use Rattle.node_group.specs.world_base.LossyReading.EndsConnection.{none_open, unproposed, proposed}
 use Rattle.node_group.specs.world_base.LossyReading.EndsSilent.{none_silent, ends_one}
 use Rattle.node_group.specs.world_base.LossyReading.LosesFailed.{none_failed, tells_one}
 use Rattle.node_group.specs.world_base.LossyReading.ReadsNext.{waits, first, later, refuses, ends}
@@ -79,7 +79,7 @@ module _ (P : Connection → Type 0) (follows : IsFollowed P) where
   drives_kept : (input : Input Command) → Keeps (Drives input)
   drives_kept input core did m all = delivers_kept did.given (record core { replica = m.replica }) did.core did.messages m.handles all
 
-  takes_kept : (command : Command) → Keeps (Takes command)
+  takes_kept : (command : Command) → Keeps (TakesCommand command)
   takes_kept command core did t all = delivers_kept did.given (record core { replica = t.replica }) did.core did.messages t.handles all
 
   declines_kept : Keeps Declines
@@ -87,13 +87,13 @@ module _ (P : Connection → Type 0) (follows : IsFollowed P) where
   declines_kept core did (forgets room is) all = subst (λ (d : Account). All d.core) (sym is) all
   declines_kept core did (stops room is) all = subst (λ (d : Account). All d.core) (sym is) all
 
-  proposes_kept : (command : Command) → Keeps (Proposes command)
+  proposes_kept : (command : Command) → Keeps (ProposesCommand command)
   proposes_kept command core did (inl taken) all = takes_kept command core did taken all
   proposes_kept command core did (inr declines) all = declines_kept core did declines all
 
   -- ---- ends
 
-  ends_kept : (port : Port) → Keeps (Ends port)
+  ends_kept : (port : Port) → Keeps (EndsConnection port)
   ends_kept port core did (none_open none is) all = becomes core did is all
   ends_kept port core did (unproposed c found other is) all = becomes (changes port closed core) did is (shut_at P follows port core all)
   ends_kept port core did (proposed c found heard proposes) all = proposes_kept (commands.Lost c.name) (changes port closed core) did proposes (shut_at P follows port core all)
@@ -109,7 +109,7 @@ module _ (P : Connection → Type 0) (follows : IsFollowed P) where
 
   -- ---- packets
 
-  closes_kept : (port : Port) → Keeps (Closes port)
+  closes_kept : (port : Port) → Keeps (ClosesConnection port)
   closes_kept port core did is all = becomes (changes port closed core) did is (shut_at P follows port core all)
 
   shuts_kept : (port : Port) → Keeps (Shuts port)
@@ -122,7 +122,7 @@ module _ (P : Connection → Type 0) (follows : IsFollowed P) where
 
   begins_kept : (port : Port) (name : ConnectionName) (packet : Packet) → Keeps (TakesFirstPacket port name packet)
   begins_kept port name (packets.Connect connect) core did runs all =
-      asks_kept (commands.Connect name connect.client connect.clean) (Closes port) (closes_kept port) (changes port (noted_proposed connect.keep_alive) core) did runs
+      asks_kept (commands.Connect name connect.client connect.clean) (ClosesConnection port) (closes_kept port) (changes port (noted_proposed connect.keep_alive) core) did runs
       (each_at P follows port (noted_proposed connect.keep_alive) core (λ c e. record { port = refl; name = refl; lives = λ f. left_true (live c) (is_at port c) e }) all)
   begins_kept port name _ core did runs all = closes_kept port core did runs all
 
@@ -147,19 +147,19 @@ module _ (P : Connection → Type 0) (follows : IsFollowed P) where
   OpensSo (Opened port now) core = All core → All (opens port core)
   OpensSo _ core = Unit {0}
 
-  holds_kept : (port : Port) (piece : List ℕ) → Keeps (Holds port piece)
+  holds_kept : (port : Port) (piece : List ℕ) → Keeps (HoldsBytes port piece)
   holds_kept port piece core did (inl is) all =
       becomes (changes port (holding piece) core) did is (each_at P follows port (holding piece) core (λ c e. stays_later c (holding piece c) refl refl refl) all)
   holds_kept port piece core did (inr runs) all = ends_kept port core did runs all
 
-  opens_kept : (port : Port) (core : CoreState) (did : Account) → (All core → All (opens port core)) → Opens port core did → All core → All did.core
+  opens_kept : (port : Port) (core : CoreState) (did : Account) → (All core → All (opens port core)) → AcceptsConnection port core did → All core → All did.core
   opens_kept port core did new (inl is) all = becomes (opens port core) did is (new all)
   opens_kept port core did new (inr is) all = becomes core did is all
 
   all_silent : (now : ℕ) (core : CoreState) (did : Account) → Repeated (length core.connections) (EndsSilent now) core did → All core → All did.core
   all_silent now core did runs all = repeated_kept (length core.connections) (EndsSilent now) (silent_kept now) core did runs all
 
-  all_read : (now : ℕ) (port : Port) (core : CoreState) (did : Account) → ReadsAll now port core did → All core → All did.core
+  all_read : (now : ℕ) (port : Port) (core : CoreState) (did : Account) → ReadsPackets now port core did → All core → All did.core
   all_read now port core did runs all = repeated_kept (unread_of (open_at port core)) (ReadsNext now port) (reads_kept now port) core did runs all
 
   taken_kept : (item : Item) (core : CoreState) (did : Account) → OpensSo item core → DoesItem item core did → All core → All did.core

@@ -10,7 +10,7 @@ use Rattle.world_base.specs.declared.item.Item.{Item}
 use Rattle.world_base.specs.declared.Port.{Port}
 use Rattle.world_base.specs.Core.{CountedCore}
 use Rattle.world_base.specs.Handing.{hands_over}
-use Rattle.world_base.specs.Losses.{Stepped}
+use Rattle.world_base.specs.Losses.{NodeStepped}
 use Rattle.node.specs.State.{Replays}
 use Rattle.node.specs.State.Replays.{opens, steps, hands}
 
@@ -25,7 +25,7 @@ opened first_of taker core none is =
 pub stepped : (first_of : ℕ → CountedCore) (old new : Taker Item) (taken : ℕ × Item) (core next : CountedCore)
     (before after : List (Effect Command Output))
     → new ≡ record old { taken = old.taken ++ taken ∷ [] }
-    → Replays (first_of old.inbox) old.taken core → Stepped core taken.1 next before after
+    → Replays (first_of old.inbox) old.taken core → NodeStepped core taken.1 next before after
     → Replays (first_of new.inbox) new.taken next
 stepped first_of old new taken core next before after is replays step =
     subst (λ (t : Taker Item). Replays (first_of t.inbox) t.taken next) (sym is)

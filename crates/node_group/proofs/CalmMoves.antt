@@ -7,7 +7,7 @@ use Rattle.packet_world.specs.broker_spec.declared.command.Command.{Command}
 use Rattle.packet_world.specs.broker_spec.declared.command.Command.TheVariants as commands
 use Rattle.node_moves.specs.world_base.Connections.{noted_proposed, closed, failing, left_with}
 use Rattle.node_moves.specs.world_base.Core.{CoreState, Turn, rules}
-use Rattle.node_moves.specs.world_base.Lossy.{Account, Takes}
+use Rattle.node_moves.specs.world_base.Lossy.{Account, TakesCommand}
 use Rattle.node_moves.specs.world_base.Reading.{changes}
 use Rattle.node_moves.specs.LossyMoves.{LossyMoves}
 use Rattle.node_moves.specs.LossyParts.{hears_in}
@@ -19,7 +19,7 @@ use Rattle.node_group.specs.Group.{replica_of}
 use Rattle.node_group.proofs.MovesHappen.{changed_state, state_of}
 
 -- a command is taken after a change of connections
-taken_role : (command : Command) (core between : CoreState) (did : Account) → replica_of between ≡ replica_of core → Takes command between did
+taken_role : (command : Command) (core between : CoreState) (did : Account) → replica_of between ≡ replica_of core → TakesCommand command between did
     → (replica_of did.core).role ≡ (replica_of core).role
 taken_role command core between did same taken =
     ap (λ (r : ReplicaState State Command). r.role)

@@ -9,7 +9,7 @@ use Rattle.node_moves.specs.world_base.declared.Connection.{Connection}
 use Rattle.node_moves.specs.world_base.Connections.{noted_proposed, closed, failing, fresh, is_at, left_with}
 use Rattle.node_moves.specs.world_base.Core.{CoreState, Turn, serves}
 use Rattle.node_moves.specs.world_base.Failing.{closes_failed}
-use Rattle.node_moves.specs.world_base.Lossy.{Account, Takes}
+use Rattle.node_moves.specs.world_base.Lossy.{Account, TakesCommand}
 use Rattle.node_moves.specs.world_base.Reading.{changes}
 use Rattle.node_moves.specs.world_base.Step.{next_name, opens}
 use Rattle.node_moves.specs.world_base.Turns.{proposes}
@@ -68,7 +68,7 @@ exactly_given x core turn settles o given = by_same x core turn.core (stays_sett
 exactly_given x core turn (hands port) o given = by_same x core turn.core (stays_handed port core o).last given
 
 -- .. if a command is taken after a change
-taken_last : (command : Command) (core between : CoreState) (did : Account) → IsOrderly between → between.last_name ≡ core.last_name → Takes command between did
+taken_last : (command : Command) (core between : CoreState) (did : Account) → IsOrderly between → between.last_name ≡ core.last_name → TakesCommand command between did
     → did.core.last_name ≡ core.last_name
 taken_last command core between did o same taken = (stays_takes command between did taken o).last ∙ same
 

@@ -18,7 +18,7 @@ use Rattle.packet_world.specs.snapshots.Moments.{Moment, Moments}
 use Rattle.packet_world.specs.snapshots.World.{messages, outputs}
 use Rattle.node_moves.specs.world_base.Connections.{noted_proposed, closed, failing, left_with}
 use Rattle.node_moves.specs.world_base.Core.{CoreState, Turn, rules, serves}
-use Rattle.node_moves.specs.world_base.Lossy.{Account, Drives, Takes}
+use Rattle.node_moves.specs.world_base.Lossy.{Account, Drives, TakesCommand}
 use Rattle.node_moves.specs.world_base.Reading.{changes}
 use Rattle.node_moves.specs.world_base.Turns.{has_room, heard}
 use Rattle.node_moves.specs.LossyMoves.{LossyMoves, turn_of}
@@ -87,7 +87,7 @@ left_true false b e = absurd cc
 
 -- after a change of connections
 takes_happen : (g : Group) (n : ℕ) (core between : CoreState) (command : Command) (did : Account) (kept : Given) → slice_get g.nodes n ≡ Some core → between.replica ≡ core.replica
-    → Takes command between did → Thinned kept did.messages → (config : Config) (earlier : List (Moment State Command Output)) (came : Moments rules config (moment_of g ∷ earlier))
+    → TakesCommand command between did → Thinned kept did.messages → (config : Config) (earlier : List (Moment State Command Output)) (came : Moments rules config (moment_of g ∷ earlier))
     → Once came (moment_of (after_turn g n (keeping kept (turn_of did)) did.given)) (((replica_of core).joined, command) ∷ []) n (outputs did.given)
 takes_happen g n core between command did kept at same taken t config earlier came =
     one_step g n core (keeping kept (turn_of did)) (Proposes command) new did.given k.thin config earlier came at (serving_runs core serving) tt replica

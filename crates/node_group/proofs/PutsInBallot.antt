@@ -13,7 +13,7 @@ use Rattle.packet_world.specs.broker_spec.Connection.{ConnectionName}
 use Rattle.packet_world.specs.exactly_once.StoryCommands.{is_packet_of}
 use Rattle.node_moves.specs.world_base.Connections.{noted_proposed, left_with}
 use Rattle.node_moves.specs.world_base.Core.{CoreState, Turn, serves}
-use Rattle.node_moves.specs.world_base.Lossy.{Account, Takes}
+use Rattle.node_moves.specs.world_base.Lossy.{Account, TakesCommand}
 use Rattle.node_moves.specs.world_base.Reading.{changes}
 use Rattle.node_moves.specs.Ends.{IsOrderly}
 use Rattle.node_moves.specs.Keeping.{AreOfTheBallot}
@@ -53,7 +53,7 @@ proposed_in core turn m command o of serving is x named =
     lossy_names_keep_their_ballot.proposes core turn m o of serving x command (subst (In command) (sym is) here) named
 
 -- who takes a command after a change of connections serves
-serves_who_takes : (core between : CoreState) (command : Command) (did : Account) → between.replica ≡ core.replica → Takes command between did → serves core ≡ true
+serves_who_takes : (core between : CoreState) (command : Command) (did : Account) → between.replica ≡ core.replica → TakesCommand command between did → serves core ≡ true
 serves_who_takes core between command did same taken =
     sym (serves_as between core same) ∙ room_serves between (nat_lt (places (replica_of between).log) max_places) taken.room
 

@@ -11,10 +11,10 @@ use Rattle.world_base.specs.declared.item.Item.TheVariants.{Peer, Tick, Opened, 
 use Rattle.world_base.specs.Connections.{closed, holding}
 use Rattle.world_base.specs.Core.{CoreState, Turn}
 use Rattle.world_base.specs.Lossy.{Account, joined, without_effects}
-use Rattle.world_base.specs.LossyStep.{Cuts, Holds, LosesAllFailed, Opens, DoesItem}
+use Rattle.world_base.specs.LossyStep.{Cuts, HoldsBytes, LosesAllFailed, AcceptsConnection, DoesItem}
 use Rattle.world_base.specs.LossyReading.{EndsSilent, ReadsNext}
 use Rattle.world_base.specs.LossyStep.Cuts.{nothing_to_cut, cuts_log as cuts_log_at, forgets_cut}
-use Rattle.world_base.specs.LossyReading.Ends.{none_open, unproposed, proposed}
+use Rattle.world_base.specs.LossyReading.EndsConnection.{none_open, unproposed, proposed}
 use Rattle.world_base.specs.Reading.{changes, open_at, unread_of}
 use Rattle.world_base.specs.Step.{crashed, opens, settled, with_cut}
 use Rattle.node_moves.specs.Ends.{piece_on}
@@ -44,7 +44,7 @@ before_calm core did may_cut bytes none still next tail = first_calm may_cut byt
 
 -- ---- an item
 
-held : (port : Port) (piece : List ℕ) (now : ℕ) (core : CoreState) (did : Account) → Holds port piece core did
+held : (port : Port) (piece : List ℕ) (now : ℕ) (core : CoreState) (did : Account) → HoldsBytes port piece core did
     → Before core did [] false (λ x. came_with x (Bytes port piece now) core)
 held port piece now core did (inl is) =
     before_is core (without_effects (changes port (holding piece) core)) did [] false _ is
@@ -58,7 +58,7 @@ held port piece now core did (inr (proposed c found heard proposes)) =
     λ next tail. first_move (drops port piece) false (λ x. came_with x (Bytes port piece now) core) refl (λ x. refl) (λ e. refl) tt
     (calm_join (still_lost c.name (changes port closed core) did proposes) tail)
 
-opened : (port : Port) (now : ℕ) (core : CoreState) (did : Account) → Opens port core did → Before core did [] false (λ x. came_with x (Opened port now) core)
+opened : (port : Port) (now : ℕ) (core : CoreState) (did : Account) → AcceptsConnection port core did → Before core did [] false (λ x. came_with x (Opened port now) core)
 opened port now core did (inl is) =
     before_is core (without_effects (opens port core)) did [] false _ is
     (before_calm core (without_effects (opens port core)) false (λ x. []) (λ x. refl) (calm_move (exactly (opens_one port)) (refl, refl, refl, λ x. refl)))

@@ -16,7 +16,7 @@ use Rattle.exactly_once.specs.StoryCommands.{is_packet_of}
 use Rattle.world_base.specs.declared.Connection.{Connection}
 use Rattle.world_base.specs.Connections.{noted_proposed, failing, closed, is_over, left_with}
 use Rattle.world_base.specs.Core.{CoreState, Turn, rules, serves}
-use Rattle.world_base.specs.Lossy.{Account, Drives, Takes}
+use Rattle.world_base.specs.Lossy.{Account, Drives, TakesCommand}
 use Rattle.world_base.specs.Reading.{changes}
 use Rattle.world_base.specs.Step.{crashed}
 use Rattle.world_base.specs.Turns.{drives, heard}
@@ -59,7 +59,7 @@ same_then a b c s t = record { role = t.role ∙ s.role; joined = t.joined ∙ s
 state_of : (a b : CoreState) → a.replica ≡ b.replica → a.replica.state ≡ b.replica.state
 state_of a b e = ap (λ (r : CountedReplica State Command). r.state) e
 
-pub taken_same : (command : Command) (core : CoreState) (did : Account) → Takes command core did → Same core.replica.state did.core.replica.state
+pub taken_same : (command : Command) (core : CoreState) (did : Account) → TakesCommand command core did → Same core.replica.state did.core.replica.state
 taken_same command core did t =
     subst (λ (r : ReplicaState State Command). Same core.replica.state r)
     (sym (ap (λ (r : CountedReplica State Command). r.state) (delivers_replica did.given (record core { replica = t.replica }) did.core did.messages t.handles)
@@ -67,7 +67,7 @@ taken_same command core did t =
     (added_same rules core.replica.state command)
 
 -- a command is taken after a change of a connection
-pub taken_after : (command : Command) (core between : CoreState) (did : Account) → between.replica ≡ core.replica → Takes command between did
+pub taken_after : (command : Command) (core between : CoreState) (did : Account) → between.replica ≡ core.replica → TakesCommand command between did
     → Same core.replica.state did.core.replica.state
 taken_after command core between did same t =
     same_then core between did.core (same_state core between (state_of between core same)) (taken_same command between did t)

@@ -12,7 +12,7 @@ use Rattle.exactly_once.specs.broker_spec.Connection.{ConnectionName}
 use Rattle.exactly_once.specs.StoryCommands.{is_packet_of}
 use Rattle.world_base.specs.Connections.{noted_proposed, left_with}
 use Rattle.world_base.specs.Core.{CoreState, Turn, rules}
-use Rattle.world_base.specs.Lossy.{Account, Takes}
+use Rattle.world_base.specs.Lossy.{Account, TakesCommand}
 use Rattle.world_base.specs.Reading.{changes}
 use Rattle.node_moves.specs.Ends.{IsEnd, IsOrderly, commands_of}
 use Rattle.node_moves.specs.Ends.IsEnd.{not_yet}
@@ -67,7 +67,7 @@ losses_propose_in_order id config turn run x written later some joined =
 
 -- ---- what is read is taken
 
-taken_log : (command : Command) (core between : CoreState) (did : Account) → between.replica ≡ core.replica → Takes command between did
+taken_log : (command : Command) (core between : CoreState) (did : Account) → between.replica ≡ core.replica → TakesCommand command between did
     → did.core.replica.state.log ≡ pushed core.replica.state.log command
 taken_log command core between did same t =
     ap (λ (r : CountedReplica State Command). r.state.log) (delivers_replica did.given (record between { replica = t.replica }) did.core did.messages t.handles)

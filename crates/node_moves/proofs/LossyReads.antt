@@ -18,7 +18,7 @@ use Rattle.world_base.specs.declared.Port.{Port}
 use Rattle.world_base.specs.declared.Connection.{Connection}
 use Rattle.world_base.specs.Connections.{noted_proposed, closed, failing, is_at, is_first, is_open_at, left_with}
 use Rattle.world_base.specs.Core.{CoreState, Turn, rules}
-use Rattle.world_base.specs.Lossy.{Account, Drives, Takes}
+use Rattle.world_base.specs.Lossy.{Account, Drives, TakesCommand}
 use Rattle.world_base.specs.Reading.{changes, open_at}
 use Rattle.world_base.specs.Turns.{heard}
 use Rattle.node_moves.specs.Ends.{IsEnd, IsGiven, IsOrderly, commands_of, is_nothing, open_named, piece_on}
@@ -54,11 +54,11 @@ stays_drives input core did m o =
     stays_joined core (record core { replica = m.replica }) did.core s
     (stays_delivers did.given (record core { replica = m.replica }) did.core did.messages m.handles s.orderly)
 
-pub taken_joined : (command : Command) (core : CoreState) (did : Account) (t : Takes command core did) → t.replica.state.joined ≡ core.replica.state.joined
+pub taken_joined : (command : Command) (core : CoreState) (did : Account) (t : TakesCommand command core did) → t.replica.state.joined ≡ core.replica.state.joined
 taken_joined command core did t =
     ap (λ (r : ReplicaState State Command). r.joined) t.done.state ∙ (added_same rules core.replica.state command).joined
 
-pub stays_takes : (command : Command) (core : CoreState) (did : Account) → Takes command core did → IsOrderly core → Stays core did.core
+pub stays_takes : (command : Command) (core : CoreState) (did : Account) → TakesCommand command core did → IsOrderly core → Stays core did.core
 stays_takes command core did t o =
     let up = subst (λ (n : ℕ). core.replica.state.joined ≤ n) (sym (taken_joined command core did t)) (same_le core.replica.state.joined) in
     let s = stays_replica core t.replica up o in
@@ -91,18 +91,18 @@ stays_reads {core = core} {turn = turn} m s no_bytes none = (
 
 abbrev first_move : (now : ℕ) (core : CoreState) (port : Port) (c : Connection) (connect : Connect) (rest : List ℕ) (did : Account) → open_at port core ≡ Some c → is_first c.stage ≡ true
     → verdict c.unread ≡ Ok (packets.Connect connect, rest)
-    → Takes (commands.Connect c.name connect.client connect.clean) (changes port (noted_proposed connect.keep_alive) (changes port (left_with now rest) core)) did
+    → TakesCommand (commands.Connect c.name connect.client connect.clean) (changes port (noted_proposed connect.keep_alive) (changes port (left_with now rest) core)) did
     → LossyMoves core (record { core = did.core; messages = did.messages })
 first_move now core port c connect rest did at first reads taken = first_losing now port c connect rest did at first reads taken
 
 abbrev later_move : (now : ℕ) (core : CoreState) (port : Port) (c : Connection) (packet : Packet) (rest : List ℕ) (did : Account) → open_at port core ≡ Some c → is_first c.stage ≡ false
-    → verdict c.unread ≡ Ok (packet, rest) → Takes (commands.Packet c.name packet) (changes port (left_with now rest) core) did
+    → verdict c.unread ≡ Ok (packet, rest) → TakesCommand (commands.Packet c.name packet) (changes port (left_with now rest) core) did
     → LossyMoves core (record { core = did.core; messages = did.messages })
 later_move now core port c packet rest did at later reads taken = later_losing now port c packet rest did at later reads taken
 
 first_reads : (now : ℕ) (core : CoreState) (port : Port) (c : Connection) (connect : Connect) (rest : List ℕ) (did : Account) (at : open_at port core ≡ Some c) (first : is_first c.stage ≡ true)
     (reads : verdict c.unread ≡ Ok (packets.Connect connect, rest))
-    (taken : Takes (commands.Connect c.name connect.client connect.clean) (changes port (noted_proposed connect.keep_alive) (changes port (left_with now rest) core)) did) → IsOrderly core
+    (taken : TakesCommand (commands.Connect c.name connect.client connect.clean) (changes port (noted_proposed connect.keep_alive) (changes port (left_with now rest) core)) did) → IsOrderly core
     → ReadsAll (first_move now core port c connect rest did at first reads taken)
 first_reads now core port c connect rest did at first reads taken o =
     (s.orderly, λ x written read in_transit rest_of end same. by x written read rest_of (subst (IsEnd x core written read) same end) (named x c) refl)
@@ -131,7 +131,7 @@ first_reads now core port c connect rest did at first reads taken o =
         record { more = z.0; end = z.1; proposed = with_name x read b e z.0 z.2 z.3 }
 
 later_reads : (now : ℕ) (core : CoreState) (port : Port) (c : Connection) (packet : Packet) (rest : List ℕ) (did : Account) (at : open_at port core ≡ Some c) (later : is_first c.stage ≡ false)
-    (reads : verdict c.unread ≡ Ok (packet, rest)) (taken : Takes (commands.Packet c.name packet) (changes port (left_with now rest) core) did) → IsOrderly core
+    (reads : verdict c.unread ≡ Ok (packet, rest)) (taken : TakesCommand (commands.Packet c.name packet) (changes port (left_with now rest) core) did) → IsOrderly core
     → ReadsAll (later_move now core port c packet rest did at later reads taken)
 later_reads now core port c packet rest did at later reads taken o =
     (s.orderly, λ x written read in_transit rest_of end same. by x written read rest_of (subst (IsEnd x core written read) same end) (named x c) refl)

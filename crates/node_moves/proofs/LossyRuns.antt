@@ -17,11 +17,11 @@ use Rattle.world_base.specs.Connections.{noted_proposed, closed, failing, is_at,
 use Rattle.world_base.specs.Core.{CoreState, Turn}
 use Rattle.world_base.specs.Failing.{closes_failed}
 use Rattle.world_base.specs.Lossy.{Account, Repeated, Then, without_effects}
-use Rattle.world_base.specs.LossyProposals.{Declines, Proposes}
+use Rattle.world_base.specs.LossyProposals.{Declines, ProposesCommand}
 use Rattle.world_base.specs.LossyProposals.Declines.{no_room, forgets as forgets_it, stops}
 use Rattle.world_base.specs.LossyStep.{LosesAllFailed}
-use Rattle.world_base.specs.LossyReading.{TakesOr, TakesFirstPacket, Closes, Ends, EndsSilent, LosesFailed, ReadsNext, Shuts}
-use Rattle.world_base.specs.LossyReading.Ends.{none_open, unproposed, proposed}
+use Rattle.world_base.specs.LossyReading.{TakesOr, TakesFirstPacket, ClosesConnection, EndsConnection, EndsSilent, LosesFailed, ReadsNext, Shuts}
+use Rattle.world_base.specs.LossyReading.EndsConnection.{none_open, unproposed, proposed}
 use Rattle.world_base.specs.LossyReading.EndsSilent.{none_silent, ends_one}
 use Rattle.world_base.specs.LossyReading.LosesFailed.{none_failed, tells_one}
 use Rattle.world_base.specs.LossyReading.ReadsNext.{waits, first, later, refuses as refuses_it, ends}
@@ -98,11 +98,11 @@ still_declines core did (no_room full is) = by_none core did is
 still_declines core did (forgets_it room is) = by_account core (with_loss core) did is (calm_move forgets (refl, refl, refl, λ x. refl))
 still_declines core did (stops room is) = by_account core (halting core) did is (calm_move halts (refl, refl, refl, λ x. refl))
 
-pub still_lost : (name : ConnectionName) (core : CoreState) (did : Account) → Proposes (commands.Lost name) core did → Still core did
+pub still_lost : (name : ConnectionName) (core : CoreState) (did : Account) → ProposesCommand (commands.Lost name) core did → Still core did
 still_lost name core did (inl taken) = calm_move (tells_losing name did taken) (refl, refl, refl, λ x. refl)
 still_lost name core did (inr declines) = still_declines core did declines
 
-pub still_expelled : (client : List ℕ) (core : CoreState) (did : Account) → Proposes (commands.Expel client) core did → Still core did
+pub still_expelled : (client : List ℕ) (core : CoreState) (did : Account) → ProposesCommand (commands.Expel client) core did → Still core did
 still_expelled client core did (inl taken) = calm_move (expels_losing client did taken) (refl, refl, refl, λ x. refl)
 still_expelled client core did (inr declines) = still_declines core did declines
 
@@ -111,7 +111,7 @@ closing port core = calm_move (exactly (closes port)) (refl, refl, refl, λ x. r
 
 -- ---- ends
 
-pub still_ends : (port : Port) (core : CoreState) (did : Account) → Ends port core did → Still core did
+pub still_ends : (port : Port) (core : CoreState) (did : Account) → EndsConnection port core did → Still core did
 still_ends port core did (none_open none is) = by_none core did is
 still_ends port core did (unproposed c found other is) = by_account core (changes port closed core) did is (closing port core)
 still_ends port core did (proposed c found heard proposes) =
@@ -182,7 +182,7 @@ declined port f core between did same change t =
 
 still_connects : (now : ℕ) (port : Port) (c : Connection) (core : CoreState) (connect : Connect) (rest : List ℕ) (did : Account) → open_at port core ≡ Some c → is_first c.stage ≡ true
     → verdict c.unread ≡ Ok (packets.Connect connect, rest)
-    → TakesOr (commands.Connect c.name connect.client connect.clean) (Closes port) (changes port (noted_proposed connect.keep_alive) (changes port (left_with now rest) core)) did → Still core did
+    → TakesOr (commands.Connect c.name connect.client connect.clean) (ClosesConnection port) (changes port (noted_proposed connect.keep_alive) (changes port (left_with now rest) core)) did → Still core did
 still_connects now port c core connect rest did at awaits is (inl taken) =
     calm_move (first_losing now port c connect rest did at awaits is taken) (refl, refl, refl, λ x. refl)
 still_connects now port c core connect rest did at awaits is (inr other) =

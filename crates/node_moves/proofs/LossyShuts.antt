@@ -9,7 +9,7 @@ use Rattle.exactly_once.specs.Sends.{sends_to}
 use Rattle.world_base.specs.declared.Connection.{Connection}
 use Rattle.world_base.specs.Connections.{noted_proposed, closed, failing, has_failed, is_open_named, left_with}
 use Rattle.world_base.specs.Core.{CoreState, Turn}
-use Rattle.world_base.specs.Lossy.{Account, Drives, Takes}
+use Rattle.world_base.specs.Lossy.{Account, Drives, TakesCommand}
 use Rattle.world_base.specs.Reading.{changes}
 use Rattle.world_base.specs.Turns.{heard}
 use Rattle.node_moves.specs.Closed.{listed_named}
@@ -44,7 +44,7 @@ driven x input core did m o =
     delivers_shuts x did.given (record core { replica = m.replica }) did.core did.messages m.handles
     (replica_orderly core m.replica (steps_up core.replica m.replica (heard input core.replica.state) did.given (heard_up input core) m.steps) o)
 
-taken_shuts : (x : ConnectionName) (command : Command) (core : CoreState) (did : Account) → Takes command core did → IsOrderly core
+taken_shuts : (x : ConnectionName) (command : Command) (core : CoreState) (did : Account) → TakesCommand command core did → IsOrderly core
     → Shuts (bytes_for x did.given) (listed_named x core) (listed_named x did.core)
 taken_shuts x command core did t o =
     delivers_shuts x did.given (record core { replica = t.replica }) did.core did.messages t.handles

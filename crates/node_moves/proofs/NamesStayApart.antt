@@ -24,13 +24,13 @@ use Rattle.world_base.specs.Connections.{noted_proposed, closed, failing, fresh,
 use Rattle.world_base.specs.Core.{CoreState, rules, serves}
 use Rattle.world_base.specs.Failing.{closes_failed}
 use Rattle.world_base.specs.Handing.{hands_over}
-use Rattle.world_base.specs.Lossy.{Account, HandlesAll, Drives, ReplicaSteps, Repeated, Performs, Takes, Then, without_effects}
-use Rattle.world_base.specs.LossyProposals.{Declines, Proposes}
+use Rattle.world_base.specs.Lossy.{Account, HandlesAll, Drives, ReplicaSteps, Repeated, Performs, TakesCommand, Then, without_effects}
+use Rattle.world_base.specs.LossyProposals.{Declines, ProposesCommand}
 use Rattle.world_base.specs.LossyProposals.Declines.{no_room, forgets, stops}
 use Rattle.world_base.specs.Lossy.HandlesAll.{nothing, does, sends, loses}
-use Rattle.world_base.specs.LossyStep.{ActsOn, Holds, RunsOn, DoesItem}
-use Rattle.world_base.specs.LossyReading.{TakesOr, TakesFirstPacket, Closes, Ends, EndsSilent, LosesFailed, ReadsNext, Shuts}
-use Rattle.world_base.specs.LossyReading.Ends.{none_open, unproposed, proposed}
+use Rattle.world_base.specs.LossyStep.{ActsOn, HoldsBytes, RunsOn, DoesItem}
+use Rattle.world_base.specs.LossyReading.{TakesOr, TakesFirstPacket, ClosesConnection, EndsConnection, EndsSilent, LosesFailed, ReadsNext, Shuts}
+use Rattle.world_base.specs.LossyReading.EndsConnection.{none_open, unproposed, proposed}
 use Rattle.world_base.specs.LossyReading.EndsSilent.{none_silent, ends_one}
 use Rattle.world_base.specs.LossyReading.LosesFailed.{none_failed, tells_one}
 use Rattle.world_base.specs.LossyReading.ReadsNext.{waits, first, later, refuses, ends}
@@ -161,7 +161,7 @@ keep_moved outcome core did up m =
 keep_driven : (input : Input Command) (core : CoreState) (did : Account) → Drives input core did → Keep core did.core
 keep_driven input core did m = keep_moved _ core did (heard_up input core) m
 
-keep_taken : (command : Command) (core : CoreState) (did : Account) → Takes command core did → Keep core did.core
+keep_taken : (command : Command) (core : CoreState) (did : Account) → TakesCommand command core did → Keep core did.core
 keep_taken command core did t =
     let same : t.replica.state.joined ≡ core.replica.state.joined =
     ap (λ (r : ReplicaState State Command). r.joined) t.done.state ∙ (added_same rules core.replica.state command).joined in
@@ -179,7 +179,7 @@ keep_declined core did (no_room full is) = by_account core core did is (keep_sam
 keep_declined core did (forgets room is) = by_account core _ did is (keep_replica core _ (same_le core.replica.state.joined))
 keep_declined core did (stops room is) = by_account core _ did is (keep_replica core _ (same_le core.replica.state.joined))
 
-keep_proposed : (command : Command) (core : CoreState) (did : Account) → Proposes command core did → Keep core did.core
+keep_proposed : (command : Command) (core : CoreState) (did : Account) → ProposesCommand command core did → Keep core did.core
 keep_proposed command core did (inl takes) = keep_taken command core did takes
 keep_proposed command core did (inr declines) = keep_declined core did declines
 
@@ -201,7 +201,7 @@ keep_asked command Otherwise on core did (inr other) = keep_then Declines Otherw
 
 -- ---- ends
 
-keep_ended : (port : Port) (core : CoreState) (did : Account) → Ends port core did → Keep core did.core
+keep_ended : (port : Port) (core : CoreState) (did : Account) → EndsConnection port core did → Keep core did.core
 keep_ended port core did (none_open none is) = by_account core core did is (keep_same core)
 keep_ended port core did (unproposed c found other is) = by_account core (changes port closed core) did is (keep_closed port core)
 keep_ended port core did (proposed c found heard proposes) =
@@ -220,7 +220,7 @@ keep_lost core did (tells_one c found proposes) =
 
 -- ---- reads
 
-keep_shut : (port : Port) (core : CoreState) (did : Account) → Closes port core did → Keep core did.core
+keep_shut : (port : Port) (core : CoreState) (did : Account) → ClosesConnection port core did → Keep core did.core
 keep_shut port core did is = by_account core (changes port closed core) did is (keep_closed port core)
 
 keep_shuts : (port : Port) (core : CoreState) (did : Account) → Shuts port core did → Keep core did.core
@@ -231,7 +231,7 @@ keep_begun : (port : Port) (name : ConnectionName) (packet : Packet) (core : Cor
     TakesFirstPacket port name packet core did → Keep core did.core
 keep_begun port name (packets.Connect connect) core did runs =
     keep_both core (changes port (noted_proposed connect.keep_alive) core) did.core (keep_at port (noted_proposed connect.keep_alive) core (λ c. refl))
-    (keep_asked (commands.Connect name connect.client connect.clean) (Closes port) (keep_shut port)
+    (keep_asked (commands.Connect name connect.client connect.clean) (ClosesConnection port) (keep_shut port)
     (changes port (noted_proposed connect.keep_alive) core) did runs)
 keep_begun port name _ core did runs = keep_shut port core did runs
 
@@ -292,11 +292,11 @@ keep_item (Tick now) core did runs =
 keep_item (Opened port now) core did (inl is) = by_account core (opens port core) did is (keep_opened port core)
 keep_item (Opened port now) core did (inr is) = by_account core core did is (keep_same core)
 keep_item (Bytes port piece now) core did runs =
-    keep_then (Holds port piece) (λ k d. Repeated (unread_of (open_at port k)) (ReadsNext now port) k d) held
+    keep_then (HoldsBytes port piece) (λ k d. Repeated (unread_of (open_at port k)) (ReadsNext now port) k d) held
     (λ k d reads. keep_repeated (unread_of (open_at port k)) (ReadsNext now port) (keep_read now port) k d reads) core did
     (record { one = runs.one; two = runs.two; first = runs.first; next = runs.next; is = runs.is })
   where
-    held : (k : CoreState) (d : Account) → Holds port piece k d → Keep k d.core
+    held : (k : CoreState) (d : Account) → HoldsBytes port piece k d → Keep k d.core
     held k d (inl is) = by_account k (changes port (holding piece) k) d is (keep_at port (holding piece) k (λ c. refl))
     held k d (inr ended) = keep_ended port k d ended
 keep_item (Ended port) core did runs = keep_ended port core did runs

@@ -15,7 +15,7 @@ use Rattle.world_base.specs.declared.Connection.{Connection}
 use Rattle.world_base.specs.Connections.{noted_proposed, closed, failing, is_first, left_with}
 use Rattle.world_base.specs.Core.{CoreState, Turn, rules}
 use Rattle.world_base.specs.Failing.{closes_failed}
-use Rattle.world_base.specs.Lossy.{Account, Drives, Takes}
+use Rattle.world_base.specs.Lossy.{Account, Drives, TakesCommand}
 use Rattle.world_base.specs.Reading.{changes, open_at}
 use Rattle.world_base.specs.Turns.{without_messages}
 use Rattle.node_moves.specs.Moves.{Moves, is_proposal}
@@ -53,7 +53,7 @@ pub data LossyMoves (core : CoreState) : Turn → Type 0 where
   first_losing : (now : ℕ) (port : Port) (c : Connection) (connect : Connect) (rest : List ℕ)
       (did : Account) → open_at port core ≡ Some c →
       is_first c.stage ≡ true → verdict c.unread ≡ Ok (packets.Connect connect, rest) →
-      Takes (commands.Connect c.name connect.client connect.clean)
+      TakesCommand (commands.Connect c.name connect.client connect.clean)
       (changes port (noted_proposed connect.keep_alive) (changes port (left_with now rest) core))
       did →
       LossyMoves core (turn_of did)
@@ -61,13 +61,13 @@ pub data LossyMoves (core : CoreState) : Turn → Type 0 where
   later_losing : (now : ℕ) (port : Port) (c : Connection) (packet : Packet) (rest : List ℕ)
       (did : Account) → open_at port core ≡ Some c →
       is_first c.stage ≡ false → verdict c.unread ≡ Ok (packet, rest) →
-      Takes (commands.Packet c.name packet) (changes port (left_with now rest) core) did →
+      TakesCommand (commands.Packet c.name packet) (changes port (left_with now rest) core) did →
       LossyMoves core (turn_of did)
   -- that a connection is lost is taken, perhaps with losses
-  tells_losing : (name : ConnectionName) (did : Account) → Takes (commands.Lost name) core did →
+  tells_losing : (name : ConnectionName) (did : Account) → TakesCommand (commands.Lost name) core did →
       LossyMoves core (turn_of did)
   -- an Expel is taken, perhaps with losses
-  expels_losing : (client : List ℕ) (did : Account) → Takes (commands.Expel client) core did →
+  expels_losing : (client : List ℕ) (did : Account) → TakesCommand (commands.Expel client) core did →
       LossyMoves core (turn_of did)
   -- the replica does not take what it receives, and counts that
   forgets : LossyMoves core (without_messages (with_loss core))

@@ -6,7 +6,7 @@ use Rattle.node.specs.Effect.{Effect}
 use Rattle.node.specs.declared.Config.{Config}
 use Rattle.node.specs.declared.Item.{Item}
 use Rattle.node.specs.Core.{CountedCore, opening_core}
-use Rattle.node.specs.Losses.{Stepped}
+use Rattle.node.specs.Losses.{NodeStepped}
 use Rattle.node.specs.Lists.{In}
 use Rattle.node.specs.State.{Replays}
 
@@ -38,5 +38,5 @@ pub record WasGiven (effect : Effect Command Output) : Type 0 where
   pub next : CountedCore
   pub before : List (Effect Command Output)
   pub after : List (Effect Command Output)
-  pub step : Stepped core item next before after
+  pub step : NodeStepped core item next before after
   pub gives : In effect step.given

@@ -16,9 +16,9 @@ use Rattle.ballot.specs.Replica.{CountedReplica, ReplicaState, is_active}
 use Rattle.ballot.specs.Sending.{Outcome, nothing_done}
 use Rattle.ballot.specs.Serving.{added, max_places, proposed}
 use Rattle.world_base.specs.Core.{CoreState, rules, serves}
-use Rattle.world_base.specs.Inside.{Acts, Answered, HandledAll, ProposedBy, Ran}
+use Rattle.world_base.specs.Inside.{StepsReplicaOrLoses, Answered, HandledAll, ProposedBy, Ran}
 use Rattle.world_base.specs.Lossy.{Account, HandlesAll, Drives, without_effects}
-use Rattle.world_base.specs.LossyProposals.{Proposes}
+use Rattle.world_base.specs.LossyProposals.{ProposesCommand}
 use Rattle.world_base.specs.LossyProposals.Declines.{no_room, forgets, stops}
 use Rattle.world_base.specs.Turns.{has_room, heard}
 use Rattle.world_base.proofs.Asked.{left_true, right_false, has_room_by, proposed-stopped}
@@ -37,7 +37,7 @@ pub acts_heard : (input : Input Command) (old : CoreState) (new : CountedReplica
     before ≡ [] →
     (old.replica.state.stopped ≡ false → Stepped rules old.replica (replica_step rules old.replica.state input) new before later) →
     (old.replica.state.stopped ≡ true → (new ≡ old.replica) × (later ≡ before)) →
-    Acts (heard input old.replica.state) old (record old { replica = new }) later
+    StepsReplicaOrLoses (heard input old.replica.state) old (record old { replica = new }) later
 acts_heard input old new before later none step stays =
     record { replica = new; core = refl; steps = by (old.replica.state.stopped) refl }
   where
@@ -57,7 +57,7 @@ acts_heard input old new before later none step stays =
         (subst (λ (l : List (Effect Command Output)). Steps rules old.replica (replica_step rules old.replica.state input) new l) given did.steps)
 
 pub drives_all : (input : Input Command) (a b c : CoreState) (given x y : List (Effect Command Output)) →
-    Acts (heard input a.replica.state) a b given → HandledAll given b c x y → Ran (Drives input) a c x y
+    StepsReplicaOrLoses (heard input a.replica.state) a b given → HandledAll given b c x y → Ran (Drives input) a c x y
 drives_all input a b c given x y acts delivered =
     record {
       did = record { core = c; given = given; messages = delivered.messages };
@@ -75,9 +75,9 @@ pub acts_kept : (input : Input Command) (old : CoreState) (new : CountedReplica 
     (after : CoreState) → before ≡ [] →
     (old.replica.state.stopped ≡ false → Stepped rules old.replica (replica_step rules old.replica.state input) new before later) →
     (old.replica.state.stopped ≡ true → (new ≡ old.replica) × (later ≡ before)) → after ≡ record old { replica = new } →
-    Acts (heard input old.replica.state) old after later
+    StepsReplicaOrLoses (heard input old.replica.state) old after later
 acts_kept input old new before later after none step stays kept =
-    subst (λ (k : CoreState). Acts (heard input old.replica.state) old k later) (sym kept)
+    subst (λ (k : CoreState). StepsReplicaOrLoses (heard input old.replica.state) old k later) (sym kept)
     (acts_heard input old new before later none step stays)
 
 -- a replica that has stopped hands nothing out
@@ -213,6 +213,6 @@ proposed_not command core x idle =
     ran_without_effects (ProposedBy false command) core core x (no_room (rw idle refl) refl)
 
 pub as_proposes : (taken : Bool) (command : Command) (core : CoreState) (did : Account) → ProposedBy taken command core did →
-    Proposes command core did
+    ProposesCommand command core did
 as_proposes true command core did takes = inl takes
 as_proposes false command core did declines = inr declines

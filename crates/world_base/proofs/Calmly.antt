@@ -15,7 +15,7 @@ use Rattle.world_base.specs.declared.item.Item.TheVariants.{Peer, Tick, Opened, 
 use Rattle.world_base.specs.Core.{CoreState, Turn, serves}
 use Rattle.world_base.specs.Failing.{loses_all_failed, loses_failed}
 use Rattle.world_base.specs.Handing.{bytes_of, hands_over, left_by, listed_at}
-use Rattle.world_base.specs.Losses.{IsHeardQuietly, IsIgnored, ReadsNone, TakesNoMemory, WaitsNothing, was_proposed}
+use Rattle.world_base.specs.Losses.{IsHeardQuietly, IsIgnored, ReadsNone, ItemTakesNoMemory, WaitsNothing, was_proposed}
 use Rattle.world_base.specs.Reading.{changes, ends, loses_open, open_at}
 use Rattle.world_base.specs.Step.{acts_on, crashed, node_step, settled, does_item}
 use Rattle.world_base.specs.Turns.{handled_all, drives, heard, without_messages, then_also}
@@ -127,7 +127,7 @@ message_calmly : (message : Message Command) (core : CoreState) → IsIgnored (R
 message_calmly message core (inl ignored) reads = nothing_goes (Peer message) core (takes_nothing (Peer message) core (ignored, reads))
 message_calmly message core (inr heard_so) reads = hears_calmly message core heard_so
 
-goes_calmly : (item : Item) (core : CoreState) → TakesNoMemory item core → GoesCalmly item core
+goes_calmly : (item : Item) (core : CoreState) → ItemTakesNoMemory item core → GoesCalmly item core
 goes_calmly (Peer message) core takes = message_calmly message core takes.0 takes.1
 goes_calmly (Tick now) core takes = nothing_goes (Tick now) core (takes_nothing (Tick now) core takes)
 goes_calmly (Opened port now) core takes = nothing_goes (Opened port now) core (takes_nothing (Opened port now) core takes)
@@ -145,10 +145,10 @@ acts_calmly item core g none =
     ∙ ap (λ (t : Turn). then_also (without_messages g.next) (λ _. t))
     (repeated_without_messages loses_failed (length g.next.connections) g.next (failed_next g.next (g.fails_none none)))
 
-pub says_nothing : (item : Item) (core : CoreState) → TakesNoMemory item core → find has_failed core.connections ≡ None → (node_step item core).messages ≡ []
+pub says_nothing : (item : Item) (core : CoreState) → ItemTakesNoMemory item core → find has_failed core.connections ≡ None → (node_step item core).messages ≡ []
 says_nothing item core takes none = ap (λ (t : Turn). t.messages) (acts_calmly item core (goes_calmly item core takes) none)
 
-pub step_waits : (item : Item) (core : CoreState) → TakesNoMemory item core → find has_failed core.connections ≡ None → WaitsNothing core → WaitsNothing (node_step item core).core
+pub step_waits : (item : Item) (core : CoreState) → ItemTakesNoMemory item core → find has_failed core.connections ≡ None → WaitsNothing core → WaitsNothing (node_step item core).core
 step_waits item core takes none each =
     let g = goes_calmly item core takes in
     subst (λ (t : Turn). WaitsNothing (settled t.core)) (sym (acts_calmly item core g none)) (settled_waits g.next (g.waits each))

@@ -12,7 +12,7 @@ use Rattle.node_connections.specs.declared.port.Port.{Port}
 use Rattle.node_connections.specs.declared.connection.Connection.{Connection}
 use Rattle.node_connections.specs.Connections.{closed, is_proposed}
 use Rattle.world_base.specs.Core.{CoreState, Turn, rules, serves}
-use Rattle.world_base.specs.Inside.{Running, Does, DoesTurn}
+use Rattle.world_base.specs.Inside.{Running, DoesExactly, DoesTurn}
 use Rattle.world_base.specs.Reading.{changes, ends, open_at}
 use Rattle.world_base.specs.Turns.{without_messages, then_also, proposes, has_room}
 use Rattle.world_base.proofs.Asked.{left_true}
@@ -72,7 +72,7 @@ proposes_nothing command core e =
 -- a refused proposal closes the connection
 pub closes_refused : (port : Port) (command : Command) (a b c : Running)
     (x y : List (Effect Command Output)) → (c.out_of_memory ≡ false → false ≡ has_room a.core) →
-    DoesTurn a b x y (proposes command a.core) → Does b c (changes port closed b.core) →
+    DoesTurn a b x y (proposes command a.core) → DoesExactly b c (changes port closed b.core) →
     DoesTurn a c x y (if has_room a.core then proposes command a.core else without_messages (changes port closed a.core))
 closes_refused port command a b c x y full turns shut =
     turns_as a c x y _ _ same

@@ -19,7 +19,7 @@ use Rattle.node_connections.specs.declared.connection.Connection.{Connection}
 use Rattle.node_connections.specs.declared.connection.ConnectionStage.TheVariants.{Over, Failed}
 use Rattle.node_connections.specs.Connections.{changed, closed, failing, is_open_named, is_over, is_proposed, max_pending, put_out, putting}
 use Rattle.world_base.specs.Core.{CoreState}
-use Rattle.world_base.specs.Going.{AreNamedApart, EachGoesOn, GoesOn, bytes_by, bytes_for}
+use Rattle.world_base.specs.Going.{AreNamedApart, EachGoesOn, ConnectionGoesOn, bytes_by, bytes_for}
 use Rattle.world_base.specs.Lossy.{HandlesAll, Performs}
 use Rattle.world_base.specs.Lossy.HandlesAll.{nothing, does, sends, loses}
 use Rattle.world_base.specs.Reading.{refused}
@@ -29,7 +29,7 @@ use Rattle.world_base.specs.Turns.{changes_named}
 
 -- what stays open keeps what is to be handed over
 pub goes_still : (c d : Connection) → d.port ≡ c.port → d.name ≡ c.name → d.pending ≡ c.pending →
-    (is_over c.stage ≡ true → is_over d.stage ≡ true) → GoesOn [] c d
+    (is_over c.stage ≡ true → is_over d.stage ≡ true) → ConnectionGoesOn [] c d
 goes_still c d port name same shut =
     record {
       port = port;
@@ -43,7 +43,7 @@ goes_still c d port name same shut =
       put = same ∙ sym (append-nil c.pending);
     }
 
-pub goes_itself : (c : Connection) → GoesOn [] c c
+pub goes_itself : (c : Connection) → ConnectionGoesOn [] c c
 goes_itself c = goes_still c c refl refl refl (λ e. e)
 
 not_both : (over : Bool) → over ≡ true → over ≡ false → ⊥
@@ -51,7 +51,7 @@ not_both over e f = absurd cc
 
 -- of a closed one nothing is asked
 pub goes_over : (bytes : List ℕ) (c d : Connection) → d.port ≡ c.port → d.name ≡ c.name → is_over d.stage ≡ true →
-    d.pending ≡ c.pending → GoesOn bytes c d
+    d.pending ≡ c.pending → ConnectionGoesOn bytes c d
 goes_over bytes c d port name over same =
     record {
       port = port;
@@ -65,18 +65,18 @@ goes_over bytes c d port name over same =
       put = same ∙ sym (append-nil c.pending);
     }
 
-pub goes_closed : (bytes : List ℕ) (c : Connection) → GoesOn bytes c (closed c)
+pub goes_closed : (bytes : List ℕ) (c : Connection) → ConnectionGoesOn bytes c (closed c)
 goes_closed bytes c = goes_over bytes c (closed c) refl refl refl refl
 
 over_failing : (proposed : Bool) → is_over (if proposed then Failed else Over) ≡ true
 over_failing true = refl
 over_failing false = refl
 
-pub goes_failing : (bytes : List ℕ) (c : Connection) → GoesOn bytes c (failing c)
+pub goes_failing : (bytes : List ℕ) (c : Connection) → ConnectionGoesOn bytes c (failing c)
 goes_failing bytes c = goes_over bytes c (failing c) refl refl (over_failing (is_proposed c.stage)) refl
 
 -- it is closed with the node's refusal
-pub goes_refused : (code : RefusalCode) (c : Connection) → is_over c.stage ≡ false → GoesOn [] c (refused code c)
+pub goes_refused : (code : RefusalCode) (c : Connection) → is_over c.stage ≡ false → ConnectionGoesOn [] c (refused code c)
 goes_refused code c stays =
     record {
       port = refl;
@@ -91,10 +91,10 @@ goes_refused code c stays =
     }
 
 -- bytes that are queued come after all others, or the connection is closed
-goes_put : (bytes : List ℕ) (c : Connection) → is_over c.stage ≡ false → GoesOn bytes c (put_out bytes c)
+goes_put : (bytes : List ℕ) (c : Connection) → is_over c.stage ≡ false → ConnectionGoesOn bytes c (put_out bytes c)
 goes_put bytes c stays = by (nat_le (length c.pending + length bytes) max_pending)
   where
-    by : (fits : Bool) → GoesOn bytes c (if fits then putting bytes c else failing c)
+    by : (fits : Bool) → ConnectionGoesOn bytes c (if fits then putting bytes c else failing c)
     by true =
         record {
           port = refl;
@@ -110,7 +110,7 @@ goes_put bytes c stays = by (nat_le (length c.pending + length bytes) max_pendin
     by false = goes_failing bytes c
 
 -- one thing and then another: after the first it was closed, or is open
-closed_between : (xs ys : List ℕ) (c d e : Connection) → is_over d.stage ≡ true → GoesOn xs c d → GoesOn ys d e → GoesOn (xs ++ ys) c e
+closed_between : (xs ys : List ℕ) (c d e : Connection) → is_over d.stage ≡ true → ConnectionGoesOn xs c d → ConnectionGoesOn ys d e → ConnectionGoesOn (xs ++ ys) c e
 closed_between xs ys c d e over one two =
     record {
       port = two.port ∙ one.port;
@@ -127,7 +127,7 @@ closed_between xs ys c d e over one two =
       put = (two.closed over).1 ∙ one.put;
     }
 
-open_between : (xs ys : List ℕ) (c d e : Connection) → is_over d.stage ≡ false → GoesOn xs c d → GoesOn ys d e → GoesOn (xs ++ ys) c e
+open_between : (xs ys : List ℕ) (c d e : Connection) → is_over d.stage ≡ false → ConnectionGoesOn xs c d → ConnectionGoesOn ys d e → ConnectionGoesOn (xs ++ ys) c e
 open_between xs ys c d e stays one two =
     record {
       port = two.port ∙ one.port;
@@ -146,10 +146,10 @@ open_between xs ys c d e stays one two =
           ∙ ap (λ (l : List ℕ). c.pending ++ l) (sym (append_assoc xs two.prefix two.answer));
     }
 
-goes_both : (xs ys : List ℕ) (c d e : Connection) → GoesOn xs c d → GoesOn ys d e → GoesOn (xs ++ ys) c e
+goes_both : (xs ys : List ℕ) (c d e : Connection) → ConnectionGoesOn xs c d → ConnectionGoesOn ys d e → ConnectionGoesOn (xs ++ ys) c e
 goes_both xs ys c d e one two = by (is_over d.stage) refl
   where
-    by : (over : Bool) → is_over d.stage ≡ over → GoesOn (xs ++ ys) c e
+    by : (over : Bool) → is_over d.stage ≡ over → ConnectionGoesOn (xs ++ ys) c e
     by true is = closed_between xs ys c d e is one two
     by false is = open_between xs ys c d e is one two
 
@@ -174,7 +174,7 @@ each_both g h [] (d ∷ ds) es one two = absurd one
 each_both g h (c ∷ cs) [] es one two = absurd one
 each_both g h (c ∷ cs) (d ∷ ds) [] one two = absurd two
 each_both g h (c ∷ cs) (d ∷ ds) (e ∷ es) one two = (
-  subst (λ (b : List ℕ). GoesOn b c e) joins
+  subst (λ (b : List ℕ). ConnectionGoesOn b c e) joins
       (goes_both (bytes_for g c.name) (bytes_for h d.name) c d e one.0 two.0),
   each_both g h cs ds es one.1 two.1,
 )
@@ -209,7 +209,7 @@ apart_on g (c ∷ cs) (d ∷ ds) on apart =
     (each_other g cs ds c.name d.name on.0.name on.1 apart.0, apart_on g cs ds on.1 apart.1)
 
 -- a change of the first that passes
-pub changed_on : (test : Connection → Bool) (f : Connection → Connection) → ((c : Connection) → test c ≡ true → GoesOn [] c (f c)) →
+pub changed_on : (test : Connection → Bool) (f : Connection → Connection) → ((c : Connection) → test c ≡ true → ConnectionGoesOn [] c (f c)) →
     (cs : List Connection) → EachGoesOn [] cs (changed test f cs)
 changed_on test f on [] = tt
 changed_on test f on (c ∷ cs) = by (test c) refl (changed_on test f on cs)
@@ -221,12 +221,12 @@ changed_on test f on (c ∷ cs) = by (test c) refl (changed_on test f on cs)
 
 -- ---- outputs
 
-with_none : (bytes : List ℕ) (c d : Connection) → GoesOn bytes c d → GoesOn (bytes ++ []) c d
-with_none bytes c d on = subst (λ (b : List ℕ). GoesOn b c d) (sym (append-nil bytes)) on
+with_none : (bytes : List ℕ) (c d : Connection) → ConnectionGoesOn bytes c d → ConnectionGoesOn (bytes ++ []) c d
+with_none bytes c d on = subst (λ (b : List ℕ). ConnectionGoesOn b c d) (sym (append-nil bytes)) on
 
 -- it is not for this one
-other_on : (output : Output) (c : Connection) → bytes_by output c.name ≡ [] → GoesOn (bytes_by output c.name) c c
-other_on output c none = subst (λ (b : List ℕ). GoesOn b c c) (sym none) (goes_itself c)
+other_on : (output : Output) (c : Connection) → bytes_by output c.name ≡ [] → ConnectionGoesOn (bytes_by output c.name) c c
+other_on output c none = subst (λ (b : List ℕ). ConnectionGoesOn b c c) (sym none) (goes_itself c)
 
 not_open : (over same : Bool) → (not over && same) ≡ false → (over ≡ true) ⊎ (same ≡ false)
 not_open true same e = inl refl
@@ -244,16 +244,16 @@ named_so false same e = e
 -- an output for a name is done on the first open connection that has it
 module _ (place : ℕ) (output : Output) (name : ConnectionName) (f : Connection → Connection)
     (others : (n : ConnectionName) → same_connection n name ≡ false → bytes_by output n ≡ [])
-    (done : (c : Connection) → is_over c.stage ≡ false → same_connection c.name name ≡ true → GoesOn (bytes_by output c.name) c (f c)) where
+    (done : (c : Connection) → is_over c.stage ≡ false → same_connection c.name name ≡ true → ConnectionGoesOn (bytes_by output c.name) c (f c)) where
   not_for : (cs : List Connection) → Each (λ (d : Connection). same_connection d.name name ≡ false) cs → EachGoesOn (Out place output ∷ []) cs cs
   not_for [] apart = tt
   not_for (c ∷ cs) apart =
       (with_none (bytes_by output c.name) c c (other_on output c (others c.name apart.0)), not_for cs apart.1)
 
-  unchanged : (c : Connection) → is_open_named name c ≡ false → GoesOn (bytes_by output c.name) c c
+  unchanged : (c : Connection) → is_open_named name c ≡ false → ConnectionGoesOn (bytes_by output c.name) c c
   unchanged c fails = by (not_open (is_over c.stage) (same_connection c.name name) fails)
     where
-      by : (is_over c.stage ≡ true) ⊎ (same_connection c.name name ≡ false) → GoesOn (bytes_by output c.name) c c
+      by : (is_over c.stage ≡ true) ⊎ (same_connection c.name name ≡ false) → ConnectionGoesOn (bytes_by output c.name) c c
       by (inl over) = goes_over (bytes_by output c.name) c c refl refl over refl
       by (inr other) = other_on output c (others c.name other)
 
@@ -276,9 +276,9 @@ for_other : (name : ConnectionName) (packet : Packet) (n : ConnectionName) → s
 for_other name packet n e = ap (λ (b : Bool). if b then spelling packet else []) e
 
 sent_on : (name : ConnectionName) (packet : Packet) (c : Connection) → is_over c.stage ≡ false → same_connection c.name name ≡ true →
-    GoesOn (bytes_by (outputs.Send name packet) c.name) c (put_out (spelling packet) c)
+    ConnectionGoesOn (bytes_by (outputs.Send name packet) c.name) c (put_out (spelling packet) c)
 sent_on name packet c stays e =
-    subst (λ (b : List ℕ). GoesOn b c (put_out (spelling packet) c))
+    subst (λ (b : List ℕ). ConnectionGoesOn b c (put_out (spelling packet) c))
     (ap (λ (b : Bool). if b then spelling packet else []) (sym e)) (goes_put (spelling packet) c stays)
 
 pub serves_on : (place : ℕ) (output : Output) (core new : CoreState) → Performs output core new → AreNamedApart core.connections →

@@ -7,7 +7,7 @@ use Rattle.ballot.specs.Cutting.{can_cut, cut}
 use Rattle.ballot.specs.Losses.{one_more}
 use Rattle.ballot.specs.Replica.{CountedReplica, ReplicaState}
 use Rattle.world_base.specs.Core.{CoreState, rules}
-use Rattle.world_base.specs.Inside.{Does, Running}
+use Rattle.world_base.specs.Inside.{DoesExactly, Running}
 use Rattle.world_base.specs.Lossy.{without_effects}
 use Rattle.world_base.specs.LossyStep.{Cuts}
 use Rattle.world_base.specs.LossyStep.Cuts.{nothing_to_cut, cuts_log, forgets_cut}
@@ -50,7 +50,7 @@ cut_exactly core new false r same below = by_need (cases_Bool (can_cut core.repl
 -- so it is what was done, unless memory ran out
 pub cut_does : (old new : Running) (replica : CountedReplica State Command) (result : Bool) (before : ℕ) → ReplicaCut old.core replica result →
     before ≡ old.core.replica.losses → new.core ≡ record old.core { replica = replica } →
-    (new.out_of_memory ≡ false → (old.out_of_memory ≡ false) × ((replica.losses ≡ before) × (before < 2 ^ 64 - 1))) → Does old new (cuts old.core)
+    (new.out_of_memory ≡ false → (old.out_of_memory ≡ false) × ((replica.losses ≡ before) × (before < 2 ^ 64 - 1))) → DoesExactly old new (cuts old.core)
 cut_does old new replica result before r losses kept none quiet =
     let z = none quiet in
     let below : old.core.replica.losses < 2 ^ 64 - 1 = (let b = z.1.1 in omega (arith, losses, b)) in

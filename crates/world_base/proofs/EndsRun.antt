@@ -14,10 +14,10 @@ use Rattle.world_base.specs.Failing.{closes_failed}
 use Rattle.world_base.specs.Inside.{ProposedBy, Ran, ReportsLost, Running}
 use Rattle.world_base.specs.KeepAlive.{lowest_silent}
 use Rattle.world_base.specs.Lossy.{Account, Then, without_effects}
-use Rattle.world_base.specs.LossyProposals.{Declines, Proposes}
-use Rattle.world_base.specs.LossyStep.{Holds}
-use Rattle.world_base.specs.LossyReading.{TakesOr, Ends, EndsSilent, LosesFailed, Shuts}
-use Rattle.world_base.specs.LossyReading.Ends.{none_open, unproposed, proposed}
+use Rattle.world_base.specs.LossyProposals.{Declines, ProposesCommand}
+use Rattle.world_base.specs.LossyStep.{HoldsBytes}
+use Rattle.world_base.specs.LossyReading.{TakesOr, EndsConnection, EndsSilent, LosesFailed, Shuts}
+use Rattle.world_base.specs.LossyReading.EndsConnection.{none_open, unproposed, proposed}
 use Rattle.world_base.specs.LossyReading.EndsSilent.{none_silent, ends_one}
 use Rattle.world_base.specs.LossyReading.LosesFailed.{none_failed, tells_one}
 use Rattle.world_base.specs.Reading.{changes, open_at}
@@ -30,18 +30,18 @@ core_of a b e = ap (λ (r : Running). r.core) e
 
 -- ---- a connection of a port ends
 
-pub ran_none_open : (port : Port) (core : CoreState) (x : List (Effect Command Output)) → open_at port core ≡ None → Ran (Ends port) core core x x
-ran_none_open port core x e = ran_without_effects (Ends port) core core x (none_open e refl)
+pub ran_none_open : (port : Port) (core : CoreState) (x : List (Effect Command Output)) → open_at port core ≡ None → Ran (EndsConnection port) core core x x
+ran_none_open port core x e = ran_without_effects (EndsConnection port) core core x (none_open e refl)
 
 pub ran_unproposed : (port : Port) (c : Connection) (a b : CoreState) (x : List (Effect Command Output)) → open_at port a ≡ Some c →
-    is_proposed c.stage ≡ false → b ≡ changes port closed a → Ran (Ends port) a b x x
-ran_unproposed port c a b x found other shut = ran_without_effects (Ends port) a b x (unproposed c found other (ap without_effects shut))
+    is_proposed c.stage ≡ false → b ≡ changes port closed a → Ran (EndsConnection port) a b x x
+ran_unproposed port c a b x found other shut = ran_without_effects (EndsConnection port) a b x (unproposed c found other (ap without_effects shut))
 
 pub ran_proposed : (port : Port) (c : Connection) (a b r : CoreState) (taken : Bool) (x y : List (Effect Command Output)) →
     open_at port a ≡ Some c → is_proposed c.stage ≡ true → b ≡ changes port closed a →
-    Ran (ProposedBy taken (commands.Lost c.name)) b r x y → Ran (Ends port) a r x y
+    Ran (ProposedBy taken (commands.Lost c.name)) b r x y → Ran (EndsConnection port) a r x y
 ran_proposed port c a b r taken x y found heard shut ran =
-    ran_as (ProposedBy taken (commands.Lost c.name)) (Ends port) a b r x y
+    ran_as (ProposedBy taken (commands.Lost c.name)) (EndsConnection port) a b r x y
     (λ did runs. proposed c found heard (as_proposes taken (commands.Lost c.name) (changes port closed a) did
     (subst (λ (k : CoreState). ProposedBy taken (commands.Lost c.name) k did) shut runs))) ran
 
@@ -54,8 +54,8 @@ ran_tells heard taken name a b x y is ran =
 
 -- whether a proposal was taken or not, it was put to the replica
 pub ran_proposes : (command : Command) (taken : Bool) (a b : CoreState) (x y : List (Effect Command Output)) → Ran (ProposedBy taken command) a b x y →
-    Ran (Proposes command) a b x y
-ran_proposes command taken a b x y ran = ran_as (ProposedBy taken command) (Proposes command) a a b x y (as_proposes taken command a) ran
+    Ran (ProposesCommand command) a b x y
+ran_proposes command taken a b x y ran = ran_as (ProposedBy taken command) (ProposesCommand command) a a b x y (as_proposes taken command a) ran
 
 pub ran_tells_not : (heard : Bool) (name : ConnectionName) (a : CoreState) (x : List (Effect Command Output)) → heard ≡ false →
     Ran (ReportsLost heard name) a a x x
@@ -63,21 +63,21 @@ ran_tells_not heard name a x is =
     subst (λ (t : Bool). Ran (ReportsLost t name) a a x x) (sym is) (ran_without_effects (ReportsLost false name) a a x refl)
 
 pub ran_lost : (port : Port) (c : Connection) (a b r : CoreState) (x y : List (Effect Command Output)) → open_at port a ≡ Some c →
-    b ≡ changes port closed a → Ran (ReportsLost (is_proposed c.stage) c.name) b r x y → Ran (Ends port) a r x y
+    b ≡ changes port closed a → Ran (ReportsLost (is_proposed c.stage) c.name) b r x y → Ran (EndsConnection port) a r x y
 ran_lost port c a b r x y found shut ran = by (is_proposed c.stage) refl ran
   where
-    by : (p : Bool) → is_proposed c.stage ≡ p → Ran (ReportsLost p c.name) b r x y → Ran (Ends port) a r x y
+    by : (p : Bool) → is_proposed c.stage ≡ p → Ran (ReportsLost p c.name) b r x y → Ran (EndsConnection port) a r x y
     by true e tells =
-        ran_as (ReportsLost true c.name) (Ends port) a b r x y
+        ran_as (ReportsLost true c.name) (EndsConnection port) a b r x y
         (λ did runs. proposed c found e (subst (λ (k : CoreState). ReportsLost true c.name k did) shut runs)) tells
     by false e tells =
-        ran_as (ReportsLost false c.name) (Ends port) a b r x y (λ did runs. unproposed c found e (runs ∙ ap without_effects shut)) tells
+        ran_as (ReportsLost false c.name) (EndsConnection port) a b r x y (λ did runs. unproposed c found e (runs ∙ ap without_effects shut)) tells
 
 -- ---- silent and failed ones
 
 pub ran_silent : (now : ℕ) (port : Port) (a b : CoreState) (x y : List (Effect Command Output)) →
-    lowest_silent now a.connections ≡ Some port → Ran (Ends port) a b x y → Ran (EndsSilent now) a b x y
-ran_silent now port a b x y found ran = ran_as (Ends port) (EndsSilent now) a a b x y (λ did runs. ends_one port found runs) ran
+    lowest_silent now a.connections ≡ Some port → Ran (EndsConnection port) a b x y → Ran (EndsSilent now) a b x y
+ran_silent now port a b x y found ran = ran_as (EndsConnection port) (EndsSilent now) a a b x y (λ did runs. ends_one port found runs) ran
 
 pub ran_none_failed : (core : CoreState) (x : List (Effect Command Output)) → find has_failed core.connections ≡ None →
     Ran LosesFailed core core x x
@@ -121,10 +121,10 @@ shuts_by port a b (inr e) = inr (ap without_effects e)
 -- ---- bytes that came
 
 pub ran_held : (port : Port) (piece : List ℕ) (a b : CoreState) (x : List (Effect Command Output)) → b ≡ changes port (holding piece) a →
-    Ran (Holds port piece) a b x x
-ran_held port piece a b x e = ran_without_effects (Holds port piece) a b x (inl (ap without_effects e))
+    Ran (HoldsBytes port piece) a b x x
+ran_held port piece a b x e = ran_without_effects (HoldsBytes port piece) a b x (inl (ap without_effects e))
 
 pub ran_not_held : (port : Port) (piece : List ℕ) (a b r : CoreState) (x y : List (Effect Command Output)) → b ≡ a →
-    Ran (Ends port) b r x y → Ran (Holds port piece) a r x y
+    Ran (EndsConnection port) b r x y → Ran (HoldsBytes port piece) a r x y
 ran_not_held port piece a b r x y same ran =
-    ran_as (Ends port) (Holds port piece) a b r x y (λ did runs. inr (subst (λ (k : CoreState). Ends port k did) same runs)) ran
+    ran_as (EndsConnection port) (HoldsBytes port piece) a b r x y (λ did runs. inr (subst (λ (k : CoreState). EndsConnection port k did) same runs)) ran

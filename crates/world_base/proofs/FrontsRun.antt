@@ -21,8 +21,8 @@ use Rattle.node_connections.specs.Fronts.{FrontNeedsMemory, HasNoPacket}
 use Rattle.node_connections.specs.Inside.{TakesFront}
 use Rattle.world_base.specs.Inside.{TakesPacket, Ran, ReportsLost}
 use Rattle.world_base.specs.Lossy.{without_effects}
-use Rattle.world_base.specs.LossyReading.{TakesFirstPacket, Connects, Ends, MayEnd, ReadsNext, ProposesPacket}
-use Rattle.world_base.specs.LossyReading.Ends.{none_open}
+use Rattle.world_base.specs.LossyReading.{TakesFirstPacket, ProposesConnect, EndsConnection, MayEnd, ReadsNext, ProposesPacket}
+use Rattle.world_base.specs.LossyReading.EndsConnection.{none_open}
 use Rattle.world_base.specs.LossyReading.ReadsNext.{waits, first, later, refuses, ends}
 use Rattle.world_base.specs.Reading.{changes, open_at, refused}
 use Rattle.world_base.proofs.Accounts.{ran_as, ran_without_effects}
@@ -30,9 +30,9 @@ use Rattle.world_base.proofs.EndsRun.{ran_lost, ran_none_open}
 use Rattle.world_base.proofs.Fronts.{becomes_itself, becomes_same}
 
 -- a connection ends
-ends_there : (now : ℕ) (port : Port) (a r : CoreState) (x y : List (Effect Command Output)) → MayEnd (open_at port a) → Ran (Ends port) a r x y →
+ends_there : (now : ℕ) (port : Port) (a r : CoreState) (x y : List (Effect Command Output)) → MayEnd (open_at port a) → Ran (EndsConnection port) a r x y →
     Ran (ReadsNext now port) a r x y
-ends_there now port a r x y may ran = ran_as (Ends port) (ReadsNext now port) a a r x y (λ did runs. ends may runs) ran
+ends_there now port a r x y may ran = ran_as (EndsConnection port) (ReadsNext now port) a a r x y (λ did runs. ends may runs) ran
 
 none_ends : (port : Port) (core : CoreState) → open_at port core ≡ None → MayEnd (open_at port core)
 none_ends port core none = subst (λ (o : Option Connection). MayEnd o) (sym none) tt
@@ -74,13 +74,13 @@ ran_later awaits port name packet a b x y is ran =
 
 pub ran_connects : (awaits : Bool) (port : Port) (name : ConnectionName) (connect : Connect) (packet : Packet) (a b r : CoreState)
     (x y : List (Effect Command Output)) → awaits ≡ true → packet ≡ packets.Connect connect →
-    b ≡ changes port (noted_proposed connect.keep_alive) a → Ran (Connects port name connect) b r x y →
+    b ≡ changes port (noted_proposed connect.keep_alive) a → Ran (ProposesConnect port name connect) b r x y →
     Ran (TakesPacket awaits port name packet) a r x y
 ran_connects awaits port name connect packet a b r x y is connects left ran =
     subst (λ (f : Bool). Ran (TakesPacket f port name packet) a r x y) (sym is)
     (subst (λ (p : Packet). Ran (TakesPacket true port name p) a r x y) (sym connects)
-    (ran_as (Connects port name connect) (TakesPacket true port name (packets.Connect connect)) a b r x y
-    (λ did runs. subst (λ (k : CoreState). Connects port name connect k did) left runs) ran))
+    (ran_as (ProposesConnect port name connect) (TakesPacket true port name (packets.Connect connect)) a b r x y
+    (λ did runs. subst (λ (k : CoreState). ProposesConnect port name connect k did) left runs) ran))
 
 other_begins : (port : Port) (name : ConnectionName) (packet : Packet) (a b : CoreState) →
     ((connect : Connect) → packet ≡ packets.Connect connect → ⊥) → b ≡ changes port closed a → TakesFirstPacket port name packet a (without_effects b)
@@ -140,7 +140,7 @@ ran_out_of_memory now port c new a b r x y found did is ran =
 pub idle_open : (now : ℕ) (port : Port) (core : CoreState) → open_at port core ≡ None → ReadsNext now port core (without_effects core)
 idle_open now port core e = ends (none_ends port core e) (ends_none e)
   where
-    ends_none : open_at port core ≡ None → Ends port core (without_effects core)
+    ends_none : open_at port core ≡ None → EndsConnection port core (without_effects core)
     ends_none none = none_open none refl
 
 pub idle_waits : (now : ℕ) (port : Port) (c new : Connection) (a b : CoreState) → open_at port a ≡ Some c →

@@ -20,14 +20,14 @@ use Rattle.node_connections.specs.declared.connection.Connection.{Connection}
 use Rattle.node_connections.specs.Connections.{noted_proposed, closed, failing, fresh, has_failed, holding, is_at, is_open_at, is_over, left_with}
 use Rattle.world_base.specs.Core.{CoreState, serves}
 use Rattle.world_base.specs.Failing.{closes_failed}
-use Rattle.world_base.specs.Going.{AGapIsClosed, AreNamedApart, EachGoesOn, GoOn, GoesOn, IsNew}
-use Rattle.world_base.specs.Lossy.{Account, Drives, ReplicaSteps, Repeated, Takes, Then, without_effects}
-use Rattle.world_base.specs.LossyProposals.{Declines, Proposes}
+use Rattle.world_base.specs.Going.{AGapIsClosed, AreNamedApart, EachGoesOn, GoOn, ConnectionGoesOn, OpensAtMostOne}
+use Rattle.world_base.specs.Lossy.{Account, Drives, ReplicaSteps, Repeated, TakesCommand, Then, without_effects}
+use Rattle.world_base.specs.LossyProposals.{Declines, ProposesCommand}
 use Rattle.world_base.specs.LossyProposals.Declines.{no_room, forgets, stops}
-use Rattle.world_base.specs.LossyStep.{ActsOn, Cuts, Holds, Opens, DoesItem}
-use Rattle.world_base.specs.LossyReading.{TakesOr, TakesFirstPacket, Closes, Ends, EndsSilent, LosesFailed, ReadsNext, Shuts}
+use Rattle.world_base.specs.LossyStep.{ActsOn, Cuts, HoldsBytes, AcceptsConnection, DoesItem}
+use Rattle.world_base.specs.LossyReading.{TakesOr, TakesFirstPacket, ClosesConnection, EndsConnection, EndsSilent, LosesFailed, ReadsNext, Shuts}
 use Rattle.world_base.specs.LossyStep.Cuts.{nothing_to_cut, cuts_log, forgets_cut}
-use Rattle.world_base.specs.LossyReading.Ends.{none_open, unproposed, proposed}
+use Rattle.world_base.specs.LossyReading.EndsConnection.{none_open, unproposed, proposed}
 use Rattle.world_base.specs.LossyReading.EndsSilent.{none_silent, ends_one}
 use Rattle.world_base.specs.LossyReading.LosesFailed.{none_failed, tells_one}
 use Rattle.world_base.specs.LossyReading.ReadsNext.{waits, first, later, refuses, ends}
@@ -68,7 +68,7 @@ was_open : (over at : Bool) → (not over && at) ≡ true → over ≡ false
 was_open true at e = absurd cc
 was_open false at e = refl
 
-changes_on : (port : Port) (f : Connection → Connection) (core : CoreState) → ((c : Connection) → is_over c.stage ≡ false → GoesOn [] c (f c)) →
+changes_on : (port : Port) (f : Connection → Connection) (core : CoreState) → ((c : Connection) → is_over c.stage ≡ false → ConnectionGoesOn [] c (f c)) →
     EachGoesOn [] core.connections (changes port f core).connections
 unfolding changes
 changes_on port f core on =
@@ -77,7 +77,7 @@ changes_on port f core on =
 closes_on : (port : Port) (core : CoreState) → EachGoesOn [] core.connections (changes port closed core).connections
 closes_on port core = changes_on port closed core (λ c stays. goes_closed [] c)
 
-asked_on : (keep_alive : ℕ) (c : Connection) → is_over c.stage ≡ false → GoesOn [] c (noted_proposed keep_alive c)
+asked_on : (keep_alive : ℕ) (c : Connection) → is_over c.stage ≡ false → ConnectionGoesOn [] c (noted_proposed keep_alive c)
 asked_on keep_alive c stays = goes_still c (noted_proposed keep_alive c) refl refl refl (λ over. absurd (both over))
   where
     both : is_over c.stage ≡ true → ⊥
@@ -88,7 +88,7 @@ asked_on keep_alive c stays = goes_still c (noted_proposed keep_alive c) refl re
 moves_on : (outcome : Outcome State Command Output) (core : CoreState) (did : Account) → ReplicaSteps outcome core did → Goes core did
 moves_on outcome core did m apart = delivers_on did.given (record core { replica = m.replica }) did.core did.messages m.handles apart
 
-takes_on : (command : Command) (core : CoreState) (did : Account) → Takes command core did → Goes core did
+takes_on : (command : Command) (core : CoreState) (did : Account) → TakesCommand command core did → Goes core did
 takes_on command core did t apart = delivers_on did.given (record core { replica = t.replica }) did.core did.messages t.handles apart
 
 declines_on : (core : CoreState) (did : Account) → Declines core did → Goes core did
@@ -96,7 +96,7 @@ declines_on core did (no_room full is) = without_effects_on core _ did is (each_
 declines_on core did (forgets room is) = without_effects_on core _ did is (each_itself core.connections)
 declines_on core did (stops room is) = without_effects_on core _ did is (each_itself core.connections)
 
-proposes_on : (command : Command) (core : CoreState) (did : Account) → Proposes command core did → Goes core did
+proposes_on : (command : Command) (core : CoreState) (did : Account) → ProposesCommand command core did → Goes core did
 proposes_on command core did (inl takes) = takes_on command core did takes
 proposes_on command core did (inr declines) = declines_on core did declines
 
@@ -107,7 +107,7 @@ asks_on command Otherwise on core did (inr other) = then_on Declines Otherwise d
 
 -- ---- ends
 
-ends_on : (port : Port) (core : CoreState) (did : Account) → Ends port core did → Goes core did
+ends_on : (port : Port) (core : CoreState) (did : Account) → EndsConnection port core did → Goes core did
 ends_on port core did (none_open none is) = without_effects_on core core did is (each_itself core.connections)
 ends_on port core did (unproposed c found other is) = without_effects_on core (changes port closed core) did is (closes_on port core)
 ends_on port core did (proposed c found heard proposes) =
@@ -126,7 +126,7 @@ failed_on core did (tells_one c found proposes) =
 
 -- ---- reads
 
-shut_on : (port : Port) (core : CoreState) (did : Account) → Closes port core did → Goes core did
+shut_on : (port : Port) (core : CoreState) (did : Account) → ClosesConnection port core did → Goes core did
 shut_on port core did is = without_effects_on core (changes port closed core) did is (closes_on port core)
 
 shuts_on : (port : Port) (core : CoreState) (did : Account) → Shuts port core did → Goes core did
@@ -139,7 +139,7 @@ begins_on : (port : Port) (name : ConnectionName) (packet : Packet) (core : Core
 begins_on port name (packets.Connect connect) core did runs =
     after_on core (changes port (noted_proposed connect.keep_alive) core) did
     (changes_on port (noted_proposed connect.keep_alive) core (asked_on connect.keep_alive))
-    (asks_on (commands.Connect name connect.client connect.clean) (Closes port) (shut_on port)
+    (asks_on (commands.Connect name connect.client connect.clean) (ClosesConnection port) (shut_on port)
     (changes port (noted_proposed connect.keep_alive) core) did runs)
 begins_on port name _ core did runs = shut_on port core did runs
 
@@ -162,7 +162,7 @@ reads_on now port core did (ends may runs) = ends_on port core did runs
 
 -- ---- an item
 
-holds_on : (port : Port) (piece : List ℕ) (core : CoreState) (did : Account) → Holds port piece core did → Goes core did
+holds_on : (port : Port) (piece : List ℕ) (core : CoreState) (did : Account) → HoldsBytes port piece core did → Goes core did
 holds_on port piece core did (inl is) =
     without_effects_on core (changes port (holding piece) core) did is
     (changes_on port (holding piece) core (λ c stays. goes_still c (holding piece c) refl refl refl (λ e. e)))
@@ -187,7 +187,7 @@ cut_on core did (cuts_log can reads is) = without_effects_on core _ did is (each
 cut_on core did (forgets_cut can is) = without_effects_on core _ did is (each_itself core.connections)
 
 -- if no connection is opened
-with_none_new : (item : Item) (core : CoreState) (did : Account) → IsNew item core [] → Goes core did → GoOn item core did
+with_none_new : (item : Item) (core : CoreState) (did : Account) → OpensAtMostOne item core [] → Goes core did → GoOn item core did
 with_none_new item core did is on =
     record {
       new = [];
@@ -237,14 +237,14 @@ opened_on port now core did acts = by acts.first (opens_one port core)
               (subst (λ (l : List Connection). AreNamedApart l) (sym more) apart));
         }
 
-    by : Opens port core acts.one → (opens port core ≡ core)
+    by : AcceptsConnection port core acts.one → (opens port core ≡ core)
         ⊎ ((opens port core).connections ≡ core.connections ++ fresh port (next_name core) ∷ []) → GoOn (Opened port now) core did
     by (inl is) (inl same) = none (is ∙ ap without_effects same)
     by (inl is) (inr more) = one is more
     by (inr is) any = none is
 
 -- after each item the failed ones are reported to the broker
-acts_by : (item : Item) (core : CoreState) (did : Account) → IsNew item core [] →
+acts_by : (item : Item) (core : CoreState) (did : Account) → OpensAtMostOne item core [] →
     ((k : CoreState) (d : Account) → DoesItem item k d → Goes k d) → ActsOn item core did → GoOn item core did
 acts_by item core did is on acts =
     with_none_new item core did is
@@ -260,7 +260,7 @@ a_gap_is_closed (Tick now) core did acts =
 a_gap_is_closed (Opened port now) core did acts = opened_on port now core did acts
 a_gap_is_closed (Bytes port piece now) core did acts =
     acts_by (Bytes port piece now) core did refl
-    (λ k d t. then_on (Holds port piece) (λ j e. Repeated (unread_of (open_at port j)) (ReadsNext now port) j e) (holds_on port piece)
+    (λ k d t. then_on (HoldsBytes port piece) (λ j e. Repeated (unread_of (open_at port j)) (ReadsNext now port) j e) (holds_on port piece)
     (all_read_on now port) k d
     (record { one = t.one; two = t.two; first = t.first; next = t.next; is = t.is })) acts
 a_gap_is_closed (Ended port) core did acts = acts_by (Ended port) core did refl (ends_on port) acts

@@ -19,15 +19,15 @@ use Rattle.world_base.specs.Core.{CoreState, Turn}
 use Rattle.world_base.specs.Failing.{loses_all_failed}
 use Rattle.world_base.specs.Inside.{Ran, Running, DoesTurn, WithoutFailure}
 use Rattle.world_base.specs.KeepAlive.{ends_all_silent, ends_silent}
-use Rattle.world_base.specs.Losses.{DoesNothing, IsHeardQuietly, IsIgnored, ReadsNone, TakesNoMemory, was_proposed}
+use Rattle.world_base.specs.Losses.{DoesNothing, IsHeardQuietly, IsIgnored, ReadsNone, ItemTakesNoMemory, was_proposed}
 use Rattle.world_base.specs.Lossy.{Account, Drives, Repeated, without_effects}
 use Rattle.world_base.specs.Lossy.HandlesAll.{nothing}
-use Rattle.world_base.specs.LossyStep.{ActsOn, LosesAllFailed, ReadsAll, DoesItem}
+use Rattle.world_base.specs.LossyStep.{ActsOn, LosesAllFailed, ReadsPackets, DoesItem}
 use Rattle.world_base.specs.LossyReading.{EndsSilent, ReadsNext}
 use Rattle.ballot.specs.Cutting.{can_cut}
 use Rattle.world_base.specs.LossyProposals.Declines.{no_room}
 use Rattle.world_base.specs.LossyStep.Cuts.{nothing_to_cut}
-use Rattle.world_base.specs.LossyReading.Ends.{none_open}
+use Rattle.world_base.specs.LossyReading.EndsConnection.{none_open}
 use Rattle.world_base.specs.LossyReading.EndsSilent.{none_silent}
 use Rattle.world_base.specs.Reading.{changes, ends, open_at, reads_all, reads_next, unread_of}
 use Rattle.world_base.specs.Step.{accepts, acts_on, cuts, opens, does_item}
@@ -98,7 +98,7 @@ unfolding repeated
 nothing_is_read now port core none =
     ap (λ (o : Option Connection). repeated (unread_of o) (reads_next now port) core) none
 
-reads_nothing : (now : ℕ) (port : Port) (core : CoreState) → open_at port core ≡ None → ReadsAll now port core (without_effects core)
+reads_nothing : (now : ℕ) (port : Port) (core : CoreState) → open_at port core ≡ None → ReadsPackets now port core (without_effects core)
 reads_nothing now port core none =
     subst (λ (o : Option Connection). Repeated (unread_of o) (ReadsNext now port) core (without_effects core)) (sym none) refl
 
@@ -200,7 +200,7 @@ heard_then message a b c ignored is decides heard none (inr quiet) reads failed 
 pub quiet_otherwise : (item : Item) (a b c : Running) (ignored : Bool) → ignored ≡ false → (ignored ≡ true) ↔ DoesNothing item a.core →
     ((message : Message Command) → item ≡ Peer message → IsHeardQuietly message a.core → ReadsNone message a.core → WithoutFailure a b) →
     (item ≡ Crash → WithoutFailure a b) → ((port : Port) → item ≡ Ended port → was_proposed (open_at port a.core) ≡ false → WithoutFailure a b) →
-    (find has_failed b.core.connections ≡ None → c ≡ b) → TakesNoMemory item a.core → find has_failed a.core.connections ≡ None → c.out_of_memory ≡ a.out_of_memory
+    (find has_failed b.core.connections ≡ None → c ≡ b) → ItemTakesNoMemory item a.core → find has_failed a.core.connections ≡ None → c.out_of_memory ≡ a.out_of_memory
 quiet_otherwise (Peer message) a b c ignored is decides heard crash ended none takes failed =
     heard_then message a b c ignored is decides (heard message refl) none takes.0 takes.1 failed
 quiet_otherwise (Tick now) a b c ignored is decides heard crash ended none takes failed = heeded (Tick now) a c ignored is decides takes

@@ -14,9 +14,9 @@ use Rattle.world_base.specs.declared.item.Item.TheVariants.{Opened, Cut, Crash}
 use Rattle.node_connections.specs.Connections.{has_failed}
 use Rattle.world_base.specs.Core.{CoreState, CountedCore, Turn, rules}
 use Rattle.world_base.specs.Inside.{Ran, Running, DoesTurn}
-use Rattle.world_base.specs.Losses.{IsExactly, Stepped, Steps, TakesNoMemory}
+use Rattle.world_base.specs.Losses.{IsExactly, NodeStepped, NodeSteps, ItemTakesNoMemory}
 use Rattle.world_base.specs.Lossy.{without_effects}
-use Rattle.world_base.specs.LossyStep.{ActsOn, Cuts, Opens, RunsOn, DoesItem}
+use Rattle.world_base.specs.LossyStep.{ActsOn, Cuts, AcceptsConnection, RunsOn, DoesItem}
 use Rattle.world_base.specs.Step.{acts_on, node_step, opens, settled}
 use Rattle.world_base.proofs.Accounts.{ran_without_effects}
 
@@ -24,7 +24,7 @@ pub ran_item : (item same : Item) (a b : CoreState) (x y : List (Effect Command 
     Ran (DoesItem item) a b x y
 ran_item item same a b x y is ran = subst (λ (i : Item). Ran (DoesItem i) a b x y) (sym is) ran
 
-opens_by : (port : Port) (a b : CoreState) → (b ≡ opens port a) ⊎ (b ≡ a) → Opens port a (without_effects b)
+opens_by : (port : Port) (a b : CoreState) → (b ≡ opens port a) ⊎ (b ≡ a) → AcceptsConnection port a (without_effects b)
 opens_by port a b (inl e) = inl (ap without_effects e)
 opens_by port a b (inr e) = inr (ap without_effects e)
 
@@ -53,22 +53,22 @@ exactly_by old a b turn new losses x y turns settles e counted =
 steps_by : (old : CountedCore) (a b : Running) (turn : Turn) (new : CoreState) (losses : ℕ) (x y : List (Effect Command Output))
     (turns : DoesTurn a b x y turn) → new ≡ settled b.core → (out_of_memory : Bool) → b.out_of_memory ≡ out_of_memory →
     losses ≡ (if out_of_memory then one_more old.losses else old.losses) →
-    Steps old (record { core = settled turn.core; messages = turn.messages }) (record { core = new; losses = losses }) turns.given
+    NodeSteps old (record { core = settled turn.core; messages = turn.messages }) (record { core = new; losses = losses }) turns.given
 steps_by old a b turn new losses x y turns settles true e counted = inr counted
 steps_by old a b turn new losses x y turns settles false e counted = inl (exactly_by old a b turn new losses x y turns settles e counted)
 
 pub stepped_by : (old : CountedCore) (item : Item) (a b : Running) (new : CoreState) (losses : ℕ) (x y : List (Effect Command Output)) →
     a.core ≡ old.core → DoesTurn a b x y (acts_on item a.core) → Ran (ActsOn item) a.core b.core x y → new ≡ settled b.core →
     losses ≡ (if b.out_of_memory then one_more old.losses else old.losses) → a.out_of_memory ≡ false →
-    (TakesNoMemory item a.core → find has_failed a.core.connections ≡ None → b.out_of_memory ≡ a.out_of_memory) →
-    Stepped old item (record { core = new; losses = losses }) x y
+    (ItemTakesNoMemory item a.core → find has_failed a.core.connections ≡ None → b.out_of_memory ≡ a.out_of_memory) →
+    NodeStepped old item (record { core = new; losses = losses }) x y
 stepped_by old item a b new losses x y same turns ran settles counted calm quiet =
     record {
       given = turns.given;
       appended = turns.appended;
-      steps = subst (λ (k : CoreState). Steps old (node_step item k) (record { core = new; losses = losses }) turns.given) same
+      steps = subst (λ (k : CoreState). NodeSteps old (node_step item k) (record { core = new; losses = losses }) turns.given) same
           (steps_by old a b (acts_on item a.core) new losses x y turns settles b.out_of_memory refl counted);
-      uncounted = subst (λ (k : CoreState). TakesNoMemory item k → find has_failed k.connections ≡ None →
+      uncounted = subst (λ (k : CoreState). ItemTakesNoMemory item k → find has_failed k.connections ≡ None →
           IsExactly old (node_step item k) (record { core = new; losses = losses }) turns.given) same
           (λ idle failed. let whole = quiet idle failed ∙ calm in
           exactly_by old a b (acts_on item a.core) new losses x y turns settles whole

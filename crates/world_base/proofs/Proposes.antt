@@ -9,13 +9,13 @@ use Rattle.ballot.specs.Protocol.{Input}
 use Rattle.ballot.specs.Sending.{Outcome}
 use Rattle.ballot.specs.Serving.{proposed}
 use Rattle.world_base.specs.Core.{Turn, rules, serves}
-use Rattle.world_base.specs.Inside.{Running, Hears, DoesTurn}
+use Rattle.world_base.specs.Inside.{Running, StepsReplica, DoesTurn}
 use Rattle.world_base.specs.Turns.{handled_all, drives, heard, moved, proposes}
 use Rattle.world_base.proofs.TurnsJoin.{turns_idle, out_of_memory_kept}
 
 -- a step of the replica, and what it gave
 turns_moved : (a b c : Running) (outcome : Outcome State Command Output) (given before after : List (Effect Command Output)) →
-    Hears a b outcome given → DoesTurn b c before after (handled_all given b.core) →
+    StepsReplica a b outcome given → DoesTurn b c before after (handled_all given b.core) →
     DoesTurn a c before after (moved outcome a.core)
 turns_moved a b c outcome given before after hears turns =
     record {
@@ -46,7 +46,7 @@ turns_refused r command out idle =
     subst (λ (t : Turn). DoesTurn r r out out t) (rw idle refl) (turns_idle r out)
 
 pub turns_proposed : (a b c : Running) (command : Command) (given before after : List (Effect Command Output)) →
-    serves a.core ≡ true → Hears a b (proposed rules a.core.replica.state command) given →
+    serves a.core ≡ true → StepsReplica a b (proposed rules a.core.replica.state command) given →
     DoesTurn b c before after (handled_all given b.core) → DoesTurn a c before after (proposes command a.core)
 unfolding proposes
 turns_proposed a b c command given before after serving hears turns =
@@ -55,7 +55,7 @@ turns_proposed a b c command given before after serving hears turns =
 
 -- a message or a tick
 pub turns_driven : (a b c : Running) (input : Input Command) (given before after : List (Effect Command Output)) →
-    Hears a b (heard input a.core.replica.state) given → DoesTurn b c before after (handled_all given b.core) →
+    StepsReplica a b (heard input a.core.replica.state) given → DoesTurn b c before after (handled_all given b.core) →
     DoesTurn a c before after (drives input a.core)
 unfolding drives
 turns_driven a b c input = turns_moved a b c (heard input a.core.replica.state)

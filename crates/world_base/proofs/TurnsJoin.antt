@@ -8,7 +8,7 @@ use Rattle.node_connections.specs.broker_spec.declared.command.Command.{Command}
 use Rattle.node_connections.specs.broker_spec.declared.command.Output.{Output}
 use Rattle.ballot.specs.Effect.{Effect}
 use Rattle.world_base.specs.Core.{CoreState, Turn}
-use Rattle.world_base.specs.Inside.{Running, Does, DoesTurn}
+use Rattle.world_base.specs.Inside.{Running, DoesExactly, DoesTurn}
 use Rattle.world_base.specs.Turns.{without_messages, then_also, handled_all, handled, is_message}
 
 -- nothing was done
@@ -17,7 +17,7 @@ turns_idle r out = record { given = []; appended = sym (append-nil out); exact =
 
 -- something without messages
 pub turns_without_messages : (old new : Running) (out : List (Effect Command Output)) (core : CoreState) →
-    Does old new core → DoesTurn old new out out (without_messages core)
+    DoesExactly old new core → DoesTurn old new out out (without_messages core)
 turns_without_messages old new out core does =
     record { given = []; appended = sym (append-nil out); exact = λ whole. (does whole, refl) }
 

@@ -33,15 +33,15 @@ bytes_for (Out place output ∷ given) name = bytes_by output name ++ bytes_for 
 bytes_for (To receiver message ∷ given) name = bytes_for given name
 
 -- the answer of the node itself to a CONNECT that is refused with a code (MQTT 3.2.2.3)
-abbrev pub IsRefusal : List ℕ → Type 0
-IsRefusal bytes =
+abbrev pub IsRefusalOfConnect : List ℕ → Type 0
+IsRefusalOfConnect bytes =
     (code : RefusalCode) × (bytes ≡ spelling (packets.Connack (connacks.Refused code)))
 
 -- A connection after a step has the port and the name from before. If it was closed, it still is,
 -- with the same bytes to hand over. If it is open, it was open, and all these bytes were appended
 -- to what was to be handed over. If it was closed meanwhile, a prefix of these bytes was, and
 -- perhaps the node's refusal.
-pub record GoesOn (bytes : List ℕ) (c d : Connection) : Type 0 where
+pub record ConnectionGoesOn (bytes : List ℕ) (c d : Connection) : Type 0 where
   pub port : d.port ≡ c.port
   pub name : d.name ≡ c.name
   pub closed : is_over c.stage ≡ true → (is_over d.stage ≡ true) × (d.pending ≡ c.pending)
@@ -49,15 +49,15 @@ pub record GoesOn (bytes : List ℕ) (c d : Connection) : Type 0 where
   pub prefix : List ℕ
   pub answer : List ℕ
   pub begins : IsPrefixOf prefix bytes
-  pub refusal : (answer ≡ []) ⊎ IsRefusal answer
+  pub refusal : (answer ≡ []) ⊎ IsRefusalOfConnect answer
   pub put : d.pending ≡ c.pending ++ (prefix ++ answer)
 
--- each connection of a list goes on (`GoesOn`), in order, and none is added or removed
+-- each connection of a list goes on (`ConnectionGoesOn`), in order, and none is added or removed
 abbrev pub EachGoesOn : List (Effect Command Output) → List Connection → List Connection → Type 0
 EachGoesOn given [] [] = Unit {0}
 EachGoesOn given [] (d ∷ ds) = ⊥
 EachGoesOn given (c ∷ cs) [] = ⊥
-EachGoesOn given (c ∷ cs) (d ∷ ds) = GoesOn (bytes_for given c.name) c d × EachGoesOn given cs ds
+EachGoesOn given (c ∷ cs) (d ∷ ds) = ConnectionGoesOn (bytes_for given c.name) c d × EachGoesOn given cs ds
 
 -- no two have the same name
 abbrev pub AreNamedApart : List Connection → Type 0
@@ -66,14 +66,14 @@ AreNamedApart (c ∷ cs) =
     Each (λ (d : Connection). same_connection d.name c.name ≡ false) cs × AreNamedApart cs
 
 -- an item opens at most one connection, at its port, with the next name
-abbrev pub IsNew : Item → CoreState → List Connection → Type 0
-IsNew (Opened port now) core new = (new ≡ []) ⊎ (new ≡ fresh port (next_name core) ∷ [])
-IsNew _ core new = new ≡ []
+abbrev pub OpensAtMostOne : Item → CoreState → List Connection → Type 0
+OpensAtMostOne (Opened port now) core new = (new ≡ []) ⊎ (new ≡ fresh port (next_name core) ∷ [])
+OpensAtMostOne _ core new = new ≡ []
 
 -- what a step does before connections are settled, if no two have the same name, or will get one
 pub record GoOn (item : Item) (core : CoreState) (did : Account) : Type 0 where
   pub new : List Connection
-  pub is_new : IsNew item core new
+  pub is_new : OpensAtMostOne item core new
   pub each : AreNamedApart (core.connections ++ new) →
       EachGoesOn did.given (core.connections ++ new) did.core.connections
 

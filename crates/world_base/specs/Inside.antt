@@ -16,8 +16,8 @@ use Rattle.world_base.specs.Core.{CoreState, Turn, rules}
 use Rattle.node_connections.specs.declared.port.Port.{Port}
 use Rattle.node_connections.specs.Connections.{has_failed}
 use Rattle.world_base.specs.LossyReading.{TakesFirstPacket, ProposesPacket}
-use Rattle.world_base.specs.Lossy.{Account, HandlesAll, Takes, without_effects}
-use Rattle.world_base.specs.LossyProposals.{Declines, Proposes}
+use Rattle.world_base.specs.Lossy.{Account, HandlesAll, TakesCommand, without_effects}
+use Rattle.world_base.specs.LossyProposals.{Declines, ProposesCommand}
 use Rattle.world_base.specs.Turns.{has_room}
 
 -- a node during a step, and whether memory ran out in it
@@ -32,8 +32,8 @@ pub record WithoutFailure (old new : Running) : Type 0 where
       find has_failed new.core.connections ≡ None
 
 -- this is what was done, unless memory ran out
-abbrev pub Does : Running → Running → CoreState → Type 0
-Does old new core = new.out_of_memory ≡ false → new ≡ record old { core = core }
+abbrev pub DoesExactly : Running → Running → CoreState → Type 0
+DoesExactly old new core = new.out_of_memory ≡ false → new ≡ record old { core = core }
 
 -- this is what was done, unless memory ran out; its messages were appended to what was there
 pub record DoesTurn (old new : Running) (before after : List (Effect Command Output)) (turn : Turn)
@@ -44,9 +44,9 @@ pub record DoesTurn (old new : Running) (before after : List (Effect Command Out
       (new ≡ record old { core = turn.core }) × (given ≡ turn.messages)
 
 -- a step of the replica only
-abbrev pub Hears : Running → Running →
+abbrev pub StepsReplica : Running → Running →
     Outcome State Command Output → List (Effect Command Output) → Type 0
-Hears old new outcome given = new.out_of_memory ≡ false →
+StepsReplica old new outcome given = new.out_of_memory ≡ false →
     (new ≡ record old {
       core = record old.core {
         replica = record old.core.replica { state = outcome.state };
@@ -71,7 +71,7 @@ pub record HandledAll (given : List (Effect Command Output)) (old new : CoreStat
   pub appended : after ≡ before ++ messages
 
 -- a step of the replica only, or one with losses
-pub record Acts (outcome : Outcome State Command Output) (old new : CoreState)
+pub record StepsReplicaOrLoses (outcome : Outcome State Command Output) (old new : CoreState)
     (given : List (Effect Command Output)) : Type 0 where
   pub replica : CountedReplica State Command
   pub core : new ≡ record old { replica = replica }
@@ -92,7 +92,7 @@ Answered false command old new given = Declines old (without_effects new) × (gi
 
 -- a command was taken with its effects, or declined
 abbrev pub ProposedBy : Bool → Command → CoreState → Account → Type 0
-ProposedBy true command core did = Takes command core did
+ProposedBy true command core did = TakesCommand command core did
 ProposedBy false command core did = Declines core did
 
 -- a packet that was read is the first of its connection, or a later one
@@ -102,5 +102,5 @@ TakesPacket false port name packet core did = ProposesPacket port name packet co
 
 -- a connection that was closed; it is reported to the broker if its CONNECT was proposed
 abbrev pub ReportsLost : Bool → ConnectionName → CoreState → Account → Type 0
-ReportsLost true name core did = Proposes (commands.Lost name) core did
+ReportsLost true name core did = ProposesCommand (commands.Lost name) core did
 ReportsLost false name core did = did ≡ without_effects core

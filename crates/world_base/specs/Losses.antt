@@ -63,12 +63,12 @@ IsHeardQuietly message core =
 -- An item takes no memory if it does nothing. The same holds for a message that is heard quietly
 -- (`IsHeardQuietly`), a crash, and the end of a connection whose CONNECT was not proposed: that
 -- connection is only closed.
-abbrev pub TakesNoMemory : Item → CoreState → Type 0
-TakesNoMemory (Peer message) core =
+abbrev pub ItemTakesNoMemory : Item → CoreState → Type 0
+ItemTakesNoMemory (Peer message) core =
     (IsIgnored (Receives message) core ⊎ IsHeardQuietly message core) × ReadsNone message core
-TakesNoMemory (Ended port) core = was_proposed (open_at port core) ≡ false
-TakesNoMemory Crash core = Unit {0}
-TakesNoMemory item core = DoesNothing item core
+ItemTakesNoMemory (Ended port) core = was_proposed (open_at port core) ≡ false
+ItemTakesNoMemory Crash core = Unit {0}
+ItemTakesNoMemory item core = DoesNothing item core
 
 -- nothing that was queued for a connection waits to be handed over
 abbrev pub WaitsNothing : CoreState → Type 0
@@ -82,18 +82,18 @@ IsExactly old turn new given =
     (new.core ≡ turn.core) × (given ≡ turn.messages) × (new.losses ≡ old.losses)
 
 -- exactly the step, or one in which memory ran out and which was counted
-abbrev pub Steps : CountedCore → Turn → CountedCore → List (Effect Command Output) → Type 0
-Steps old turn new given = IsExactly old turn new given ⊎ (new.losses ≡ one_more old.losses)
+abbrev pub NodeSteps : CountedCore → Turn → CountedCore → List (Effect Command Output) → Type 0
+NodeSteps old turn new given = IsExactly old turn new given ⊎ (new.losses ≡ one_more old.losses)
 
 -- The messages of a step were appended to what was there. It is exactly the step, or counted. A
 -- step on an item that takes no memory is never counted, as long as there is no failed connection
 -- that is still to be reported to the broker. In any case it did no more than the step may do if
 -- memory runs out.
-pub record Stepped (old : CountedCore) (item : Item) (new : CountedCore)
+pub record NodeStepped (old : CountedCore) (item : Item) (new : CountedCore)
     (before after : List (Effect Command Output)) : Type 0 where
   pub given : List (Effect Command Output)
   pub appended : after ≡ before ++ given
-  pub steps : Steps old (node_step item old.core) new given
-  pub uncounted : TakesNoMemory item old.core → find has_failed old.core.connections ≡ None →
+  pub steps : NodeSteps old (node_step item old.core) new given
+  pub uncounted : ItemTakesNoMemory item old.core → find has_failed old.core.connections ≡ None →
       IsExactly old (node_step item old.core) new given
   pub run : RunsOn item old.core new.core given

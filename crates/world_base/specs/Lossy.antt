@@ -98,7 +98,7 @@ Drives input core did = ReplicaSteps (heard input core.replica.state) core did
 
 -- a command that the replica takes into its log; some of the messages that it then sends may be
 -- missing, which it counts
-pub record Takes (command : Command) (core : CoreState) (did : Account) : Type 0 where
+pub record TakesCommand (command : Command) (core : CoreState) (did : Account) : Type 0 where
   pub room : has_room core ≡ true
   pub replica : CountedReplica State Command
   pub done : Done core.replica (added rules core.replica.state command) replica [] did.given

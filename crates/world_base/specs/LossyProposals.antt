@@ -5,7 +5,7 @@ use Rattle.ballot.specs.Losses.{halted, one_more}
 use Rattle.ballot.specs.Serving.{proposed}
 use Rattle.world_base.specs.Core.{CoreState, rules, serves}
 use Rattle.world_base.specs.Turns.{has_room}
-use Rattle.world_base.specs.Lossy.{Account, without_effects, ReplicaSteps, Takes}
+use Rattle.world_base.specs.Lossy.{Account, without_effects, ReplicaSteps, TakesCommand}
 
 -- a command that it does not take, because it does not serve clients or its log is full, or because
 -- memory ran out: then it counts a loss, and may stop
@@ -28,13 +28,13 @@ pub data Declines (core : CoreState) (did : Account) : Type 0 where
       Declines core did
 
 -- a command is proposed to the replica
-abbrev pub Proposes : Command → CoreState → Account → Type 0
-Proposes command core did = Takes command core did ⊎ Declines core did
+abbrev pub ProposesCommand : Command → CoreState → Account → Type 0
+ProposesCommand command core did = TakesCommand command core did ⊎ Declines core did
 
 -- a proposal is a step of the replica, exact or with losses; if the node does not serve clients, it
 -- is no step
 abbrev pub ProposalsAreSteps : Type 0
 ProposalsAreSteps =
-    (command : Command) (core : CoreState) (did : Account) → Proposes command core did →
+    (command : Command) (core : CoreState) (did : Account) → ProposesCommand command core did →
     (serves core ≡ true → ReplicaSteps (proposed rules core.replica.state command) core did)
     × (serves core ≡ false → did ≡ without_effects core)

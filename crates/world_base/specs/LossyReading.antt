@@ -17,21 +17,21 @@ use Rattle.node_connections.specs.Fronts.{FrontNeedsMemory, HasNoPacket}
 use Rattle.world_base.specs.Core.{CoreState}
 use Rattle.world_base.specs.Failing.{closes_failed}
 use Rattle.world_base.specs.KeepAlive.{lowest_silent}
-use Rattle.world_base.specs.Lossy.{Account, Takes, Then, without_effects}
-use Rattle.world_base.specs.LossyProposals.{Declines, Proposes}
+use Rattle.world_base.specs.Lossy.{Account, TakesCommand, Then, without_effects}
+use Rattle.world_base.specs.LossyProposals.{Declines, ProposesCommand}
 use Rattle.world_base.specs.Reading.{changes, open_at, refused}
 
 -- the connection of a port is closed as lost, and reported to the broker if its Connect was
 -- proposed
-pub data Ends (port : Port) (core : CoreState) (did : Account) : Type 0 where
+pub data EndsConnection (port : Port) (core : CoreState) (did : Account) : Type 0 where
   -- no connection is open at the port
-  none_open : open_at port core ≡ None → did ≡ without_effects core → Ends port core did
+  none_open : open_at port core ≡ None → did ≡ without_effects core → EndsConnection port core did
   -- its Connect was not proposed
   unproposed : (c : Connection) → open_at port core ≡ Some c → is_proposed c.stage ≡ false →
-      did ≡ without_effects (changes port closed core) → Ends port core did
+      did ≡ without_effects (changes port closed core) → EndsConnection port core did
   -- its Connect was proposed, so its loss is proposed too
   proposed : (c : Connection) → open_at port core ≡ Some c → is_proposed c.stage ≡ true →
-      Proposes (commands.Lost c.name) (changes port closed core) did → Ends port core did
+      ProposesCommand (commands.Lost c.name) (changes port closed core) did → EndsConnection port core did
 
 -- the silent connection with the lowest port ends
 pub data EndsSilent (now : ℕ) (core : CoreState) (did : Account) : Type 0 where
@@ -40,7 +40,7 @@ pub data EndsSilent (now : ℕ) (core : CoreState) (did : Account) : Type 0 wher
       EndsSilent now core did
   -- the one at this port ends
   ends_one : (port : Port) → lowest_silent now core.connections ≡ Some port →
-      Ends port core did → EndsSilent now core did
+      EndsConnection port core did → EndsSilent now core did
 
 -- the first connection that failed is reported to the broker
 pub data LosesFailed (core : CoreState) (did : Account) : Type 0 where
@@ -49,30 +49,30 @@ pub data LosesFailed (core : CoreState) (did : Account) : Type 0 where
       LosesFailed core did
   -- the loss of this one is proposed
   tells_one : (c : Connection) → find has_failed core.connections ≡ Some c →
-      Proposes (commands.Lost c.name) (closes_failed core) did → LosesFailed core did
+      ProposesCommand (commands.Lost c.name) (closes_failed core) did → LosesFailed core did
 
 -- a command is taken, or otherwise this is done
 abbrev pub TakesOr : Command → (CoreState → Account → Type 0) → CoreState → Account → Type 0
-TakesOr command Otherwise core did = Takes command core did ⊎ Then Declines Otherwise core did
+TakesOr command Otherwise core did = TakesCommand command core did ⊎ Then Declines Otherwise core did
 
 -- a connection is closed
-abbrev pub Closes : Port → CoreState → Account → Type 0
-Closes port core did = did ≡ without_effects (changes port closed core)
+abbrev pub ClosesConnection : Port → CoreState → Account → Type 0
+ClosesConnection port core did = did ≡ without_effects (changes port closed core)
 
 -- a connection is closed, or closed as lost, and the loss is still to be reported to the broker
 abbrev pub Shuts : Port → CoreState → Account → Type 0
-Shuts port core did = Closes port core did ⊎ (did ≡ without_effects (changes port failing core))
+Shuts port core did = ClosesConnection port core did ⊎ (did ≡ without_effects (changes port failing core))
 
 -- a CONNECT is proposed; if it is not taken, the connection is closed
-abbrev pub Connects : Port → ConnectionName → Connect → CoreState → Account → Type 0
-Connects port name connect core did =
-    TakesOr (commands.Connect name connect.client connect.clean) (Closes port) core did
+abbrev pub ProposesConnect : Port → ConnectionName → Connect → CoreState → Account → Type 0
+ProposesConnect port name connect core did =
+    TakesOr (commands.Connect name connect.client connect.clean) (ClosesConnection port) core did
 
 -- the first packet of a connection must be a CONNECT
 abbrev pub TakesFirstPacket : Port → ConnectionName → Packet → CoreState → Account → Type 0
 TakesFirstPacket port name (packets.Connect connect) core did =
-    Connects port name connect (changes port (noted_proposed connect.keep_alive) core) did
-TakesFirstPacket port name _ core did = Closes port core did
+    ProposesConnect port name connect (changes port (noted_proposed connect.keep_alive) core) did
+TakesFirstPacket port name _ core did = ClosesConnection port core did
 
 -- a later packet is proposed; if it is not taken, the connection ends
 abbrev pub ProposesPacket : Port → ConnectionName → Packet → CoreState → Account → Type 0
@@ -106,4 +106,4 @@ pub data ReadsNext (now : ℕ) (port : Port) (core : CoreState) (did : Account) 
       is_first c.stage ≡ true → verdict c.unread ≡ Err (stops.Refused code) →
       did ≡ without_effects (changes port (refused code) core) → ReadsNext now port core did
   -- the connection ends, if one is open
-  ends : MayEnd (open_at port core) → Ends port core did → ReadsNext now port core did
+  ends : MayEnd (open_at port core) → EndsConnection port core did → ReadsNext now port core did

@@ -14,21 +14,21 @@ use Rattle.ballot.specs.Cutting.{can_cut}
 use Rattle.ballot.specs.Losses.{one_more}
 use Rattle.world_base.specs.Core.{CoreState, rules}
 use Rattle.world_base.specs.Lossy.{Account, Drives, Repeated, Then, without_effects}
-use Rattle.world_base.specs.LossyProposals.{Proposes}
+use Rattle.world_base.specs.LossyProposals.{ProposesCommand}
 use Rattle.world_base.specs.Reading.{changes, open_at, unread_of}
 use Rattle.world_base.specs.Step.{crashed, opens, settled, with_cut}
-use Rattle.world_base.specs.LossyReading.{Ends, EndsSilent, LosesFailed, ReadsNext}
+use Rattle.world_base.specs.LossyReading.{EndsConnection, EndsSilent, LosesFailed, ReadsNext}
 
 -- ---- an item
 
 -- received bytes are held, or the connection ends, because there is no memory for them
-abbrev pub Holds : Port → List ℕ → CoreState → Account → Type 0
-Holds port piece core did =
-    (did ≡ without_effects (changes port (holding piece) core)) ⊎ Ends port core did
+abbrev pub HoldsBytes : Port → List ℕ → CoreState → Account → Type 0
+HoldsBytes port piece core did =
+    (did ≡ without_effects (changes port (holding piece) core)) ⊎ EndsConnection port core did
 
 -- a connection is accepted, or, if there is no memory for it, not
-abbrev pub Opens : Port → CoreState → Account → Type 0
-Opens port core did = (did ≡ without_effects (opens port core)) ⊎ (did ≡ without_effects core)
+abbrev pub AcceptsConnection : Port → CoreState → Account → Type 0
+AcceptsConnection port core did = (did ≡ without_effects (opens port core)) ⊎ (did ≡ without_effects core)
 
 -- the replica cuts its log, and its frozen bytes thaw to its machine; or, if there is no memory for
 -- that, it counts a loss
@@ -54,17 +54,17 @@ abbrev pub LosesAllFailed : CoreState → Account → Type 0
 LosesAllFailed core did = Repeated (length core.connections) LosesFailed core did
 
 -- the packets of a port are read, one after another, at most as many as it has bytes
-abbrev pub ReadsAll : ℕ → Port → CoreState → Account → Type 0
-ReadsAll now port core did = Repeated (unread_of (open_at port core)) (ReadsNext now port) core did
+abbrev pub ReadsPackets : ℕ → Port → CoreState → Account → Type 0
+ReadsPackets now port core did = Repeated (unread_of (open_at port core)) (ReadsNext now port) core did
 
 -- what an item asks for, without the reports of connections that failed in the step
 abbrev pub DoesItem : Item → CoreState → Account → Type 0
 DoesItem (Peer message) core did = Drives (Receives message) core did
 DoesItem (Tick now) core did = Then (Drives Ticks) (EndsAllSilent now) core did
-DoesItem (Opened port now) core did = Opens port core did
-DoesItem (Bytes port piece now) core did = Then (Holds port piece) (ReadsAll now port) core did
-DoesItem (Ended port) core did = Ends port core did
-DoesItem (Expel client) core did = Proposes (commands.Expel client) core did
+DoesItem (Opened port now) core did = AcceptsConnection port core did
+DoesItem (Bytes port piece now) core did = Then (HoldsBytes port piece) (ReadsPackets now port) core did
+DoesItem (Ended port) core did = EndsConnection port core did
+DoesItem (Expel client) core did = ProposesCommand (commands.Expel client) core did
 DoesItem Cut core did = Cuts core did
 DoesItem Crash core did = did ≡ without_effects (crashed core)
 

@@ -5,7 +5,7 @@ ghost use Rattle.ballot.specs.Losses.{greatest_count};
 ghost use Rattle.ballot.specs.Protocol.Input.{Receives, Ticks};
 ghost use Rattle.ballot.specs.Serving.{proposed};
 ghost use Rattle.world_base.specs.Core.{rules, serves};
-ghost use Rattle.world_base.specs.Inside.{Acts, Answered, HandledAll, Does, DoesTurn, Hears, ProposedBy, Ran, WithoutFailure};
+ghost use Rattle.world_base.specs.Inside.{StepsReplicaOrLoses, Answered, HandledAll, DoesExactly, DoesTurn, StepsReplica, ProposedBy, Ran, WithoutFailure};
 ghost use Rattle.world_base.specs.Losses.{IsHeardQuietly, ReadsNone};
 ghost use Rattle.world_base.specs.Lossy.{Drives, Performs, without_effects};
 ghost use Rattle.world_base.specs.LossyStep.{Cuts};
@@ -42,7 +42,7 @@ impl SteppingNode {
     ) -> bool
         requires serving { serves self.old.core ≡ true }
         requires empty { given.old.items ≡ [] }
-        ensures hears { Hears self.old self.new
+        ensures hears { StepsReplica self.old self.new
             (proposed rules self.old.core.replica.state command) given.new.items }
         ensures answered { Answered result command self.old.core self.new.core given.new.items }
         ensures taken { self.new.out_of_memory ≡ false → result ≡ has_room self.old.core }
@@ -70,9 +70,9 @@ impl SteppingNode {
     // Gives a message to the replica only.
     fn give_message(&mut self, message: Message<Command>, given: &mut Vec<Effect<Command, Output>>)
         requires { given.old.items ≡ [] }
-        ensures hears { Hears self.old self.new
+        ensures hears { StepsReplica self.old self.new
             (heard (Receives message) self.old.core.replica.state) given.new.items }
-        ensures acts { Acts (heard (Receives message) self.old.core.replica.state)
+        ensures acts { StepsReplicaOrLoses (heard (Receives message) self.old.core.replica.state)
             self.old.core self.new.core given.new.items }
         ensures quiet { IsHeardQuietly message self.old.core → ReadsNone message self.old.core →
             WithoutFailure self.old self.new × (given.new.items ≡ []) }
@@ -98,9 +98,9 @@ impl SteppingNode {
     // Gives a tick to the replica only.
     fn tick_replica(&mut self, given: &mut Vec<Effect<Command, Output>>)
         requires { given.old.items ≡ [] }
-        ensures hears { Hears self.old self.new
+        ensures hears { StepsReplica self.old self.new
             (heard Ticks self.old.core.replica.state) given.new.items }
-        ensures acts { Acts (heard Ticks self.old.core.replica.state)
+        ensures acts { StepsReplicaOrLoses (heard Ticks self.old.core.replica.state)
             self.old.core self.new.core given.new.items }
     {
         let before = self.replica.losses();
@@ -110,7 +110,7 @@ impl SteppingNode {
 
     /// Cuts the replica's log if there is something to cut.
     pub fn cut_log(&mut self)
-        ensures exact { Does self.old self.new (cuts self.old.core) }
+        ensures exact { DoesExactly self.old self.new (cuts self.old.core) }
         ensures lossy { Cuts self.old.core (without_effects self.new.core) }
     {
         let before = self.replica.losses();
@@ -174,7 +174,7 @@ impl SteppingNode {
 
     // Performs an output on its connection.
     fn perform(&mut self, output: &Output)
-        ensures exact { Does self.old self.new (performed_by output.now self.old.core) }
+        ensures exact { DoesExactly self.old self.new (performed_by output.now self.old.core) }
         ensures lossy { Performs output.now self.old.core self.new.core }
     {
         match output {

@@ -9,7 +9,7 @@ ghost use Rattle.ballot.specs.Logs.{places};
 ghost use Rattle.ballot.specs.Replica.{status_of};
 ghost use Rattle.node_connections.specs.Connections.{noted_proposed, closed, failing, has_failed, holding, is_at, is_open_at, is_open_named, put_out};
 ghost use Rattle.world_base.specs.Core.{opening_core, serves};
-ghost use Rattle.world_base.specs.Inside.{Does};
+ghost use Rattle.world_base.specs.Inside.{DoesExactly};
 ghost use Rattle.world_base.specs.KeepAlive.{lowest_silent};
 ghost use Rattle.node_connections.specs.packet.Spelling.{spelling};
 ghost use Rattle.world_base.specs.Reading.{changes, open_at, refused, unread_of};
@@ -217,7 +217,7 @@ impl SteppingNode {
     /// Closes the open connection of a port, whose proposal was refused: if memory ran out, its
     /// loss is still to be reported to the broker.
     pub fn give_up(&mut self, port: Port)
-        ensures exact { Does self.old self.new (changes port closed self.old.core) }
+        ensures exact { DoesExactly self.old self.new (changes port closed self.old.core) }
         ensures lossy { (self.new.core ≡ changes port closed self.old.core)
             ⊎ (self.new.core ≡ changes port failing self.old.core) }
     {
@@ -266,7 +266,7 @@ impl SteppingNode {
     /// Queues a packet on the open connection of a name, which is closed as lost if there is no
     /// room or no memory for it.
     pub fn put(&mut self, name: ConnectionName, packet: &Packet)
-        ensures exact { Does self.old self.new
+        ensures exact { DoesExactly self.old self.new
             (changes_named name (put_out (spelling packet.now)) self.old.core) }
         ensures lossy { (self.new.core
             ≡ changes_named name (put_out (spelling packet.now)) self.old.core)
@@ -326,7 +326,7 @@ impl SteppingNode {
     /// Accepts a connection at this port, with the next name, if the node serves clients and the
     /// port is free. Nothing changes otherwise, nor if memory runs out.
     pub fn open(&mut self, port: Port)
-        ensures exact { Does self.old self.new (opens port self.old.core) }
+        ensures exact { DoesExactly self.old self.new (opens port self.old.core) }
         ensures lossy { (self.new.core ≡ opens port self.old.core)
             ⊎ (self.new.core ≡ self.old.core) }
     {

@@ -7,11 +7,11 @@ ghost use Rattle.node_connections.specs.broker_spec.Sized.{IsSized};
 ghost use Rattle.node_connections.specs.Connections.{closed, has_failed, holding, is_first, is_proposed};
 ghost use Rattle.world_base.specs.Inside.{TakesPacket, DoesTurn, Ran, ReportsLost, WithoutFailure};
 ghost use Rattle.world_base.specs.declared.item.Item.TheVariants as items;
-ghost use Rattle.world_base.specs.Losses.{DoesNothing, IsHeardQuietly, ReadsNone, TakesNoMemory, was_proposed};
+ghost use Rattle.world_base.specs.Losses.{DoesNothing, IsHeardQuietly, ReadsNone, ItemTakesNoMemory, was_proposed};
 ghost use Rattle.world_base.specs.Lossy.{without_effects};
-ghost use Rattle.world_base.specs.LossyProposals.{Proposes};
-ghost use Rattle.world_base.specs.LossyStep.{ActsOn, EndsAllSilent, Holds, LosesAllFailed, ReadsAll, DoesItem};
-ghost use Rattle.world_base.specs.LossyReading.{Connects, Ends, LosesFailed, ReadsNext, ProposesPacket};
+ghost use Rattle.world_base.specs.LossyProposals.{ProposesCommand};
+ghost use Rattle.world_base.specs.LossyStep.{ActsOn, EndsAllSilent, HoldsBytes, LosesAllFailed, ReadsPackets, DoesItem};
+ghost use Rattle.world_base.specs.LossyReading.{ProposesConnect, EndsConnection, LosesFailed, ReadsNext, ProposesPacket};
 ghost use Rattle.world_base.specs.Failing.{loses_all_failed, loses_failed};
 ghost use Rattle.world_base.specs.KeepAlive.{ends_all_silent};
 ghost use Rattle.world_base.specs.Reading.{connects, takes_first_packet, changes, ends, open_at, reads_all, reads_next, proposes_packet};
@@ -33,7 +33,7 @@ impl SteppingNode {
             (acts_on item self.old.core) }
         ensures lossy { Ran
             (ActsOn item) self.old.core self.new.core effects.old.items effects.new.items }
-        ensures quiet { TakesNoMemory item self.old.core →
+        ensures quiet { ItemTakesNoMemory item self.old.core →
             find has_failed self.old.core.connections ≡ None →
             self.new.out_of_memory ≡ self.old.out_of_memory }
     {
@@ -96,7 +96,7 @@ impl SteppingNode {
     fn expel(&mut self, client: ClientId, effects: &mut Vec<Effect<Command, Output>>)
         ensures exact { DoesTurn self.old self.new effects.old.items effects.new.items
             (proposes (commands.Expel client) self.old.core) }
-        ensures lossy { Ran (Proposes (commands.Expel client)) self.old.core self.new.core
+        ensures lossy { Ran (ProposesCommand (commands.Expel client)) self.old.core self.new.core
             effects.old.items effects.new.items }
     {
         self.propose(Command::Expel(client), effects);
@@ -122,7 +122,7 @@ impl SteppingNode {
         ensures exact { DoesTurn self.old self.new effects.old.items effects.new.items
             (without_messages (changes port (holding piece) self.old.core)) }
         ensures lossy { Ran
-            (Holds port piece) self.old.core self.new.core effects.old.items effects.new.items }
+            (HoldsBytes port piece) self.old.core self.new.core effects.old.items effects.new.items }
     {
         if !self.hold_at(port, &piece) {
             self.out_of_memory = true;
@@ -135,7 +135,7 @@ impl SteppingNode {
         ensures exact { DoesTurn self.old self.new effects.old.items effects.new.items
             (reads_all now port self.old.core) }
         ensures lossy { Ran
-            (ReadsAll now port) self.old.core self.new.core effects.old.items effects.new.items }
+            (ReadsPackets now port) self.old.core self.new.core effects.old.items effects.new.items }
     {
         for _packet in 0..self.unread_len(port) {
             if !self.read_next(port, now, effects) {
@@ -217,7 +217,7 @@ impl SteppingNode {
     )
         ensures exact { DoesTurn self.old self.new effects.old.items effects.new.items
             (connects port name connect self.old.core) }
-        ensures lossy { Ran (Connects port name connect)
+        ensures lossy { Ran (ProposesConnect port name connect)
             self.old.core self.new.core effects.old.items effects.new.items }
     {
         let command = Command::Connect(name, connect.client, connect.clean);
@@ -272,7 +272,7 @@ impl SteppingNode {
         ensures exact { DoesTurn self.old self.new effects.old.items effects.new.items
             (ends port self.old.core) }
         ensures lossy { Ran
-            (Ends port) self.old.core self.new.core effects.old.items effects.new.items }
+            (EndsConnection port) self.old.core self.new.core effects.old.items effects.new.items }
         ensures unproposed { was_proposed (open_at port self.old.core) ≡ false →
             self.new ≡ record self.old { core = changes port closed self.old.core } }
     {

@@ -24,7 +24,7 @@ use Rattle.byte_world.specs.world_base.Connections.{has_failed}
 use Rattle.byte_world.specs.world_base.declared.item.Item.{Item}
 use Rattle.byte_world.specs.world_base.declared.item.Item.TheVariants.{Peer}
 use Rattle.byte_world.specs.world_base.Core.{CoreState, CountedCore, rules}
-use Rattle.byte_world.specs.world_base.Losses.{DoesNothing, IsExactly, IsHeardQuietly, IsIgnored, Stepped, TakesNoMemory}
+use Rattle.byte_world.specs.world_base.Losses.{DoesNothing, IsExactly, IsHeardQuietly, IsIgnored, NodeStepped, ItemTakesNoMemory}
 use Rattle.byte_world.specs.world_base.LossyStep.{RunsOn}
 use Rattle.byte_world.specs.world_base.Step.{node_step}
 use Rattle.byte_world.proofs.of_world_base.Calmly.{says_nothing}
@@ -48,7 +48,7 @@ both_true true false e = absurd cc
 both_true false b e = absurd cc
 
 pub took_in : (old : CountedCore) (item : Item) (new : CountedCore) (effects : List (Effect Command Output)) (sent more : List (ℕ × Message Command)) (before after : ℕ) (kept whole : Bool)
-    → Stepped old item new [] effects → Keeps effects sent more kept → before ≡ old.losses → after ≡ new.losses → (whole ≡ true → (after ≡ before) × (before < 2 ^ 64 - 1))
+    → NodeStepped old item new [] effects → Keeps effects sent more kept → before ≡ old.losses → after ≡ new.losses → (whole ≡ true → (after ≡ before) × (before < 2 ^ 64 - 1))
     → (after ≡ before → before < 2 ^ 64 - 1 → whole ≡ true) → TookItem old item new sent more (kept && whole)
 took_in old item new effects sent more before after kept whole s k was is told so =
     record {
@@ -85,7 +85,7 @@ pub turn_rests : (old : NodesState) (node at : ℕ) (x : RunsAt old.nodes node a
     → TookItem x.core item new old.sent more whole → losses ≡ (if whole && true then old.losses else one_more old.losses) → RestsAt node item old
     → TakesExactly node item old (after_turn_of at new more losses old)
 turn_rests old node at x new item more whole losses t count rests = by whole (t.rests
-    (subst (λ (c : CountedCore). TakesNoMemory item c.core) same rests.takes)
+    (subst (λ (c : CountedCore). ItemTakesNoMemory item c.core) same rests.takes)
     (subst (λ (c : CountedCore). find has_failed c.core.connections ≡ None) same rests.none_failed)
     (subst (λ (c : CountedCore). c.losses < 2 ^ 64 - 1) same rests.low)) t count
   where
@@ -167,7 +167,7 @@ more_ignored message core more names quiet = by core.replica.state.stopped quiet
     by false q = quiet_does_nothing rules r message.from message.body more names q
 
 does_nothing : (message : Message Command) (core : CoreState) → has_numbers_alone message.body ≡ false → NamesSome message.body →
-    TakesNoMemory (Peer message) core → DoesNothing (Peer message) core
+    ItemTakesNoMemory (Peer message) core → DoesNothing (Peer message) core
 does_nothing message core more names free = (by free.0, free.1)
   where
     by : IsIgnored (Receives message) core ⊎ IsHeardQuietly message core → IsIgnored (Receives message) core

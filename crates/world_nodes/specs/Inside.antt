@@ -14,7 +14,7 @@ use Rattle.byte_world.specs.world_base.declared.item.Item.{Item}
 use Rattle.byte_world.specs.world_base.declared.item.Item.TheVariants.{Cut, Peer}
 use Rattle.byte_world.specs.world_base.Core.{CountedCore, rules}
 use Rattle.byte_world.specs.world_base.Connections.{has_failed}
-use Rattle.byte_world.specs.world_base.Losses.{DoesNothing, TakesNoMemory}
+use Rattle.byte_world.specs.world_base.Losses.{DoesNothing, ItemTakesNoMemory}
 use Rattle.byte_world.specs.world_base.LossyStep.{RunsOn}
 use Rattle.byte_world.specs.world_base.Step.{node_step}
 use Rattle.master.specs.Inside.{IsGroup, ToldIn, held_by}
@@ -67,7 +67,7 @@ pub record TookItem (old : CountedCore) (item : Item) (new : CountedCore)
   pub exact : whole ≡ true →
       (new ≡ record old { core = (node_step item old.core).core })
       × (kept ≡ (node_step item old.core).messages)
-  pub rests : TakesNoMemory item old.core → find has_failed old.core.connections ≡ None →
+  pub rests : ItemTakesNoMemory item old.core → find has_failed old.core.connections ≡ None →
       old.losses < greatest_count → whole ≡ true
 
 -- Nodes came about as a group of the model does, and count what their messages acknowledge: in the

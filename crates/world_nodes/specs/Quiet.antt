@@ -12,7 +12,7 @@ use Rattle.byte_world.specs.world_base.declared.item.Item.TheVariants.{Peer}
 use Rattle.byte_world.specs.world_base.declared.Port.{Port}
 use Rattle.byte_world.specs.world_base.Core.{CountedCore}
 use Rattle.byte_world.specs.world_base.Handing.{bytes_of, listed_at}
-use Rattle.byte_world.specs.world_base.Losses.{TakesNoMemory}
+use Rattle.byte_world.specs.world_base.Losses.{ItemTakesNoMemory}
 use Rattle.world_nodes.specs.Running.{node_of, running}
 use Rattle.world_nodes.specs.Nodes.{NodesState}
 
@@ -21,7 +21,7 @@ use Rattle.world_nodes.specs.Nodes.{NodesState}
 pub record RestsAt (node : ℕ) (item : Item) (n : NodesState) : Type 0 where
   pub core : CountedCore
   pub runs : running n.nodes node ≡ Some core
-  pub takes : TakesNoMemory item core.core
+  pub takes : ItemTakesNoMemory item core.core
   pub none_failed : find has_failed core.core.connections ≡ None
   pub low : core.losses < greatest_count
 

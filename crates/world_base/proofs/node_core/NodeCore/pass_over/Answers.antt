@@ -3,14 +3,14 @@ use Rattle.ballot.specs.Losses.{one_more}
 use Rattle.world_base.specs.declared.item.Item.TheVariants.{Peer}
 use Rattle.world_base.specs.Core.{CountedCore}
 use Rattle.world_base.specs.Inside.{Running}
-use Rattle.world_base.specs.Losses.{Stepped}
+use Rattle.world_base.specs.Losses.{NodeStepped}
 use Rattle.world_base.proofs.EndsRun.{core_of}
 use Rattle.world_base.proofs.ItemsRun.{stepped_by}
 use Rattle.world_base.proofs.node_core.NodeCore.pass_over.Goals as goal
 
 pub returns : goal.returns
 returns c =
-    subst (λ (n : CountedCore). Stepped n (Peer c.args.message.now) (record { core = c.settle.new.self.core; losses = c.losses_after-self-inside.result })
+    subst (λ (n : CountedCore). NodeStepped n (Peer c.args.message.now) (record { core = c.settle.new.self.core; losses = c.losses_after-self-inside.result })
     c.args.effects.now.items c.pass_over.new.effects.items) c.self.view_is
     (stepped_by _ (Peer c.args.message.now) c.begin_step.new.self c.pass_over.new.self c.settle.new.self.core c.losses_after-self-inside.result _ _
     (core_of _ _ c.begin_step.ensures) c.pass_over.ensures.exact c.pass_over.ensures.lossy (core_of _ _ c.settle.ensures)

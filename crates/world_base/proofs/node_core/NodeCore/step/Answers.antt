@@ -2,14 +2,14 @@ use Rattle.std.proofs.Common.{Bool, if◌then◌else◌, ap, subst, ◌∙◌}
 use Rattle.ballot.specs.Losses.{one_more}
 use Rattle.world_base.specs.Core.{CountedCore}
 use Rattle.world_base.specs.Inside.{Running}
-use Rattle.world_base.specs.Losses.{Stepped}
+use Rattle.world_base.specs.Losses.{NodeStepped}
 use Rattle.world_base.proofs.EndsRun.{core_of}
 use Rattle.world_base.proofs.ItemsRun.{stepped_by}
 use Rattle.world_base.proofs.node_core.NodeCore.step.Goals as goal
 
 pub returns : goal.returns
 returns c =
-    subst (λ (n : CountedCore). Stepped n c.args.item (record { core = c.settle.new.self.core; losses = c.losses_after-self-inside.result })
+    subst (λ (n : CountedCore). NodeStepped n c.args.item (record { core = c.settle.new.self.core; losses = c.losses_after-self-inside.result })
     c.args.effects.now.items c.act_on.new.effects.items) c.self.view_is
     (stepped_by _ c.args.item c.begin_step.new.self c.act_on.new.self c.settle.new.self.core c.losses_after-self-inside.result _ _
     (core_of _ _ c.begin_step.ensures) c.act_on.ensures.exact c.act_on.ensures.lossy (core_of _ _ c.settle.ensures)

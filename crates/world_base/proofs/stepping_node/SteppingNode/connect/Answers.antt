@@ -3,7 +3,7 @@ use Rattle.node_connections.specs.broker_spec.declared.command.Command.TheVarian
 use Rattle.world_base.specs.Inside.{Running}
 use Rattle.world_base.proofs.Closes.{closes_refused}
 use Rattle.world_base.specs.Lossy.{without_effects}
-use Rattle.world_base.specs.LossyReading.{Closes}
+use Rattle.world_base.specs.LossyReading.{ClosesConnection}
 use Rattle.world_base.proofs.EndsRun.{core_of, ran_asked, ran_otherwise}
 use Rattle.world_base.proofs.stepping_node.SteppingNode.connect.Goals as goal
 
@@ -16,11 +16,11 @@ returns-then-not-propose-clause-exact c =
 
 pub returns-then-not-propose-clause-lossy : goal.returns-then-not-propose-clause-lossy
 returns-then-not-propose-clause-lossy c =
-    ran_otherwise c.propose.result (commands.Connect c.args.name c.args.connect.client c.args.connect.clean) (Closes c.args.port)
+    ran_otherwise c.propose.result (commands.Connect c.args.name c.args.connect.client c.args.connect.clean) (ClosesConnection c.args.port)
     _ c.propose.new.self.core c.close.new.self.core _ _ c.if-not-propose.true c.propose.ensures.lossy
     (ap without_effects (core_of _ _ c.close.ensures))
 
 pub returns-else-not-propose-clause-lossy : goal.returns-else-not-propose-clause-lossy
 returns-else-not-propose-clause-lossy c =
-    ran_asked c.propose.result (commands.Connect c.args.name c.args.connect.client c.args.connect.clean) (Closes c.args.port)
+    ran_asked c.propose.result (commands.Connect c.args.name c.args.connect.client c.args.connect.clean) (ClosesConnection c.args.port)
     _ _ _ _ c.if-not-propose.false c.propose.ensures.lossy

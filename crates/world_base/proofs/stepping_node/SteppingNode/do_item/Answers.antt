@@ -2,7 +2,7 @@ use Rattle.std.proofs.Common.{refl}
 use Rattle.ballot.specs.Protocol.Input.{Ticks}
 use Rattle.world_base.specs.declared.item.Item.TheVariants.{Peer, Tick, Opened, Bytes, Ended, Expel, Cut}
 use Rattle.world_base.specs.Lossy.{Drives}
-use Rattle.world_base.specs.LossyStep.{EndsAllSilent, Holds, ReadsAll}
+use Rattle.world_base.specs.LossyStep.{EndsAllSilent, HoldsBytes, ReadsPackets}
 use Rattle.world_base.proofs.Accounts.{ran_then}
 use Rattle.world_base.proofs.Hearing.{peer_calmly}
 use Rattle.world_base.proofs.Idle.{ended_calmly}
@@ -27,7 +27,7 @@ returns-in-Opened-clause-lossy c =
 pub returns-in-Bytes-clause-lossy : goal.returns-in-Bytes-clause-lossy
 returns-in-Bytes-clause-lossy c =
     ran_item c.args.item (Bytes c.in-Bytes.port c.in-Bytes.piece c.in-Bytes.now) _ _ _ _ c.in-Bytes.is
-    (ran_then (Holds c.in-Bytes.port c.in-Bytes.piece) (ReadsAll c.in-Bytes.now c.in-Bytes.port) _ _ _ _ _ _ c.hold.ensures.lossy c.read.ensures.lossy)
+    (ran_then (HoldsBytes c.in-Bytes.port c.in-Bytes.piece) (ReadsPackets c.in-Bytes.now c.in-Bytes.port) _ _ _ _ _ _ c.hold.ensures.lossy c.read.ensures.lossy)
 
 pub returns-in-Ended-clause-lossy : goal.returns-in-Ended-clause-lossy
 returns-in-Ended-clause-lossy c = ran_item c.args.item (Ended c.in-Ended.port) _ _ _ _ c.in-Ended.is c.end.ensures.lossy
