@@ -7,7 +7,7 @@ use Rattle.headline.specs.world_base.declared.Port.{Port}
 use Rattle.headline.specs.node_moves.Moves.NodeCall.{takes}
 use Rattle.headline.specs.byte_world.World.{HasPipe, Pipe, World, with_client, with_pipe}
 use Rattle.headline.specs.byte_world.Steps.WorldStep.{comes_up}
-use Rattle.escaping_nodes.specs.world_nodes.ExactSteps.{Acts}
+use Rattle.escaping_nodes.specs.world_nodes.ExactSteps.{NodeDoesCall}
 use Rattle.escaping_nodes.specs.world_nodes.Nodes.{NodesState}
 use Rattle.world_events.specs.world_pipes.declared.way.Way.{Way}
 use Rattle.world_events.specs.world_pipes.Piped.{Piped}
@@ -26,7 +26,7 @@ use Rattle.world.proofs.WaysStand.{PipeAt, pipe_at, way_changes}
 
 taken_up : (old : WorldState) (m : World) (s : WorldStandsFor m old) (place : ConnectionSlot) (client : WorldClient) (one : StandsAt m.clients place.client client.piped) (way : Way)
     (x : PipeAt client.piped one.c place.at way) (new : NodesState) (count : ℕ) → count ≤ length way.up
-    → Acts x.p.node (takes (Bytes x.p.port (take count way.up) 0)) old.nodes new → ModelStepsTo [] m (put_down place.client client (with_less place.at count way client.piped) new old)
+    → NodeDoesCall x.p.node (takes (Bytes x.p.port (take count way.up) 0)) old.nodes new → ModelStepsTo [] m (put_down place.client client (with_less place.at count way client.piped) new old)
 taken_up old m s place client one way x new count part acts =
     let d = acts m.group s.nodes in
     let has : HasPipe m place.client one.c x.turned.place x.κ x.p = record { client = one.at; connection = x.connection; pipe = x.pipe } in
@@ -66,5 +66,5 @@ takes_up old number count place client new later there at t nodes config cs m tr
     let low : place.node - 1 ≡ x.p.node = omega (arith, leads) in
     subst (λ (z : Piped). ModelStepsTo [] m (put_down place.client client z new old)) (sym t.is)
     (taken_up old m s place client one t.way x new count t.part
-    (subst (λ (k : ℕ). Acts k (takes (Bytes x.p.port (take count t.way.up) 0)) old.nodes new) low
-    (subst (λ (q : Port). Acts (place.node - 1) (takes (Bytes q (take count t.way.up) 0)) old.nodes new) port t.acts)))
+    (subst (λ (k : ℕ). NodeDoesCall k (takes (Bytes x.p.port (take count t.way.up) 0)) old.nodes new) low
+    (subst (λ (q : Port). NodeDoesCall (place.node - 1) (takes (Bytes q (take count t.way.up) 0)) old.nodes new) port t.acts)))

@@ -15,7 +15,7 @@ use Rattle.headline.proofs.of_node_group.Placed.{get_mapped}
 use Rattle.headline.specs.byte_world.World.{ClientPipes, Pipe, World, is_used, leads_to, with_client}
 use Rattle.headline.specs.byte_world.ClientSteps.{after_connecting}
 use Rattle.headline.specs.byte_world.Steps.WorldStep.{connects}
-use Rattle.escaping_nodes.specs.world_nodes.ExactSteps.{Acts}
+use Rattle.escaping_nodes.specs.world_nodes.ExactSteps.{NodeDoesCall}
 use Rattle.escaping_nodes.specs.world_nodes.Running.{node_of}
 use Rattle.escaping_nodes.specs.world_nodes.Nodes.{NodesState, NodesStandFor as NodesStand}
 use Rattle.world_events.specs.world_pipes.declared.way.Way.{Way}
@@ -91,7 +91,7 @@ connects_goes i node old new housed one nodes config cs m trail s = by node refl
     by (suc n) is =
         let low : node - 1 ≡ n = omega (arith, is) in
         let c = client_at old.clients m.clients i one.client s.clients one.found in
-        let acts = subst (λ (k : ℕ). Acts k (takes (Opened port 0)) old.nodes one.between) low one.reaches.hears.acts in
+        let acts = subst (λ (k : ℕ). NodeDoesCall k (takes (Opened port 0)) old.nodes one.between) low one.reaches.hears.acts in
         let d = acts m.group s.nodes in
         let found : slice_get one.between.nodes n ≡ Some has.core = sym (ap (node_of one.between.nodes) is) ∙ has.stands in
         let stands = ap (λ (l : List CoreState). slice_get l n) d.stands.nodes ∙ get_mapped (λ (z : CountedCore). z.core) one.between.nodes n has.core found in

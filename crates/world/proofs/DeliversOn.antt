@@ -21,7 +21,7 @@ use Rattle.escaping_client.specs.lists.Lists.{In}
 use Rattle.escaping_client.proofs.of_lists.Members.{in_at}
 use Rattle.headline.specs.world_base.Core.{CoreState, CountedCore, rules}
 use Rattle.headline.specs.world_base.declared.item.Item.TheVariants.{Peer}
-use Rattle.escaping_nodes.specs.world_nodes.ExactSteps.{Comes, ComesToNobody, TakesExactly, after_answer, after_node_call}
+use Rattle.escaping_nodes.specs.world_nodes.ExactSteps.{MessageArrives, ComesToNobody, TakesExactly, after_answer, after_node_call}
 use Rattle.escaping_nodes.specs.world_nodes.Running.{running, unless_stopped}
 use Rattle.escaping_nodes.specs.world_nodes.Nodes.{NodesState, cores_of}
 use Rattle.escaping_nodes.proofs.of_world_nodes.Acts.{acts}
@@ -86,7 +86,7 @@ at_node k at message old new came d housed =
     here = came ∙ ap (λ (n : ℕ). let o : Option (ℕ × Message Command) = Some (n, message) in o) (let e : at + 1 ≡ suc at = omega arith in e)
 
     t : TakesExactly (suc at) (Peer message) old.nodes d.0
-    t = subst (λ (o : Option (ℕ × Message Command)). Comes o old.nodes d.0) here d.1
+    t = subst (λ (o : Option (ℕ × Message Command)). MessageArrives o old.nodes d.0) here d.1
 
     runs : (slice_get old.nodes.nodes at ≡ Some t.core) × (t.core.core.replica.state.stopped ≡ false)
     runs = runs_there (slice_get old.nodes.nodes at) t.core t.runs
@@ -108,7 +108,7 @@ pub at_master_is : (k from asked : ℕ) (old new : WorldState) → slice_get old
 at_master_is k from asked old new came d = gathers ∙ ap (λ (n : NodesState). with_nodes n old) is
   where
     is : d.0 ≡ after_answer from asked old.nodes
-    is = subst (λ (o : Option (ℕ × Message Command)). Comes o old.nodes d.0) came d.1
+    is = subst (λ (o : Option (ℕ × Message Command)). MessageArrives o old.nodes d.0) came d.1
 
     gathers : new ≡ with_nodes d.0 old
     gathers = subst (λ (o : Option (ℕ × Message Command)). Gathers true (receiver_of o) (with_nodes d.0 old) new) came d.2

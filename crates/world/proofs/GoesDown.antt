@@ -22,7 +22,7 @@ use Rattle.headline.specs.byte_world.Steps.WorldStep.{goes_down}
 use Rattle.headline.proofs.of_byte_world.NodesGoOn.{carries_with}
 use Rattle.headline.proofs.of_byte_world.PipesHold.{found_in}
 use Rattle.headline.proofs.of_byte_world.PipesInOrder.{reached_holds}
-use Rattle.escaping_nodes.specs.world_nodes.ExactSteps.{Acts, HandsOver}
+use Rattle.escaping_nodes.specs.world_nodes.ExactSteps.{NodeDoesCall, HandsOver}
 use Rattle.escaping_nodes.specs.world_nodes.Nodes.{NodesState}
 use Rattle.world_events.specs.world_pipes.declared.way.Way.{Way}
 use Rattle.world_events.specs.world_pipes.Piped.{Piped}
@@ -62,7 +62,7 @@ module _ {nodes : ℕ} {config : Config} {cs : List Client} (m : World) (trail :
   has = record { client = one.at; connection = x.connection; pipe = x.pipe }
 
   -- with the bytes that it handed over
-  hands_down : (bytes : List ℕ) → Acts x.p.node (gives x.p.port) old.nodes new → HandsOver (suc x.p.node) x.p.port old.nodes way.down bytes
+  hands_down : (bytes : List ℕ) → NodeDoesCall x.p.node (gives x.p.port) old.nodes new → HandsOver (suc x.p.node) x.p.port old.nodes way.down bytes
       → ModelStepsTo [] m (put_down place.client client (with_down place.at way bytes client.piped) new old)
   hands_down bytes acts over =
       let d = acts m.group s.nodes in
@@ -121,5 +121,5 @@ puts_down old number place client new later there at puts nodes config cs m trai
         let low : place.node - 1 ≡ x.p.node = omega (arith, number_is) in
         subst (λ (z : Piped). ModelStepsTo [] m (put_down place.client client z new old)) (sym is)
         (hands_down m trail old s place client one way x new bytes
-        (subst (λ (k : ℕ). Acts k (gives x.p.port) old.nodes new) low (subst (λ (q : Port). Acts (place.node - 1) (gives q) old.nodes new) port_is acts))
+        (subst (λ (k : ℕ). NodeDoesCall k (gives x.p.port) old.nodes new) low (subst (λ (q : Port). NodeDoesCall (place.node - 1) (gives q) old.nodes new) port_is acts))
         (subst (λ (k : ℕ). HandsOver k x.p.port old.nodes way.down bytes) number_is (subst (λ (q : Port). HandsOver place.node q old.nodes way.down bytes) port_is over)))

@@ -16,7 +16,7 @@ use Rattle.headline.specs.byte_world.World.{World}
 use Rattle.headline.specs.byte_world.Steps.{is_apart}
 use Rattle.headline.specs.byte_world.Steps.WorldStep.{goes_on as group_goes}
 use Rattle.escaping_nodes.specs.world_nodes.Nodes.{NodesState, NodesStandFor as NodesStand}
-use Rattle.escaping_nodes.specs.world_nodes.ExactSteps.{Acts, GoesBy}
+use Rattle.escaping_nodes.specs.world_nodes.ExactSteps.{NodeDoesCall, GoesBy}
 use Rattle.escaping_nodes.specs.world_nodes.Steps.{nodes_with_loss}
 use Rattle.escaping_nodes.specs.world_nodes.GroupSteps.{ActsOrRests, ComesOrRests, MasterGoesOrRests, MasterHears}
 use Rattle.world.specs.Trace.{NodesGo, NodesGoOn}
@@ -64,13 +64,13 @@ goes_apart old new rises apart =
 
 -- ---- calls of nodes, done or idle
 
-pub by_call : {X : Type 0} (r : Result X Idle) (old new : NodesState) (at : ℕ) (node_call : NodeCall) → is_apart (Some (at, node_call)) ≡ true → OnOk r (Acts at node_call old new)
+pub by_call : {X : Type 0} (r : Result X Idle) (old new : NodesState) (at : ℕ) (node_call : NodeCall) → is_apart (Some (at, node_call)) ≡ true → OnOk r (NodeDoesCall at node_call old new)
     → OnErr r (new ≡ old) → GoesApart old new
 by_call (Ok x) old new at node_call apart does same = acts (Some (at, node_call)) apart does
 by_call (Err e) old new at node_call apart does same = stays (nodes_stay old new same)
 
 -- also by one that connections have a part in
-pub call_goes : {X : Type 0} (r : Result X Idle) (old new : NodesState) (at : ℕ) (node_call : NodeCall) → old.losses ≤ new.losses → OnOk r (Acts at node_call old new) → OnErr r (new ≡ old)
+pub call_goes : {X : Type 0} (r : Result X Idle) (old new : NodesState) (at : ℕ) (node_call : NodeCall) → old.losses ≤ new.losses → OnOk r (NodeDoesCall at node_call old new) → OnErr r (new ≡ old)
     → NodesGoOn old new
 call_goes (Ok x) old new at node_call rises does same = record { rises = rises; goes = acts_go (Some (at, node_call)) old new does }
 call_goes (Err e) old new at node_call rises does same = nodes_rest old new same

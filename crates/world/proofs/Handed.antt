@@ -6,7 +6,7 @@ use Rattle.escaping_nodes.specs.master.declared.event.Idle.{Idle}
 use Rattle.headline.specs.world_base.declared.item.Item.TheVariants.{Bytes}
 use Rattle.headline.specs.world_base.declared.Port.{Port}
 use Rattle.headline.specs.node_moves.Moves.NodeCall.{takes}
-use Rattle.escaping_nodes.specs.world_nodes.ExactSteps.{Acts}
+use Rattle.escaping_nodes.specs.world_nodes.ExactSteps.{NodeDoesCall}
 use Rattle.escaping_nodes.specs.world_nodes.Running.{running}
 use Rattle.escaping_nodes.specs.world_nodes.Nodes.{NodesState}
 use Rattle.escaping_nodes.specs.world_nodes.Steps.{TakesIn}
@@ -102,7 +102,7 @@ pub takes_part : (place : ConnectionSlot) (port : Port) (count : ℕ) (old : Nod
     → place.at < length client.ways → IfSome (slice_get client.ways place.at) (λ way. waiting ≡ way.up) → 0 < count → count ≤ length waiting
     → (running old.nodes place.node ≡ None → ⊥) → piece ≡ take count waiting
     → IfSome (slice_get client.ways place.at) (λ way. later ≡ with_less place.at count way client) → TakesIn place.node (Bytes port piece 0) old new
-    → Acts (place.node - 1) (takes (Bytes port piece 0)) old new → CarriesUp place port count old client new later
+    → NodeDoesCall (place.node - 1) (takes (Bytes port piece 0)) old new → CarriesUp place port count old client new later
 takes_part place port count old client new later waiting piece below up some part runs is less step acts =
     let w = there client.ways place.at below in
     let waits : waiting ≡ w.0.up = of_some (λ (way : Way). waiting ≡ way.up) w.0 w.1 up in
@@ -113,7 +113,7 @@ takes_part place port count old client new later waiting piece below up some par
       runs = runs;
       part = (let e = ap length waits in omega (arith, e, part));
       step = subst (λ (l : List ℕ). TakesIn place.node (Bytes port l 0) old new) (is ∙ ap (take count) waits) step;
-      acts = subst (λ (l : List ℕ). Acts (place.node - 1) (takes (Bytes port l 0)) old new) (is ∙ ap (take count) waits) acts;
+      acts = subst (λ (l : List ℕ). NodeDoesCall (place.node - 1) (takes (Bytes port l 0)) old new) (is ∙ ap (take count) waits) acts;
       is = of_some (λ (way : Way). later ≡ with_less place.at count way client) w.0 w.1 less;
     }
   where

@@ -11,7 +11,7 @@ use Rattle.headline.specs.ballot.Losses.{one_more}
 use Rattle.escaping_nodes.specs.master.declared.event.Idle.{Idle}
 use Rattle.headline.specs.world_base.declared.item.Item.{Item}
 use Rattle.headline.specs.world_base.declared.item.Item.TheVariants.{Bytes, Crash, Ended, Expel, Tick}
-use Rattle.escaping_nodes.specs.world_nodes.ExactSteps.{Comes, ComesToNobody, CutsExactly, TakesExactly}
+use Rattle.escaping_nodes.specs.world_nodes.ExactSteps.{MessageArrives, ComesToNobody, CutsExactly, TakesExactly}
 use Rattle.escaping_nodes.specs.world_nodes.Running.{cutting, proposing, running}
 use Rattle.escaping_nodes.specs.world_nodes.Nodes.{NodesState}
 use Rattle.escaping_nodes.specs.world_nodes.Steps.{ComesIn, CutsIn, ExpelsIn, GivesIn, LosesNothing as NodesLoseNothing, TakesIn}
@@ -55,7 +55,7 @@ assign_meets (Err e) config old new acts idle same = (idle.0 refl, ap (λ (n : N
 -- a message comes to its receiver
 pub delivered : (number receiver : ℕ) (old : WorldState) (between : NodesState) (new : WorldState) → receiver ≡ receiver_of (slice_get old.nodes.sent number)
     → (ComesToNobody (slice_get old.nodes.sent number) old.nodes → ⊥) → ComesIn (slice_get old.nodes.sent number) old.nodes between
-    → (NodesLoseNothing old.nodes between → Comes (slice_get old.nodes.sent number) old.nodes between) → Gathers false receiver (with_nodes between old) new → new.losses ≡ old.losses
+    → (NodesLoseNothing old.nodes between → MessageArrives (slice_get old.nodes.sent number) old.nodes between) → Gathers false receiver (with_nodes between old) new → new.losses ≡ old.losses
     → IsDone (events.Deliver number) old new
 delivered number receiver old between new is can comes exact gathers still =
     let all = subst (λ (k : ℕ). Gathers false k (with_nodes between old) new) is gathers in

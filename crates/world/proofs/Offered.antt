@@ -14,7 +14,7 @@ use Rattle.headline.specs.world_base.Core.{CountedCore}
 use Rattle.headline.specs.world_base.Handing.{listed_at}
 use Rattle.headline.specs.node_moves.Moves.NodeCall.{takes}
 use Rattle.headline.proofs.of_node_group.Placed.{get_of_set}
-use Rattle.escaping_nodes.specs.world_nodes.ExactSteps.{Acts, after_node_call}
+use Rattle.escaping_nodes.specs.world_nodes.ExactSteps.{NodeDoesCall, after_node_call}
 use Rattle.escaping_nodes.specs.world_nodes.Running.{node_of, running, unless_stopped}
 use Rattle.escaping_nodes.specs.world_nodes.Nodes.{NodesState}
 use Rattle.escaping_nodes.specs.world_nodes.Steps.{ActsWithLosses, TakesIn}
@@ -64,7 +64,7 @@ was_heard (Err e) P ok does = absurd (both_ways true ok refl)
 
 -- it has it then, or not
 pub hears_of_one : (has : Bool) (node : ℕ) (port : Port) (old new : NodesState) (core : CountedCore) → node_of new.nodes node ≡ Some core
-    → has ≡ is_some (listed_at port core.core) → TakesIn node (Opened port 0) old new → Acts (node - 1) (takes (Opened port 0)) old new
+    → has ≡ is_some (listed_at port core.core) → TakesIn node (Opened port 0) old new → NodeDoesCall (node - 1) (takes (Opened port 0)) old new
     → HearsOfOne has node port old new
 hears_of_one true node port old new core stands known step acts =
     record { step = step; acts = acts; known = record { core = core; stands = stands; known = sym known } }

@@ -13,7 +13,7 @@ use Rattle.headline.specs.node_moves.Moves.NodeCall.{takes}
 use Rattle.headline.proofs.of_node_group.Placed.{get_mapped}
 use Rattle.headline.specs.byte_world.World.{World}
 use Rattle.headline.specs.byte_world.Steps.WorldStep.{is_taken_back}
-use Rattle.escaping_nodes.specs.world_nodes.ExactSteps.{Acts}
+use Rattle.escaping_nodes.specs.world_nodes.ExactSteps.{NodeDoesCall}
 use Rattle.escaping_nodes.specs.world_nodes.Running.{node_of}
 use Rattle.escaping_nodes.specs.world_nodes.Nodes.{NodesState}
 use Rattle.escaping_nodes.specs.world_nodes.Steps.{LosesNothing as NodesLoseNothing}
@@ -85,7 +85,7 @@ turned old new node port housed beyond (inr hears) nodes config cs m trail s = b
     by zero is = absurd (none-some has.core (sym (ap (node_of new.nodes) is) ∙ has.stands))
     by (suc n) is =
         let low : node - 1 ≡ n = omega (arith, is) in
-        let does = subst (λ (k : ℕ). Acts k (takes (Opened port 0)) old.nodes new) low hears.acts in
+        let does = subst (λ (k : ℕ). NodeDoesCall k (takes (Opened port 0)) old.nodes new) low hears.acts in
         let d = does m.group s.nodes in
         let found : slice_get new.nodes n ≡ Some has.core = sym (ap (node_of new.nodes) is) ∙ has.stands in
         let stands = ap (λ (l : List CoreState). slice_get l n) d.stands.nodes ∙ get_mapped (λ (c : CountedCore). c.core) new.nodes n has.core found in

@@ -16,7 +16,7 @@ use Rattle.headline.specs.world_base.declared.item.Item.{Item}
 use Rattle.headline.specs.world_base.declared.item.Item.TheVariants.{Peer}
 use Rattle.headline.specs.world_base.declared.Port.{Port}
 use Rattle.headline.proofs.of_world_base.Calmly.{hands_over_waits, nothing_handed, step_waits}
-use Rattle.escaping_nodes.specs.world_nodes.ExactSteps.{Comes, GivesExactly, HeardByMaster, TakesExactly}
+use Rattle.escaping_nodes.specs.world_nodes.ExactSteps.{MessageArrives, GivesExactly, HeardByMaster, TakesExactly}
 use Rattle.escaping_nodes.specs.world_nodes.Running.{node_of, running, unless_stopped}
 use Rattle.escaping_nodes.specs.world_nodes.Nodes.{NodesState}
 use Rattle.escaping_nodes.specs.world_nodes.Quiet.{ComesUnheeded, IsUnheeded, RestsAt, WaitsAtNone}
@@ -111,7 +111,7 @@ unheeded from (Commit b held) old new none hears = hears
 nobody_holds : (n : NodesState) → HoldsNothing 0 n
 nobody_holds n = λ core there. absurd (none-some core there)
 
-pub message_quiet : (o : Option (ℕ × Message Command)) (receiver : ℕ) (old between new : NodesState) → receiver ≡ receiver_of o → ComesQuietly o old → (ComesUnheeded o old → Comes o old between)
+pub message_quiet : (o : Option (ℕ × Message Command)) (receiver : ℕ) (old between new : NodesState) → receiver ≡ receiver_of o → ComesQuietly o old → (ComesUnheeded o old → MessageArrives o old between)
     → StaysQuiet receiver between new → new.losses ≡ old.losses
 message_quiet None receiver old between new is quiet comes stays = absurd quiet
 message_quiet (Some (zero, message)) receiver old between new is quiet comes stays =

@@ -6,7 +6,7 @@ use Rattle.headline.specs.broker_spec.declared.command.Command.{Command}
 use Rattle.escaping_client.specs.client_base.Steps.{Call}
 use Rattle.escaping_client.specs.client_base.declared.error.ClientError.TheVariants as errors
 use Rattle.headline.specs.world_base.declared.item.Item.TheVariants as items
-use Rattle.escaping_nodes.specs.world_nodes.ExactSteps.{Comes, CutsExactly, TakesExactly, after_giving}
+use Rattle.escaping_nodes.specs.world_nodes.ExactSteps.{MessageArrives, CutsExactly, TakesExactly, after_giving}
 use Rattle.escaping_nodes.specs.world_nodes.Nodes.{NodesState}
 use Rattle.escaping_nodes.specs.world_nodes.Steps.{ComesIn, CutsIn, ExpelsIn, GivesIn}
 use Rattle.world_events.specs.world_pipes.Piped.{CarriesDown, Piped}
@@ -25,7 +25,7 @@ Assigns false config old new = GivesIn config old new
 
 -- a message comes to its receiver, a node or the master, exactly or perhaps with losses
 abbrev pub Delivers : Bool → Option (ℕ × Message Command) → NodesState → NodesState → Type 0
-Delivers true message old new = Comes message old new
+Delivers true message old new = MessageArrives message old new
 Delivers false message old new = ComesIn message old new
 
 -- a node cuts its log, exactly or perhaps with losses

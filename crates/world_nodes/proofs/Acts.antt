@@ -24,7 +24,7 @@ use Rattle.byte_world.specs.NodeCalls.{NodeCallWasSent, recorded_after}
 use Rattle.byte_world.proofs.NodeCallsCarry.{node_calls_carry_their_bytes}
 use Rattle.byte_world.proofs.of_node_group.Placed.{get_mapped, set_mapped}
 use Rattle.world_nodes.specs.Nodes.{NodesState, NodesStandFor}
-use Rattle.world_nodes.specs.ExactSteps.{Acts, after_node_call}
+use Rattle.world_nodes.specs.ExactSteps.{NodeDoesCall, after_node_call}
 use Rattle.world_nodes.specs.Steps.{TakesIn}
 use Rattle.world_nodes.specs.Inside.{RunsAt, TookItem, WasSent}
 
@@ -35,7 +35,7 @@ core_in c = c.core
 
 pub acts : (old : NodesState) (at : ℕ) (node : CountedCore) (node_call : NodeCall) → slice_get old.nodes at ≡ Some node
     → ((g : Group) → NodesStandFor g old → NodeCallWasSent g at node.core node_call)
-    → Acts at node_call old (record (after_node_call at node node_call old) { archive = recorded_after old.archive node.core node_call })
+    → NodeDoesCall at node_call old (record (after_node_call at node node_call old) { archive = recorded_after old.archive node.core node_call })
 acts old at node node_call there sent g s =
     let r = node_calls_carry_their_bytes g at node_call node.core (sent g s) in
     let turn = done node_call node.core in

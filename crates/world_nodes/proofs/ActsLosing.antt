@@ -19,7 +19,7 @@ use Rattle.byte_world.specs.NodeCalls.{NodeCallWasSent}
 use Rattle.byte_world.proofs.of_node_group.Placed.{get_mapped, set_mapped}
 use Rattle.byte_world.proofs.of_node_group.Recorded.{records_none, records_to}
 use Rattle.world_nodes.specs.Nodes.{NodesState, NodesStandFor}
-use Rattle.world_nodes.specs.ExactSteps.{Acts}
+use Rattle.world_nodes.specs.ExactSteps.{NodeDoesCall}
 use Rattle.world_nodes.specs.Inside.{RunsAt, TookItem, WasSent}
 use Rattle.world_nodes.specs.Steps.{recorded_if_cut}
 use Rattle.world_nodes.proofs.Acts.{after_turn_of, after_turn_with, core_in, node_call_sent}
@@ -35,7 +35,7 @@ run_of {core = core} {new = new} {item = item} t = losses_are_moves item core.co
 -- a node that took an item in, whether memory sufficed or not; the record has what the moves of its step add
 loses_so : (old : NodesState) (at : ℕ) (core new : CountedCore) (item : Item) (more : List (ℕ × Message Command)) (archive : List Command) (whole : Bool) (losses : ℕ)
     → slice_get old.nodes at ≡ Some core → (t : TookItem core item new old.sent more whole) → ((g : Group) → NodesStandFor g old → WereSent g at (heard_with item))
-    → recorded_in old.archive (run_of t).run ≡ archive → Acts at (takes item) old (after_turn_with at new more archive losses old)
+    → recorded_in old.archive (run_of t).run ≡ archive → NodeDoesCall at (takes item) old (after_turn_with at new more archive losses old)
 loses_so old at core new item more archive whole losses there t sent records g s =
     let by = run_of t in
     let found : slice_get g.nodes at ≡ Some core.core = ap (λ (l : List CoreState). slice_get l at) s.nodes ∙ get_mapped core_in old.nodes at core there in
@@ -77,10 +77,10 @@ no_cut node Cut sent was = absurd was
 no_cut node Crash sent was = refl
 
 pub turn_loses : (old : NodesState) (node at : ℕ) (x : RunsAt old.nodes node at) (new : CountedCore) (item : Item) (more : List (ℕ × Message Command)) (whole : Bool) (losses : ℕ)
-    → TookItem x.core item new old.sent more whole → WasSent node item old.sent → Acts (node - 1) (takes item) old (after_turn_of at new more losses old)
+    → TookItem x.core item new old.sent more whole → WasSent node item old.sent → NodeDoesCall (node - 1) (takes item) old (after_turn_of at new more losses old)
 turn_loses old node at x new item more whole losses t sent =
     let by = run_of t in
-    subst (λ (k : ℕ). Acts k (takes item) old (after_turn_of at new more losses old)) x.index
+    subst (λ (k : ℕ). NodeDoesCall k (takes item) old (after_turn_of at new more losses old)) x.index
     (loses_so old at x.core new item more old.archive whole losses x.stands t
     (λ g s. were_sent g at x.core.core item (node_call_sent old node at x.core.core item x.index x.positive sent g s))
     (records_none old.archive by.run (by.cuts (no_cut node item old.sent sent))))
@@ -89,7 +89,7 @@ turn_loses old node at x new item more whole losses t sent =
 
 pub cut_loses : (old : NodesState) (at : ℕ) (core new : CountedCore) (more : List (ℕ × Message Command)) (archive : List Command) (whole : Bool) (losses : ℕ)
     → slice_get old.nodes at ≡ Some core → TookItem core Cut new old.sent more whole → archive ≡ recorded_if_cut old.archive core new
-    → Acts at (takes Cut) old (after_turn_with at new more archive losses old)
+    → NodeDoesCall at (takes Cut) old (after_turn_with at new more archive losses old)
 cut_loses old at core new more archive whole losses there t is =
     let by = run_of t in
     loses_so old at core new Cut more archive whole losses there t (λ g s. tt) (records_to old.archive by.run by.first by.hears ∙ sym is)

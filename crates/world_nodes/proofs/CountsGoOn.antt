@@ -12,7 +12,7 @@ use Rattle.byte_world.proofs.of_node_group.GroupsArePasts.{goes_on, groups_are_p
 use Rattle.master.specs.Inside.{HasCounted, ToldIn}
 use Rattle.master.proofs.Groups.{front_of}
 use Rattle.world_nodes.specs.Nodes.{NodesState, NodesStandFor}
-use Rattle.world_nodes.specs.ExactSteps.{Acts}
+use Rattle.world_nodes.specs.ExactSteps.{NodeDoesCall}
 use Rattle.world_nodes.specs.Inside.{HaveCounted}
 
 abbrev pub Sent : Type 0
@@ -41,7 +41,7 @@ loses_counting n losses told next c =
     record { group = c.group; stands = record { master = c.stands.master; nodes = c.stands.nodes; archive = c.stands.archive; sent = c.stands.sent }; counts = c.counts }
 
 -- a node does something, and what it acknowledged is counted
-pub acts_counting : (old new : NodesState) (at : ℕ) (node_call : NodeCall) (told next told' next' : ToldIn) → HaveCounted old told next → Acts at node_call old new
+pub acts_counting : (old new : NodesState) (at : ℕ) (node_call : NodeCall) (told next told' next' : ToldIn) → HaveCounted old told next → NodeDoesCall at node_call old new
     → new.master ≡ old.master → told'.ballot ≡ told.ballot → next'.ballot ≡ next.ballot
     → (HasCounted old.sent told → HasCounted new.sent told') → (HasCounted old.sent next → HasCounted new.sent next') → HaveCounted new told' next'
 acts_counting old new at node_call told next told' next' c acts same one two counts counts_next =

@@ -6,7 +6,7 @@ use Rattle.master.specs.declared.event.Idle.{Idle}
 use Rattle.byte_world.specs.world_base.declared.item.Item.TheVariants.{Expel}
 use Rattle.byte_world.specs.node_moves.Moves.NodeCall.{takes}
 use Rattle.world_nodes.specs.Nodes.{NodesState}
-use Rattle.world_nodes.specs.ExactSteps.{Acts, TakesExactly}
+use Rattle.world_nodes.specs.ExactSteps.{NodeDoesCall, TakesExactly}
 use Rattle.world_nodes.specs.Steps.{ExpelsIn, LosesNothing, TakesIn, nodes_with_loss}
 use Rattle.world_nodes.specs.GroupSteps.{ActsOrRests}
 use Rattle.world_nodes.proofs.Exactly.{exactly}
@@ -28,7 +28,7 @@ pub proposes_on : {X : Type 0} (r : Result X Idle) (client : Client) (node : ℕ
 proposes_on (Ok x) client node old new expels none = expels_exactly client node old new expels none
 proposes_on (Err e) client node old new expels none = tt
 
-pub may_expel_on : {X : Type 0} (r : Result X Idle) (client copy : Client) (node : ℕ) (old new : NodesState) → copy ≡ client → OnOk r (Acts (node - 1) (takes (Expel copy)) old new)
+pub may_expel_on : {X : Type 0} (r : Result X Idle) (client copy : Client) (node : ℕ) (old new : NodesState) → copy ≡ client → OnOk r (NodeDoesCall (node - 1) (takes (Expel copy)) old new)
     → OnOk r (ActsOrRests (node - 1) (takes (Expel client)) old new)
-may_expel_on (Ok x) client copy node old new same acts = inl (subst (λ (z : Client). Acts (node - 1) (takes (Expel z)) old new) same acts)
+may_expel_on (Ok x) client copy node old new same acts = inl (subst (λ (z : Client). NodeDoesCall (node - 1) (takes (Expel z)) old new) same acts)
 may_expel_on (Err e) client copy node old new same acts = tt

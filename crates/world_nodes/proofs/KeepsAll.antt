@@ -11,7 +11,7 @@ use Rattle.master.specs.snapshots.World.{messages}
 use Rattle.master.proofs.of_snapshots.Effects.{messages-append}
 use Rattle.byte_world.specs.broker_spec.declared.command.Command.{Command}
 use Rattle.byte_world.specs.broker_spec.declared.command.Output.{Output}
-use Rattle.world_nodes.specs.Inside.{Keeps}
+use Rattle.world_nodes.specs.Inside.{KeepsMessages}
 
 abbrev Given : Type 0
 Given = List (Effect Command Output)
@@ -27,15 +27,15 @@ thinned_join (loses one) more = loses (thinned_join one more)
 pub thinned_same : (e : Effect Command Output) → Thinned (e ∷ []) (e ∷ [])
 thinned_same e = keeps none
 
-pub keeps_none : (sent : Sent) → Keeps [] sent sent true
+pub keeps_none : (sent : Sent) → KeepsMessages [] sent sent true
 keeps_none sent = record { kept = []; thinned = none; exact = λ e. refl; nothing = λ e. refl; is = sym (append-nil sent) }
 
 one_more_given : (given : Given) (e : Effect Command Output) → given ++ e ∷ [] ≡ [] → ⊥
 one_more_given [] e is = cc
 one_more_given (d ∷ given) e is = cc
 
-pub keeps_kept : (given : Given) (sent more later : Sent) (whole : Bool) (e : Effect Command Output) → Keeps given sent more whole
-    → later ≡ more ++ messages (e ∷ []) → Keeps (given ++ e ∷ []) sent later whole
+pub keeps_kept : (given : Given) (sent more later : Sent) (whole : Bool) (e : Effect Command Output) → KeepsMessages given sent more whole
+    → later ≡ more ++ messages (e ∷ []) → KeepsMessages (given ++ e ∷ []) sent later whole
 keeps_kept given sent more later whole e k is =
     record {
       kept = k.kept ++ e ∷ [];
@@ -46,8 +46,8 @@ keeps_kept given sent more later whole e k is =
           ∙ ap (λ (l : Sent). sent ++ l) (sym (messages-append k.kept (e ∷ [])));
     }
 
-pub keeps_lost : (given : Given) (sent more later : Sent) (whole : Bool) (e : Effect Command Output) → Keeps given sent more whole
-    → later ≡ more → Thinned [] (e ∷ []) → Keeps (given ++ e ∷ []) sent later false
+pub keeps_lost : (given : Given) (sent more later : Sent) (whole : Bool) (e : Effect Command Output) → KeepsMessages given sent more whole
+    → later ≡ more → Thinned [] (e ∷ []) → KeepsMessages (given ++ e ∷ []) sent later false
 keeps_lost given sent more later whole e k is lost =
     record {
       kept = k.kept;

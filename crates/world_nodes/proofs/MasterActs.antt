@@ -20,7 +20,7 @@ use Rattle.byte_world.specs.node_group.Steps.{GroupStep, after_assign}
 use Rattle.byte_world.specs.node_group.Steps.GroupStep.{master_assigns, master_hears, assigns_unheard, answers_unheard}
 use Rattle.byte_world.specs.Steps.{DoesCall, IsFaithful, node_call_of}
 use Rattle.world_nodes.specs.Nodes.{NodesState, NodesStandFor}
-use Rattle.world_nodes.specs.ExactSteps.{Acts, Comes, GoesBy, HeardByMaster, after_answer, after_giving}
+use Rattle.world_nodes.specs.ExactSteps.{NodeDoesCall, MessageArrives, GoesBy, HeardByMaster, after_answer, after_giving}
 use Rattle.world_nodes.specs.Steps.{ComesIn, GivesIn, HearsIn, LosesNothing, TakesIn, nodes_with_loss, unheard}
 use Rattle.world_nodes.specs.GroupSteps.{ActsOrRests, ComesOrRests, MasterGoes, MasterHears}
 use Rattle.master.specs.Inside.{asks_for}
@@ -303,7 +303,7 @@ came_to_node o (suc at, message) m old new found positive same took =
     (subst (λ (z : Message Command). TakesIn (suc at) (Peer z) old new ⊎ (new ≡ nodes_with_loss old)) same took)
 
 -- if nothing is counted it came
-pub comes_exactly : (o : Option (ℕ × Message Command)) (old new : NodesState) → ComesIn o old new → LosesNothing old new → Comes o old new
+pub comes_exactly : (o : Option (ℕ × Message Command)) (old new : NodesState) → ComesIn o old new → LosesNothing old new → MessageArrives o old new
 comes_exactly None old new came none = came
 comes_exactly (Some (zero, message)) old new came none = heard_exactly message.from message.body old new came none
 comes_exactly (Some (suc at, message)) old new (inl took) none = exactly (suc at) (Peer message) old new took none
@@ -316,12 +316,12 @@ came_on (Ok y) o x m old new found positive same took = came_to_node o x m old n
 came_on (Err e) o x m old new found positive same took = tt
 
 pub may_come_on : {X : Type 0} (r : Result X Idle) (o : Option (ℕ × Message Command)) (x : ℕ × Message Command) (m : Message Command) (old new : NodesState) → o ≡ Some x
-    → (x.0 ≡ 0 → ⊥) → m ≡ x.1 → OnOk r (Acts (x.0 - 1) (takes (Peer m)) old new) → OnOk r (ComesOrRests o old new)
+    → (x.0 ≡ 0 → ⊥) → m ≡ x.1 → OnOk r (NodeDoesCall (x.0 - 1) (takes (Peer m)) old new) → OnOk r (ComesOrRests o old new)
 may_come_on (Ok y) o x m old new found positive same acts = comes_to_node o x m old new found positive same (inl acts)
 may_come_on (Err e) o x m old new found positive same acts = tt
 
 pub comes_on : {X : Type 0} (r : Result X Idle) (o : Option (ℕ × Message Command)) (old new : NodesState) → OnOk r (ComesIn o old new) → LosesNothing old new
-    → OnOk r (Comes o old new)
+    → OnOk r (MessageArrives o old new)
 comes_on (Ok y) o old new came none = comes_exactly o old new came none
 comes_on (Err e) o old new came none = tt
 

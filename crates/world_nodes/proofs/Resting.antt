@@ -31,12 +31,12 @@ use Rattle.byte_world.proofs.of_world_base.Calmly.{says_nothing}
 use Rattle.byte_world.specs.node_group.Group.{moment_of}
 use Rattle.byte_world.specs.node_moves.Moves.NodeCall.{takes}
 use Rattle.world_nodes.specs.Nodes.{NodesState}
-use Rattle.world_nodes.specs.ExactSteps.{Acts, Comes, HeardByMaster, TakesExactly, after_node_call}
+use Rattle.world_nodes.specs.ExactSteps.{NodeDoesCall, MessageArrives, HeardByMaster, TakesExactly, after_node_call}
 use Rattle.world_nodes.specs.Running.{running}
 use Rattle.world_nodes.specs.Quiet.{ComesUnheeded, IsUnheeded, RestsAt}
 use Rattle.world_nodes.specs.Steps.{ComesIn, LosesNothing, TakesIn}
 use Rattle.world_nodes.specs.GroupSteps.{ActsOrRests, ComesOrRests}
-use Rattle.world_nodes.specs.Inside.{HaveCounted, IsPassedOver, Keeps, RunsAt, TookItem}
+use Rattle.world_nodes.specs.Inside.{HaveCounted, IsPassedOver, KeepsMessages, RunsAt, TookItem}
 use Rattle.world_nodes.proofs.Acts.{after_turn_of, not_one_more, same_core, took_by, whole_turn}
 use Rattle.world_nodes.proofs.Exactly.{exactly}
 
@@ -48,7 +48,7 @@ both_true true false e = absurd cc
 both_true false b e = absurd cc
 
 pub took_in : (old : CountedCore) (item : Item) (new : CountedCore) (effects : List (Effect Command Output)) (sent more : List (ℕ × Message Command)) (before after : ℕ) (kept whole : Bool)
-    → NodeStepped old item new [] effects → Keeps effects sent more kept → before ≡ old.losses → after ≡ new.losses → (whole ≡ true → (after ≡ before) × (before < 2 ^ 64 - 1))
+    → NodeStepped old item new [] effects → KeepsMessages effects sent more kept → before ≡ old.losses → after ≡ new.losses → (whole ≡ true → (after ≡ before) × (before < 2 ^ 64 - 1))
     → (after ≡ before → before < 2 ^ 64 - 1 → whole ≡ true) → TookItem old item new sent more (kept && whole)
 took_in old item new effects sent more before after kept whole s k was is told so =
     record {
@@ -136,17 +136,17 @@ passes at number old new p took =
     subst (λ (o : Option (ℕ × Message Command)). ComesIn o old new) (sym p.sent)
     (positive_node (λ (n : ℕ). TakesIn n (Peer p.message) old new → ComesIn (Some (n, p.message)) old new) p.node p.runs.positive (λ k t. inl t) took)
 
-pub passes_exactly : (at number : ℕ) (old new : NodesState) (p : IsPassedOver at number old) → TakesExactly p.node (Peer p.message) old new → Comes (slice_get old.sent number) old new
+pub passes_exactly : (at number : ℕ) (old new : NodesState) (p : IsPassedOver at number old) → TakesExactly p.node (Peer p.message) old new → MessageArrives (slice_get old.sent number) old new
 passes_exactly at number old new p took =
-    subst (λ (o : Option (ℕ × Message Command)). Comes o old new) (sym p.sent)
-    (positive_node (λ (n : ℕ). TakesExactly n (Peer p.message) old new → Comes (Some (n, p.message)) old new) p.node p.runs.positive (λ k t. t) took)
+    subst (λ (o : Option (ℕ × Message Command)). MessageArrives o old new) (sym p.sent)
+    (positive_node (λ (n : ℕ). TakesExactly n (Peer p.message) old new → MessageArrives (Some (n, p.message)) old new) p.node p.runs.positive (λ k t. t) took)
 
-pub passes_acting : (at number : ℕ) (old new : NodesState) (p : IsPassedOver at number old) → Acts (p.node - 1) (takes (Peer p.message)) old new
+pub passes_acting : (at number : ℕ) (old new : NodesState) (p : IsPassedOver at number old) → NodeDoesCall (p.node - 1) (takes (Peer p.message)) old new
     → ComesOrRests (slice_get old.sent number) old new
 passes_acting at number old new p acts =
     subst (λ (o : Option (ℕ × Message Command)). ComesOrRests o old new) (sym p.sent)
-    (positive_node (λ (n : ℕ). Acts (n - 1) (takes (Peer p.message)) old new → ComesOrRests (Some (n, p.message)) old new) p.node p.runs.positive
-    (λ k a. inl (subst (λ (i : ℕ). Acts i (takes (Peer p.message)) old new) (let e : suc k - 1 ≡ k = omega arith in e) a)) acts)
+    (positive_node (λ (n : ℕ). NodeDoesCall (n - 1) (takes (Peer p.message)) old new → ComesOrRests (Some (n, p.message)) old new) p.node p.runs.positive
+    (λ k a. inl (subst (λ (i : ℕ). NodeDoesCall i (takes (Peer p.message)) old new) (let e : suc k - 1 ≡ k = omega arith in e) a)) acts)
 
 pub passes_at_rest : (at number : ℕ) (old : NodesState) (p : IsPassedOver at number old) → ComesUnheeded (slice_get old.sent number) old → RestsAt p.node (Peer p.message) old
 passes_at_rest at number old p rests =
@@ -228,9 +228,9 @@ not_asked from (Activate b) old none = cc
 not_asked from body old none = refl
 
 pub unasked : (old : NodesState) (number : ℕ) (found : ℕ × Message Command) → slice_get old.sent number ≡ Some found → found.0 ≡ 0 → asks_for found.1.body ≡ None
-    → Comes (slice_get old.sent number) old old
+    → MessageArrives (slice_get old.sent number) old old
 unasked old number (zero, message) there is asks =
-    subst (λ (o : Option (ℕ × Message Command)). Comes o old old) (sym there) (not_asked message.from message.body old asks)
+    subst (λ (o : Option (ℕ × Message Command)). MessageArrives o old old) (sym there) (not_asked message.from message.body old asks)
 unasked old number (suc k, message) there is asks = cc
 
 -- one that has only numbers is copied

@@ -60,8 +60,9 @@ pub record GoesBy (node_call : Option (ℕ × NodeCall)) (g : Group) (new : Node
   pub stands : NodesStandFor does.after new
 
 -- each group that corresponds to the nodes before does so: the node at this index does this call
-abbrev pub Acts : ℕ → NodeCall → NodesState → NodesState → Type 0
-Acts at node_call old new = (g : Group) → NodesStandFor g old → GoesBy (Some (at, node_call)) g new
+abbrev pub NodeDoesCall : ℕ → NodeCall → NodesState → NodesState → Type 0
+NodeDoesCall at node_call old new =
+    (g : Group) → NodesStandFor g old → GoesBy (Some (at, node_call)) g new
 
 -- ---- what is handed over
 
@@ -104,10 +105,10 @@ HeardByMaster from (Activate ballot) old new = new ≡ after_answer from ballot 
 HeardByMaster from _ old new = new ≡ old
 
 -- a message that was sent reaches the master, or a node, which takes just it
-abbrev pub Comes : Option (ℕ × Message Command) → NodesState → NodesState → Type 0
-Comes None old new = ⊥
-Comes (Some (zero, message)) old new = HeardByMaster message.from message.body old new
-Comes (Some (suc at, message)) old new = TakesExactly (suc at) (Peer message) old new
+abbrev pub MessageArrives : Option (ℕ × Message Command) → NodesState → NodesState → Type 0
+MessageArrives None old new = ⊥
+MessageArrives (Some (zero, message)) old new = HeardByMaster message.from message.body old new
+MessageArrives (Some (suc at, message)) old new = TakesExactly (suc at) (Peer message) old new
 
 -- a message reaches no node: none was sent, or its receiver is unknown or has stopped
 abbrev pub ComesToNobody : Option (ℕ × Message Command) → NodesState → Type 0

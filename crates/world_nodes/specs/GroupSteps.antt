@@ -9,13 +9,13 @@ use Rattle.byte_world.specs.world_base.declared.item.Item.TheVariants.{Peer}
 use Rattle.byte_world.specs.node_moves.Moves.{NodeCall}
 use Rattle.byte_world.specs.node_moves.Moves.NodeCall.{takes}
 use Rattle.byte_world.specs.node_group.Group.{Group}
-use Rattle.world_nodes.specs.ExactSteps.{Acts, GoesBy}
+use Rattle.world_nodes.specs.ExactSteps.{NodeDoesCall, GoesBy}
 use Rattle.world_nodes.specs.Nodes.{NodesState, NodesStandFor}
 use Rattle.world_nodes.specs.Steps.{nodes_with_loss}
 
 -- by a call of the node at this index; or nothing happened
 abbrev pub ActsOrRests : ℕ → NodeCall → NodesState → NodesState → Type 0
-ActsOrRests at node_call old new = Acts at node_call old new ⊎ (new ≡ nodes_with_loss old)
+ActsOrRests at node_call old new = NodeDoesCall at node_call old new ⊎ (new ≡ nodes_with_loss old)
 
 -- by a step of the master, whose message may be lost; or nothing happened
 abbrev pub MasterGoes : NodesState → NodesState → Type 0

@@ -23,8 +23,8 @@ use Rattle.world_nodes.specs.Running.{running}
 use Rattle.world_nodes.specs.Nodes.{NodesState, NodesStandFor, cores_of}
 
 -- messages were kept after those that were sent, except some that were lost
-pub record Keeps (given : List (Effect Command Output)) (sent more : List (ℕ × Message Command))
-    (whole : Bool) : Type 0 where
+pub record KeepsMessages (given : List (Effect Command Output))
+    (sent more : List (ℕ × Message Command)) (whole : Bool) : Type 0 where
   pub kept : List (Effect Command Output)
   pub thinned : Thinned kept given
   pub exact : whole ≡ true → kept ≡ given

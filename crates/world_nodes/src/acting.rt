@@ -7,7 +7,7 @@ ghost use Rattle.master.specs.ballot.Losses.{one_more};
 ghost use Rattle.master.specs.lists.Lists.{In};
 ghost use Rattle.master.specs.agreement.MasterState.{refusal};
 ghost use Rattle.byte_world.specs.node_moves.Moves.NodeCall.{takes};
-ghost use Rattle.world_nodes.specs.ExactSteps.{Acts, Comes, CutsExactly, TakesExactly};
+ghost use Rattle.world_nodes.specs.ExactSteps.{NodeDoesCall, MessageArrives, CutsExactly, TakesExactly};
 ghost use Rattle.world_nodes.specs.Running.{running};
 ghost use Rattle.world_nodes.specs.Quiet.{ComesUnheeded, RestsAt};
 ghost use Rattle.world_nodes.specs.Steps.{ComesIn, CutsIn, GivesIn, HearsIn, LosesNothing, TakesIn, nodes_with_loss};
@@ -27,7 +27,7 @@ impl Nodes {
         ensures lossy { OnOk result (TakesIn node item self.old self.new) }
         ensures exact { LosesNothing self.old self.new →
             OnOk result (TakesExactly node item self.old self.new) }
-        ensures acts { OnOk result (Acts (node - 1) (takes item) self.old self.new) }
+        ensures acts { OnOk result (NodeDoesCall (node - 1) (takes item) self.old self.new) }
         ensures quiet { RestsAt node item self.old →
             OnOk result (TakesExactly node item self.old self.new) }
         ensures rises { self.old.losses ≤ self.new.losses }
@@ -51,10 +51,10 @@ impl Nodes {
         requires { IsPassedOver at number self.old }
         ensures lossy { ComesIn (slice_get self.old.sent number) self.old self.new }
         ensures exact { LosesNothing self.old self.new →
-            Comes (slice_get self.old.sent number) self.old self.new }
+            MessageArrives (slice_get self.old.sent number) self.old self.new }
         ensures acts { ComesOrRests (slice_get self.old.sent number) self.old self.new }
         ensures quiet { ComesUnheeded (slice_get self.old.sent number) self.old →
-            Comes (slice_get self.old.sent number) self.old self.new }
+            MessageArrives (slice_get self.old.sent number) self.old self.new }
         ensures rises { self.old.losses ≤ self.new.losses }
     {
         let core = &mut self.nodes[at];

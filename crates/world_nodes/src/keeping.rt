@@ -4,7 +4,7 @@ ghost use Rattle.std.specs.Prelude.{◌≡◌, ◌++◌, ◌∷◌, []};
 ghost use Rattle.std.specs.Bool.{OnTrue, OnFalse};
 ghost use Rattle.master.specs.snapshots.World.{messages};
 ghost use Rattle.master.specs.ballot.Losses.{Thinned};
-ghost use Rattle.world_nodes.specs.Inside.{Keeps};
+ghost use Rattle.world_nodes.specs.Inside.{KeepsMessages};
 
 use world_base::{Command, Effect, Message, Output};
 
@@ -14,7 +14,7 @@ pub fn keep_all(
     effects: Vec<Effect<Command, Output>>,
     sent: &mut Vec<(u8, Message<Command>)>,
 ) -> bool
-    ensures { Keeps effects.items sent.old.items sent.new.items result }
+    ensures { KeepsMessages effects.items sent.old.items sent.new.items result }
 {
     let mut whole = true;
     for effect in effects {

@@ -7,7 +7,7 @@ ghost use Rattle.master.specs.agreement.World.{can_open};
 ghost use Rattle.byte_world.specs.node_group.Group.{Group, opening_group};
 ghost use Rattle.byte_world.specs.node_moves.Moves.NodeCall.{takes};
 ghost use Rattle.world_nodes.specs.Nodes.{NodesState, NodesStandFor};
-ghost use Rattle.world_nodes.specs.ExactSteps.{Acts, AnswersFor, Comes, ComesToNobody, CutsExactly, GivesExactly, HandsOver, TakesExactly, after_giving};
+ghost use Rattle.world_nodes.specs.ExactSteps.{NodeDoesCall, AnswersFor, MessageArrives, ComesToNobody, CutsExactly, GivesExactly, HandsOver, TakesExactly, after_giving};
 ghost use Rattle.world_nodes.specs.Running.{cutting, is_running, node_of, proposing, running};
 ghost use Rattle.world_nodes.specs.Quiet.{ComesUnheeded, RestsAt, WaitsAtNone};
 ghost use Rattle.world_nodes.specs.Steps.{ComesIn, CutsIn, ExpelsIn, GivesIn, LosesNothing, TakesIn};
@@ -132,11 +132,11 @@ impl Nodes {
     pub fn deliver(&mut self, number: u64) -> Result<(), Idle>
         ensures lossy { OnOk result (ComesIn (slice_get self.old.sent number) self.old self.new) }
         ensures exact { LosesNothing self.old self.new →
-            OnOk result (Comes (slice_get self.old.sent number) self.old self.new) }
+            OnOk result (MessageArrives (slice_get self.old.sent number) self.old self.new) }
         ensures acts { OnOk result
             (ComesOrRests (slice_get self.old.sent number) self.old self.new) }
         ensures quiet { ComesUnheeded (slice_get self.old.sent number) self.old →
-            OnOk result (Comes (slice_get self.old.sent number) self.old self.new) }
+            OnOk result (MessageArrives (slice_get self.old.sent number) self.old self.new) }
         ensures rises { self.old.losses ≤ self.new.losses }
         ensures idle { IsErr result ↔ ComesToNobody (slice_get self.old.sent number) self.old }
         ensures same { OnErr result (self.new ≡ self.old) }
@@ -172,7 +172,8 @@ impl Nodes {
         ensures lossy { OnOk result (TakesIn node (Item.Tick 0) self.old self.new) }
         ensures exact { LosesNothing self.old self.new →
             OnOk result (TakesExactly node (Item.Tick 0) self.old self.new) }
-        ensures acts { OnOk result (Acts (node - 1) (takes (Item.Tick 0)) self.old self.new) }
+        ensures acts { OnOk result
+            (NodeDoesCall (node - 1) (takes (Item.Tick 0)) self.old self.new) }
         ensures quiet { RestsAt node (Item.Tick 0) self.old →
             OnOk result (TakesExactly node (Item.Tick 0) self.old self.new) }
         ensures rises { self.old.losses ≤ self.new.losses }
@@ -235,7 +236,7 @@ impl Nodes {
         ensures lossy { OnOk result (TakesIn node Item.Crash self.old self.new) }
         ensures exact { LosesNothing self.old self.new →
             OnOk result (TakesExactly node Item.Crash self.old self.new) }
-        ensures acts { OnOk result (Acts (node - 1) (takes Item.Crash) self.old self.new) }
+        ensures acts { OnOk result (NodeDoesCall (node - 1) (takes Item.Crash) self.old self.new) }
         ensures quiet { RestsAt node Item.Crash self.old →
             OnOk result (TakesExactly node Item.Crash self.old self.new) }
         ensures rises { self.old.losses ≤ self.new.losses }
@@ -251,7 +252,7 @@ impl Nodes {
         ensures exact { LosesNothing self.old self.new →
             OnOk result (TakesExactly node (Item.Opened port now) self.old self.new) }
         ensures acts { OnOk result
-            (Acts (node - 1) (takes (Item.Opened port now)) self.old self.new) }
+            (NodeDoesCall (node - 1) (takes (Item.Opened port now)) self.old self.new) }
         ensures quiet { RestsAt node (Item.Opened port now) self.old →
             OnOk result (TakesExactly node (Item.Opened port now) self.old self.new) }
         ensures rises { self.old.losses ≤ self.new.losses }
@@ -267,7 +268,7 @@ impl Nodes {
         ensures exact { LosesNothing self.old self.new →
             OnOk result (TakesExactly node (Item.Bytes port piece 0) self.old self.new) }
         ensures acts { OnOk result
-            (Acts (node - 1) (takes (Item.Bytes port piece 0)) self.old self.new) }
+            (NodeDoesCall (node - 1) (takes (Item.Bytes port piece 0)) self.old self.new) }
         ensures quiet { RestsAt node (Item.Bytes port piece 0) self.old →
             OnOk result (TakesExactly node (Item.Bytes port piece 0) self.old self.new) }
         ensures rises { self.old.losses ≤ self.new.losses }
@@ -282,7 +283,8 @@ impl Nodes {
         ensures lossy { OnOk result (TakesIn node (Item.Ended port) self.old self.new) }
         ensures exact { LosesNothing self.old self.new →
             OnOk result (TakesExactly node (Item.Ended port) self.old self.new) }
-        ensures acts { OnOk result (Acts (node - 1) (takes (Item.Ended port)) self.old self.new) }
+        ensures acts { OnOk result
+            (NodeDoesCall (node - 1) (takes (Item.Ended port)) self.old self.new) }
         ensures quiet { RestsAt node (Item.Ended port) self.old →
             OnOk result (TakesExactly node (Item.Ended port) self.old self.new) }
         ensures rises { self.old.losses ≤ self.new.losses }

@@ -3,7 +3,7 @@ use Rattle.std.specs.Prelude.{◌≡◌, ◌⊎◌, ◌-◌, ◌==◌, ◌&&◌,
 use Rattle.headline.specs.world_base.declared.Port.{Port}
 use Rattle.headline.specs.world_base.declared.item.Item.TheVariants.{Bytes}
 use Rattle.headline.specs.node_moves.Moves.NodeCall.{takes}
-use Rattle.escaping_nodes.specs.world_nodes.ExactSteps.{Acts}
+use Rattle.escaping_nodes.specs.world_nodes.ExactSteps.{NodeDoesCall}
 use Rattle.escaping_nodes.specs.world_nodes.Running.{running}
 use Rattle.escaping_nodes.specs.world_nodes.Nodes.{NodesState}
 use Rattle.escaping_nodes.specs.world_nodes.Steps.{TakesIn}
@@ -29,7 +29,7 @@ pub record CarriesUp (slot : ConnectionSlot) (port : Port) (count : ℕ) (old : 
   pub part : count ≤ length way.up
   pub runs : running old.nodes slot.node ≡ None → ⊥
   pub step : TakesIn slot.node (Bytes port (take count way.up) 0) old new
-  pub acts : Acts (slot.node - 1) (takes (Bytes port (take count way.up) 0)) old new
+  pub acts : NodeDoesCall (slot.node - 1) (takes (Bytes port (take count way.up) 0)) old new
   pub is : later ≡ with_less slot.at count way client
 
 -- that many bytes wait, and the node runs

@@ -8,7 +8,7 @@ use Rattle.headline.specs.world_base.Handing.{listed_at}
 use Rattle.headline.specs.world_base.declared.Port.{Port}
 use Rattle.headline.specs.world_base.declared.item.Item.TheVariants.{Opened}
 use Rattle.headline.specs.node_moves.Moves.NodeCall.{takes}
-use Rattle.escaping_nodes.specs.world_nodes.ExactSteps.{Acts}
+use Rattle.escaping_nodes.specs.world_nodes.ExactSteps.{NodeDoesCall}
 use Rattle.escaping_nodes.specs.world_nodes.Running.{node_of}
 use Rattle.escaping_nodes.specs.world_nodes.Nodes.{NodesState}
 use Rattle.escaping_nodes.specs.world_nodes.Steps.{LosesNothing as NodesLoseNothing, TakesIn}
@@ -29,7 +29,7 @@ pub record IsKnown (has : Bool) (node : ℕ) (port : Port) (n : NodesState) : Ty
 -- a new connection is reported to a node, which then has it or not
 pub record HearsAndHas (has : Bool) (node : ℕ) (port : Port) (old new : NodesState) : Type 0 where
   pub step : TakesIn node (Opened port 0) old new
-  pub acts : Acts (node - 1) (takes (Opened port 0)) old new
+  pub acts : NodeDoesCall (node - 1) (takes (Opened port 0)) old new
   pub known : IsKnown has node port new
 
 -- a new connection is reported to a node, which then has it, or it is not reported

@@ -4,7 +4,7 @@ use Rattle.escaping_nodes.specs.master.declared.event.Idle.{Idle}
 use Rattle.headline.specs.world_base.declared.Handed.{Handed}
 use Rattle.headline.specs.world_base.declared.Port.{Port}
 use Rattle.headline.specs.node_moves.Moves.NodeCall.{gives}
-use Rattle.escaping_nodes.specs.world_nodes.ExactSteps.{Acts, HandsOver}
+use Rattle.escaping_nodes.specs.world_nodes.ExactSteps.{NodeDoesCall, HandsOver}
 use Rattle.escaping_nodes.specs.world_nodes.Running.{node_of}
 use Rattle.escaping_nodes.specs.world_nodes.Nodes.{NodesState}
 use Rattle.escaping_nodes.specs.world_nodes.Steps.{nodes_with_loss}
@@ -44,7 +44,7 @@ PutsDown at node port old client new later is_open =
 abbrev pub MayHandDown : ℕ → Port → NodesState → List ℕ → NodesState → List ℕ → Type 0
 MayHandDown node port old before new after =
     (NodesStay old new × (after ≡ before))
-    ⊎ (Acts (node - 1) (gives port) old new × HandsOver node port old before after)
+    ⊎ (NodeDoesCall (node - 1) (gives port) old new × HandsOver node port old before after)
 
 -- a node may hand down what it queued, after what is in transit on the connection at this index
 abbrev pub MayPutDown : ℕ → ℕ → Port → NodesState → Piped → NodesState → Piped → Type 0
