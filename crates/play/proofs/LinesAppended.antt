@@ -9,10 +9,10 @@ use Rattle.play.specs.Lines.{accepted_line}
 use Rattle.world.specs.world_events.declared.event.Event.{Event}
 use Rattle.world.specs.declared.world.WorldClient.{WorldClient}
 use Rattle.world.specs.Found.{core_at, is_named}
-use Rattle.world.specs.Asking.{IsAsked}
+use Rattle.world.specs.Asking.{EventAsks}
 use Rattle.world.specs.Trace.{StaysReached, KeepsGroup}
 use Rattle.world.specs.Trace.StepsOfGroup.{rests}
-use Rattle.world.specs.Happening.{Happens, new_world_client}
+use Rattle.world.specs.Happening.{EventHappens, new_world_client}
 use Rattle.world.specs.StandsFor.{KeepsReached, FollowsModelAsking, asked_on}
 use Rattle.world.specs.master.declared.event.Idle.{Idle}
 use Rattle.world.specs.World.{WorldState}
@@ -111,8 +111,8 @@ no_event script_line world idle none =
       exact = λ nodes config cs r. (r, sym (append-nil (asked_on r)));
     }
 
-pub happened : (script_line : ScriptLine) (old : WorldState) (event : Event) (result : Result (Unit {0}) Idle) (new : WorldState) → asked_in old script_line ≡ Some event → Happens event old result new
-    → KeepsGroup old new → StaysReached old.nodes new.nodes → (asked : List (ℕ × Publication)) × IsAsked event old result asked new × FollowsModelAsking asked old new × KeepsReached asked old new → Comes script_line old result new
+pub happened : (script_line : ScriptLine) (old : WorldState) (event : Event) (result : Result (Unit {0}) Idle) (new : WorldState) → asked_in old script_line ≡ Some event → EventHappens event old result new
+    → KeepsGroup old new → StaysReached old.nodes new.nodes → (asked : List (ℕ × Publication)) × EventAsks event old result asked new × FollowsModelAsking asked old new × KeepsReached asked old new → Comes script_line old result new
 happened script_line old event result new is happens goes reached asks =
     record {
       comes = subst (λ (o : Option Event). ComesTo o old result new) (sym is) happens;

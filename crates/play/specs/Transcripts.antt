@@ -12,8 +12,8 @@ use Rattle.play.specs.Lines.{accepted_line, done_line, end_line, idle_line}
 use Rattle.world.specs.world_events.declared.event.Event.{Event}
 use Rattle.world.specs.Found.{core_named}
 use Rattle.world.specs.Trace.{AreReached, StaysReached, KeepsGroup}
-use Rattle.world.specs.Happening.{Happens}
-use Rattle.world.specs.Asking.{IsAsked}
+use Rattle.world.specs.Happening.{EventHappens}
+use Rattle.world.specs.Asking.{EventAsks}
 use Rattle.world.specs.StandsFor.{IsReached, KeepsReached, asked_on}
 use Rattle.world.specs.World.{WorldState}
 use Rattle.world.specs.world_nodes.Agreed.{AgreeOnSoMany}
@@ -48,13 +48,13 @@ new_lines (name ∷ names) old new =
 -- the event of a line had this result, as `World::step` says; a line that names no event is idle
 abbrev pub ComesTo : Option Event → WorldState → Result (Unit {0}) Idle → WorldState → Type 0
 ComesTo None old result new = IsErr result × (new ≡ old)
-ComesTo (Some event) old result new = Happens event old result new
+ComesTo (Some event) old result new = EventHappens event old result new
 
 -- what the event of a line asked clients to publish
 abbrev pub IsAskedIn : Option Event → WorldState → Result (Unit {0}) Idle
     → List (ℕ × Publication) → WorldState → Type 0
 IsAskedIn None old result asked new = asked ≡ []
-IsAskedIn (Some event) old result asked new = IsAsked event old result asked new
+IsAskedIn (Some event) old result asked new = EventAsks event old result asked new
 
 -- the line of event `index`: it was idle, or the line counts the messages sent so far and the
 -- agreed commands

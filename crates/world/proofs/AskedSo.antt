@@ -18,10 +18,10 @@ use Rattle.world_events.proofs.of_world_pipes.CallingFollows.{calling_goes}
 use Rattle.world_events.specs.declared.event.Event.{Event}
 use Rattle.world_events.specs.declared.event.Event.TheVariants as events
 use Rattle.world.specs.declared.world.WorldClient.{WorldClient}
-use Rattle.world.specs.Asking.{AskedBy, AsksOne, IsAsked, RunAsks}
+use Rattle.world.specs.Asking.{AskedBy, AsksOne, EventAsks, RunAsks}
 use Rattle.world.specs.Found.{is_named}
-use Rattle.world.specs.Happening.{Happens}
-use Rattle.world.specs.Inside.Calling.{Counts, IsCall, with_loss}
+use Rattle.world.specs.Happening.{EventHappens}
+use Rattle.world.specs.Inside.Calling.{CountsRefusal, IsCall, with_loss}
 use Rattle.world.specs.Inside.Steps.{PublishesAsked, IsTrace, IsTraceAsking, IsCounted}
 use Rattle.world.specs.StandsFor.{KeepsReached, FollowsModelAsking}
 use Rattle.world.specs.World.{WorldState}
@@ -61,7 +61,7 @@ module _ (name : List ℕ) (p : Publication) (old : WorldState) (at : ℕ) (clie
   was_idle (Err idle) err is same = record { asked = []; is = refl; goes = goes_on_rest old new (is ∙ same_piped old at client piped found same) }
 
   pub publish_asked : (done : Result Sending ClientError) (result : Result (Unit {0}) Idle) → IsCall (Call.Publishes p) client.piped done piped
-      → CallingFollows (p ∷ []) client.piped done piped → old.losses ≤ (with_loss old).losses → Counts done between result new → PublishesAsked (events.Publish name p) old result new
+      → CallingFollows (p ∷ []) client.piped done piped → old.losses ≤ (with_loss old).losses → CountsRefusal done between result new → PublishesAsked (events.Publish name p) old result new
   publish_asked (Ok sendings.Sent) (Ok done) calls follows rises counts =
       was_done sendings.Sent old.losses calls counts.1
       (subst (λ (w : WorldState). IsTraceAsking ((at, p) ∷ []) old w) (sym counts.1)
@@ -129,7 +129,7 @@ asked_counted (events.Unsubscribe name filter) old asked mid new before counted 
 -- what a step says about it
 abbrev pub StepAsks : Event → WorldState → Result (Unit {0}) Idle → WorldState → Type 0
 StepAsks event old result new =
-    (asked : List (ℕ × Publication)) × IsAsked event old result asked new × FollowsModelAsking asked old new × KeepsReached asked old new
+    (asked : List (ℕ × Publication)) × EventAsks event old result asked new × FollowsModelAsking asked old new × KeepsReached asked old new
 
 pub step_asks : (event : Event) (old mid new : WorldState) (before counted : ℕ) → counted ≡ old.losses → PublishesAsked event old (Ok tt) mid → IsCounted before counted mid new → IsTrace mid new
     → StepAsks event old (Ok tt) new
@@ -153,14 +153,14 @@ pub none_asked : (old new : WorldState) → new ≡ old → HasAsked [] old new
 none_asked old new same = let goes = world_rests old new same in ([], (refl, same), goes, keeps_reached [] old new goes)
 
 asks_more : (events : List Event) (event : Event) (old mid new : WorldState) (result : Result (Unit {0}) Idle) (asked more : List (ℕ × Publication)) → RunAsks events old asked mid
-    → Happens event mid result new → IsAsked event mid result more new → RunAsks (events ++ event ∷ []) old (asked ++ more) new
+    → EventHappens event mid result new → EventAsks event mid result more new → RunAsks (events ++ event ∷ []) old (asked ++ more) new
 asks_more [] event old mid new result asked more run happens is = (
   new,
   result,
   more,
   [],
-  subst (λ (w : WorldState). Happens event w result new) run.1 happens,
-  subst (λ (w : WorldState). IsAsked event w result more new) run.1 is,
+  subst (λ (w : WorldState). EventHappens event w result new) run.1 happens,
+  subst (λ (w : WorldState). EventAsks event w result more new) run.1 is,
   (refl, refl),
   ap (λ (l : List (ℕ × Publication)). l ++ more) run.0 ∙ sym (append-nil more),
 )
@@ -176,7 +176,7 @@ asks_more (e ∷ es) event old mid new result asked more run happens is = (
 )
 
 pub asked_on_more : (events : List Event) (i : ℕ) (event : Event) (old mid new : WorldState) (result : Result (Unit {0}) Idle) → i < length events → event ≡ get_or events i event
-    → HasAsked (take i events) old mid → Happens event mid result new → StepAsks event mid result new → HasAsked (take (i + 1) events) old new
+    → HasAsked (take i events) old mid → EventHappens event mid result new → StepAsks event mid result new → HasAsked (take (i + 1) events) old new
 asked_on_more events i event old mid new result below is a happens step =
     subst (λ (l : List Event). HasAsked l old new) (sym (take_more events i event below ∙ ap (λ (e : Event). take i events ++ e ∷ []) (sym is)))
     (let goes = asked_goes_join a.0 step.0 old mid new a.2 step.2 in

@@ -32,7 +32,7 @@ use Rattle.world_events.specs.declared.event.Event.TheVariants as events
 use Rattle.world.specs.Found.{is_named, port_of}
 use Rattle.world.specs.Gathering.{Gathers}
 use Rattle.world.specs.Trace.{LosesNothing}
-use Rattle.world.specs.Happening.{Run}
+use Rattle.world.specs.Happening.{EventsHappen}
 use Rattle.world.specs.SlotsAreValid.{SlotsAreValid, leads_of}
 use Rattle.world.specs.World.{WorldState}
 use Rattle.world.proofs.AnswersOut.{answers_alone, answers_with_others}
@@ -107,7 +107,7 @@ module _ (name : List ℕ) (v : WorldState) (i at number place : ℕ) (core : Co
         is = answers_alone name i at number place core (drop count newest.way.up) w f.after o.node positive o.stands up gathers w_housed w_newest w_first config a past came ballot ballot
             (first_of ballot) list connect
             (subst (λ (xs : List ℕ). CanAsk a v.nodes ballot place o.node xs (port_of number) (first_of ballot) list ballot up connect) none asks);
-        rest = subst (λ (xs : List ℕ). Run (map events.Deliver (asked_and_answered (length v.nodes.sent) (length xs)) ++ more) f.after new) none f.rest;
+        rest = subst (λ (xs : List ℕ). EventsHappen (map events.Deliver (asked_and_answered (length v.nodes.sent) (length xs)) ++ more) f.after new) none f.rest;
         whole = f.whole;
       }
   answered f gathers (inr e) =
@@ -116,7 +116,7 @@ module _ (name : List ℕ) (v : WorldState) (i at number place : ℕ) (core : Co
       (subst (λ (xs : List ℕ). CanAsk a v.nodes ballot place o.node xs (port_of number) (first_of ballot) list ballot up connect) e.is asks)
       (subst AreApart e.is apart) (subst (λ (xs : List ℕ). In (place + 1) xs → ⊥) e.is out)
       (subst (λ (xs : List ℕ). (m : ℕ) → In m xs → NodeIs (Follows ballot (begun list ballot)) (whole_moment a).world.nodes m) e.is each)
-      more new (subst (λ (es : List Event). Run es f.after new) in_parts f.rest) f.whole
+      more new (subst (λ (es : List Event). EventsHappen es f.after new) in_parts f.rest) f.whole
     where
       counted : length os ≡ length e.front + 1
       counted =
@@ -135,7 +135,7 @@ module _ (name : List ℕ) (v : WorldState) (i at number place : ℕ) (core : Co
           ∙ ap (λ (es : List Event). es ++ more) (map-append events.Deliver before (index ∷ []))
           ∙ append_assoc (map events.Deliver before) (events.Deliver index ∷ []) more
 
-  pub answers_out : Run (events.CarryUp number count ∷ asked) v new → LosesNothing v new → AnsweredTo name i at number place core v.nodes more new
+  pub answers_out : EventsHappen (events.CarryUp number count ∷ asked) v new → LosesNothing v new → AnsweredTo name i at number place core v.nodes more new
   answers_out run none =
       let f = first_done (events.CarryUp number count) asked v new run none
       (can_come_up i at number place core up v newest positive o.node o.stands count many o.serves.leads.runs some) in

@@ -13,7 +13,7 @@ use Rattle.world_events.specs.world_pipes.Piped.{Piped}
 use Rattle.world_events.specs.world_pipes.StandsFor.{ClientStandsFor}
 use Rattle.world_events.proofs.of_world_pipes.CallingFollows.{calling_goes}
 use Rattle.world.specs.declared.world.WorldClient.{WorldClient}
-use Rattle.world.specs.Inside.Calling.{Counts, with_loss}
+use Rattle.world.specs.Inside.Calling.{CountsRefusal, with_loss}
 use Rattle.world.specs.Inside.Steps.{IsTrace}
 use Rattle.world.specs.World.{WorldState}
 use Rattle.world.proofs.ClientGoes.{client_goes_with_loss, client_goes_on, same_piped, with_piped}
@@ -38,7 +38,7 @@ idle_call old i client piped result new found same counts =
     record { goes = goes_on_rest old new still; same = on_err result (new ≡ old) still }
 
 pub call_counted : (old : WorldState) (i : ℕ) (client : WorldClient) (piped : Piped) (done : Result Sending ClientError) (result : Result (Unit {0}) Idle) (new : WorldState) →
-    slice_get old.clients i ≡ Some client → CallingFollows [] client.piped done piped → old.losses ≤ (with_loss old).losses → Counts done (with_piped i client piped old) result new →
+    slice_get old.clients i ≡ Some client → CallingFollows [] client.piped done piped → old.losses ≤ (with_loss old).losses → CountsRefusal done (with_piped i client piped old) result new →
     IsCounted old result new
 call_counted old i client piped (Ok sendings.Sent) result new found follows rises counts =
     record {

@@ -24,10 +24,10 @@ use Rattle.world_events.specs.world_pipes.Piped.{Calls, Piped, TakesLeave}
 use Rattle.world_events.specs.declared.event.Event.TheVariants as events
 use Rattle.world.specs.declared.world.WorldClient.{WorldClient}
 use Rattle.world.specs.Found.{core_named, is_named, with_piped}
-use Rattle.world.specs.ClientCalls.{Asks, ClientDoes, Leaves, Loses, LosesAsking, LosesLeaving}
-use Rattle.world.specs.Cannot.{HoldsNone, Refuses}
-use Rattle.world.specs.Inside.Calling.{Counts, IsCall, with_loss}
-use Rattle.world.specs.Inside.Steps.{IsDone, Meets}
+use Rattle.world.specs.ClientCalls.{SendsCall, ClientDoes, SendsDisconnect, LosesConnection, LosesAsking, LosesLeaving}
+use Rattle.world.specs.Cannot.{HoldsNone, RefusesCall}
+use Rattle.world.specs.Inside.Calling.{CountsRefusal, IsCall, with_loss}
+use Rattle.world.specs.Inside.Steps.{EventIsDone, Meets}
 use Rattle.world.specs.World.{WorldState}
 use Rattle.world.proofs.ClientGoes.{same_piped}
 use Rattle.world.proofs.StandsThere.{core_found}
@@ -92,7 +92,7 @@ idle_then name cannot does loses old at client piped (Err idle) new first stands
 
 pub client_meets : (name : List ℕ) (cannot : Option Core → Type 0) (does : Bool → Piped → Piped → Type 0) (loses : Piped → Piped → Type 0) (old : WorldState) (at : ℕ) (client : WorldClient) (piped : Piped) (done : Result Sending ClientError)
     (result : Result (Unit {0}) Idle) (new : WorldState) → position (is_named name) old.clients ≡ Some at → slice_get old.clients at ≡ Some client → Outcome cannot does loses client.piped done piped
-    → Counts done (with_piped at client piped old) result new → ClientMeets name cannot does loses old result new
+    → CountsRefusal done (with_piped at client piped old) result new → ClientMeets name cannot does loses old result new
 client_meets name cannot does loses old at client piped (Ok sendings.Sent) result new first stands out counts =
     done_well name cannot does loses old at client piped result new first stands out.0 out.1 out.2 counts.0 counts.1
 client_meets name cannot does loses old at client piped (Ok sendings.Lost) result new first stands out counts =
@@ -114,7 +114,7 @@ client_meets name cannot does loses old at client piped (Err (errors.Malformed k
 some_cause : (refusal : Option ClientError) (cause : ClientError) → refusal ≡ Some cause → refusal ≡ None → ⊥
 some_cause refusal cause some none = none-some cause (sym none ∙ some)
 
-pub call_outcome : (published : List Publication) (call : Call) (old : Piped) (done : Result Sending ClientError) (new : Piped) → (Refuses call (Some old.core) → ⊥) → IsCall call old done new → CallingFollows published old done new → Outcome (Refuses call) (Asks call) (LosesAsking call) old done new
+pub call_outcome : (published : List Publication) (call : Call) (old : Piped) (done : Result Sending ClientError) (new : Piped) → (RefusesCall call (Some old.core) → ⊥) → IsCall call old done new → CallingFollows published old done new → Outcome (RefusesCall call) (SendsCall call) (LosesAsking call) old done new
 call_outcome published call old (Ok sendings.Sent) new can calls follows = (λ no. no calls.1.0, calls, (sendings.Sent, calls))
 call_outcome published call old (Ok sendings.Lost) new can calls follows = (can, (sendings.Lost, calls), calls)
 call_outcome published call old (Err errors.Memory) new can calls follows = (can, follows)
@@ -157,19 +157,19 @@ published_free p state = by (is_online state.stage) refl
     by true is = rw is refl
     by false is = rw is refl
 
-pub refuses_publication : (p : Publication) (core : Core) → is_some (publish_refusal p core.state) ≡ true → Refuses (Call.Publishes p) (Some core)
+pub refuses_publication : (p : Publication) (core : Core) → is_some (publish_refusal p core.state) ≡ true → RefusesCall (Call.Publishes p) (Some core)
 refuses_publication p core some = refused_by (publish_refusal p core.state) (published p core.state) core.state some
 
-pub takes_publication : (p : Publication) (core : Core) → is_some (publish_refusal p core.state) ≡ false → Refuses (Call.Publishes p) (Some core) → ⊥
+pub takes_publication : (p : Publication) (core : Core) → is_some (publish_refusal p core.state) ≡ false → RefusesCall (Call.Publishes p) (Some core) → ⊥
 takes_publication p core none refuses = allowed_by (publish_refusal p core.state) (published p core.state) core.state (published_free p core.state) none refuses
 
 pub refuses_filter : (filter : List ℕ) (qos : QoS) (core : Core) → is_some (request_refusal core.state) ≡ true
-    → Refuses (Call.Subscribes filter qos) (Some core) × Refuses (Call.Unsubscribes filter) (Some core)
+    → RefusesCall (Call.Subscribes filter qos) (Some core) × RefusesCall (Call.Unsubscribes filter) (Some core)
 refuses_filter filter qos core some =
     (refused_by (request_refusal core.state) (subscribed filter qos core.state) core.state some, refused_by (request_refusal core.state) (unsubscribed filter core.state) core.state some)
 
 pub takes_filter : (filter : List ℕ) (qos : QoS) (core : Core) → is_some (request_refusal core.state) ≡ false
-    → (Refuses (Call.Subscribes filter qos) (Some core) → ⊥) × (Refuses (Call.Unsubscribes filter) (Some core) → ⊥)
+    → (RefusesCall (Call.Subscribes filter qos) (Some core) → ⊥) × (RefusesCall (Call.Unsubscribes filter) (Some core) → ⊥)
 takes_filter filter qos core none = (
   λ refuses. allowed_by (request_refusal core.state) (subscribed filter qos core.state) core.state refl none refuses,
   λ refuses. allowed_by (request_refusal core.state) (unsubscribed filter core.state) core.state refl none refuses,
@@ -192,7 +192,7 @@ may_not_leave stages.Opened state cause some = absurd (none-some cause some)
 may_not_leave stages.Online state cause some = absurd (none-some cause some)
 
 pub leave_outcome : (old : Piped) (done : Result Sending ClientError) (new : Piped) → (HoldsNone (Some old.core) → ⊥) → TakesLeave (keeper_step Call.Disconnects old.core.state) old done new → CallingFollows [] old done new
-    → Outcome HoldsNone Leaves LosesLeaving old done new
+    → Outcome HoldsNone SendsDisconnect LosesLeaving old done new
 leave_outcome old (Ok sendings.Sent) new can leaves follows = (may_leave old.core.state.stage old.core.state leaves.1.0, leaves, (sendings.Sent, leaves))
 leave_outcome old (Ok sendings.Lost) new can leaves follows = (can, (sendings.Lost, leaves), leaves)
 leave_outcome old (Err errors.Memory) new can leaves follows = (can, follows)
@@ -211,24 +211,24 @@ or_nodes (inl a) = inl a
 or_nodes (inr b) = inr (inl b)
 
 pub publish_meets : (name : List ℕ) (p : Publication) (old : WorldState) (result : Result (Unit {0}) Idle) (new : WorldState)
-    → ClientMeets name (Refuses (Call.Publishes p)) (Asks (Call.Publishes p)) (LosesAsking (Call.Publishes p)) old result new → Meets (events.Publish name p) old result new
+    → ClientMeets name (RefusesCall (Call.Publishes p)) (SendsCall (Call.Publishes p)) (LosesAsking (Call.Publishes p)) old result new → Meets (events.Publish name p) old result new
 publish_meets name p old (Ok x) new (inl d) = inl (record { can = d.can; does = inr d.less; exact = λ none. d.exact; uncounted = d.uncounted })
 publish_meets name p old (Ok x) new (inr l) = inr (record { can = l.can; needs = λ none low. none; done = l.done; does = l.less; lost = or_nodes l.lost; counted = l.counted })
 publish_meets name p old (Err x) new m = m
 
 pub subscribe_meets : (name filter : List ℕ) (qos : QoS) (old : WorldState) (result : Result (Unit {0}) Idle) (new : WorldState)
-    → ClientMeets name (Refuses (Call.Subscribes filter qos)) (Asks (Call.Subscribes filter qos)) (LosesAsking (Call.Subscribes filter qos)) old result new → Meets (events.Subscribe name filter qos) old result new
+    → ClientMeets name (RefusesCall (Call.Subscribes filter qos)) (SendsCall (Call.Subscribes filter qos)) (LosesAsking (Call.Subscribes filter qos)) old result new → Meets (events.Subscribe name filter qos) old result new
 subscribe_meets name filter qos old (Ok x) new (inl d) = inl (record { can = d.can; does = inr d.less; exact = λ none. d.exact; uncounted = d.uncounted })
 subscribe_meets name filter qos old (Ok x) new (inr l) = inr (record { can = l.can; needs = λ none low. none; done = l.done; does = l.less; lost = or_nodes l.lost; counted = l.counted })
 subscribe_meets name filter qos old (Err x) new m = m
 
 pub unsubscribe_meets : (name filter : List ℕ) (old : WorldState) (result : Result (Unit {0}) Idle) (new : WorldState)
-    → ClientMeets name (Refuses (Call.Unsubscribes filter)) (Asks (Call.Unsubscribes filter)) (LosesAsking (Call.Unsubscribes filter)) old result new → Meets (events.Unsubscribe name filter) old result new
+    → ClientMeets name (RefusesCall (Call.Unsubscribes filter)) (SendsCall (Call.Unsubscribes filter)) (LosesAsking (Call.Unsubscribes filter)) old result new → Meets (events.Unsubscribe name filter) old result new
 unsubscribe_meets name filter old (Ok x) new (inl d) = inl (record { can = d.can; does = inr d.less; exact = λ none. d.exact; uncounted = d.uncounted })
 unsubscribe_meets name filter old (Ok x) new (inr l) = inr (record { can = l.can; needs = λ none low. none; done = l.done; does = l.less; lost = or_nodes l.lost; counted = l.counted })
 unsubscribe_meets name filter old (Err x) new m = m
 
-pub disconnect_meets : (name : List ℕ) (old : WorldState) (result : Result (Unit {0}) Idle) (new : WorldState) → ClientMeets name HoldsNone Leaves LosesLeaving old result new
+pub disconnect_meets : (name : List ℕ) (old : WorldState) (result : Result (Unit {0}) Idle) (new : WorldState) → ClientMeets name HoldsNone SendsDisconnect LosesLeaving old result new
     → Meets (events.Disconnect name) old result new
 disconnect_meets name old (Ok x) new (inl d) = inl (record { can = d.can; does = inr d.less; exact = λ none. d.exact; uncounted = d.uncounted })
 disconnect_meets name old (Ok x) new (inr l) = inr (record { can = l.can; needs = λ none low. none; done = l.done; does = l.less; lost = or_nodes l.lost; counted = l.counted })
@@ -236,9 +236,9 @@ disconnect_meets name old (Err x) new m = m
 
 -- one that holds a connection loses it
 pub abandon_meets : (name : List ℕ) (old : WorldState) (at : ℕ) (client : WorldClient) (piped : Piped) → position (is_named name) old.clients ≡ Some at → slice_get old.clients at ≡ Some client
-    → is_open client.piped.core.state.stage ≡ true → Loses client.piped piped → IsDone (events.Abandon name) old (with_piped at client piped old)
+    → is_open client.piped.core.state.stage ≡ true → LosesConnection client.piped piped → EventIsDone (events.Abandon name) old (with_piped at client piped old)
 abandon_meets name old at client piped first stands holds loses =
-    let does : ClientDoes name Loses old (with_piped at client piped old) = (record { at = at; first = first; client = client; stands = stands }, piped, loses, refl) in
+    let does : ClientDoes name LosesConnection old (with_piped at client piped old) = (record { at = at; first = first; client = client; stands = stands }, piped, loses, refl) in
     record {
       can = λ no. both_ways _ (subst HoldsNone (core_found name old.clients at client first stands) no) holds;
       does = inr does;

@@ -14,8 +14,8 @@ use Rattle.world.specs.declared.world.WorldClient.{WorldClient}
 use Rattle.world.specs.SlotsAreValid.{SlotsAreValid, leads, leads_of}
 use Rattle.world.specs.Inside.Steps.{IsTrace, IsTraceAsking}
 use Rattle.world.specs.Inside.Calling.{with_loss}
-use Rattle.world.specs.StandsFor.{Steps, FollowsModel, FollowsModelAsking, published_along}
-use Rattle.world.specs.StandsFor.Steps.{rests, goes_on}
+use Rattle.world.specs.StandsFor.{WorldSteps, FollowsModel, FollowsModelAsking, published_along}
+use Rattle.world.specs.StandsFor.WorldSteps.{rests, goes_on}
 use Rattle.world.specs.World.{WorldState}
 use Rattle.world.proofs.ClientsStand.{client_at, stand_set}
 use Rattle.world.proofs.Joined.{asked_goes_join, world_stays}
@@ -27,7 +27,7 @@ use Rattle.world.proofs.Turned.{set_itself}
 
 -- steps to a world of these clients, with what is published
 record StepsBy (asked : List (ℕ × Publication)) (w : World) (cs : List ClientPipes) : Type 0 where
-  pub steps : Steps w (record w { clients = cs })
+  pub steps : WorldSteps w (record w { clients = cs })
   pub asked_is : published_along steps ≡ asked
 
 -- the step of one client, and its place then

@@ -17,7 +17,7 @@ use Rattle.world.specs.SlotsAreValid.{LeadsThere, leads_of}
 use Rattle.world.specs.Found.{with_less}
 use Rattle.world.specs.Inside.Carrying.{CarriesUp}
 use Rattle.world.specs.StandsFor.{ModelStepsTo, WorldStandsFor, FollowsModel}
-use Rattle.world.specs.StandsFor.Steps.{rests, goes_on}
+use Rattle.world.specs.StandsFor.WorldSteps.{rests, goes_on}
 use Rattle.world.specs.World.{WorldState}
 use Rattle.world.proofs.ClientsStand.{StandsAt, client_at, stand_set}
 use Rattle.world.proofs.GoesDown.{put_down}

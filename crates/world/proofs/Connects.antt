@@ -25,7 +25,7 @@ use Rattle.world.specs.declared.world.WorldClient.{WorldClient}
 use Rattle.world.specs.SlotsAreValid.{SlotsAreValid, leads, leads_of}
 use Rattle.world.specs.Inside.Connecting.{ConnectsAt, IsKnown}
 use Rattle.world.specs.StandsFor.{ClientsStand, ModelStepsTo, FollowsModel}
-use Rattle.world.specs.StandsFor.Steps.{rests, goes_on}
+use Rattle.world.specs.StandsFor.WorldSteps.{rests, goes_on}
 use Rattle.world.specs.World.{WorldState}
 use Rattle.world.proofs.ClientsStand.{client_at, stand_set}
 use Rattle.world.proofs.Turned.{turned_at}

@@ -7,7 +7,7 @@ use Rattle.escaping_nodes.specs.master.declared.event.Idle.{Idle}
 use Rattle.world_events.specs.world_pipes.declared.sending.Sending.{Sending}
 use Rattle.world_events.specs.world_pipes.declared.sending.Sending.TheVariants as sendings
 use Rattle.world.specs.Trace.{CountsOnce}
-use Rattle.world.specs.Inside.Calling.{Counts, with_loss}
+use Rattle.world.specs.Inside.Calling.{CountsRefusal, with_loss}
 use Rattle.world.specs.Inside.Steps.{IsCounted}
 use Rattle.world.specs.World.{WorldState}
 
@@ -29,7 +29,7 @@ then_still old mid new (inl same) still = inl (still ∙ same)
 then_still old mid new (inr more) still = inr (still ∙ more)
 
 -- a call of a client
-pub call_once : (done : Result Sending ClientError) (old mid new : WorldState) (result : Result (Unit {0}) Idle) → mid.losses ≡ old.losses → Counts done mid result new → CountsOnce old new
+pub call_once : (done : Result Sending ClientError) (old mid new : WorldState) (result : Result (Unit {0}) Idle) → mid.losses ≡ old.losses → CountsRefusal done mid result new → CountsOnce old new
 call_once (Ok sendings.Sent) old mid new result still counts = inl (ap (λ (w : WorldState). w.losses) counts.1 ∙ still)
 call_once (Ok sendings.Lost) old mid new result still counts = inr (ap (λ (w : WorldState). w.losses) counts.1 ∙ ap one_more still)
 call_once (Err errors.Memory) old mid new result still counts = inr (ap (λ (w : WorldState). w.losses) counts.1 ∙ ap one_more still)

@@ -33,7 +33,7 @@ use Rattle.world.specs.Found.{with_down}
 use Rattle.world.specs.Inside.Handing.{MayHandDown, MayPutDown}
 use Rattle.world.specs.Inside.Steps.{NodesStay}
 use Rattle.world.specs.StandsFor.{ModelStepsTo, WorldStandsFor, FollowsModel}
-use Rattle.world.specs.StandsFor.Steps.{rests, goes_on}
+use Rattle.world.specs.StandsFor.WorldSteps.{rests, goes_on}
 use Rattle.world.specs.World.{WorldState}
 use Rattle.world.proofs.ClientsStand.{StandsAt, client_at, stand_set}
 use Rattle.world.proofs.LeadsKept.{led}

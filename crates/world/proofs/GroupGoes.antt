@@ -23,7 +23,7 @@ use Rattle.world.specs.Trace.{NodesGo, NodesGoOn}
 use Rattle.world.specs.Trace.StepsOfGroup.{rests as stands_still, goes_on as then_goes}
 use Rattle.world.specs.Inside.Steps.{IsTrace, NodesStay}
 use Rattle.world.specs.StandsFor.{FollowsModel}
-use Rattle.world.specs.StandsFor.Steps.{rests, goes_on}
+use Rattle.world.specs.StandsFor.WorldSteps.{rests, goes_on}
 use Rattle.world.specs.World.{WorldState}
 use Rattle.world.proofs.NodesGoOn.{nodes_forget, nodes_rest, nodes_stay, staying_goes}
 

@@ -26,11 +26,11 @@ use Rattle.world.specs.Gathering.{Gathers, TakesItem}
 use Rattle.world.specs.Cannot.{CannotHappen, IsClosed, IsNoPart, down_of, is_held, is_held_by, up_of}
 use Rattle.world.specs.Doing.{DoesEvent, LosesAtClient, receiver_of}
 use Rattle.world.specs.ClientCalls.{CarriesDownWhere}
-use Rattle.world.specs.Happening.{Happens, HappensExactly, HappensLosing, Run}
+use Rattle.world.specs.Happening.{EventHappens, HappensExactly, HappensLosing, EventsHappen}
 use Rattle.world.specs.SlotsAreValid.{SlotsAreValid, leads_of}
-use Rattle.world.specs.Quiet.{TakesNoMemory}
+use Rattle.world.specs.Quiet.{EventTakesNoMemory}
 use Rattle.world.specs.Inside.Carrying.{CanCarryUp, CannotCarryDown, CannotCarryUpOn, CarriesDownOn, CarriesUpOn}
-use Rattle.world.specs.Inside.Steps.{IsCounted, IsDone, Meets}
+use Rattle.world.specs.Inside.Steps.{IsCounted, EventIsDone, Meets}
 use Rattle.world.specs.Inside.Calling.{with_loss}
 use Rattle.world.specs.World.{WorldState}
 use Rattle.world.proofs.GroupGoes.{with_nodes}
@@ -56,7 +56,7 @@ assign_meets (Err e) config old new acts idle same = (idle.0 refl, ap (λ (n : N
 pub delivered : (number receiver : ℕ) (old : WorldState) (between : NodesState) (new : WorldState) → receiver ≡ receiver_of (slice_get old.nodes.sent number)
     → (ComesToNobody (slice_get old.nodes.sent number) old.nodes → ⊥) → ComesIn (slice_get old.nodes.sent number) old.nodes between
     → (NodesLoseNothing old.nodes between → MessageArrives (slice_get old.nodes.sent number) old.nodes between) → Gathers false receiver (with_nodes between old) new → new.losses ≡ old.losses
-    → IsDone (events.Deliver number) old new
+    → EventIsDone (events.Deliver number) old new
 delivered number receiver old between new is can comes exact gathers still =
     let all = subst (λ (k : ℕ). Gathers false k (with_nodes between old) new) is gathers in
     record {
@@ -71,20 +71,20 @@ delivered number receiver old between new is can comes exact gathers still =
 
 -- time passes at it, or it crashes
 pub ticked : (node : ℕ) (old : WorldState) (between : NodesState) (new : WorldState) → (running old.nodes.nodes node ≡ None → ⊥) → TakesIn node (Tick 0) old.nodes between
-    → Gathers false node (with_nodes between old) new → new.losses ≡ old.losses → IsDone (events.Tick node) old new
+    → Gathers false node (with_nodes between old) new → new.losses ≡ old.losses → EventIsDone (events.Tick node) old new
 ticked node old between new can takes gathers still =
     let item : TakesItem false node (Tick 0) old new = (between, takes, gathers) in
     record { can = can; does = inr item; exact = λ none. takes_exactly node (Tick 0) old new item none; uncounted = still }
 
 pub crashed : (node : ℕ) (old : WorldState) (between : NodesState) (new : WorldState) → (running old.nodes.nodes node ≡ None → ⊥) → TakesIn node Crash old.nodes between
-    → Gathers false node (with_nodes between old) new → new.losses ≡ old.losses → IsDone (events.Crash node) old new
+    → Gathers false node (with_nodes between old) new → new.losses ≡ old.losses → EventIsDone (events.Crash node) old new
 crashed node old between new can takes gathers still =
     let item : TakesItem false node Crash old new = (between, takes, gathers) in
     record { can = can; does = inr item; exact = λ none. takes_exactly node Crash old new item none; uncounted = still }
 
 -- it cuts its log
 pub cut_done : (node : ℕ) (old : WorldState) (between : NodesState) (new : WorldState) → (cutting old.nodes.nodes node ≡ None → ⊥) → CutsIn node old.nodes between
-    → (NodesLoseNothing old.nodes between → CutsExactly node old.nodes between) → Gathers false node (with_nodes between old) new → new.losses ≡ old.losses → IsDone (events.Cut node) old new
+    → (NodesLoseNothing old.nodes between → CutsExactly node old.nodes between) → Gathers false node (with_nodes between old) new → new.losses ≡ old.losses → EventIsDone (events.Cut node) old new
 cut_done node old between new can cuts exact gathers still =
     record {
       can = can;
@@ -98,7 +98,7 @@ cut_done node old between new can cuts exact gathers still =
 -- it proposes that the session of a client ends
 pub expelled : (name : List ℕ) (node : ℕ) (old : WorldState) (between : NodesState) (new : WorldState) → (CannotHappen (events.Expel name node) old → ⊥) → ExpelsIn name node old.nodes between
     → (NodesLoseNothing old.nodes between → TakesExactly node (Expel name) old.nodes between) → Gathers false node (with_nodes between old) new → new.losses ≡ old.losses
-    → IsDone (events.Expel name node) old new
+    → EventIsDone (events.Expel name node) old new
 expelled name node old between new can expels exact gathers still =
     record {
       can = can;
@@ -128,7 +128,7 @@ may_expel name node w (Some i) none at is e proposes (inr full) = proposes full
 
 -- it sees the end of a connection
 pub noticed : (number : ℕ) (old : WorldState) (c : Connected number old) (between : NodesState) (new : WorldState) → (CannotHappen (events.Notice number) old → ⊥)
-    → TakesIn c.slot.node (Ended (port_of number)) old.nodes between → Gathers false c.slot.node (with_nodes between old) new → new.losses ≡ old.losses → IsDone (events.Notice number) old new
+    → TakesIn c.slot.node (Ended (port_of number)) old.nodes between → Gathers false c.slot.node (with_nodes between old) new → new.losses ≡ old.losses → EventIsDone (events.Notice number) old new
 noticed number old c between new can takes gathers still =
     let item : TakesItem false c.slot.node (Ended (port_of number)) old new = (between, takes, gathers) in
     record { can = can; does = inr (c, item); exact = λ none. (c, takes_exactly c.slot.node (Ended (port_of number)) old new item none); uncounted = still }
@@ -156,7 +156,7 @@ no_part count waiting some part (inr more) = omega (arith, part, more)
 -- ---- bytes come up
 
 pub carries_up : (number : ℕ) (place : ConnectionSlot) (count : ℕ) (old mid new : WorldState) → slice_get old.connections (number - 1) ≡ Some place → 0 < number → place.is_open ≡ true
-    → CarriesUpOn number place count old mid → Gathers false place.node mid new → new.losses ≡ old.losses → IsDone (events.CarryUp number count) old new
+    → CarriesUpOn number place count old mid → Gathers false place.node mid new → new.losses ≡ old.losses → EventIsDone (events.CarryUp number count) old new
 carries_up number place count old mid new at positive up t gathers still =
     record { can = can; does = inr (c, item); exact = λ none. (c, takes_exactly place.node piece less new item none); uncounted = still }
   where
@@ -276,11 +276,11 @@ does_less number count old new d = (d.0, d.1, carries_down_less count d.0.client
 pub carried_down_meets : (number : ℕ) (place : ConnectionSlot) (count : ℕ) (had : Bool) (old : WorldState) (client : WorldClient) (piped : Piped) (new : WorldState) → SlotsAreValid (leads_of old.clients) old.connections
     → slice_get old.connections (number - 1) ≡ Some place → 0 < number → slice_get old.clients place.client ≡ Some client → CarriesDownOn had place.at count client.piped piped
     → new ≡ (if had then with_piped place.client client piped old else with_loss (with_piped place.client client piped old))
-    → IsDone (events.CarryDown number count) old new ⊎ HappensLosing (events.CarryDown number count) old new
+    → EventIsDone (events.CarryDown number count) old new ⊎ HappensLosing (events.CarryDown number count) old new
 carried_down_meets number place count true old client piped new housed at positive owned carries is =
     let carried = with_piped place.client client piped old in
     let d = carries_down number place count true old client piped housed at positive owned carries in
-    inl (subst (λ (w : WorldState). IsDone (events.CarryDown number count) old w) (sym is)
+    inl (subst (λ (w : WorldState). EventIsDone (events.CarryDown number count) old w) (sym is)
     (record { can = d.0; does = inr (does_less number count old carried d.1); exact = λ none. d.1; uncounted = refl }))
 carried_down_meets number place count false old client piped new housed at positive owned carries is =
     let d = carries_down number place count false old client piped housed at positive owned carries in
@@ -294,7 +294,7 @@ never_opened number count w none = inl (ap (λ (o : Option ConnectionSlot). is_h
 -- an event that was done is counted if its nodes counted a loss, and one that is counted already is
 -- not counted again
 pub step_happens : (event : Event) (old mid new : WorldState) (before counted : ℕ) → before ≡ old.nodes.losses → counted ≡ old.losses → Meets event old (Ok tt) mid
-    → (TakesNoMemory event old → mid.nodes.losses ≡ old.nodes.losses) → IsCounted before counted mid new → Happens event old (Ok tt) new
+    → (EventTakesNoMemory event old → mid.nodes.losses ≡ old.nodes.losses) → IsCounted before counted mid new → EventHappens event old (Ok tt) new
 step_happens event old mid new before counted is so_many (inl d) quiet (inl none) =
     let w = none.1 (d.uncounted ∙ sym so_many) in let kept = w.0 in let below = w.1 in
     let nodes : NodesLoseNothing old.nodes mid.nodes =
@@ -321,11 +321,11 @@ step_happens event old mid new before counted is so_many (inr l) quiet (inr one)
     })
 
 -- one more event
-pub run_more : (events : List Event) (event : Event) (old mid new : WorldState) (result : Result (Unit {0}) Idle) → Run events old mid → Happens event mid result new → Run (events ++ event ∷ []) old new
-run_more [] event old mid new result run happens = (new, result, subst (λ (w : WorldState). Happens event w result new) run happens, refl)
+pub run_more : (events : List Event) (event : Event) (old mid new : WorldState) (result : Result (Unit {0}) Idle) → EventsHappen events old mid → EventHappens event mid result new → EventsHappen (events ++ event ∷ []) old new
+run_more [] event old mid new result run happens = (new, result, subst (λ (w : WorldState). EventHappens event w result new) run happens, refl)
 run_more (e ∷ es) event old mid new result run happens = (run.0, run.1, run.2, run_more es event run.0 mid new result run.3 happens)
 
-pub run_on : (events : List Event) (i : ℕ) (event : Event) (old mid new : WorldState) (result : Result (Unit {0}) Idle) → i < length events → event ≡ get_or events i event → Run (take i events) old mid
-    → Happens event mid result new → Run (take (i + 1) events) old new
+pub run_on : (events : List Event) (i : ℕ) (event : Event) (old mid new : WorldState) (result : Result (Unit {0}) Idle) → i < length events → event ≡ get_or events i event → EventsHappen (take i events) old mid
+    → EventHappens event mid result new → EventsHappen (take (i + 1) events) old new
 run_on events i event old mid new result below is run happens =
-    subst (λ (l : List Event). Run l old new) (sym (take_more events i event below ∙ ap (λ (e : Event). take i events ++ e ∷ []) (sym is))) (run_more (take i events) event old mid new result run happens)
+    subst (λ (l : List Event). EventsHappen l old new) (sym (take_more events i event below ∙ ap (λ (e : Event). take i events ++ e ∷ []) (sym is))) (run_more (take i events) event old mid new result run happens)

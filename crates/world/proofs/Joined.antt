@@ -15,28 +15,28 @@ use Rattle.escaping_nodes.specs.world_nodes.Nodes.{NodesState, NodesStandFor as 
 use Rattle.world.specs.Trace.{LosesNothing, KeepsGroup}
 use Rattle.world.specs.Inside.Steps.{IsTrace, IsTraceAsking}
 use Rattle.world.specs.declared.world.WorldClient.{WorldClient}
-use Rattle.world.specs.StandsFor.{ClientsStand, ModelStepsTo, IsReached, KeepsReached, WorldStandsFor, Steps, FollowsModel, FollowsModelAsking, asked_on, published_along}
-use Rattle.world.specs.StandsFor.Steps.{rests, goes_on}
+use Rattle.world.specs.StandsFor.{ClientsStand, ModelStepsTo, IsReached, KeepsReached, WorldStandsFor, WorldSteps, FollowsModel, FollowsModelAsking, asked_on, published_along}
+use Rattle.world.specs.StandsFor.WorldSteps.{rests, goes_on}
 use Rattle.world.specs.World.{WorldState}
 use Rattle.world.proofs.NodesGoOn.{nodes_go_join, nodes_join, nodes_rest}
 
 -- ---- worlds of the model
 
-pub steps_join : {m n o : World} → Steps m n → Steps n o → Steps m o
+pub steps_join : {m n o : World} → WorldSteps m n → WorldSteps n o → WorldSteps m o
 steps_join one rests = one
 steps_join one (goes_on two step) = goes_on (steps_join one two) step
 
-pub along_join : {m n o : World} (one : Steps m n) (two : Steps n o) → published_along (steps_join one two) ≡ published_along one ++ published_along two
+pub along_join : {m n o : World} (one : WorldSteps m n) (two : WorldSteps n o) → published_along (steps_join one two) ≡ published_along one ++ published_along two
 unfolding steps_join
 along_join one rests = sym (append-nil (published_along one))
 along_join one (goes_on two step) =
     ap (λ (l : List (ℕ × Publication)). l ++ published_in step) (along_join one two) ∙ append_assoc (published_along one) (published_along two) (published_in step)
 
-pub reached_on : {nodes : ℕ} {config : Config} {cs : List Client} {m n : World} → Reached nodes config cs m → Steps m n → Reached nodes config cs n
+pub reached_on : {nodes : ℕ} {config : Config} {cs : List Client} {m n : World} → Reached nodes config cs m → WorldSteps m n → Reached nodes config cs n
 reached_on trail rests = trail
 reached_on trail (goes_on steps step) = reached_more (reached_on trail steps) step
 
-pub reached_asked : {nodes : ℕ} {config : Config} {cs : List Client} {m n : World} (trail : Reached nodes config cs m) (steps : Steps m n)
+pub reached_asked : {nodes : ℕ} {config : Config} {cs : List Client} {m n : World} (trail : Reached nodes config cs m) (steps : WorldSteps m n)
     → published_on (reached_on trail steps) ≡ published_on trail ++ published_along steps
 unfolding reached_on
 reached_asked trail rests = sym (append-nil (published_on trail))

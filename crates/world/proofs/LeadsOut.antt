@@ -31,7 +31,7 @@ use Rattle.world.specs.Opening.{next_number}
 use Rattle.world.specs.Escaping.{CanEscape, HasEscaped, LeadsOut}
 use Rattle.world.specs.Found.{port_of}
 use Rattle.world.specs.Trace.{AreReached, LosesNothing, NodesGo}
-use Rattle.world.specs.Happening.{Run}
+use Rattle.world.specs.Happening.{EventsHappen}
 use Rattle.world.specs.SlotsAreValid.{SlotsAreValid, leads_of}
 use Rattle.world_events.specs.EscapeEvents.{answer_events, client_events, leaving}
 use Rattle.world.specs.Inside.Escaping.{escaping_events, sent_then}
@@ -123,7 +123,7 @@ module _ (name : Client) (w : WorldState) (housed : SlotsAreValid (leads_of w.cl
 
     -- from the world in which the connection was opened
     module _ (v : WorldState) (h : HasOpened name left.before.state b ballot p.index os log number left.after v)
-        (run : Run (asking (sent_then w (length os))) v new) (none : LosesNothing v new) where
+        (run : EventsHappen (asking (sent_then w (length os))) v new) (none : LosesNothing v new) where
       sent_is : sent_then w (length os) ≡ length v.nodes.sent
       sent_is =
           let all = l.way.sent in
@@ -140,7 +140,7 @@ module _ (name : Client) (w : WorldState) (housed : SlotsAreValid (leads_of w.cl
           let c = connect_spelled can.core.state.client fits.client left.before.state.keep_alive h.up (left.keep_alive ∙ fits.keep_alive) written in
           answers_out name v h.i h.at number p.index h.core h.up (omega arith) h.newest h.housed h.first config b (l.way.goes.between ++ moment_of g ∷ past) l.way.goes.came ballot os
           list h.awaits (long config g past came w r.stands.nodes (first ∷ os) name can) (keeps can.core.state.client left.before.state.keep_alive) can.session c.0 refl
-          bytes c.1 (omega arith) p.apart p.out p.each last_event new (subst (λ (k : ℕ). Run (asking k) v new) sent_is run) none
+          bytes c.1 (omega arith) p.apart p.out p.each last_event new (subst (λ (k : ℕ). EventsHappen (asking k) v new) sent_is run) none
 
       served : (a : AnsweredTo name h.i h.at number p.index h.core v.nodes last_event new) → IsOnline name a.after new
       served a =
@@ -178,14 +178,14 @@ module _ (name : Client) (w : WorldState) (housed : SlotsAreValid (leads_of w.cl
         let o = opens_out name left.before b ballot p.index p.node os log left.after left.there can_open left.housed (asking (sent_then w (length os))) new left.closed left.rest left.whole in
         escaped o.after (subst (λ (k : ℕ). HasOpened name left.before.state b ballot p.index os log k left.after o.after) same_number o.has) o.rest o.whole
 
-  leads : Run (escaping_events w (first ∷ os) can.index holds name bytes) w new → LosesNothing w new → HasEscaped name w new
+  leads : EventsHappen (escaping_events w (first ∷ os) can.index holds name bytes) w new → LosesNothing w new → HasEscaped name w new
   leads run none =
       let l = led_to config g past came w r.stands.nodes housed (first ∷ os) name can more new run none in
       let lawful_is = lawful config g past came w r.stands.nodes housed (first ∷ os) name can more new in
       let p = new_primary config r.world r.trail w r.stands past came first os name can more new l lawful_is.0 lawful_is.1 in
       opened l p
       (leaves name can.core (opening (suc p.index)) l.mid new (core_seen name can.core l.mid.clients w.clients l.clients can.client) l.housed holds held
-      (subst (λ (es : List Event). Run es l.mid new) (more_is (suc p.index) p.number) l.rest) l.whole)
+      (subst (λ (es : List Event). EventsHappen es l.mid new) (more_is (suc p.index) p.number) l.rest) l.whole)
 
 -- whichever members they are
 pub escaping_leads_out : (members : List ℕ) (name : Client) (w : WorldState) (can : CanEscape members name w) (holds : Bool) → holds ≡ is_open can.core.state.stage →

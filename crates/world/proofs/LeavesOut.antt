@@ -13,7 +13,7 @@ use Rattle.world.specs.Cannot.{HoldsNone}
 use Rattle.world.specs.Doing.{DoesEvent}
 use Rattle.world.specs.Found.{core_named, with_piped}
 use Rattle.world.specs.Trace.{LosesNothing}
-use Rattle.world.specs.Happening.{Run}
+use Rattle.world.specs.Happening.{EventsHappen}
 use Rattle.world.specs.SlotsAreValid.{SlotsAreValid, leads, leads_of}
 use Rattle.world_events.specs.EscapeEvents.{leaving}
 use Rattle.world.specs.World.{WorldState}
@@ -34,7 +34,7 @@ pub record HasLeft (name : List ℕ) (core : Core) (more : List Event) (old new 
   pub nodes : after.nodes ≡ old.nodes
   pub connections : after.connections ≡ old.connections
   pub housed : SlotsAreValid (leads_of after.clients) after.connections
-  pub rest : Run more after new
+  pub rest : EventsHappen more after new
   pub whole : LosesNothing after new
 
 module _ (name : List ℕ) (core : Core) (more : List Event) (old new : WorldState) (there : core_named name old.clients ≡ Some core)
@@ -75,7 +75,7 @@ module _ (name : List ℕ) (core : Core) (more : List Event) (old new : WorldSta
           mine : c.client.piped.core ≡ core
           mine = same_Some c.client.piped.core core (sym (core_found name old.clients c.at c.client c.first c.stands) ∙ there)
 
-  pub leaves : (holds : Bool) → holds ≡ is_open core.state.stage → Run (leaving holds name ++ more) old new → LosesNothing old new → HasLeft name core more old new
+  pub leaves : (holds : Bool) → holds ≡ is_open core.state.stage → EventsHappen (leaving holds name ++ more) old new → LosesNothing old new → HasLeft name core more old new
   leaves true held run none = lost (first_done (events.Abandon name) more old new run none (holds_one (sym held)))
   leaves false held run none =
       record {

@@ -28,7 +28,7 @@ use Rattle.world_events.specs.declared.event.Event.{Event}
 use Rattle.world_events.specs.declared.event.Event.TheVariants as events
 use Rattle.world.specs.Escaping.{CanEscape, configuration_of}
 use Rattle.world.specs.Trace.{LosesNothing, NodesGo}
-use Rattle.world.specs.Happening.{Run}
+use Rattle.world.specs.Happening.{EventsHappen}
 use Rattle.world.specs.SlotsAreValid.{SlotsAreValid, leads_of}
 use Rattle.world.specs.StandsFor.{FollowsModel}
 use Rattle.world.specs.World.{WorldState}
@@ -52,7 +52,7 @@ pub record LedTo (config : Config) (g : Group) (past : List (Moment State Comman
   pub housed : SlotsAreValid (leads_of mid.clients) mid.connections
   pub clients : map seen_of mid.clients ≡ map seen_of w.clients
   pub many : length mid.connections ≡ length w.connections
-  pub rest : Run more mid new
+  pub rest : EventsHappen more mid new
   pub whole : LosesNothing mid new
 
 -- of the group's events with these after them
@@ -79,12 +79,12 @@ module _ (config : Config) (g : Group) (past : List (Moment State Command Output
   same = ap (λ (l : List (ℕ × Message Command)). way_out (length l) (length g.master.members) can.index (length conf.members - 1)) s.sent
       ∙ ap (λ (m : MasterState). way_out (length w.nodes.sent) (length m.members) can.index (length conf.members - 1)) s.master
 
-  pub led_to : Run (group_events w members can.index ++ more) w new → LosesNothing w new → LedTo config g past members can.index (log_of w.nodes can.source) more w new
+  pub led_to : EventsHappen (group_events w members can.index ++ more) w new → LosesNothing w new → LedTo config g past members can.index (log_of w.nodes can.source) more w new
   led_to run none =
       let f = first_done (events.Assign conf) (map events.Deliver numbers ++ more) w new run none (λ cannot. cannot can.granted) in
       let given : WorldState = with_nodes (after_giving conf w.nodes) w in
       let is : f.after ≡ given = f.does.2 ∙ ap (λ (n : NodesState). with_nodes n w) f.does.1 in
-      let rest : Run (map events.Deliver numbers ++ more) given new = subst (λ (v : WorldState). Run (map events.Deliver numbers ++ more) v new) is f.rest in
+      let rest : EventsHappen (map events.Deliver numbers ++ more) given new = subst (λ (v : WorldState). EventsHappen (map events.Deliver numbers ++ more) v new) is f.rest in
       let whole : LosesNothing given new = subst (λ (v : WorldState). LosesNothing v new) is f.whole in
       let on = goes_apart w (after_giving conf w.nodes) (omega arith) (goes_by None refl (λ h t. (gives_exactly w.nodes conf can.granted h t).0)) in
       let t = in_two (map events.Deliver numbers) more given new rest whole in

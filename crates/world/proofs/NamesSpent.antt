@@ -8,7 +8,7 @@ use Rattle.headline.specs.world_base.Step.{accepted}
 use Rattle.escaping_nodes.specs.world_nodes.Running.{node_of}
 use Rattle.world_events.specs.declared.event.Event.TheVariants as events
 use Rattle.world.specs.Opening.{OpensUnless, has_no_name_left}
-use Rattle.world.specs.Happening.{Happens}
+use Rattle.world.specs.Happening.{EventHappens}
 use Rattle.world.specs.World.{WorldState}
 
 both_but : (b : Bool) → (b && false) ≡ false
@@ -25,7 +25,7 @@ spent core last =
 
 pub opens_past : (name : List ℕ) (node : ℕ) (core : CountedCore) (old new : WorldState) → node_of old.nodes.nodes node ≡ Some core
     → core.core.last_name ≡ record { ballot = core.core.replica.state.joined; count = 2 ^ 40 } → old.nodes.losses < 2 ^ 64 - 1
-    → Happens (events.Open name node) old (Ok tt) new → new ≡ old
+    → EventHappens (events.Open name node) old (Ok tt) new → new ≡ old
 opens_past name node core old new there last low (inl exactly) =
     subst (λ (full : Bool). OpensUnless full true name node old new) (ap has_no_name_left there ∙ spent core last) exactly.does
 opens_past name node core old new there last low (inr loses) = absurd (loses.needs (ap has_no_name_left there ∙ spent core last) low)

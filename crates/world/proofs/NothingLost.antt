@@ -18,7 +18,7 @@ use Rattle.escaping_nodes.specs.world_nodes.Nodes.{NodesState}
 use Rattle.escaping_nodes.specs.world_nodes.Steps.{ActsWithLosses, ComesIn, CutsIn, CutsWithLosses, ExpelsIn, HearsIn, LosesNothing as NodesLoseNothing, TakesIn, nodes_with_loss}
 use Rattle.escaping_nodes.proofs.of_world_nodes.Exactly.{exactly}
 use Rattle.world.specs.Found.{slot_numbered, port_of}
-use Rattle.world.specs.Gathering.{GatheredWhere, Gathers, GathersAmong, Gives, MayBeGathered, TakesItem, is_open_at}
+use Rattle.world.specs.Gathering.{GatheredWhere, Gathers, GathersAmong, HandsOverBytes, MayBeGathered, TakesItem, is_open_at}
 use Rattle.world.specs.Doing.{Assigns}
 use Rattle.world.specs.World.{WorldState}
 
@@ -63,7 +63,7 @@ pub expels_rises : (client : Client) (node : ℕ) (old new : NodesState) → Exp
 expels_rises client node old new (inl took) = takes_rises node (Expel client) old new took
 expels_rises client node old new (inr lost) = forgets_rises old new lost
 
-gives_rises : (o : Option CountedCore) (node : ℕ) (port : Port) (old new : NodesState) → Gives o node port old new → Rises old new
+gives_rises : (o : Option CountedCore) (node : ℕ) (port : Port) (old new : NodesState) → HandsOverBytes o node port old new → Rises old new
 gives_rises None node port old new is = let same = ap (λ (n : NodesState). n.losses) is in omega (arith, same)
 gives_rises (Some core) node port old new is = let same = ap (λ (n : NodesState). n.losses) is in omega (arith, same)
 

@@ -30,10 +30,10 @@ use Rattle.world.specs.Opening.{NoneOpens, OpensNone, OpensOne, OpensUnless, has
 use Rattle.world.specs.Happening.{HappensLosing}
 use Rattle.world.specs.Cannot.{CannotOpen, is_serving}
 use Rattle.world.specs.Gathering.{Gathers, TakesItem}
-use Rattle.world.specs.Inside.Connecting.{Begins, ConnectsAt, HasNew, HearsOfOne, IsKnown, MayOpenNone, OpensAt, OpensNoneAt}
-use Rattle.world.specs.Inside.Steps.{IsTrace, IsDone}
+use Rattle.world.specs.Inside.Connecting.{BeginsConnection, ConnectsAt, HasNew, HearsOfOne, IsKnown, MayOpenNone, OpensAt, OpensNoneAt}
+use Rattle.world.specs.Inside.Steps.{IsTrace, EventIsDone}
 use Rattle.world.specs.StandsFor.{ModelStepsTo, FollowsModel}
-use Rattle.world.specs.StandsFor.Steps.{rests, goes_on}
+use Rattle.world.specs.StandsFor.WorldSteps.{rests, goes_on}
 use Rattle.world.specs.World.{WorldState}
 use Rattle.world.proofs.CallsMet.{or_nodes}
 use Rattle.world.proofs.ClientGoes.{client_goes}
@@ -151,8 +151,8 @@ opens_one name at node old new first o =
     }
 
 pub open_meets : (name : List ℕ) (at node : ℕ) (old new : WorldState) (client : WorldClient) → position (is_named name) old.clients ≡ Some at → slice_get old.clients at ≡ Some client
-    → is_holding client.piped ≡ false → is_serving (node_of old.nodes.nodes node) ≡ true → has_no_name_left (node_of old.nodes.nodes node) ≡ false → Begins at node old new
-    → IsDone (events.Open name node) old new ⊎ HappensLosing (events.Open name node) old new
+    → is_holding client.piped ≡ false → is_serving (node_of old.nodes.nodes node) ≡ true → has_no_name_left (node_of old.nodes.nodes node) ≡ false → BeginsConnection at node old new
+    → EventIsDone (events.Open name node) old new ⊎ HappensLosing (events.Open name node) old new
 open_meets name at node old new client first stands free serving left begins = by begins
   where
     can : (CannotOpen (core_named name old.clients) ⊎ (is_serving (node_of old.nodes.nodes node) ≡ false)) → ⊥
@@ -171,7 +171,7 @@ open_meets name at node old new client first stands free serving left begins = b
     losses_none mid (inl same) = ap (λ (w : WorldState). w.losses) same
     losses_none mid (inr o) = ap (λ (w : WorldState). w.losses) o.is
 
-    by : Begins at node old new → IsDone (events.Open name node) old new ⊎ HappensLosing (events.Open name node) old new
+    by : BeginsConnection at node old new → EventIsDone (events.Open name node) old new ⊎ HappensLosing (events.Open name node) old new
     by (inl o) =
         let one = opens_one name at node old new first o in
         inl (record {
@@ -187,7 +187,7 @@ open_meets name at node old new client first stands free serving left begins = b
 -- a node that has no name left closes the connection at once
 pub full_meets : (name : List ℕ) (at node : ℕ) (old : WorldState) (client : WorldClient) → position (is_named name) old.clients ≡ Some at → slice_get old.clients at ≡ Some client
     → is_holding client.piped ≡ false → is_serving (node_of old.nodes.nodes node) ≡ true → has_no_name_left (node_of old.nodes.nodes node) ≡ true
-    → IsDone (events.Open name node) old old
+    → EventIsDone (events.Open name node) old old
 full_meets name at node old client first stands free serving none =
     record { can = can; does = inl refl; exact = λ whole. spent true name node old old none refl; uncounted = refl }
   where

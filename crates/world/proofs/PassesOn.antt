@@ -19,7 +19,7 @@ use Rattle.world_events.specs.world_pipes.Piped.{Piped}
 use Rattle.world.specs.declared.connection_slot.ConnectionSlot.{ConnectionSlot}
 use Rattle.world.specs.declared.world.WorldClient.{WorldClient}
 use Rattle.world.specs.Found.{slot_numbered, port_of, with_down}
-use Rattle.world.specs.Gathering.{GatheredWhere, Gathers, GathersAmong, Gives, IsGathered, is_open_at, is_told_open, put_out}
+use Rattle.world.specs.Gathering.{GatheredWhere, Gathers, GathersAmong, HandsOverBytes, IsGathered, is_open_at, is_told_open, put_out}
 use Rattle.world.specs.Trace.{NodesGo}
 use Rattle.world.specs.SlotsAreValid.{SlotsAreValid, leads_of}
 use Rattle.world.specs.Inside.Handing.{MayHandDown, MayPutDown}
@@ -82,7 +82,7 @@ record Hands (o : Option CountedCore) (node : ℕ) (port : Port) (before : List 
   goes : NodesGo old between
   may : MayHandDown node port old before between (before ++ put_out port o)
 
-handed : (o : Option CountedCore) (node : ℕ) (port : Port) (before : List ℕ) (old between : NodesState) → o ≡ node_of old.nodes node → Gives o node port old between →
+handed : (o : Option CountedCore) (node : ℕ) (port : Port) (before : List ℕ) (old between : NodesState) → o ≡ node_of old.nodes node → HandsOverBytes o node port old between →
     Hands o node port before old between
 handed None node port before old between is same =
     record {

@@ -16,7 +16,7 @@ use Rattle.world_events.specs.world_pipes.declared.way.Way.{Way}
 use Rattle.world_events.specs.world_pipes.Piped.{Piped}
 use Rattle.world.specs.SlotsAreValid.{leads}
 use Rattle.world.specs.Found.{with_down}
-use Rattle.world.specs.Gathering.{Gives, is_more, is_told_open, put_out}
+use Rattle.world.specs.Gathering.{HandsOverBytes, is_more, is_told_open, put_out}
 use Rattle.world.specs.Trace.{NodesGoOn}
 use Rattle.world.specs.Inside.Handing.{HandsDown, MayHandDown, MayPutDown, PutsDown, tells_open}
 use Rattle.world.proofs.GroupGoes.{acts_go}
@@ -26,7 +26,7 @@ use Rattle.world.proofs.NodesGoOn.{nodes_forget, nodes_stay, staying_goes}
 -- ---- one call of a node
 
 abbrev HandsExactly : ℕ → Port → NodesState → List ℕ → NodesState → List ℕ → Bool → Option CountedCore → Type 0
-HandsExactly node port old before new after is_open o = Gives o node port old new × (after ≡ before ++ put_out port o) × (is_open ≡ is_told_open port o)
+HandsExactly node port old before new after is_open o = HandsOverBytes o node port old new × (after ≡ before ++ put_out port o) × (is_open ≡ is_told_open port o)
 
 pub handed_down : (r : Result Handed Idle) (is_open : Bool) (node : ℕ) (port : Port) (old new : NodesState) (before after : List ℕ) → is_open ≡ tells_open r
     → IsErr r ↔ (node_of old.nodes node ≡ None) → IfOk r (λ handed. HandsIn node port old new before after handed) → OnErr r ((new ≡ old) × (after ≡ before))

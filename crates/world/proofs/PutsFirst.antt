@@ -27,7 +27,7 @@ use Rattle.world_events.specs.declared.event.Event.TheVariants as events
 use Rattle.world.specs.Found.{is_named, port_of}
 use Rattle.world.specs.Gathering.{Gathers, is_told_open, put_out}
 use Rattle.world.specs.Trace.{LosesNothing, NodesGo}
-use Rattle.world.specs.Happening.{Run}
+use Rattle.world.specs.Happening.{EventsHappen}
 use Rattle.world.specs.SlotsAreValid.{SlotsAreValid, leads_of}
 use Rattle.world.specs.World.{WorldState}
 use Rattle.world.proofs.DeliversOn.{AtNode, at_node}
@@ -55,7 +55,7 @@ pub record IsAnswered (name : List ℕ) (i at number place : ℕ) (core : Core) 
 pub record AnsweredTo (name : List ℕ) (i at number place : ℕ) (core : Core) (old : NodesState) (more : List Event) (new : WorldState) : Type 0 where
   pub after : WorldState
   pub is : IsAnswered name i at number place core old after.nodes after
-  pub rest : Run more after new
+  pub rest : EventsHappen more after new
   pub whole : LosesNothing after new
 
 -- handing bytes over does nothing to the master
@@ -109,7 +109,7 @@ pub record BeforeLast (ks : List ℕ) (i at number place : ℕ) (core : Core) (u
   pub mid : WorldState
   pub passes : Passes ks old mid
   pub newest : IsNewest i at number (suc place) core up [] true mid
-  pub rest : Run (events.Deliver index ∷ more) mid new
+  pub rest : EventsHappen (events.Deliver index ∷ more) mid new
   pub whole : LosesNothing mid new
 
 module _ (name : List ℕ) (ks : List ℕ) (i at number place : ℕ) (core : Core) (up : List ℕ) (index last ballot : ℕ) (log : List Command) (more : List Event) (w new : WorldState)

@@ -24,9 +24,9 @@ use Rattle.world_events.specs.declared.event.Event.{Event}
 use Rattle.world.specs.declared.connection_slot.ConnectionSlot.{ConnectionSlot}
 use Rattle.world.specs.Cannot.{CannotHappen}
 use Rattle.world.specs.Doing.{receiver_of}
-use Rattle.world.specs.Happening.{Happens}
+use Rattle.world.specs.Happening.{EventHappens}
 use Rattle.world.specs.Inside.Handing.{StaysQuiet}
-use Rattle.world.specs.Quiet.{ComesQuietly, EndsQuietly, HoldsNothing, IsQuietAt, TakesNoMemory}
+use Rattle.world.specs.Quiet.{ComesQuietly, EndsQuietly, HasNothingToHandOver, IsQuietAt, EventTakesNoMemory}
 use Rattle.world.specs.World.{WorldState}
 
 -- ---- a node among nodes
@@ -76,7 +76,7 @@ handing_quiet (Ok handed) X node port old new hands same = λ holds.
 
 -- ---- an item, and what goes down then
 
-taken_quiet : (node : ℕ) (item : Item) (old between : NodesState) → IsQuietAt node item old → TakesExactly node item old between → HoldsNothing node between × (between.losses ≡ old.losses)
+taken_quiet : (node : ℕ) (item : Item) (old between : NodesState) → IsQuietAt node item old → TakesExactly node item old between → HasNothingToHandOver node between × (between.losses ≡ old.losses)
 taken_quiet node item old between quiet took =
     let later : CountedCore = record took.core { core = (node_step item took.core.core).core } in
     let rests = quiet.0 in
@@ -108,7 +108,7 @@ unheeded from (Append b place command) old new none hears = hears
 unheeded from (Held b held) old new none hears = hears
 unheeded from (Commit b held) old new none hears = hears
 
-nobody_holds : (n : NodesState) → HoldsNothing 0 n
+nobody_holds : (n : NodesState) → HasNothingToHandOver 0 n
 nobody_holds n = λ core there. absurd (none-some core there)
 
 pub message_quiet : (o : Option (ℕ × Message Command)) (receiver : ℕ) (old between new : NodesState) → receiver ≡ receiver_of o → ComesQuietly o old → (ComesUnheeded o old → MessageArrives o old between)
@@ -129,13 +129,13 @@ no_end number o n is quiet = absurd (subst (λ (p : Option ConnectionSlot). Ends
 
 -- ---- whole steps
 
-pub quiet_by : (event : Event) (old : WorldState) (result : Result (Unit {0}) Idle) (new : WorldState) → Happens event old result new → TakesNoMemory event old → old.nodes.losses < 2 ^ 64 - 1
+pub quiet_by : (event : Event) (old : WorldState) (result : Result (Unit {0}) Idle) (new : WorldState) → EventHappens event old result new → EventTakesNoMemory event old → old.nodes.losses < 2 ^ 64 - 1
     → new.losses ≡ old.losses
 quiet_by event old (Err idle) new happens none low = ap (λ (w : WorldState). w.losses) happens.1
 quiet_by event old (Ok done) new (inl exactly) none low = exactly.uncounted
 quiet_by event old (Ok done) new (inr loses) none low = absurd (loses.needs none low)
 
-pub idle_exactly : (event : Event) (old : WorldState) (result : Result (Unit {0}) Idle) (new : WorldState) → Happens event old result new → IsErr result ↔ CannotHappen event old
+pub idle_exactly : (event : Event) (old : WorldState) (result : Result (Unit {0}) Idle) (new : WorldState) → EventHappens event old result new → IsErr result ↔ CannotHappen event old
 idle_exactly event old (Err idle) new happens = ((λ err. happens.0), (λ cannot. refl))
 idle_exactly event old (Ok done) new (inl exactly) = ((λ err. absurd (both_ways false refl err)), (λ cannot. absurd (exactly.can cannot)))
 idle_exactly event old (Ok done) new (inr loses) = ((λ err. absurd (both_ways false refl err)), (λ cannot. absurd (loses.can cannot)))

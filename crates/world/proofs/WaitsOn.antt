@@ -35,7 +35,7 @@ use Rattle.world_events.specs.declared.event.Event.TheVariants as events
 use Rattle.world.specs.Found.{port_of}
 use Rattle.world.specs.Gathering.{Gathers, is_more, is_told_open, put_out}
 use Rattle.world.specs.Trace.{LosesNothing}
-use Rattle.world.specs.Happening.{Run}
+use Rattle.world.specs.Happening.{EventsHappen}
 use Rattle.world.specs.SlotsAreValid.{SlotsAreValid, leads_of}
 use Rattle.world.specs.World.{WorldState}
 use Rattle.world.proofs.DeliversOn.{at_master, at_master_is, at_node, can_ask, can_reach, sent_to}
@@ -119,7 +119,7 @@ module _ (ballot place : ℕ) (x : ConnectionName) (i at number : ℕ) (core : C
           elsewhere_gathered i at number (suc place) core up positive (suc to) [] true (with_nodes after old) new (λ e. apart (omega (arith, e))) g housed
           (newest_with i at number (suc place) core up [] true old after s)
 
-  pub walk_waiting : (a b : Moment State Command Output) (ks : List ℕ) → Delivered rules ballot a ks b → (old new : WorldState) → Run (map events.Deliver ks) old new →
+  pub walk_waiting : (a b : Moment State Command Output) (ks : List ℕ) → Delivered rules ballot a ks b → (old new : WorldState) → EventsHappen (map events.Deliver ks) old new →
       LosesNothing old new → IsSeen a old.nodes → AreCalm ballot old.nodes → SlotsAreValid (leads_of old.clients) old.connections →
       StillWaits ballot place (port_of number) x old.nodes → IsNewest i at number (suc place) core up [] true old → Waits ballot place x i at number core up ks old new
   walk_waiting a b ks all_came old new run none seen calm housed w s =

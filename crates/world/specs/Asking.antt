@@ -8,8 +8,8 @@ use Rattle.world_events.specs.world_pipes.Piped.{Piped}
 use Rattle.world_events.specs.declared.event.Event.{Event}
 use Rattle.world_events.specs.declared.event.Event.TheVariants as events
 use Rattle.world.specs.Found.{Named, with_piped}
-use Rattle.world.specs.ClientCalls.{Asks}
-use Rattle.world.specs.Happening.{Happens}
+use Rattle.world.specs.ClientCalls.{SendsCall}
+use Rattle.world.specs.Happening.{EventHappens}
 use Rattle.world.specs.World.{WorldState}
 
 -- the client of this identifier was asked to publish: its call was done, once, and the client may
@@ -18,7 +18,7 @@ pub record AsksOne (name : List ℕ) (p : Publication) (old : WorldState)
     (asked : List (ℕ × Publication)) (new : WorldState) : Type 0 where
   pub client : Named name old
   pub piped : Piped
-  pub does : Asks (Call.Publishes p) false client.client.piped piped
+  pub does : SendsCall (Call.Publishes p) false client.client.piped piped
   pub is : new ≡ record (with_piped client.at client.client piped old) { losses = new.losses }
   pub asked_is : asked ≡ (client.at, p) ∷ []
 
@@ -35,10 +35,10 @@ AskedBy (events.Publish name p) old asked new =
 AskedBy _ old asked new = asked ≡ []
 
 -- only an event that was not idle asks a client
-abbrev pub IsAsked : Event → WorldState → Result (Unit {0}) Idle → List (ℕ × Publication) →
+abbrev pub EventAsks : Event → WorldState → Result (Unit {0}) Idle → List (ℕ × Publication) →
     WorldState → Type 0
-IsAsked event old (Err idle) asked new = asked ≡ []
-IsAsked event old (Ok done) asked new = AskedBy event old asked new
+EventAsks event old (Err idle) asked new = asked ≡ []
+EventAsks event old (Ok done) asked new = AskedBy event old asked new
 
 -- events, one after another, and what they asked
 abbrev pub RunAsks : List Event → WorldState → List (ℕ × Publication) → WorldState → Type 0
@@ -46,5 +46,5 @@ RunAsks [] old asked new = (asked ≡ []) × (new ≡ old)
 RunAsks (event ∷ events) old asked new =
     (between : WorldState) × (result : Result (Unit {0}) Idle) × (first : List (ℕ × Publication))
     × (later : List (ℕ × Publication))
-    × Happens event old result between × IsAsked event old result first between
+    × EventHappens event old result between × EventAsks event old result first between
     × RunAsks events between later new × (asked ≡ first ++ later)

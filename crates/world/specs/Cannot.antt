@@ -28,9 +28,9 @@ CannotOpen None = Unit {0}
 CannotOpen (Some core) = is_open core.state.stage ≡ true
 
 -- there is no such client, or it refuses the call
-abbrev pub Refuses : Call → Option Core → Type 0
-Refuses call None = Unit {0}
-Refuses call (Some core) = (keeper_step call core.state).refusal ≡ None → ⊥
+abbrev pub RefusesCall : Call → Option Core → Type 0
+RefusesCall call None = Unit {0}
+RefusesCall call (Some core) = (keeper_step call core.state).refusal ≡ None → ⊥
 
 -- whether a node exists, runs, and is the primary of an active ballot
 abbrev pub is_serving : Option CountedCore → Bool
@@ -87,8 +87,8 @@ CannotHappen (events.Abandon name) w = HoldsNone (core_named name w.clients)
 CannotHappen (events.Disconnect name) w = HoldsNone (core_named name w.clients)
 CannotHappen (events.Notice number) w = IsClosed (slot_numbered number w.connections) w.nodes.nodes
 CannotHappen (events.Publish name publication) w =
-    Refuses (Call.Publishes publication) (core_named name w.clients)
+    RefusesCall (Call.Publishes publication) (core_named name w.clients)
 CannotHappen (events.Subscribe name filter qos) w =
-    Refuses (Call.Subscribes filter qos) (core_named name w.clients)
+    RefusesCall (Call.Subscribes filter qos) (core_named name w.clients)
 CannotHappen (events.Unsubscribe name filter) w =
-    Refuses (Call.Unsubscribes filter) (core_named name w.clients)
+    RefusesCall (Call.Unsubscribes filter) (core_named name w.clients)

@@ -18,9 +18,9 @@ ClientDoes name does old new =
     × (new ≡ with_piped c.at c.client piped old)
 
 -- what the client writes is in transit; if losses are allowed, its connection may be lost instead
-abbrev pub Asks : Call → Bool → Piped → Piped → Type 0
-Asks call true old new = Calls (keeper_step call old.core.state) old (Ok sendings.Sent) new
-Asks call false old new =
+abbrev pub SendsCall : Call → Bool → Piped → Piped → Type 0
+SendsCall call true old new = Calls (keeper_step call old.core.state) old (Ok sendings.Sent) new
+SendsCall call false old new =
     (sending : Sending) × Calls (keeper_step call old.core.state) old (Ok sending) new
 
 -- the client's connection is lost: there was no memory for what the client wrote
@@ -28,10 +28,10 @@ abbrev pub LosesAsking : Call → Piped → Piped → Type 0
 LosesAsking call old new = Calls (keeper_step call old.core.state) old (Ok sendings.Lost) new
 
 -- the client's DISCONNECT is in transit; if losses are allowed, its connection may be lost instead
-abbrev pub Leaves : Bool → Piped → Piped → Type 0
-Leaves true old new =
+abbrev pub SendsDisconnect : Bool → Piped → Piped → Type 0
+SendsDisconnect true old new =
     TakesLeave (keeper_step Call.Disconnects old.core.state) old (Ok sendings.Sent) new
-Leaves false old new =
+SendsDisconnect false old new =
     (sending : Sending)
     × TakesLeave (keeper_step Call.Disconnects old.core.state) old (Ok sending) new
 
@@ -41,8 +41,8 @@ LosesLeaving old new =
     TakesLeave (keeper_step Call.Disconnects old.core.state) old (Ok sendings.Lost) new
 
 -- what is in transit stays
-abbrev pub Loses : Piped → Piped → Type 0
-Loses old new = new ≡ record old { core = gone old.core }
+abbrev pub LosesConnection : Piped → Piped → Type 0
+LosesConnection old new = new ≡ record old { core = gone old.core }
 
 -- bytes are carried to the client, whatever it does with them; it runs out of memory only if losses
 -- are allowed

@@ -15,7 +15,7 @@ use Rattle.world_events.specs.declared.event.Event.TheVariants as events
 use Rattle.world.specs.Found.{Connected, port_of, with_less, with_piped}
 use Rattle.world.specs.Gathering.{Gathers, TakesItem}
 use Rattle.world.specs.World.{WorldState}
-use Rattle.world.specs.ClientCalls.{ClientDoes, Asks, LosesAsking, Leaves, LosesLeaving, Loses, CarriesDownWhere}
+use Rattle.world.specs.ClientCalls.{ClientDoes, SendsCall, LosesAsking, SendsDisconnect, LosesLeaving, LosesConnection, CarriesDownWhere}
 use Rattle.world.specs.Opening.{OpensNone, OpensWhere}
 
 -- the master gives a ballot, exactly or perhaps with losses
@@ -24,9 +24,9 @@ Assigns true config old new = new ≡ after_giving config old
 Assigns false config old new = GivesIn config old new
 
 -- a message comes to its receiver, a node or the master, exactly or perhaps with losses
-abbrev pub Delivers : Bool → Option (ℕ × Message Command) → NodesState → NodesState → Type 0
-Delivers true message old new = MessageArrives message old new
-Delivers false message old new = ComesIn message old new
+abbrev pub DeliversMessage : Bool → Option (ℕ × Message Command) → NodesState → NodesState → Type 0
+DeliversMessage true message old new = MessageArrives message old new
+DeliversMessage false message old new = ComesIn message old new
 
 -- a node cuts its log, exactly or perhaps with losses
 abbrev pub CutsLog : Bool → ℕ → NodesState → NodesState → Type 0
@@ -34,9 +34,9 @@ CutsLog true node old new = CutsExactly node old new
 CutsLog false node old new = CutsIn node old new
 
 -- a node proposes to end the session of a client
-abbrev pub Proposes : Bool → List ℕ → ℕ → NodesState → NodesState → Type 0
-Proposes true name node old new = TakesExactly node (items.Expel name) old new
-Proposes false name node old new = ExpelsIn name node old new
+abbrev pub ProposesExpel : Bool → List ℕ → ℕ → NodesState → NodesState → Type 0
+ProposesExpel true name node old new = TakesExactly node (items.Expel name) old new
+ProposesExpel false name node old new = ExpelsIn name node old new
 
 -- the receiver of a message that was sent; 0, the master, if there is none
 abbrev pub receiver_of : Option (ℕ × Message Command) → ℕ
@@ -49,7 +49,8 @@ DoesEvent whole (events.Assign config) old new =
     (between : NodesState) × Assigns whole config old.nodes between
     × (new ≡ record old { nodes = between })
 DoesEvent whole (events.Deliver number) old new =
-    (between : NodesState) × Delivers whole (slice_get old.nodes.sent number) old.nodes between
+    (between : NodesState)
+    × DeliversMessage whole (slice_get old.nodes.sent number) old.nodes between
     × Gathers whole (receiver_of (slice_get old.nodes.sent number))
     (record old { nodes = between }) new
 DoesEvent whole (events.Tick node) old new = TakesItem whole node (items.Tick 0) old new
@@ -57,7 +58,7 @@ DoesEvent whole (events.Cut node) old new =
     (between : NodesState) × CutsLog whole node old.nodes between
     × Gathers whole node (record old { nodes = between }) new
 DoesEvent whole (events.Expel name node) old new =
-    (between : NodesState) × Proposes whole name node old.nodes between
+    (between : NodesState) × ProposesExpel whole name node old.nodes between
     × Gathers whole node (record old { nodes = between }) new
 DoesEvent whole (events.Crash node) old new = TakesItem whole node items.Crash old new
 DoesEvent whole (events.Open name node) old new = OpensWhere whole name node old new
@@ -68,16 +69,16 @@ DoesEvent whole (events.CarryUp number count) old new =
 DoesEvent whole (events.CarryDown number count) old new =
     (c : Connected number old) × (piped : Piped) × CarriesDownWhere whole count c.client.piped piped
     × (new ≡ with_piped c.slot.client c.client piped old)
-DoesEvent whole (events.Abandon name) old new = ClientDoes name Loses old new
-DoesEvent whole (events.Disconnect name) old new = ClientDoes name (Leaves whole) old new
+DoesEvent whole (events.Abandon name) old new = ClientDoes name LosesConnection old new
+DoesEvent whole (events.Disconnect name) old new = ClientDoes name (SendsDisconnect whole) old new
 DoesEvent whole (events.Notice number) old new =
     (c : Connected number old) × TakesItem whole c.slot.node (items.Ended (port_of number)) old new
 DoesEvent whole (events.Publish name publication) old new =
-    ClientDoes name (Asks (Call.Publishes publication) whole) old new
+    ClientDoes name (SendsCall (Call.Publishes publication) whole) old new
 DoesEvent whole (events.Subscribe name filter qos) old new =
-    ClientDoes name (Asks (Call.Subscribes filter qos) whole) old new
+    ClientDoes name (SendsCall (Call.Subscribes filter qos) whole) old new
 DoesEvent whole (events.Unsubscribe name filter) old new =
-    ClientDoes name (Asks (Call.Unsubscribes filter) whole) old new
+    ClientDoes name (SendsCall (Call.Unsubscribes filter) whole) old new
 
 -- How memory runs out at a client and not at a node. A client makes its call, and its connection is
 -- lost; it has no memory for what it receives; or there is no new connection.

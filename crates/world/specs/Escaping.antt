@@ -19,7 +19,7 @@ use Rattle.escaping_nodes.specs.world_nodes.Running.{is_running, node_of}
 use Rattle.world_events.specs.declared.event.Event.{Event}
 use Rattle.world.specs.Found.{core_named}
 use Rattle.world.specs.Trace.{LosesNothing}
-use Rattle.world.specs.Happening.{Run}
+use Rattle.world.specs.Happening.{EventsHappen}
 use Rattle.world.specs.StandsFor.{IsReached}
 use Rattle.world.specs.World.{WorldState}
 
@@ -68,5 +68,5 @@ pub record HasEscaped (name : Client) (old new : WorldState) : Type 0 where
 abbrev pub LeadsOut : Client → WorldState → List Event → Type 0
 LeadsOut name w events =
     (nodes : ℕ) (config : Config) (clients : List Client) (new : WorldState) →
-    IsReached nodes config clients w → Run events w new → LosesNothing w new →
+    IsReached nodes config clients w → EventsHappen events w new → LosesNothing w new →
     HasEscaped name w new

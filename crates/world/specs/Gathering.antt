@@ -34,9 +34,10 @@ is_told_open port None = false
 is_told_open port (Some node) = is_more (answer_of (listed_at port node.core))
 
 -- the node hands over the bytes of the port
-abbrev pub Gives : Option CountedCore → ℕ → Port → NodesState → NodesState → Type 0
-Gives None node port old new = new ≡ old
-Gives (Some core) node port old new = new ≡ after_node_call (node - 1) core (gives port) old
+abbrev pub HandsOverBytes : Option CountedCore → ℕ → Port → NodesState → NodesState → Type 0
+HandsOverBytes None node port old new = new ≡ old
+HandsOverBytes (Some core) node port old new =
+    new ≡ after_node_call (node - 1) core (gives port) old
 
 -- ---- one connection
 
@@ -47,7 +48,7 @@ pub record IsGathered (number : ℕ) (old new : WorldState) : Type 0 where
   pub node : Option CountedCore
   pub is_node : node ≡ node_of old.nodes.nodes c.slot.node
   pub between : NodesState
-  pub gives : Gives node c.slot.node (port_of number) old.nodes between
+  pub gives : HandsOverBytes node c.slot.node (port_of number) old.nodes between
   pub is : new ≡ record (with_piped c.slot.client c.client
       (with_down c.slot.at c.way (c.way.down ++ put_out (port_of number) node) c.client.piped)
       old) {

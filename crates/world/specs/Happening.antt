@@ -13,7 +13,7 @@ use Rattle.world.specs.declared.world.WorldClient.{WorldClient}
 use Rattle.world.specs.World.{WorldState}
 use Rattle.world.specs.Cannot.{CannotHappen}
 use Rattle.world.specs.Doing.{DoesEvent, LosesAtClient}
-use Rattle.world.specs.Quiet.{TakesNoMemory}
+use Rattle.world.specs.Quiet.{EventTakesNoMemory}
 
 -- ---- what events do
 
@@ -28,7 +28,7 @@ pub record HappensExactly (event : Event) (old new : WorldState) : Type 0 where
 -- counted a loss. Their count saturates at 2^64 - 1, and shows nothing there.
 pub record HappensLosing (event : Event) (old new : WorldState) : Type 0 where
   pub can : CannotHappen event old → ⊥
-  pub needs : TakesNoMemory event old → old.nodes.losses < greatest_count → ⊥
+  pub needs : EventTakesNoMemory event old → old.nodes.losses < greatest_count → ⊥
   pub done : WorldState
   pub does : (done ≡ old) ⊎ DoesEvent false event old done
   pub lost : (done ≡ old) ⊎ LosesAtClient event old done
@@ -37,16 +37,17 @@ pub record HappensLosing (event : Event) (old new : WorldState) : Type 0 where
 
 -- Idle comes exactly if the event cannot happen, and then nothing changes. Otherwise the event was
 -- done exactly, or a loss is counted.
-abbrev pub Happens : Event → WorldState → Result (Unit {0}) Idle → WorldState → Type 0
-Happens event old (Err idle) new = CannotHappen event old × (new ≡ old)
-Happens event old (Ok done) new = HappensExactly event old new ⊎ HappensLosing event old new
+abbrev pub EventHappens : Event → WorldState → Result (Unit {0}) Idle → WorldState → Type 0
+EventHappens event old (Err idle) new = CannotHappen event old × (new ≡ old)
+EventHappens event old (Ok done) new = HappensExactly event old new ⊎ HappensLosing event old new
 
 -- events, one after another
-abbrev pub Run : List Event → WorldState → WorldState → Type 0
-Run [] old new = new ≡ old
-Run (event ∷ events) old new =
-    (between : WorldState) × (result : Result (Unit {0}) Idle) × Happens event old result between
-    × Run events between new
+abbrev pub EventsHappen : List Event → WorldState → WorldState → Type 0
+EventsHappen [] old new = new ≡ old
+EventsHappen (event ∷ events) old new =
+    (between : WorldState) × (result : Result (Unit {0}) Idle)
+    × EventHappens event old result between
+    × EventsHappen events between new
 
 -- ---- how it begins
 

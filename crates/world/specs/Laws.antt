@@ -8,14 +8,15 @@ use Rattle.world_events.specs.declared.event.Event.{Event}
 use Rattle.world_events.specs.declared.event.Event.TheVariants as events
 use Rattle.world.specs.Opening.{has_no_name_left}
 use Rattle.world.specs.Trace.{LosesNothing}
-use Rattle.world.specs.Happening.{Happens, HappensExactly}
+use Rattle.world.specs.Happening.{EventHappens, HappensExactly}
 use Rattle.world.specs.World.{WorldState}
 
 -- if the count of losses is as before, and not at its greatest number, an event that was not idle
 -- was done exactly
 abbrev pub UncountedIsExact : Type 0
 UncountedIsExact =
-    (event : Event) (old new : WorldState) → Happens event old (Ok tt) new → LosesNothing old new →
+    (event : Event) (old new : WorldState) → EventHappens event old (Ok tt) new →
+    LosesNothing old new →
     HappensExactly event old new
 
 -- an Open at a node that gave a connection the last number of its ballot changes nothing
@@ -25,7 +26,7 @@ OpensPastTheLast =
     node_of old.nodes.nodes node ≡ Some core →
     core.core.last_name ≡ record { ballot = core.core.replica.state.joined; count = max_count } →
     old.nodes.losses < greatest_count →
-    Happens (events.Open name node) old (Ok tt) new → new ≡ old
+    EventHappens (events.Open name node) old (Ok tt) new → new ≡ old
 
 -- a node that has not given the last number has a name left
 abbrev pub HasRoomBefore : Type 0

@@ -17,13 +17,13 @@ use Rattle.world.specs.Found.{slot_numbered, port_of}
 use Rattle.world.specs.World.{WorldState}
 
 -- a node has nothing to hand over
-abbrev pub HoldsNothing : ℕ → NodesState → Type 0
-HoldsNothing node n =
+abbrev pub HasNothingToHandOver : ℕ → NodesState → Type 0
+HasNothingToHandOver node n =
     (core : CountedCore) → node_of n.nodes node ≡ Some core → WaitsNothing core.core
 
 -- an item takes no memory at a node, which has nothing to hand over
 abbrev pub IsQuietAt : ℕ → Item → NodesState → Type 0
-IsQuietAt node item n = RestsAt node item n × HoldsNothing node n
+IsQuietAt node item n = RestsAt node item n × HasNothingToHandOver node n
 
 -- a message that arrives takes no memory, including one that the master ignores
 abbrev pub ComesQuietly : Option (ℕ × Message Command) → NodesState → Type 0
@@ -40,12 +40,12 @@ EndsQuietly number (Some slot) n = IsQuietAt slot.node (items.Ended (port_of num
 -- a message reaches the master that it ignores, and in one case more. In it a message, a tick, the
 -- end of a connection or a crash reaches a node that then sends nothing and has nothing to hand
 -- over. Such a node adds nothing to its log, takes no log and applies nothing.
-abbrev pub TakesNoMemory : Event → WorldState → Type 0
-TakesNoMemory (events.Deliver number) w = ComesQuietly (slice_get w.nodes.sent number) w.nodes
-TakesNoMemory (events.Tick node) w = IsQuietAt node (items.Tick 0) w.nodes
-TakesNoMemory (events.Crash node) w = IsQuietAt node items.Crash w.nodes
-TakesNoMemory (events.Notice number) w =
+abbrev pub EventTakesNoMemory : Event → WorldState → Type 0
+EventTakesNoMemory (events.Deliver number) w = ComesQuietly (slice_get w.nodes.sent number) w.nodes
+EventTakesNoMemory (events.Tick node) w = IsQuietAt node (items.Tick 0) w.nodes
+EventTakesNoMemory (events.Crash node) w = IsQuietAt node items.Crash w.nodes
+EventTakesNoMemory (events.Notice number) w =
     EndsQuietly number (slot_numbered number w.connections) w.nodes
-TakesNoMemory (events.Open name node) w = has_no_name_left (node_of w.nodes.nodes node) ≡ true
-TakesNoMemory (events.Abandon name) w = Unit {0}
-TakesNoMemory event w = ⊥
+EventTakesNoMemory (events.Open name node) w = has_no_name_left (node_of w.nodes.nodes node) ≡ true
+EventTakesNoMemory (events.Abandon name) w = Unit {0}
+EventTakesNoMemory event w = ⊥

@@ -29,14 +29,14 @@ pub record WorldStandsFor (m : World) (w : WorldState) : Type 0 where
 -- ---- how it moves
 
 -- steps of a world, one after another
-pub data Steps (m : World) : World → Type 0 where
+pub data WorldSteps (m : World) : World → Type 0 where
   -- no step
-  rests : Steps m m
+  rests : WorldSteps m m
   -- one more step
-  goes_on : {n o : World} → Steps m n → WorldStep n o → Steps m o
+  goes_on : {n o : World} → WorldSteps m n → WorldStep n o → WorldSteps m o
 
 -- what clients publish in these steps, the oldest first
-abbrev pub published_along : {m n : World} → Steps m n → List (ℕ × Publication)
+abbrev pub published_along : {m n : World} → WorldSteps m n → List (ℕ × Publication)
 published_along rests = []
 published_along (goes_on steps step) = published_along steps ++ published_in step
 
@@ -45,7 +45,7 @@ published_along (goes_on steps step) = published_along steps ++ published_in ste
 pub record ModelStepsTo (asked : List (ℕ × Publication)) (m : World) (new : WorldState)
     : Type 0 where
   pub after : World
-  pub steps : Steps m after
+  pub steps : WorldSteps m after
   pub asked_is : published_along steps ≡ asked
   pub stands : WorldStandsFor after new
 

@@ -7,12 +7,12 @@ ghost use Rattle.world_events.specs.world_pipes.Following.{CallingFollows, Follo
 ghost use Rattle.world_events.specs.world_pipes.Piped.{TakesLeave, is_holding, taken_back};
 ghost use Rattle.world.specs.Trace.{CountsOnce, NodesGoOn};
 ghost use Rattle.world.specs.Opening.{has_no_name_left};
-ghost use Rattle.world.specs.ClientCalls.{Loses};
-ghost use Rattle.world.specs.Quiet.{TakesNoMemory};
+ghost use Rattle.world.specs.ClientCalls.{LosesConnection};
+ghost use Rattle.world.specs.Quiet.{EventTakesNoMemory};
 ghost use Rattle.world.specs.Cannot.{is_serving};
 ghost use Rattle.world.specs.SlotsAreValid.{leads};
-ghost use Rattle.world.specs.Inside.Connecting.{Begins, ConnectsAt, HearsOfOne, MayOpenNone, Reaches};
-ghost use Rattle.world.specs.Inside.Calling.{Counts, IsCall};
+ghost use Rattle.world.specs.Inside.Connecting.{BeginsConnection, ConnectsAt, HearsOfOne, MayOpenNone, Reaches};
+ghost use Rattle.world.specs.Inside.Calling.{CountsRefusal, IsCall};
 ghost use Rattle.world.specs.Inside.Steps.{PublishesAsked, IsTrace, Meets};
 
 use crate::connection_slot::ConnectionSlot;
@@ -33,7 +33,8 @@ impl World {
         ensures goes { IsTrace self.old self.new }
         ensures meets { Meets (Event.Open client.now node) self.old result self.new }
         ensures once { CountsOnce self.old self.new }
-        ensures quiet { TakesNoMemory (Event.Open client.now node) self.old → self.new ≡ self.old }
+        ensures quiet { EventTakesNoMemory (Event.Open client.now node) self.old →
+            self.new ≡ self.old }
     {
         let Some(at) = self.index_of_client(client) else {
             return Err(Idle);
@@ -60,7 +61,7 @@ impl World {
             (λ found. is_holding found.piped ≡ false) }
         requires node { 0 < node }
         ensures goes { IsTrace self.old self.new }
-        ensures begins { Begins client node self.old self.new }
+        ensures begins { BeginsConnection client node self.old self.new }
         ensures once { CountsOnce self.old self.new }
     {
         let before = self.nodes.losses();
@@ -203,7 +204,7 @@ impl World {
 
     // Ends a call of a client: a refusal is idle, running out of memory is counted.
     fn called(&mut self, done: Result<Sending, ClientError>) -> Result<(), Idle>
-        ensures { Counts done self.old result self.new }
+        ensures { CountsRefusal done self.old result self.new }
     {
         match done {
             Ok(Sending::Sent) => Ok(()),
@@ -281,7 +282,7 @@ fn report_opened(nodes: &mut Nodes, node: u8, port: Port) -> bool
 
 // Lets a client lose its connection.
 fn lose_connection(piped: &mut PipedClient)
-    ensures lost { Loses piped.old piped.new }
+    ensures lost { LosesConnection piped.old piped.new }
     ensures goes { FollowsAll piped.old piped.new }
     ensures leads { leads piped.new.ways ≡ leads piped.old.ways }
 {

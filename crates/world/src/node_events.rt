@@ -4,7 +4,7 @@ ghost use Rattle.std.specs.Prelude.{◌≡◌, ◌<◌, ◌-◌, true, Some, sli
 ghost use Rattle.world.specs.Doing.{receiver_of};
 ghost use Rattle.world.specs.Found.{port_of};
 ghost use Rattle.world.specs.Inside.Steps.{IsTrace, Meets};
-ghost use Rattle.world.specs.Quiet.{IsQuietAt, TakesNoMemory};
+ghost use Rattle.world.specs.Quiet.{IsQuietAt, EventTakesNoMemory};
 
 use crate::connection_slot::ConnectionSlot;
 use crate::world::World;
@@ -20,7 +20,7 @@ impl World {
         ensures goes { IsTrace self.old self.new }
         ensures meets { Meets (Event.Deliver number) self.old result self.new }
         ensures still { self.new.losses ≡ self.old.losses }
-        ensures quiet { TakesNoMemory (Event.Deliver number) self.old →
+        ensures quiet { EventTakesNoMemory (Event.Deliver number) self.old →
             self.new.nodes.losses ≡ self.old.nodes.losses }
     {
         let receiver = self.receiver(number);
@@ -44,7 +44,7 @@ impl World {
         ensures goes { IsTrace self.old self.new }
         ensures meets { Meets (Event.Tick node) self.old result self.new }
         ensures still { self.new.losses ≡ self.old.losses }
-        ensures quiet { TakesNoMemory (Event.Tick node) self.old →
+        ensures quiet { EventTakesNoMemory (Event.Tick node) self.old →
             self.new.nodes.losses ≡ self.old.nodes.losses }
     {
         self.nodes.tick(node)?;
@@ -84,7 +84,7 @@ impl World {
         ensures goes { IsTrace self.old self.new }
         ensures meets { Meets (Event.Crash node) self.old result self.new }
         ensures still { self.new.losses ≡ self.old.losses }
-        ensures quiet { TakesNoMemory (Event.Crash node) self.old →
+        ensures quiet { EventTakesNoMemory (Event.Crash node) self.old →
             self.new.nodes.losses ≡ self.old.nodes.losses }
     {
         self.nodes.crash(node)?;
@@ -107,7 +107,7 @@ impl World {
         ensures goes { IsTrace self.old self.new }
         ensures meets { Meets (Event.Notice number) self.old result self.new }
         ensures still { self.new.losses ≡ self.old.losses }
-        ensures quiet { TakesNoMemory (Event.Notice number) self.old →
+        ensures quiet { EventTakesNoMemory (Event.Notice number) self.old →
             self.new.nodes.losses ≡ self.old.nodes.losses }
     {
         match self.slot(number) {

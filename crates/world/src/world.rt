@@ -8,11 +8,11 @@ ghost use Rattle.headline.specs.packet_world.World.{AreApart};
 ghost use Rattle.headline.specs.byte_world.World.{new_client};
 ghost use Rattle.world_events.specs.world_pipes.StandsFor.{ClientStandsFor};
 ghost use Rattle.world.specs.Trace.{AgreedGrows, AreReached, CountsOnce, StaysReached, KeepsGroup};
-ghost use Rattle.world.specs.Asking.{IsAsked, RunAsks};
-ghost use Rattle.world.specs.Happening.{Happens, Run, WorldOpens, new_world_client};
+ghost use Rattle.world.specs.Asking.{EventAsks, RunAsks};
+ghost use Rattle.world.specs.Happening.{EventHappens, EventsHappen, WorldOpens, new_world_client};
 ghost use Rattle.world.specs.Cannot.{CannotHappen};
 ghost use Rattle.world.specs.Inside.Steps.{PublishesAsked, IsCounted, Meets};
-ghost use Rattle.world.specs.Quiet.{TakesNoMemory};
+ghost use Rattle.world.specs.Quiet.{EventTakesNoMemory};
 ghost use Rattle.world.specs.StandsFor.{ClientsStand, IsReached, KeepsReached, FollowsModelAsking, asked_on, identifiers};
 
 use crate::connection_slot::ConnectionSlot;
@@ -121,7 +121,7 @@ impl World {
         // event: the world moves by steps of the model, some of them perhaps with losses. Its
         // clients are asked to publish just what the event asks.
         ensures exact { (asked : List (ℕ × Publication))
-            × IsAsked event.now self.old result asked self.new
+            × EventAsks event.now self.old result asked self.new
             × FollowsModelAsking asked self.old self.new × KeepsReached asked self.old self.new }
 
         // Its nodes move as a group, and agree after the event.
@@ -134,13 +134,14 @@ impl World {
         // What the event asks is done, or it cannot happen. Or a loss is counted, for an event that
         // can happen and takes memory: then nothing is done, or what the event asks, with losses,
         // and nothing else.
-        ensures happens { Happens event.now self.old result self.new }
+        ensures happens { EventHappens event.now self.old result self.new }
         ensures same { OnErr result (self.new ≡ self.old) }
 
         // The count of losses rises by one, or not at all: an event that takes no memory does not
         // raise it.
         ensures count { CountsOnce self.old self.new }
-        ensures quiet { TakesNoMemory event.now self.old → self.old.nodes.losses < greatest_count →
+        ensures quiet { EventTakesNoMemory event.now self.old →
+            self.old.nodes.losses < greatest_count →
             self.new.losses ≡ self.old.losses }
         ensures idle { IsErr result ↔ CannotHappen event.now self.old }
     {
@@ -167,7 +168,7 @@ impl World {
         ensures grown { AgreedGrows self.old.nodes self.new.nodes }
 
         // Each event has happened, or could not.
-        ensures runs { Run events.now self.old self.new }
+        ensures runs { EventsHappen events.now self.old self.new }
     {
         for event in events {
             let _ = self.step(event);
@@ -233,7 +234,7 @@ impl World {
         ensures asked { PublishesAsked event.now self.old result self.new }
         ensures meets { Meets event.now self.old result self.new }
         ensures once { CountsOnce self.old self.new }
-        ensures quiet { TakesNoMemory event.now self.old →
+        ensures quiet { EventTakesNoMemory event.now self.old →
             self.new.nodes.losses ≡ self.old.nodes.losses }
     {
         match event {

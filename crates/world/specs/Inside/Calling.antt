@@ -20,9 +20,10 @@ IsCall call old (Err errors.Memory) new = Unit {0}
 IsCall call old done new = Calls (keeper_step call old.core.state) old done new
 
 -- the result of a call: running out of memory is counted, and any other refusal is idle
-abbrev pub Counts : Result Sending ClientError → WorldState → Result (Unit {0}) Idle → WorldState →
+abbrev pub CountsRefusal : Result Sending ClientError → WorldState → Result (Unit {0}) Idle →
+    WorldState →
     Type 0
-Counts (Ok sendings.Sent) old result new = IsOk result × (new ≡ old)
-Counts (Ok sendings.Lost) old result new = IsOk result × (new ≡ with_loss old)
-Counts (Err errors.Memory) old result new = IsOk result × (new ≡ with_loss old)
-Counts (Err cause) old result new = IsErr result × (new ≡ old)
+CountsRefusal (Ok sendings.Sent) old result new = IsOk result × (new ≡ old)
+CountsRefusal (Ok sendings.Lost) old result new = IsOk result × (new ≡ with_loss old)
+CountsRefusal (Err errors.Memory) old result new = IsOk result × (new ≡ with_loss old)
+CountsRefusal (Err cause) old result new = IsErr result × (new ≡ old)

@@ -13,9 +13,9 @@ use Rattle.world_events.specs.world_pipes.Piped.{Piped}
 use Rattle.world.specs.declared.connection_slot.ConnectionSlot.{ConnectionSlot}
 use Rattle.world.specs.declared.world.WorldClient.{WorldClient}
 use Rattle.world.specs.Found.{slot_numbered, port_of, with_down, with_piped}
-use Rattle.world.specs.Gathering.{GatheredWhere, Gives, is_more, is_open_at, is_told_open, put_out}
+use Rattle.world.specs.Gathering.{GatheredWhere, HandsOverBytes, is_more, is_open_at, is_told_open, put_out}
 use Rattle.world.specs.SlotsAreValid.{open_from}
-use Rattle.world.specs.Quiet.{HoldsNothing}
+use Rattle.world.specs.Quiet.{HasNothingToHandOver}
 use Rattle.world.specs.World.{WorldState}
 use Rattle.world.specs.Inside.Steps.{NodesStay}
 
@@ -28,7 +28,7 @@ tells_open (Err idle) = false
 -- Or it runs out of memory: it hands nothing over, and its end is open.
 abbrev pub HandsDown : ℕ → Port → NodesState → List ℕ → NodesState → List ℕ → Bool → Type 0
 HandsDown node port old before new after is_open =
-    (Gives (node_of old.nodes node) node port old new
+    (HandsOverBytes (node_of old.nodes node) node port old new
     × (after ≡ before ++ put_out port (node_of old.nodes node))
     × (is_open ≡ is_told_open port (node_of old.nodes node)))
     ⊎ ((new ≡ nodes_with_loss old) × (after ≡ before) × (is_open ≡ true))
@@ -62,7 +62,7 @@ pub record GathersOn (number : ℕ) (slot : ConnectionSlot) (old : WorldState) (
   pub way : Way
   pub stands : slice_get client.piped.ways slot.at ≡ Some way
   pub between : NodesState
-  pub gives : Gives (node_of old.nodes.nodes slot.node) slot.node
+  pub gives : HandsOverBytes (node_of old.nodes.nodes slot.node) slot.node
       (port_of number) old.nodes between
   pub told : is_open ≡ is_told_open (port_of number) (node_of old.nodes.nodes slot.node)
   pub is : new ≡ record (with_piped slot.client client
@@ -79,7 +79,8 @@ MayGatherOn number slot old is_open new =
 
 -- a node that has nothing to hand over then has nothing, and counts no loss
 abbrev pub StaysQuiet : ℕ → NodesState → NodesState → Type 0
-StaysQuiet node old new = HoldsNothing node old → HoldsNothing node new × (new.losses ≡ old.losses)
+StaysQuiet node old new =
+    HasNothingToHandOver node old → HasNothingToHandOver node new × (new.losses ≡ old.losses)
 
 -- its end counts as open, or as closed
 abbrev pub marked : ℕ → ConnectionSlot → Bool → WorldState → WorldState

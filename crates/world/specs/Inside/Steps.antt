@@ -7,7 +7,7 @@ use Rattle.escaping_client.specs.session_base.declared.publication.Publication.{
 use Rattle.escaping_nodes.specs.world_nodes.Nodes.{NodesState, NodesStandFor as NodesStand}
 use Rattle.escaping_nodes.specs.world_nodes.Steps.{LosesNothing as NodesLoseNothing}
 use Rattle.world_events.specs.declared.event.Event.{Event}
-use Rattle.world.specs.Asking.{IsAsked}
+use Rattle.world.specs.Asking.{EventAsks}
 use Rattle.world.specs.Trace.{NodesGoOn}
 use Rattle.world.specs.Cannot.{CannotHappen}
 use Rattle.world.specs.Doing.{DoesEvent}
@@ -30,7 +30,7 @@ IsTrace old new = IsTraceAsking [] old new
 pub record PublishesAsked (event : Event) (old : WorldState) (result : Result (Unit {0}) Idle)
     (new : WorldState) : Type 0 where
   pub asked : List (ℕ × Publication)
-  pub is : IsAsked event old result asked new
+  pub is : EventAsks event old result asked new
   pub goes : IsTraceAsking asked old new
 
 -- each group that corresponds to the nodes before still corresponds to them
@@ -38,7 +38,7 @@ abbrev pub NodesStay : NodesState → NodesState → Type 0
 NodesStay old new = (g : Group) → NodesStand g old → NodesStand g new
 
 -- an event was done, or nothing happened: it was done exactly, unless the nodes counted a loss
-pub record IsDone (event : Event) (old new : WorldState) : Type 0 where
+pub record EventIsDone (event : Event) (old new : WorldState) : Type 0 where
   pub can : CannotHappen event old → ⊥
   pub does : (new ≡ old) ⊎ DoesEvent false event old new
   pub exact : NodesLoseNothing old.nodes new.nodes → DoesEvent true event old new
@@ -47,7 +47,7 @@ pub record IsDone (event : Event) (old new : WorldState) : Type 0 where
 -- the result of an event, before the step counts what its nodes counted
 abbrev pub Meets : Event → WorldState → Result (Unit {0}) Idle → WorldState → Type 0
 Meets event old (Err idle) new = CannotHappen event old × (new ≡ old)
-Meets event old (Ok done) new = IsDone event old new ⊎ HappensLosing event old new
+Meets event old (Ok done) new = EventIsDone event old new ⊎ HappensLosing event old new
 
 -- Nothing is counted if the nodes' count of losses is what it was; otherwise one loss is counted,
 -- if the world's count is still what it was.

@@ -5,7 +5,7 @@ use Rattle.world_events.specs.world_pipes.Piped.{is_holding}
 use Rattle.world.specs.declared.world.WorldClient.{WorldClient}
 use Rattle.escaping_nodes.proofs.of_master.Counting.{get_there}
 use Rattle.world.specs.Cannot.{HoldsNone}
-use Rattle.world.specs.ClientCalls.{Leaves, LosesLeaving}
+use Rattle.world.specs.ClientCalls.{SendsDisconnect, LosesLeaving}
 use Rattle.world.specs.Inside.Calling.{with_loss}
 use Rattle.world.specs.World.{WorldState}
 use Rattle.world.proofs.CallsCounted.{call_counted}
@@ -56,7 +56,7 @@ returns-clause-meets c =
     } in
     rw (← c.self.view_is)
     (disconnect_meets c.args.client.now old c.called.result c.called.new.self
-    (client_meets c.args.client.now HoldsNone Leaves LosesLeaving old c.in-Some.at c.index_mut.result.now c.leave-done.new.piped c.leave-done.result c.called.result c.called.new.self (sym first) found
+    (client_meets c.args.client.now HoldsNone SendsDisconnect LosesLeaving old c.in-Some.at c.index_mut.result.now c.leave-done.new.piped c.leave-done.result c.called.result c.called.new.self (sym first) found
     (leave_outcome c.index_mut.result.now.piped c.leave-done.result c.leave-done.new.piped (λ no. both_ways _ no holds) c.leave-done.ensures.leaves c.leave-done.ensures.goes) c.called.ensures))
 
 pub returns-then-not-is_open-clause-goes : goal.returns-then-not-is_open-clause-goes

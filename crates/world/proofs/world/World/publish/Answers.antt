@@ -6,8 +6,8 @@ use Rattle.escaping_client.specs.client_base.Publishing.{publish_refusal}
 use Rattle.world.specs.declared.world.WorldClient.{WorldClient}
 use Rattle.escaping_nodes.proofs.of_master.Counting.{get_there}
 use Rattle.escaping_client.specs.client_base.Steps.{Call}
-use Rattle.world.specs.ClientCalls.{Asks, LosesAsking}
-use Rattle.world.specs.Cannot.{Refuses}
+use Rattle.world.specs.ClientCalls.{SendsCall, LosesAsking}
+use Rattle.world.specs.Cannot.{RefusesCall}
 use Rattle.world.specs.Inside.Calling.{with_loss}
 use Rattle.world.specs.World.{WorldState}
 use Rattle.world.proofs.AskedSo.{publish_asked}
@@ -62,7 +62,7 @@ returns-clause-meets c =
     let call : Call = Call.Publishes c.args.publication.now in
     rw (← c.self.view_is)
     (publish_meets c.args.client.now c.args.publication.now old c.called.result c.called.new.self
-    (client_meets c.args.client.now (Refuses call) (Asks call) (LosesAsking call) old c.in-Some.at c.index_mut.result.now c.publish_copy-done.new.piped c.publish_copy-done.result c.called.result c.called.new.self (sym first) found
+    (client_meets c.args.client.now (RefusesCall call) (SendsCall call) (LosesAsking call) old c.in-Some.at c.index_mut.result.now c.publish_copy-done.new.piped c.publish_copy-done.result c.called.result c.called.new.self (sym first) found
     (call_outcome (c.args.publication.now ∷ []) call c.index_mut.result.now.piped c.publish_copy-done.result c.publish_copy-done.new.piped can c.publish_copy-done.ensures.calls c.publish_copy-done.ensures.goes) c.called.ensures))
 
 pub returns-then-refuses-clause-asked : goal.returns-then-refuses-clause-asked
@@ -80,4 +80,4 @@ returns-then-refuses-clause-meets c =
       losses = c.self.inside.losses;
     } in
     let refuses = refuses_publication c.args.publication.now c.index.result.now.piped.core (subst (λ (k : Core). is_some (publish_refusal c.args.publication.now k.state) ≡ true) c.core.ensures (sym c.refuses.ensures ∙ c.if-refuses.true)) in
-    rw (← c.self.view_is) (asked_before c.args.client.now (Refuses (Call.Publishes c.args.publication.now)) old c.in-Some.at c.index.result.now (sym first) found refuses)
+    rw (← c.self.view_is) (asked_before c.args.client.now (RefusesCall (Call.Publishes c.args.publication.now)) old c.in-Some.at c.index.result.now (sym first) found refuses)

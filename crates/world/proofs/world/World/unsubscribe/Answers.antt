@@ -7,8 +7,8 @@ use Rattle.escaping_client.specs.packet.declared.qos.QoS.TheVariants as qualitie
 use Rattle.world.specs.declared.world.WorldClient.{WorldClient}
 use Rattle.escaping_nodes.proofs.of_master.Counting.{get_there}
 use Rattle.escaping_client.specs.client_base.Steps.{Call}
-use Rattle.world.specs.ClientCalls.{Asks, LosesAsking}
-use Rattle.world.specs.Cannot.{Refuses}
+use Rattle.world.specs.ClientCalls.{SendsCall, LosesAsking}
+use Rattle.world.specs.Cannot.{RefusesCall}
 use Rattle.world.specs.Inside.Calling.{with_loss}
 use Rattle.world.specs.World.{WorldState}
 use Rattle.world.proofs.CallsCounted.{call_counted}
@@ -62,7 +62,7 @@ returns-clause-meets c =
     let call : Call = Call.Unsubscribes c.args.filter.now in
     rw (← c.self.view_is)
     (unsubscribe_meets c.args.client.now c.args.filter.now old c.called.result c.called.new.self
-    (client_meets c.args.client.now (Refuses call) (Asks call) (LosesAsking call) old c.in-Some.at c.index_mut.result.now c.unsubscribe_copy-done.new.piped c.unsubscribe_copy-done.result c.called.result c.called.new.self (sym first) found
+    (client_meets c.args.client.now (RefusesCall call) (SendsCall call) (LosesAsking call) old c.in-Some.at c.index_mut.result.now c.unsubscribe_copy-done.new.piped c.unsubscribe_copy-done.result c.called.result c.called.new.self (sym first) found
     (call_outcome [] call c.index_mut.result.now.piped c.unsubscribe_copy-done.result c.unsubscribe_copy-done.new.piped can.1 c.unsubscribe_copy-done.ensures.calls c.unsubscribe_copy-done.ensures.goes) c.called.ensures))
 
 pub returns-then-refuses_requests-clause-goes : goal.returns-then-refuses_requests-clause-goes
@@ -80,4 +80,4 @@ returns-then-refuses_requests-clause-meets c =
       losses = c.self.inside.losses;
     } in
     let refuses = refuses_filter c.args.filter.now qualities.AtMostOnce c.index.result.now.piped.core (subst (λ (k : Core). is_some (request_refusal k.state) ≡ true) c.core.ensures (sym c.refuses_requests.ensures ∙ c.if-refuses_requests.true)) in
-    rw (← c.self.view_is) (asked_before c.args.client.now (Refuses (Call.Unsubscribes c.args.filter.now)) old c.in-Some.at c.index.result.now (sym first) found refuses.1)
+    rw (← c.self.view_is) (asked_before c.args.client.now (RefusesCall (Call.Unsubscribes c.args.filter.now)) old c.in-Some.at c.index.result.now (sym first) found refuses.1)
