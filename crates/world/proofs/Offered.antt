@@ -20,7 +20,7 @@ use Rattle.escaping_nodes.specs.world_nodes.Nodes.{NodesState}
 use Rattle.escaping_nodes.specs.world_nodes.Steps.{ActsWithLosses, TakesIn}
 use Rattle.escaping_client.specs.client_base.Steps.{Call, keeper_step}
 use Rattle.world_events.specs.world_pipes.Following.{ConnectingFollows}
-use Rattle.world_events.specs.world_pipes.Piped.{Connects as Opens, Piped, taken_back}
+use Rattle.world_events.specs.world_pipes.Piped.{SendsConnect as Opens, Piped, taken_back}
 use Rattle.world_events.proofs.of_world_pipes.TakenBack.{taken_back_ways, taking_back_follows}
 use Rattle.world.specs.SlotsAreValid.{leads}
 use Rattle.world.specs.Inside.Connecting.{HearsOfOne, Reaches}

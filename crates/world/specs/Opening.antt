@@ -10,7 +10,7 @@ use Rattle.headline.specs.world_base.declared.Port.{Port}
 use Rattle.escaping_nodes.specs.world_nodes.Running.{node_of}
 use Rattle.escaping_nodes.specs.world_nodes.Nodes.{NodesState}
 use Rattle.escaping_nodes.specs.world_nodes.Steps.{TakesIn}
-use Rattle.world_events.specs.world_pipes.Piped.{Connects, Piped, taken_back}
+use Rattle.world_events.specs.world_pipes.Piped.{SendsConnect, Piped, taken_back}
 use Rattle.world.specs.Found.{Named, port_of, with_piped}
 use Rattle.world.specs.Gathering.{TakesItem}
 use Rattle.world.specs.World.{WorldState}
@@ -22,7 +22,7 @@ next_number w = suc (length w.connections)
 -- a client has a new connection to a node: its CONNECT is in transit on it, under this number
 abbrev pub ConnectsTo : ℕ → ℕ → Piped → Piped → Type 0
 ConnectsTo node number old new =
-    Connects (node - 1) (port_of number) (keeper_step Call.Opens old.core.state) old (Ok tt) new
+    SendsConnect (node - 1) (port_of number) (keeper_step Call.Opens old.core.state) old (Ok tt) new
 
 -- the world with that client, and a slot for its new connection, whose end is open
 abbrev pub with_connection : {name : List ℕ} {w : WorldState} → Named name w → Piped → ℕ →
@@ -50,10 +50,11 @@ OpensOne whole name node old new =
 abbrev pub NoneOpens : ℕ → Port → NodesState → Piped → NodesState → Piped → Type 0
 NoneOpens node port old client new later =
     ((cause : ClientError)
-    × Connects (node - 1) port (keeper_step Call.Opens client.core.state) client (Err cause) later
+    × SendsConnect (node - 1) port (keeper_step Call.Opens client.core.state) client (Err cause)
+    later
     × (new ≡ old))
     ⊎ ((opened : Piped)
-    × Connects (node - 1) port (keeper_step Call.Opens client.core.state) client (Ok tt) opened
+    × SendsConnect (node - 1) port (keeper_step Call.Opens client.core.state) client (Ok tt) opened
     × (later ≡ taken_back opened) × ((new ≡ old) ⊎ TakesIn node (items.Opened port 0) old new))
 
 -- a client of a world opens no connection: no slot is added

@@ -15,7 +15,7 @@ use Rattle.client.specs.Reading.{EndsWith, Handles, OnBytes, fed}
 use Rattle.byte_world.specs.exactly_once.Sides.{ClientConnection}
 use Rattle.byte_world.specs.World.{ClientPipes, Pipe, with_pipe}
 use Rattle.world_pipes.specs.declared.way.Way.{Way}
-use Rattle.world_pipes.specs.Following.{Follows, CarryingFollows, after_losing}
+use Rattle.world_pipes.specs.Following.{ModelFollows, CarryingFollows, after_losing}
 use Rattle.world_pipes.specs.Steps.{ClientGoes, ClientStep, published_along, published_with}
 use Rattle.world_pipes.specs.Piped.{CarriesDown, Piped, broken, come_down, piped, sent_up}
 use Rattle.byte_world.specs.exactly_once.Acceptance.{accepted_on}
@@ -212,7 +212,7 @@ carrying_follows count old new result m s up h =
         (further : List Pipe) (p₁ : Pipe) (m₁ : ClientPipes) → length others ≡ length further → AreWays (reverse h.older) further → p₁.node ≡ h.way.node →
         p₁.port ≡ h.way.port → p₁.down ≡ drop count h.way.down → (coming : ClientStep m m₁) → published_with coming ≡ [] → Leaves h.way.up h.core m₁ others p₁ further →
         ((result ≡ h.read) × (new ≡ sent_up h.core h.older (come_down count h.way)))
-        ⊎ ((result ≡ Err errors.Memory) × (new ≡ broken h.core (h.older ++ come_down count h.way ∷ []))) → Follows [] m new
+        ⊎ ((result ≡ Err errors.Memory) × (new ≡ broken h.core (h.older ++ come_down count h.way ∷ []))) → ModelFollows [] m new
     shown count old new result m h others further p₁ m₁ many ways node port down coming silent l (inl end) =
         let up = h.way.up ++ h.core.out in
         record {

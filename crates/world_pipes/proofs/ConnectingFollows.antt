@@ -22,7 +22,7 @@ use Rattle.byte_world.specs.ClientSteps.{after_connecting}
 use Rattle.world_pipes.specs.declared.way.Way.{Way}
 use Rattle.world_pipes.specs.Following.{ConnectingFollows, FollowsAll}
 use Rattle.world_pipes.specs.Steps.{ClientGoes}
-use Rattle.world_pipes.specs.Piped.{Connects, Piped, is_holding, new_piped, new_way, piped, sent_up}
+use Rattle.world_pipes.specs.Piped.{SendsConnect, Piped, is_holding, new_piped, new_way, piped, sent_up}
 use Rattle.byte_world.specs.exactly_once.Acceptance.{accepted_on}
 use Rattle.world_pipes.specs.StandsFor.{AreWays, CanGoOut, ClientStandsFor}
 use Rattle.byte_world.specs.Accepted.{accepted_once}
@@ -129,7 +129,7 @@ connected node port old core m x s opens =
     }
 
 pub connecting_follows : (node : ℕ) (port : Port) (old new : Piped) (result : Result (Unit {0}) ClientError) → is_holding old ≡ false →
-    Connects node port (keeper_step Call.Opens old.core.state) old result new → ConnectingFollows node port old result new
+    SendsConnect node port (keeper_step Call.Opens old.core.state) old result new → ConnectingFollows node port old result new
 connecting_follows node port old new (Ok done) closed (core, opens, is) = λ m x s. (
   subst (λ p. ClientStandsFor p (after_connecting x node port m)) (sym is) (connected node port old core m x s opens),
   connect_is_packet m.keeper.client (subst (λ c. IsTrue (is_client c)) s.keeper.client s.fits.client),

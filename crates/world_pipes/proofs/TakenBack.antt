@@ -12,7 +12,7 @@ use Rattle.client.specs.Core.{Core, gone}
 use Rattle.byte_world.specs.world_base.declared.Port.{Port}
 use Rattle.world_pipes.specs.declared.way.Way.{Way}
 use Rattle.world_pipes.specs.Following.{FollowsAll, after_losing}
-use Rattle.world_pipes.specs.Piped.{Connects, Piped, new_way, piped, taken_back}
+use Rattle.world_pipes.specs.Piped.{SendsConnect, Piped, new_way, piped, taken_back}
 use Rattle.world_pipes.specs.StandsFor.{AreWays, CanGoOut}
 use Rattle.byte_world.specs.Accepted.{accepted_once}
 use Rattle.world_pipes.proofs.Ways.{losing_goes, losing_publishes, same_pipes}
@@ -41,7 +41,7 @@ all_but_last ways way =
     take_at ways (way ∷ []) (length (ways ++ way ∷ []) - 1) (let e : length ways ≡ length (ways ++ way ∷ []) - 1 = omega (arith, longer) in e)
 
 -- one that its node does not take
-pub taking_back_follows : (node : ℕ) (port : Port) (old new : Piped) → Connects node port (keeper_step Call.Opens old.core.state) old (Ok tt) new
+pub taking_back_follows : (node : ℕ) (port : Port) (old new : Piped) → SendsConnect node port (keeper_step Call.Opens old.core.state) old (Ok tt) new
     → FollowsAll old (taken_back new)
 taking_back_follows node port old new (core, opens, is) =
     let bare : Core = record core { out = [] } in
@@ -50,7 +50,7 @@ taking_back_follows node port old new (core, opens, is) =
     (sym (ap taken_back is ∙ ap (λ ways. piped (gone bare) ways) (all_but_last old.ways way))) (opened_and_lost old bare opens.0)
 
 -- after it connections lead to the same nodes
-pub taken_back_ways : (node : ℕ) (port : Port) (old new : Piped) → Connects node port (keeper_step Call.Opens old.core.state) old (Ok tt) new
+pub taken_back_ways : (node : ℕ) (port : Port) (old new : Piped) → SendsConnect node port (keeper_step Call.Opens old.core.state) old (Ok tt) new
     → (taken_back new).ways ≡ old.ways
 taken_back_ways node port old new (core, opens, is) =
     ap (λ p. (taken_back p).ways) is ∙ all_but_last old.ways (record (new_way node port) { up = core.out })

@@ -21,7 +21,8 @@ use Rattle.world_pipes.specs.StandsFor.{ClientStandsFor}
 
 -- the model's client moves by steps in which it publishes this, and the client in code corresponds
 -- to the one after them
-pub record Follows (published : List Publication) (m : ClientPipes) (new : Piped) : Type 0 where
+pub record ModelFollows (published : List Publication) (m : ClientPipes) (new : Piped)
+    : Type 0 where
   pub next : ClientPipes
   pub goes : ClientGoes m next
   pub publishes : published_along goes ≡ published
@@ -29,7 +30,8 @@ pub record Follows (published : List Publication) (m : ClientPipes) (new : Piped
 
 -- each client of the model that corresponded to it before follows, and publishes this
 abbrev pub FollowsBy : List Publication → Piped → Piped → Type 0
-FollowsBy published old new = (m : ClientPipes) → ClientStandsFor old m → Follows published m new
+FollowsBy published old new =
+    (m : ClientPipes) → ClientStandsFor old m → ModelFollows published m new
 
 -- each client of the model that corresponded to it before follows, and publishes nothing
 abbrev pub FollowsAll : Piped → Piped → Type 0
@@ -87,4 +89,4 @@ abbrev pub CarryingFollows : Type 0
 CarryingFollows =
     (count : ℕ) (old new : Piped) (result : Result (Unit {0}) ClientError) (m : ClientPipes) →
     ClientStandsFor old m → is_holding old ≡ true →
-    CarriesDown count old result new → Follows [] m new
+    CarriesDown count old result new → ModelFollows [] m new

@@ -74,12 +74,12 @@ TakesLeave outcome old (Err cause) new =
 
 -- a client's CONNECT is all that is in transit on a new connection; only memory may run out, and
 -- then there is no connection
-abbrev pub Connects :
+abbrev pub SendsConnect :
     ℕ → Port → ClientOutcome → Piped → Result (Unit {0}) ClientError → Piped → Type 0
-Connects node port outcome old (Ok done) new =
+SendsConnect node port outcome old (Ok done) new =
     (core : Core) × OpensConnection outcome old.core (Ok tt) core
     × (new ≡ sent_up core old.ways (new_way node port))
-Connects node port outcome old (Err cause) new = (cause ≡ errors.Memory) × (new.ways ≡ old.ways)
+SendsConnect node port outcome old (Err cause) new = (cause ≡ errors.Memory) × (new.ways ≡ old.ways)
     × ((new.core ≡ old.core)
     ⊎ ((core : Core) × OpensConnection outcome old.core (Ok tt) core × (new.core ≡ gone core)))
 

@@ -3,7 +3,7 @@
 ghost use Rattle.std.specs.Prelude.{◌≡◌, false, []};
 ghost use Rattle.client.specs.client_base.Steps.{Call, keeper_step};
 ghost use Rattle.world_pipes.specs.Following.{CallingFollows, ConnectingFollows};
-ghost use Rattle.world_pipes.specs.Piped.{Connects, TakesLeave, is_holding, taken_back};
+ghost use Rattle.world_pipes.specs.Piped.{SendsConnect, TakesLeave, is_holding, taken_back};
 
 use crate::piped_client::PipedClient;
 use crate::sending::{Sending, send_up};
@@ -17,7 +17,7 @@ impl PipedClient {
     /// then there is no new connection.
     pub fn open(&mut self, node: usize, port: Port) -> Result<(), ClientError>
         requires { is_holding self.old ≡ false }
-        ensures opens { Connects node port
+        ensures opens { SendsConnect node port
             (keeper_step Call.Opens self.old.core.state) self.old result self.new }
         ensures goes { ConnectingFollows node port self.old result self.new }
     {
@@ -27,7 +27,7 @@ impl PipedClient {
     // Opens a connection; the client holds none before.
     fn connect(&mut self, node: usize, port: Port) -> Result<(), ClientError>
         requires { is_holding self.old ≡ false }
-        ensures { Connects node port
+        ensures { SendsConnect node port
             (keeper_step Call.Opens self.old.core.state) self.old result self.new }
     {
         let mut way = Way::new(self.alloc, node, port);

@@ -13,7 +13,7 @@ use Rattle.escaping_nodes.specs.world_nodes.Running.{node_of}
 use Rattle.escaping_nodes.specs.world_nodes.Nodes.{NodesState}
 use Rattle.escaping_nodes.specs.world_nodes.Steps.{LosesNothing as NodesLoseNothing, TakesIn}
 use Rattle.world_events.specs.world_pipes.Following.{ConnectingFollows, FollowsAll}
-use Rattle.world_events.specs.world_pipes.Piped.{Connects as Opens, Piped}
+use Rattle.world_events.specs.world_pipes.Piped.{SendsConnect as Opens, Piped}
 use Rattle.world.specs.declared.world.WorldClient.{WorldClient}
 use Rattle.world.specs.Found.{port_of, with_piped}
 use Rattle.world.specs.Gathering.{Gathers}
