@@ -4,7 +4,7 @@ use Rattle.std.proofs.lemmas.List.{append-nil, map-append}
 use Rattle.client_base.specs.lists.Lists.{has_id, IsDistinct, Each}
 use Rattle.exactly_once.specs.Items.{SenderItem, busy, sent, start_first}
 use Rattle.exactly_once.specs.Handshake.{Forward, Backward, Transit, sending}
-use Rattle.exactly_once.specs.HandshakeInvariant.{publishes, forward_id, backward_id, IsMeant, IsDue, IsSent, Comes, IsJoined, IsBehind, IsAhead, FitsTransit}
+use Rattle.exactly_once.specs.HandshakeInvariant.{publishes, forward_id, backward_id, IsMeant, IsDue, IsSent, ComesToReceiver, IsJoined, IsBehind, IsAhead, FitsTransit}
 use Rattle.client_base.proofs.of_lists.Tests.{or_none, none_or}
 use Rattle.client_base.proofs.of_lists.Identifiers.{other_id, distinct_after, distinct_insert}
 use Rattle.client_base.proofs.of_lists.OfEach.{each_append, each_then}
@@ -72,7 +72,7 @@ linked_start received old new id v (Transit.Ahead f) n n' s j =
 
 pub linked_add : {V : Type 0} (received : ℕ → Bool) (old new new' : List (SenderItem V)) (l : Transit V) → sent new' ≡ sent new → FitsTransit received old new l → FitsTransit received old new' l
 linked_add {V = X} received old new new' (Transit.Joined f b) e j =
-    record { comes = subst (λ (z : List (ℕ × X)). Comes old f z) (sym e) j.comes; due = j.due; apart = j.apart }
+    record { comes = subst (λ (z : List (ℕ × X)). ComesToReceiver old f z) (sym e) j.comes; due = j.due; apart = j.apart }
 linked_add received old new new' (Transit.Behind b) e j = j
 linked_add received old new new' (Transit.Ahead f) e j = record { next = j.next; more = j.more; comes = j.comes; prefix = e ∙ j.prefix }
 

@@ -4,7 +4,7 @@ use Rattle.std.proofs.lemmas.List.{append-nil, map-append}
 use Rattle.client_base.specs.lists.Lists.{has_id, IsDistinct, Each}
 use Rattle.exactly_once.specs.Items.{SenderItem}
 use Rattle.exactly_once.specs.Handshake.{Forward, Backward, Handshake, answer}
-use Rattle.exactly_once.specs.HandshakeInvariant.{publishes, forward_id, backward_id, IsDue, Comes, IsJoined}
+use Rattle.exactly_once.specs.HandshakeInvariant.{publishes, forward_id, backward_id, IsDue, ComesToReceiver, IsJoined}
 use Rattle.client_base.proofs.of_lists.Tests.{or_none}
 use Rattle.client_base.proofs.of_lists.Identifiers.{has_split, distinct_rotate}
 use Rattle.client_base.proofs.of_lists.OfEach.{each_append}
@@ -34,7 +34,7 @@ pub joined_taken : {V : Type 0} (received : ℕ → Bool) (old new : List (Sende
 joined_taken {V = X} received old new m f b after j t =
     let away = has_split (forward_id m) (map forward_id f) (map backward_id b) j.apart.0 in
     record {
-      comes = subst (λ (l : List (ℕ × X)). Comes t.old' f l) (sym (append-nil t.next') ∙ sym t.front) t.comes;
+      comes = subst (λ (l : List (ℕ × X)). ComesToReceiver t.old' f l) (sym (append-nil t.next') ∙ sym t.front) t.comes;
       due = each_append (IsDue after.received t.old') b (answer m ∷ []) (dues received after.received old t.old' (forward_id m) b t.others away.1 j.due) (t.due, tt);
       apart = subst IsDistinct
           (append_assoc (map forward_id f) (map backward_id b) (forward_id m ∷ [])

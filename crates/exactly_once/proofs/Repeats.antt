@@ -6,7 +6,7 @@ use Rattle.client_base.specs.lists.Lists.{In, Each}
 use Rattle.client_base.specs.lists.Lists.In.{here, there}
 use Rattle.exactly_once.specs.Items.{SenderItem, value_of, sent}
 use Rattle.exactly_once.specs.Handshake.{Forward, Transit, Handshake, opening}
-use Rattle.exactly_once.specs.HandshakeInvariant.{IsNew, IsSent, FitsTransit, IsGood, Comes, publishes}
+use Rattle.exactly_once.specs.HandshakeInvariant.{IsNew, IsSent, FitsTransit, IsGood, ComesToReceiver, publishes}
 use Rattle.exactly_once.specs.Exact.{next_of, RepeatsWereAccepted}
 use Rattle.exactly_once.proofs.Exact.{good_run, good_opening}
 use Rattle.exactly_once.proofs.ItemsKnown.{cons_is}
@@ -46,10 +46,10 @@ some_is x y e = cc
 link_known : {V : Type 0} (received : ℕ → Bool) (old new : List (SenderItem V)) (l : Transit V) (id : ℕ) (v : V) → Each (IsNew received) new → FitsTransit received old new l
     → next_of l ≡ Some (Forward.Publish id v) → received id ≡ true → In v (map value_of old)
 link_known {V = X} received old new (Transit.Joined (m ∷ f) b) id v news j e known =
-    let c = subst (λ (z : Forward X). Comes old (z ∷ f) (sent new)) (some_is m (Forward.Publish id v) e) j.comes in
+    let c = subst (λ (z : Forward X). ComesToReceiver old (z ∷ f) (sent new)) (some_is m (Forward.Publish id v) e) j.comes in
     first_known received old new (id, v) (publishes f) c.again (sent new) [] news known c.is c.known (sym (append-nil (sent new)))
 link_known {V = X} received old new (Transit.Ahead (m ∷ f)) id v news j e known =
-    let c = subst (λ (z : Forward X). Comes old (z ∷ f) j.next) (some_is m (Forward.Publish id v) e) j.comes in
+    let c = subst (λ (z : Forward X). ComesToReceiver old (z ∷ f) j.next) (some_is m (Forward.Publish id v) e) j.comes in
     first_known received old new (id, v) (publishes f) c.again j.next j.more news known c.is c.known j.prefix
 link_known received old new (Transit.Joined [] b) id v news j e known = cc
 link_known received old new (Transit.Ahead []) id v news j e known = cc

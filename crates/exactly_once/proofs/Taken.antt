@@ -4,7 +4,7 @@ use Rattle.std.proofs.lemmas.Bool.{both_ways}
 use Rattle.client_base.specs.lists.Lists.{Each}
 use Rattle.exactly_once.specs.Items.{SenderItem, sent, has_sent, has_released}
 use Rattle.exactly_once.specs.Handshake.{Forward, Backward, Transit, Handshake, answer, accepting, taking}
-use Rattle.exactly_once.specs.HandshakeInvariant.{AreSides, publishes, forward_id, backward_id, IsMeant, IsDue, IsSent, Comes}
+use Rattle.exactly_once.specs.HandshakeInvariant.{AreSides, publishes, forward_id, backward_id, IsMeant, IsDue, IsSent, ComesToReceiver}
 use Rattle.client_base.proofs.of_lists.Tests.{none_or, eq_same, eq_turn, or_left, or_right, or_then}
 use Rattle.client_base.proofs.of_lists.OfEach.{each_then}
 use Rattle.exactly_once.proofs.ItemsKnown.{cons_is, pair_is, olds_sent, first_sent, with, without}
@@ -16,7 +16,7 @@ pub record Took {V : Type 0} (m : Forward V) (received : ℕ → Bool) (old : Li
   pub new' : List (SenderItem V)
   pub next' : List (ℕ × V)
   pub sides : AreSides after.items after.accepted after.received old' new'
-  pub comes : Comes old' f next'
+  pub comes : ComesToReceiver old' f next'
   pub front : sent new' ≡ next' ++ more
   pub due : IsDue after.received old' (answer m)
   pub others : (b : Backward) → IsDue received old b → (forward_id m == backward_id b) ≡ false → IsDue after.received old' b
@@ -116,7 +116,7 @@ took_publish {V = X} h id v f l old new next more [] s is known meant front =
     took_next h id v f l old first.later more s' (h.received id) s'.news.0 meant first.sent_is
 
 pub took : {V : Type 0} (h : Handshake V) (m : Forward V) (f : List (Forward V)) (l : Transit V) (old new : List (SenderItem V)) (next more : List (ℕ × V))
-    → AreSides h.items h.accepted h.received old new → Comes old (m ∷ f) next → sent new ≡ next ++ more → Took m h.received old f more (taking m h l)
+    → AreSides h.items h.accepted h.received old new → ComesToReceiver old (m ∷ f) next → sent new ≡ next ++ more → Took m h.received old f more (taking m h l)
 took h (Forward.Publish id v) f l old new next more s c front = took_publish h id v f l old new next more c.again s c.is c.known c.meant.1 front
 took h (Forward.Pubrel id) f l old new next more s c front =
     record {

@@ -63,7 +63,7 @@ IsSent items row = In row (sent items)
 
 -- what comes to the receiver: some that it has already, each with the value that was first sent,
 -- and then exactly these
-pub record Comes {V : Type 0} (old : List (SenderItem V)) (f : List (Forward V))
+pub record ComesToReceiver {V : Type 0} (old : List (SenderItem V)) (f : List (Forward V))
     (next : List (ℕ × V)) : Type 0 where
   pub again : List (ℕ × V)
   pub is : publishes f ≡ again ++ next
@@ -74,7 +74,7 @@ pub record Comes {V : Type 0} (old : List (SenderItem V)) (f : List (Forward V))
 pub record IsJoined {V : Type 0} (received : ℕ → Bool) (old new : List (SenderItem V))
     (f : List (Forward V)) (b : List Backward)
     : Type 0 where
-  pub comes : Comes old f (sent new)
+  pub comes : ComesToReceiver old f (sent new)
   pub due : Each (IsDue received old) b
   pub apart : IsDistinct (map forward_id f ++ map backward_id b)
 
@@ -89,7 +89,7 @@ pub record IsAhead {V : Type 0} (old new : List (SenderItem V)) (f : List (Forwa
     : Type 0 where
   pub next : List (ℕ × V)
   pub more : List (ℕ × V)
-  pub comes : Comes old f next
+  pub comes : ComesToReceiver old f next
   pub prefix : sent new ≡ next ++ more
 
 -- what is in transit fits the items, by which sides are on the connection
