@@ -18,8 +18,8 @@ use Rattle.world.specs.master.declared.event.Idle.{Idle}
 use Rattle.world.specs.World.{WorldState}
 use Rattle.play.specs.declared.played_world.Recipient.{Recipient}
 use Rattle.play.specs.Events.{asked_in}
-use Rattle.play.specs.Transcripts.{ComesTo, IsAskedIn, accepted_by, accepted_in, accepted_lines, lines_after, new_lines}
-use Rattle.play.specs.Inside.{Appends, AreWritten, Comes, Written, lines_unwritten, names_of, new_recipient, written_at}
+use Rattle.play.specs.Transcripts.{EventComesTo, IsAskedIn, accepted_by, accepted_in, accepted_lines, lines_after, new_lines}
+use Rattle.play.specs.Inside.{Appends, AreWritten, LineComesTo, Written, lines_unwritten, names_of, new_recipient, written_at}
 
 -- ---- the lines of one client
 
@@ -100,10 +100,10 @@ none_written all (c ∷ cs) w is = (sym (ap length none), none_written all cs w 
 
 -- ---- lines of a script
 
-pub no_event : (script_line : ScriptLine) (world : WorldState) (idle : Idle) → asked_in world script_line ≡ None → Comes script_line world (Err idle) world
+pub no_event : (script_line : ScriptLine) (world : WorldState) (idle : Idle) → asked_in world script_line ≡ None → LineComesTo script_line world (Err idle) world
 no_event script_line world idle none =
     record {
-      comes = subst (λ (o : Option Event). ComesTo o world (Err idle) world) (sym none) (refl, refl);
+      comes = subst (λ (o : Option Event). EventComesTo o world (Err idle) world) (sym none) (refl, refl);
       goes = record { rises = omega arith; goes = λ g s. record { after = g; goes = rests; stands = s } };
       reached = λ nodes config r. r;
       asked = [];
@@ -112,10 +112,10 @@ no_event script_line world idle none =
     }
 
 pub happened : (script_line : ScriptLine) (old : WorldState) (event : Event) (result : Result (Unit {0}) Idle) (new : WorldState) → asked_in old script_line ≡ Some event → EventHappens event old result new
-    → KeepsGroup old new → StaysReached old.nodes new.nodes → (asked : List (ℕ × Publication)) × EventAsks event old result asked new × FollowsModelAsking asked old new × KeepsReached asked old new → Comes script_line old result new
+    → KeepsGroup old new → StaysReached old.nodes new.nodes → (asked : List (ℕ × Publication)) × EventAsks event old result asked new × FollowsModelAsking asked old new × KeepsReached asked old new → LineComesTo script_line old result new
 happened script_line old event result new is happens goes reached asks =
     record {
-      comes = subst (λ (o : Option Event). ComesTo o old result new) (sym is) happens;
+      comes = subst (λ (o : Option Event). EventComesTo o old result new) (sym is) happens;
       goes = goes;
       reached = reached;
       asked = asks.0;
@@ -125,7 +125,7 @@ happened script_line old event result new is happens goes reached asks =
 
 -- a line, the line of its event, and if the last call succeeds, what clients accepted
 pub appends : {E : Type 0} (end : Result (Unit {0}) E) (clients : List (List ℕ)) (index : ℕ) (script_line : ScriptLine) (result : Result (Unit {0}) Idle) (before after : WorldState) (ls : List Recipient)
-    (a b c : List ℕ) → Comes script_line before result after → Written index result after a b → names_of ls ≡ clients → AreWritten ls before → OnOk end (c ≡ b ++ lines_unwritten ls after)
+    (a b c : List ℕ) → LineComesTo script_line before result after → Written index result after a b → names_of ls ≡ clients → AreWritten ls before → OnOk end (c ≡ b ++ lines_unwritten ls after)
     → OnOk end (Appends clients index script_line before after a c)
 appends (Err error) clients index script_line result before after ls a b c comes line named written tells = tells
 appends (Ok done) clients index script_line result before after ls a b c comes line named written tells =

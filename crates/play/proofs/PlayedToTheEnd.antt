@@ -12,21 +12,21 @@ use Rattle.world.specs.Happening.{WorldOpens}
 use Rattle.world.specs.Trace.{AreReached}
 use Rattle.world.specs.StandsFor.{IsReached, asked_on}
 use Rattle.world.specs.World.{WorldState}
-use Rattle.play.specs.Transcripts.{Played, Plays, Step}
+use Rattle.play.specs.Transcripts.{Played, Plays, ScriptStep}
 use Rattle.play.specs.Transcripts.Played.{opens, goes_on}
-use Rattle.play.specs.Inside.{Appends, AppendsAll, Ends, PlaysOn}
+use Rattle.play.specs.Inside.{Appends, AppendsLines, EndsTranscript, PlaysOn}
 
 -- ---- lines
 
-pub appends_none : (clients : List (List ℕ)) (world : WorldState) (text : List ℕ) → AppendsAll clients [] world world text text
+pub appends_none : (clients : List (List ℕ)) (world : WorldState) (text : List ℕ) → AppendsLines clients [] world world text text
 appends_none clients world text = record { lines = []; played = opens; is = sym (append-nil text) }
 
 pub appends_more : (clients : List (List ℕ)) (script_lines : List ScriptLine) (i : ℕ) (script_line : ScriptLine) (first old new : WorldState) (a b c : List ℕ) → i < length script_lines → script_line ≡ get_or script_lines i script_line
-    → AppendsAll clients (take i script_lines) first old a b → Appends clients i script_line old new b c → AppendsAll clients (take (i + 1) script_lines) first new a c
+    → AppendsLines clients (take i script_lines) first old a b → Appends clients i script_line old new b c → AppendsLines clients (take (i + 1) script_lines) first new a c
 appends_more clients script_lines i script_line first old new a b c below is before one =
     let many : length (take i script_lines) ≡ i = length-take-le i script_lines (let l : i ≤ length script_lines = omega (arith, below) in l) in
-    let step = subst (λ (k : ℕ). Step clients k script_line old new one.lines) (sym many) one.step in
-    subst (λ (l : List ScriptLine). AppendsAll clients l first new a c) (sym (take_more script_lines i script_line below ∙ ap (λ (z : ScriptLine). take i script_lines ++ z ∷ []) (sym is)))
+    let step = subst (λ (k : ℕ). ScriptStep clients k script_line old new one.lines) (sym many) one.step in
+    subst (λ (l : List ScriptLine). AppendsLines clients l first new a c) (sym (take_more script_lines i script_line below ∙ ap (λ (z : ScriptLine). take i script_lines ++ z ∷ []) (sym is)))
     (record {
       lines = before.lines ++ one.lines;
       played = goes_on before.played script_line step;
@@ -77,7 +77,7 @@ exact_on nodes config cs clients first _ _ last (goes_on {script_lines} {lines} 
 
 -- if the last line was written, memory suffices
 pub plays_on : {E : Type 0} (result : Result (Unit {0}) E) (clients : List (List ℕ)) (script_lines : List ScriptLine) (first last : WorldState) (old mid new : List ℕ)
-    → AppendsAll clients script_lines first last old mid → OnOk result (Ends last mid new) → OnOk result (last.losses ≡ 0)
+    → AppendsLines clients script_lines first last old mid → OnOk result (EndsTranscript last mid new) → OnOk result (last.losses ≡ 0)
     → OnOk result (PlaysOn clients script_lines first old new 0)
 plays_on (Ok done) clients script_lines first last old mid new all ends none =
     record { last = last; mid = mid; all = all; ends = ends; are = none }

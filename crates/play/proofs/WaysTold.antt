@@ -15,7 +15,7 @@ use Rattle.world.specs.World.{WorldState}
 use Rattle.play.specs.declared.error.PlayError.{PlayError}
 use Rattle.play.specs.declared.error.PlayError.TheVariants as faults
 use Rattle.play.specs.Faults.{escape_fault_of}
-use Rattle.play.specs.Inside.{AppendsAll}
+use Rattle.play.specs.Inside.{AppendsLines}
 use Rattle.play.specs.Ways.{EndsIn, HasNoWay, TellsWay, event_line, event_lines, more_members}
 
 -- ---- one more line
@@ -49,10 +49,10 @@ one_more_member xs i d old mid new below before one =
 
 pub ends_in : (text old new : List ℕ) (script : Script) (first last : WorldState) (clients : List (List ℕ)) (script_lines : List ScriptLine) → IsScript (lines_of text) script
     → WorldOpens script.opening.nodes script.opening.config script.opening.clients.items first
-    → clients ≡ script.opening.clients.items → script_lines ≡ script.lines.items → AppendsAll clients script_lines first last old new → last.losses ≡ 0 → EndsIn text last
+    → clients ≡ script.opening.clients.items → script_lines ≡ script.lines.items → AppendsLines clients script_lines first last old new → last.losses ≡ 0 → EndsIn text last
 ends_in text old new script first last clients script_lines is opens named all on none =
-    let whole : AppendsAll script.opening.clients.items script.lines.items first last old new =
-    subst (λ (o : List ScriptLine). AppendsAll script.opening.clients.items o first last old new) all (subst (λ (n : List (List ℕ)). AppendsAll n script_lines first last old new) named on) in
+    let whole : AppendsLines script.opening.clients.items script.lines.items first last old new =
+    subst (λ (o : List ScriptLine). AppendsLines script.opening.clients.items o first last old new) all (subst (λ (n : List (List ℕ)). AppendsLines n script_lines first last old new) named on) in
     record {
       script = script;
       is_script = is;

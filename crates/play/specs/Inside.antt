@@ -11,16 +11,16 @@ use Rattle.world.specs.World.{WorldState}
 use Rattle.world.specs.world_nodes.Agreed.{AgreeOnSoMany}
 use Rattle.play.specs.declared.played_world.Recipient.{Recipient}
 use Rattle.play.specs.Events.{asked_in, event_of}
-use Rattle.play.specs.Transcripts.{ComesTo, IsAskedIn, IsLine, Played, Step, accepted_in, lines_after}
+use Rattle.play.specs.Transcripts.{EventComesTo, IsAskedIn, IsLine, Played, ScriptStep, accepted_in, lines_after}
 
 -- what a line asks of a client, whatever waits on connections
 abbrev pub IsCallOf : ScriptLine → Event → Type 0
 IsCallOf line event = (waiting : ℕ) → event_of waiting line ≡ Some event
 
 -- what a line asks for had this result
-pub record Comes (line : ScriptLine) (old : WorldState) (result : Result (Unit {0}) Idle)
+pub record LineComesTo (line : ScriptLine) (old : WorldState) (result : Result (Unit {0}) Idle)
     (new : WorldState) : Type 0 where
-  pub comes : ComesTo (asked_in old line) old result new
+  pub comes : EventComesTo (asked_in old line) old result new
   pub goes : KeepsGroup old new
   pub reached : StaysReached old.nodes new.nodes
   pub asked : List (ℕ × Publication)
@@ -35,7 +35,7 @@ pub record Written (index : ℕ) (result : Result (Unit {0}) Idle) (world : Worl
   pub is : new ≡ old ++ line
 
 -- the last line was
-pub record Ends (world : WorldState) (old new : List ℕ) : Type 0 where
+pub record EndsTranscript (world : WorldState) (old new : List ℕ) : Type 0 where
   pub agreed : ℕ
   pub are_agreed : AgreeOnSoMany world.nodes agreed
   pub is : new ≡ old ++ end_line agreed world.nodes.master.active
@@ -70,11 +70,11 @@ new_recipient name = record { client = name; written = 0 }
 pub record Appends (clients : List (List ℕ)) (index : ℕ) (script_line : ScriptLine)
     (before after : WorldState) (old new : List ℕ) : Type 0 where
   pub lines : List ℕ
-  pub step : Step clients index script_line before after lines
+  pub step : ScriptStep clients index script_line before after lines
   pub is : new ≡ old ++ lines
 
 -- the lines for these lines of a script were appended
-pub record AppendsAll (clients : List (List ℕ)) (script_lines : List ScriptLine)
+pub record AppendsLines (clients : List (List ℕ)) (script_lines : List ScriptLine)
     (first last : WorldState) (old new : List ℕ) : Type 0 where
   pub lines : List ℕ
   pub played : Played clients first script_lines lines last
@@ -85,6 +85,6 @@ pub record PlaysOn (clients : List (List ℕ)) (script_lines : List ScriptLine) 
     (old new : List ℕ) (losses : ℕ) : Type 0 where
   pub last : WorldState
   pub mid : List ℕ
-  pub all : AppendsAll clients script_lines first last old mid
-  pub ends : Ends last mid new
+  pub all : AppendsLines clients script_lines first last old mid
+  pub ends : EndsTranscript last mid new
   pub are : last.losses ≡ losses

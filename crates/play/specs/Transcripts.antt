@@ -46,9 +46,9 @@ new_lines (name ∷ names) old new =
 -- ---- one line of a script
 
 -- the event of a line had this result, as `World::step` says; a line that names no event is idle
-abbrev pub ComesTo : Option Event → WorldState → Result (Unit {0}) Idle → WorldState → Type 0
-ComesTo None old result new = IsErr result × (new ≡ old)
-ComesTo (Some event) old result new = EventHappens event old result new
+abbrev pub EventComesTo : Option Event → WorldState → Result (Unit {0}) Idle → WorldState → Type 0
+EventComesTo None old result new = IsErr result × (new ≡ old)
+EventComesTo (Some event) old result new = EventHappens event old result new
 
 -- what the event of a line asked clients to publish
 abbrev pub IsAskedIn : Option Event → WorldState → Result (Unit {0}) Idle
@@ -67,10 +67,10 @@ IsLine index (Ok done) new line =
 -- One line of a script: the line of its event, and a line for each publication that a client newly
 -- accepted. Even if memory ran out in it, the nodes did what they may do, and agree as before, and
 -- each client stays exact, by what it was asked to publish.
-pub record Step (clients : List (List ℕ)) (index : ℕ) (script_line : ScriptLine)
+pub record ScriptStep (clients : List (List ℕ)) (index : ℕ) (script_line : ScriptLine)
     (old new : WorldState) (lines : List ℕ) : Type 0 where
   pub result : Result (Unit {0}) Idle
-  pub comes : ComesTo (asked_in old script_line) old result new
+  pub comes : EventComesTo (asked_in old script_line) old result new
   pub line : List ℕ
   pub is_line : IsLine index result new line
   pub whole : lines ≡ line ++ new_lines clients old new
@@ -87,7 +87,7 @@ pub data Played (clients : List (List ℕ)) (first : WorldState)
   -- one more line, with the lines of its event
   goes_on : {script_lines : List ScriptLine} {lines more : List ℕ} {old new : WorldState}
       → Played clients first script_lines lines old → (script_line : ScriptLine)
-      → Step clients (length script_lines) script_line old new more
+      → ScriptStep clients (length script_lines) script_line old new more
       → Played clients first (script_lines ++ script_line ∷ []) (lines ++ more) new
 
 -- each line of a script has its event, these are the lines of its transcript, and the last line

@@ -6,7 +6,7 @@ ghost use Rattle.world.specs.packet_world.World.{AreApart};
 ghost use Rattle.world.specs.Happening.{WorldOpens};
 ghost use Rattle.world.specs.Trace.{AreReached};
 ghost use Rattle.world.specs.StandsFor.{IsReached, asked_on};
-ghost use Rattle.play.specs.Inside.{Appends, AreWritten, Comes, Ends, Written, lines_unwritten, names_of, new_recipient, written_at};
+ghost use Rattle.play.specs.Inside.{Appends, AreWritten, LineComesTo, EndsTranscript, Written, lines_unwritten, names_of, new_recipient, written_at};
 ghost use Rattle.play.specs.Transcripts.{accepted_in, accepted_lines, lines_after};
 
 use crate::error::PlayError;
@@ -93,7 +93,7 @@ impl PlayedWorld {
     // Does what a line asks for, if it can happen.
     fn do_line(&mut self, line: &ScriptLine) -> Result<Result<(), Idle>, PlayError>
         ensures comes { IfOk result (λ result.
-            Comes line.now self.old.world result self.new.world) }
+            LineComesTo line.now self.old.world result self.new.world) }
         ensures recipients { self.new.recipients.items ≡ self.old.recipients.items }
         ensures memory { OnErr result (IsErrOf result PlayError.Memory) }
     {
@@ -127,10 +127,11 @@ impl PlayedWorld {
 
     /// Appends the last line. `Losses` comes after it if memory ran out in the world.
     pub(crate) fn end(&self, transcript: &mut Vec<u8>) -> Result<(), PlayError>
-        ensures line { OnOk result (Ends self.now.world transcript.old.items transcript.new.items) }
+        ensures line { OnOk result
+            (EndsTranscript self.now.world transcript.old.items transcript.new.items) }
         ensures whole { OnOk result (self.now.world.losses ≡ 0) }
         ensures out_of_memory { IsErrOf result PlayError.Losses
-            → Ends self.now.world transcript.old.items transcript.new.items }
+            → EndsTranscript self.now.world transcript.old.items transcript.new.items }
         ensures losses { IsErrOf result PlayError.Losses → 0 < self.now.world.losses }
         ensures form { (number : ℕ) → IsErrOf result (PlayError.Line number) → ⊥ }
     {

@@ -4,7 +4,7 @@ ghost use Rattle.std.specs.Prelude.{◌≡◌, ◌<◌, ◌++◌, ℕ, List, OnO
 ghost use Rattle.script.specs.declared.error.ScriptFault.TheVariants.{Line};
 ghost use Rattle.script.specs.Scripts.{Refuses, lines_of};
 ghost use Rattle.play.specs.Transcripts.{Plays};
-ghost use Rattle.play.specs.Inside.{AppendsAll, AreWritten, PlaysOn, names_of};
+ghost use Rattle.play.specs.Inside.{AppendsLines, AreWritten, PlaysOn, names_of};
 
 use crate::error::PlayError;
 use crate::played_world::PlayedWorld;
@@ -59,7 +59,7 @@ pub(crate) fn play_all(
     transcript: &mut Vec<u8>,
 ) -> Result<(), PlayError>
     requires written { AreWritten played.old.recipients.items played.old.world }
-    ensures lines { OnOk result (AppendsAll (names_of played.old.recipients.items) lines.now
+    ensures lines { OnOk result (AppendsLines (names_of played.old.recipients.items) lines.now
         played.old.world played.new.world transcript.old.items transcript.new.items) }
     ensures memory { OnErr result (IsErrOf result PlayError.Memory) }
 {
