@@ -12,7 +12,7 @@ use Rattle.byte_world.specs.exactly_once.StoryCommands.{is_packet_of}
 use Rattle.byte_world.specs.packet_world.World.{AreApart, ClientEnds, End, World}
 use Rattle.byte_world.specs.packet_world.Exact.{commands_from}
 use Rattle.byte_world.specs.packet_world.Steps.{HasPipe, Reached, is_of_connection}
-use Rattle.byte_world.specs.packet_world.Served.{IsOfPipe, IsServed, untaken}
+use Rattle.byte_world.specs.packet_world.Served.{IsOfPipe, ServesWorld, untaken}
 use Rattle.byte_world.proofs.of_packet_world.Answers.{of_name}
 use Rattle.byte_world.proofs.of_packet_world.Lists.{each_by, each_get}
 use Rattle.byte_world.proofs.of_packet_world.Serving.{worlds_are_served}
@@ -102,7 +102,7 @@ module _ (cs : List Client) (apart : AreApart cs) (agreed later : List Command) 
       one_end : (x y : End) → Some x ≡ Some y → x ≡ y
       one_end x y s = cc
 
-  served : IsServed b.world later
+  served : ServesWorld b.world later
   served =
       record {
         grows = subst (λ (l : List Command). IsPrefixOf l later) (sym b.is) grown;

@@ -18,7 +18,7 @@ use Rattle.packet_world.specs.Steps.{HasPipe, Reached, is_of_connection}
 use Rattle.packet_world.specs.Steps.Goes.{agrees, agrees_else}
 use Rattle.packet_world.specs.Steps.Reached.{goes_on}
 use Rattle.packet_world.specs.Exact.{commands_from}
-use Rattle.packet_world.specs.Served.{IsOfPipe, IsServed, untaken, ComesTo, WorldsAreServed}
+use Rattle.packet_world.specs.Served.{IsOfPipe, ServesWorld, untaken, CommandsLeadTo, WorldsAreServed}
 use Rattle.packet_world.proofs.Lists.{set_get, same_or_other}
 use Rattle.packet_world.proofs.Answers.{of_name}
 use Rattle.packet_world.proofs.WorldsExact.{reached_holds}
@@ -102,8 +102,8 @@ pipe_after w i j c κ v there' command of = by (same_or_other of.i i)
           named = ap (is_packet_of command) on.2.name ∙ of.named;
         }
 
-served_after : (w : World) (later rest : List Command) (i j : ℕ) (c : ClientEnds) (κ : ClientConnection) (v : Written) → slice_get w.clients i ≡ Some c → IsServed w later
-    → later ≡ (after w i j c κ v).agreed ++ rest → IsServed (after w i j c κ v) later
+served_after : (w : World) (later rest : List Command) (i j : ℕ) (c : ClientEnds) (κ : ClientConnection) (v : Written) → slice_get w.clients i ≡ Some c → ServesWorld w later
+    → later ≡ (after w i j c κ v).agreed ++ rest → ServesWorld (after w i j c κ v) later
 served_after w later rest i j c κ v there' served is =
     record {
       grows = record { rest = rest; is = is };
@@ -123,15 +123,15 @@ pushed xs rest y = sym (append_assoc xs (y ∷ []) rest)
 from_zero : (n : ℕ) → 0 + n ≡ n
 from_zero n = omega arith
 
-comes_to : (cs : List Client) (rest : List Command) (w : World) (later : List Command) → AreApart cs → Reached cs w → IsServed w later → later ≡ w.agreed ++ rest → ComesTo cs w later
+comes_to : (cs : List Client) (rest : List Command) (w : World) (later : List Command) → AreApart cs → Reached cs w → ServesWorld w later → later ≡ w.agreed ++ rest → CommandsLeadTo cs w later
 comes_to cs [] w later apart reached served is =
     record { after = w; reached = reached; agreed = sym (is ∙ append-nil w.agreed); clients = refl }
 comes_to cs (y ∷ rest) w later apart reached served is = by (cases_Bool (is_of_connection y)) (λ v. comes_to cs rest v later apart)
   where
     Next : Type 0
-    Next = (v : World) → Reached cs v → IsServed v later → later ≡ v.agreed ++ rest → ComesTo cs v later
+    Next = (v : World) → Reached cs v → ServesWorld v later → later ≡ v.agreed ++ rest → CommandsLeadTo cs v later
 
-    by : (is_of_connection y ≡ true) ⊎ (is_of_connection y ≡ false) → Next → ComesTo cs w later
+    by : (is_of_connection y ≡ true) ⊎ (is_of_connection y ≡ false) → Next → CommandsLeadTo cs w later
     by (inr else') next =
         let v : World = record w { agreed = w.agreed ++ y ∷ [] } in
         let is' : later ≡ (w.agreed ++ y ∷ []) ++ rest = is ∙ pushed w.agreed rest y in

@@ -17,7 +17,7 @@ use Rattle.exactly_once.specs.StoryCommands.{is_packet_of}
 use Rattle.packet_world.specs.World.{End, ClientEnds, World}
 use Rattle.packet_world.specs.Steps.{HasPipe, is_of_connection}
 use Rattle.packet_world.specs.Exact.{commands_from}
-use Rattle.packet_world.specs.Served.{IsOfPipe, IsServed}
+use Rattle.packet_world.specs.Served.{IsOfPipe, ServesWorld}
 
 -- A node that was the active primary of a connection's ballot, and took of its packets those that
 -- its end has read.
@@ -53,4 +53,4 @@ GroupsServe =
     (config : Config) (a : Moment State Command Output) (past : List (Moment State Command Output))
     (w : World) (later : List Command) →
     (came : Moments rules config (a ∷ past)) → IsAgreed config past w.agreed →
-    IsAgreed config (a ∷ past) later → TakesAsRead came w → IsServed w later
+    IsAgreed config (a ∷ past) later → TakesAsRead came w → ServesWorld w later

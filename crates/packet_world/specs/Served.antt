@@ -22,7 +22,7 @@ pub record IsOfPipe (w : World) (command : Command) : Type 0 where
 
 -- The list only grew; for each connection it has a prefix of the packets that the node read and
 -- proposed, in order; and it has packets only of connections of the world.
-pub record IsServed (w : World) (later : List Command) : Type 0 where
+pub record ServesWorld (w : World) (later : List Command) : Type 0 where
   pub grows : IsPrefixOf w.agreed later
   pub order : (i j : ℕ) (c : ClientEnds) (κ : ClientConnection) (e : End) → HasPipe w i c j κ e →
       IsPrefixOf (filter (λ command. is_packet_of command κ.name) later)
@@ -36,7 +36,7 @@ untaken c =
     record c { connections = map (λ (κ : ClientConnection). record κ { taken = 0 }) c.connections }
 
 -- The world comes to this list, command by command, and all else stays as it is.
-pub record ComesTo (cs : List Client) (w : World) (later : List Command) : Type 0 where
+pub record CommandsLeadTo (cs : List Client) (w : World) (later : List Command) : Type 0 where
   pub after : World
   pub reached : Reached cs after
   pub agreed : after.agreed ≡ later
@@ -46,4 +46,4 @@ pub record ComesTo (cs : List Client) (w : World) (later : List Command) : Type 
 abbrev pub WorldsAreServed : Type 0
 WorldsAreServed =
     (cs : List Client) (w : World) (later : List Command) → AreApart cs → Reached cs w →
-    IsServed w later → ComesTo cs w later
+    ServesWorld w later → CommandsLeadTo cs w later
