@@ -4,7 +4,7 @@ use Rattle.std.specs.List.{AllByRecursion}
 use Rattle.broker_spec.specs.Connection.{ConnectionName}
 use Rattle.broker_spec.specs.Place.{Client, Place, Past, only_if}
 use Rattle.broker_spec.specs.Past.{accepts, ends_any, newest_connection, current_connection}
-use Rattle.broker_spec.specs.Laws.{Keeps, WasOpened, CurrentIsLastAccepted}
+use Rattle.broker_spec.specs.Laws.{KeepsConnection, WasOpened, CurrentIsLastAccepted}
 
 -- either this place opened it, or it was current before and was kept
 abbrev pub Comes : Option (ConnectionName × Bool) → (Option ConnectionName → Bool) → Option ConnectionName → ConnectionName → Type 0
@@ -45,7 +45,7 @@ found (place ∷ past) c x e =
     (comes (accepts place.command place.mark c) (ends_any place c) (current_connection past c) x e)
 
 opened : (later : Past) (place : Place) (earlier : Past) (c : Client) (x : ConnectionName) (clean : Bool)
-    → accepts place.command place.mark c ≡ Some (x, clean) → AllByRecursion (Keeps c x) later
+    → accepts place.command place.mark c ≡ Some (x, clean) → AllByRecursion (KeepsConnection c x) later
     → current_connection (later ++ place ∷ earlier) c ≡ Some x
 unfolding current_connection
 opened [] place earlier c x clean a k = rw a refl

@@ -11,7 +11,7 @@ use Rattle.session_base.specs.Publication.{is_acknowledged}
 use Rattle.broker_spec.specs.Entries.{Entry, copies_at, queued}
 use Rattle.session_base.specs.Identifiers.{least_free}
 use Rattle.broker_spec.specs.Times.{entries_of, window_at, start_all, started, answered_by, at_puback, at_pubrec, at_pubcomp}
-use Rattle.broker_spec.specs.EntryLaws.{GoesOn, GrowsTo, IsMadeAt, EntriesOnlyGrow}
+use Rattle.broker_spec.specs.EntryLaws.{EntryGoesOn, GrowsTo, IsMadeAt, EntriesOnlyGrow}
 use Rattle.broker_spec.specs.declared.command.Command.{Command}
 use Rattle.broker_spec.specs.declared.command.Command.TheVariants as commands
 
@@ -20,7 +20,7 @@ use Rattle.broker_spec.specs.declared.command.Command.TheVariants as commands
 -- the same as going on, but nothing starts
 abbrev pub Answered : ℕ → Entry → Entry → Type 0
 Answered n (Entry.Waits made p) later = later ≡ Entry.Waits made p
-Answered n entry later = GoesOn n entry later
+Answered n entry later = EntryGoesOn n entry later
 
 abbrev pub Answering : ℕ → (Entry → Entry) → Type 0
 Answering n f = (entry : Entry) → Answered n entry (f entry)
@@ -137,7 +137,7 @@ new-start w n busy (p ∷ ps) = by (nat_lt (length busy) w) (new-start w n (leas
     by true ih = ((refl, refl), ih)
     by false ih = (refl, new-wait n ps)
 
-goes-on : (n : ℕ) (entry later : Entry) → Answered n entry later → GoesOn n entry later
+goes-on : (n : ℕ) (entry later : Entry) → Answered n entry later → EntryGoesOn n entry later
 goes-on n (Entry.Waits made p) later a = inl a
 goes-on n (Entry.Started made p id start) later a = a
 goes-on n (Entry.Released made p id start release) later a = a

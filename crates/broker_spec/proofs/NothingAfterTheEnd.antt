@@ -8,7 +8,7 @@ use Rattle.broker_spec.specs.Place.{Client, Mark, Place, Past, Limits, only_if, 
 use Rattle.broker_spec.specs.Past.{accepts, ends, expels, ends_any, any_connection, newest_session, is_beginning, current_connection, session_of, session_start}
 use Rattle.broker_spec.specs.Commands.{place_of}
 use Rattle.broker_spec.specs.Answers.{answers_at}
-use Rattle.broker_spec.specs.Laws.{Keeps}
+use Rattle.broker_spec.specs.Laws.{KeepsConnection}
 use Rattle.broker_spec.specs.EndingLaws.{connects_of, EndsWithTheSession, NothingAfterTheEnd}
 use Rattle.broker_spec.specs.declared.command.Command.{Command}
 use Rattle.broker_spec.specs.declared.command.Command.TheVariants as commands
@@ -113,7 +113,7 @@ start_stays place below c n e none over =
 
 -- while the connection is kept, after its Connect
 kept_starts : (later : Past) (opened : Place) (earlier : Past) (c : Client) (x : ConnectionName) (clean : Bool) (n : ℕ) → accepts opened.command opened.mark c ≡ Some (x, clean)
-    → AllByRecursion (Keeps c x) later → session_start (opened ∷ earlier) c ≡ Some n → session_start (later ++ opened ∷ earlier) c ≡ Some n
+    → AllByRecursion (KeepsConnection c x) later → session_start (opened ∷ earlier) c ≡ Some n → session_start (later ++ opened ∷ earlier) c ≡ Some n
 kept_starts [] opened earlier c x clean n a kept e = e
 kept_starts (next ∷ later) opened earlier c x clean n a kept e =
     let below = later ++ opened ∷ earlier in
@@ -152,7 +152,7 @@ ends_with_the_session limits past marked place opened below earlier x packet c c
         let mine = accepted_is opened.command opened.mark c x clean a in
         let there' = subst (λ (z : Place). (k : Client) × (z.command ≡ commands.Connect x k was.clean) × (k ≡ d)) same.0 its in
         let one : d ≡ c = sym there'.2 ∙ clients_are there'.0 mine.0 was.clean (sym there'.1 ∙ mine.1) ∙ mine.2 in
-        let kept : AllByRecursion (Keeps c x) was.later = subst (λ (k : Client). AllByRecursion (Keeps k x) was.later) one was.kept in
+        let kept : AllByRecursion (KeepsConnection c x) was.later = subst (λ (k : Client). AllByRecursion (KeepsConnection k x) was.later) one was.kept in
         let began : session_start below c ≡ Some start =
         ap (λ b. session_start b c) (was.is ∙ ap₂ (λ (p : Place) (b : Past). was.later ++ p ∷ b) same.0 same.1) ∙ kept_starts was.later opened earlier c x clean start a kept begun in
         start_stays place below c start began (quiet.0 c) (quiet_ends place c (current_connection below c) quiet)

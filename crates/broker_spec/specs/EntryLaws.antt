@@ -34,16 +34,16 @@ NothingWaitsInVain =
 -- One place later, at place n: an entry that waited still waits or starts here; one that started
 -- stays so, is released or is finished here; a finished one stays. Identifier, publication and
 -- times stay as they were.
-abbrev pub GoesOn : ℕ → Entry → Entry → Type 0
-GoesOn n (Entry.Waits made p) later =
+abbrev pub EntryGoesOn : ℕ → Entry → Entry → Type 0
+EntryGoesOn n (Entry.Waits made p) later =
     (later ≡ Entry.Waits made p) ⊎ ((id : ℕ) × (later ≡ Entry.Started made p id n))
-GoesOn n (Entry.Started made p id start) later =
+EntryGoesOn n (Entry.Started made p id start) later =
     (later ≡ Entry.Started made p id start) ⊎ ((later ≡ Entry.Released made p id start n)
     ⊎ (later ≡ Entry.Finished made p id start None n))
-GoesOn n (Entry.Released made p id start release) later =
+EntryGoesOn n (Entry.Released made p id start release) later =
     (later ≡ Entry.Released made p id start release)
     ⊎ (later ≡ Entry.Finished made p id start (Some release) n)
-GoesOn n (Entry.Finished made p id start release finish) later =
+EntryGoesOn n (Entry.Finished made p id start release finish) later =
     later ≡ Entry.Finished made p id start release finish
 
 -- an entry that place n made: it waits, or started there
@@ -52,10 +52,10 @@ IsMadeAt n (Entry.Waits made p) = made ≡ n
 IsMadeAt n (Entry.Started made p id start) = (made ≡ n) × (start ≡ n)
 IsMadeAt n _ = ⊥
 
--- the earlier entries keep their order and change as one place later (`GoesOn`), and those after
--- them are made at place n
+-- the earlier entries keep their order and change as one place later (`EntryGoesOn`), and those
+-- after them are made at place n
 abbrev pub GrowsTo : ℕ → List Entry → List Entry → Type 0
-GrowsTo n (entry ∷ entries) (later ∷ others) = GoesOn n entry later × GrowsTo n entries others
+GrowsTo n (entry ∷ entries) (later ∷ others) = EntryGoesOn n entry later × GrowsTo n entries others
 GrowsTo n (entry ∷ entries) [] = ⊥
 GrowsTo n [] others = AllByRecursion (IsMadeAt n) others
 

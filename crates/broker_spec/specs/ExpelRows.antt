@@ -7,9 +7,9 @@ use Rattle.broker_spec.specs.Past.{current_connection, session_of, session_start
 use Rattle.broker_spec.specs.Times.{entries_of}
 use Rattle.broker_spec.specs.Received.{received_of}
 use Rattle.broker_spec.specs.Commands.{past_of, usual_limits}
-use Rattle.broker_spec.specs.RowWords.{Gives, a, b, nth, connect, gets, sends, connack, publish}
+use Rattle.broker_spec.specs.RowWords.{AreAnswered, a, b, nth, connect, gets, sends, connack, publish}
 use Rattle.broker_spec.specs.Rows.{published_x}
-use Rattle.broker_spec.specs.SessionRows.{Ends, Began, connect_clean}
+use Rattle.broker_spec.specs.SessionRows.{EndsSession, SessionBegan, connect_clean}
 use Rattle.broker_spec.specs.declared.command.Command.TheVariants as commands
 use Rattle.broker_spec.specs.declared.command.Output.TheVariants.{Close}
 
@@ -17,7 +17,7 @@ use Rattle.broker_spec.specs.declared.command.Output.TheVariants.{Close}
 -- session begins, and its answers match no entry
 abbrev pub ExpelledOnce : Type 0
 ExpelledOnce =
-    Gives usual_limits published_x
+    AreAnswered usual_limits published_x
     (commands.Expel b ∷ commands.Expel b
     ∷ gets 2 (publish (deliveries.ExactlyOnce false 2) false (codes "y"))
     ∷ gets 1 (packets.Pubrec 1) ∷ connect 3 b ∷ gets 3 (packets.Pubrec 1)
@@ -39,7 +39,7 @@ abbrev pub IdentifiersAreGone : Type 0
 IdentifiersAreGone =
     let past = past_of usual_limits (published_x ++ commands.Expel a ∷ connect 4 a ∷ []) in
     (received_of (past_of usual_limits published_x) a ≡ 1 ∷ []) × (received_of past a ≡ [])
-    × Gives usual_limits (published_x ++ commands.Expel a ∷ connect 4 a ∷ [])
+    × AreAnswered usual_limits (published_x ++ commands.Expel a ∷ connect 4 a ∷ [])
     (gets 4 (publish (deliveries.ExactlyOnce true 1) false (codes "x")) ∷ [])
     ((sends 4 (packets.Pubrec 1)
     ∷ sends 1 (publish (deliveries.ExactlyOnce false 2) false (codes "x")) ∷ []) ∷ [])
@@ -47,10 +47,10 @@ IdentifiersAreGone =
 -- a session ends with or without a connection, clean or not; a session of another client does not
 abbrev pub ExpelEnds : Type 0
 ExpelEnds =
-    Ends [] (commands.Expel a) false × Ends (connect 1 a ∷ []) (commands.Expel a) true
-    × Ends (connect 1 a ∷ commands.Lost (nth 1) ∷ []) (commands.Expel a) true
-    × Ends (connect_clean 1 a ∷ []) (commands.Expel a) true
-    × Ends (connect 1 a ∷ connect 2 b ∷ []) (commands.Expel b) false
-    × Began (connect 1 a ∷ commands.Expel a ∷ []) None
-    × Began (connect 1 a ∷ commands.Expel a ∷ connect 2 a ∷ []) (Some 2)
-    × Began (connect 1 a ∷ connect 2 b ∷ commands.Expel b ∷ []) (Some 0)
+    EndsSession [] (commands.Expel a) false × EndsSession (connect 1 a ∷ []) (commands.Expel a) true
+    × EndsSession (connect 1 a ∷ commands.Lost (nth 1) ∷ []) (commands.Expel a) true
+    × EndsSession (connect_clean 1 a ∷ []) (commands.Expel a) true
+    × EndsSession (connect 1 a ∷ connect 2 b ∷ []) (commands.Expel b) false
+    × SessionBegan (connect 1 a ∷ commands.Expel a ∷ []) None
+    × SessionBegan (connect 1 a ∷ commands.Expel a ∷ connect 2 a ∷ []) (Some 2)
+    × SessionBegan (connect 1 a ∷ connect 2 b ∷ commands.Expel b ∷ []) (Some 0)

@@ -21,8 +21,9 @@ use Rattle.broker_spec.specs.declared.command.Command.TheVariants as commands
 -- ---- connections
 
 -- the place is no accepted Connect of the client, and does not end its connection
-abbrev pub Keeps : Client → ConnectionName → Place → Type 0
-Keeps c x place = (accepts place.command place.mark c ≡ None) × (ends_any place c (Some x) ≡ false)
+abbrev pub KeepsConnection : Client → ConnectionName → Place → Type 0
+KeepsConnection c x place =
+    (accepts place.command place.mark c ≡ None) × (ends_any place c (Some x) ≡ false)
 
 -- the client's last accepted Connect opened x, and no later place ended it
 pub record WasOpened (past : Past) (c : Client) (x : ConnectionName) : Type 0 where
@@ -32,7 +33,7 @@ pub record WasOpened (past : Past) (c : Client) (x : ConnectionName) : Type 0 wh
   pub clean : Bool
   pub is : past ≡ later ++ place ∷ earlier
   pub opened : accepts place.command place.mark c ≡ Some (x, clean)
-  pub kept : AllByRecursion (Keeps c x) later
+  pub kept : AllByRecursion (KeepsConnection c x) later
 
 -- a client is served on the connection of its last accepted Connect, unless that was ended since
 -- (MQTT 3.1.4)

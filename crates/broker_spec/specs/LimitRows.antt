@@ -10,7 +10,7 @@ use Rattle.retained.specs.packet.declared.packet.Packet.TheVariants as packets
 use Rattle.broker_spec.specs.Place.{Past}
 use Rattle.broker_spec.specs.Commands.{limits_with, usual_limits}
 use Rattle.broker_spec.specs.Connection.{is_connection_name}
-use Rattle.broker_spec.specs.RowWords.{Gives, a, b, nth, connect, gets, sends, connack, small}
+use Rattle.broker_spec.specs.RowWords.{AreAnswered, a, b, nth, connect, gets, sends, connack, small}
 use Rattle.broker_spec.specs.RowWords.{publish_on, asks, asked_at, published_on}
 use Rattle.broker_spec.specs.declared.command.Command.{Command}
 use Rattle.broker_spec.specs.declared.command.Command.TheVariants as commands
@@ -48,7 +48,7 @@ four_sessions =
 -- once the clean session is over
 abbrev pub FifthSessionIsRefused : Type 0
 FifthSessionIsRefused =
-    Gives (small 3 16) four_sessions
+    AreAnswered (small 3 16) four_sessions
     (connect 5 (codes "e") ∷ gets 5 packets.Pingreq ∷ connect 6 a ∷ commands.Lost (nth 4)
     ∷ connect 7 (codes "e") ∷ [])
     ((sends 5 (packets.Connack (connacks.Refused refusals.ServerUnavailable)) ∷ Close (nth 5) ∷ [])
@@ -66,7 +66,7 @@ four_filters =
 -- the rest
 abbrev pub FifthFilterIsRefused : Type 0
 FifthFilterIsRefused =
-    Gives (small 3 16) four_filters
+    AreAnswered (small 3 16) four_filters
     (gets 1 (asks 2 (asked_at qualities.AtMostOnce (codes "f/5" ∷ codes "f/2" ∷ [])))
     ∷ gets 2 (publish_on (codes "f/5") (deliveries.AtLeastOnce false 1) false (codes "x"))
     ∷ gets 2 (publish_on (codes "f/2") (deliveries.AtLeastOnce false 2) false (codes "x")) ∷ [])
@@ -89,7 +89,7 @@ four_topics =
 -- makes room
 abbrev pub FifthTopicIsRefused : Type 0
 FifthTopicIsRefused =
-    Gives (small 3 16) four_topics
+    AreAnswered (small 3 16) four_topics
     (gets 2 (publish_on (codes "t/4") (deliveries.AtLeastOnce false 5) true (codes "y"))
     ∷ gets 2 (publish_on (codes "t/3") (deliveries.AtLeastOnce false 6) true [])
     ∷ gets 2 (publish_on (codes "t/5") (deliveries.AtLeastOnce false 7) true (codes "y"))
@@ -106,7 +106,7 @@ FifthTopicIsRefused =
 -- (MQTT-3.1.0-2)
 abbrev pub ConnectOnACurrentConnection : Type 0
 ConnectOnACurrentConnection =
-    Gives usual_limits (connect 1 a ∷ [])
+    AreAnswered usual_limits (connect 1 a ∷ [])
     (connect 1 b ∷ gets 1 packets.Pingreq ∷ connect 2 b ∷ connect 3 a ∷ [])
     ((Close (nth 1) ∷ []) ∷ [] ∷ (sends 2 (connack false) ∷ [])
     ∷ (sends 3 (connack true) ∷ []) ∷ [])

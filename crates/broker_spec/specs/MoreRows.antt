@@ -7,7 +7,7 @@ use Rattle.retained.specs.packet.declared.packet.Packet.TheVariants as packets
 use Rattle.broker_spec.specs.Commands.{usual_limits, limits_from, past_of}
 use Rattle.broker_spec.specs.Readings.{publication_in}
 use Rattle.broker_spec.specs.Times.{entries_of}
-use Rattle.broker_spec.specs.RowWords.{Gives, a, b, nth, connect, gets, sends, connack, publish, suback, unsubscribe, numbers, subscribed_at, publications, delivered, small}
+use Rattle.broker_spec.specs.RowWords.{AreAnswered, a, b, nth, connect, gets, sends, connack, publish, suback, unsubscribe, numbers, subscribed_at, publications, delivered, small}
 use Rattle.broker_spec.specs.declared.command.Command.{Command}
 use Rattle.broker_spec.specs.declared.command.Command.TheVariants as commands
 use Rattle.broker_spec.specs.declared.command.Output.TheVariants.{Close}
@@ -32,13 +32,14 @@ makes_room = connect 3 b ∷ gets 3 (packets.Puback 1) ∷ gets 3 (packets.Pubac
 -- x takes the last room; y is refused and its connection closed, so that z is not taken before it
 abbrev pub FullQueueRefuses : Type 0
 FullQueueRefuses =
-    Gives (small 3 16) held_two (publishes_xyz 2 false)
+    AreAnswered (small 3 16) held_two (publishes_xyz 2 false)
     ((sends 2 (packets.Pubrec 1) ∷ []) ∷ (Close (nth 2) ∷ []) ∷ [] ∷ [])
 
 -- once there is room, the three sent again are each answered, and b gets y and z
 abbrev pub FullQueueGoesOn : Type 0
 FullQueueGoesOn =
-    Gives (small 3 16) (held_two ++ publishes_xyz 2 false ++ makes_room) (publishes_xyz 4 true)
+    AreAnswered (small 3 16) (held_two ++ publishes_xyz 2 false ++ makes_room)
+    (publishes_xyz 4 true)
     ((sends 4 (packets.Pubrec 1) ∷ [])
     ∷ (sends 4 (packets.Pubrec 2)
     ∷ sends 3 (publish (deliveries.ExactlyOnce false 1) false (codes "y")) ∷ [])
@@ -60,24 +61,25 @@ FullQueueKeepsTheOrder =
 -- (MQTT 3.10.4, 3.12.4)
 abbrev pub PingAndUnsubscribe : Type 0
 PingAndUnsubscribe =
-    Gives usual_limits (subscribed_at qualities.ExactlyOnce)
+    AreAnswered usual_limits (subscribed_at qualities.ExactlyOnce)
     (gets 1 packets.Pingreq ∷ gets 1 (unsubscribe 3) ∷ gets 1 (unsubscribe 3) ∷ [])
     ((sends 1 packets.Pingresp ∷ []) ∷ (sends 1 (packets.Unsuback 3) ∷ [])
     ∷ (sends 1 (packets.Unsuback 3) ∷ []) ∷ [])
 
 -- a packet closes b's connection, and what comes after it has no effect
-abbrev pub Closes : Packet → Type 0
-Closes packet =
-    Gives usual_limits (subscribed_at qualities.ExactlyOnce)
+abbrev pub ClosesItsSender : Packet → Type 0
+ClosesItsSender packet =
+    AreAnswered usual_limits (subscribed_at qualities.ExactlyOnce)
     (gets 1 packet ∷ gets 1 packets.Pingreq ∷ [])
     ((Close (nth 1) ∷ []) ∷ [] ∷ [])
 
 -- a second CONNECT, DISCONNECT, and what only a server sends (MQTT-3.1.0-2, MQTT 3.14.4, 4.8)
 abbrev pub ViolationsClose : Type 0
 ViolationsClose =
-    Closes (packets.Connect (record { client = b; clean = false; keep_alive = 60 }))
-    × Closes packets.Disconnect × Closes (connack false) × Closes (suback 1 qualities.ExactlyOnce)
-    × Closes (packets.Unsuback 1) × Closes packets.Pingresp
+    ClosesItsSender (packets.Connect (record { client = b; clean = false; keep_alive = 60 }))
+    × ClosesItsSender packets.Disconnect × ClosesItsSender (connack false)
+    × ClosesItsSender (suback 1 qualities.ExactlyOnce)
+    × ClosesItsSender (packets.Unsuback 1) × ClosesItsSender packets.Pingresp
 
 -- ---- identifiers and the window
 
@@ -89,7 +91,7 @@ routed many = subscribed_at qualities.AtLeastOnce ++ publications many
 -- and comes last when b connects again (MQTT 4.4, 4.6)
 abbrev pub PubackFreesItsIdentifier : Type 0
 PubackFreesItsIdentifier =
-    Gives (limits_from 16) (routed 17) (gets 1 (packets.Puback 5) ∷ connect 3 b ∷ [])
+    AreAnswered (limits_from 16) (routed 17) (gets 1 (packets.Puback 5) ∷ connect 3 b ∷ [])
     (delivered 1 false (5 ∷ [])
     ∷ (Close (nth 1) ∷ sends 3 (connack true)
     ∷ delivered 3 true (numbers 4 1 ++ numbers 11 6 ++ 5 ∷ [])) ∷ [])
@@ -97,7 +99,7 @@ PubackFreesItsIdentifier =
 -- with the usual window of 64 all 17 are sent at once, and PUBACK starts nothing
 abbrev pub WideWindowSendsAll : Type 0
 WideWindowSendsAll =
-    Gives usual_limits (routed 17) (gets 1 (packets.Puback 5) ∷ connect 3 b ∷ [])
+    AreAnswered usual_limits (routed 17) (gets 1 (packets.Puback 5) ∷ connect 3 b ∷ [])
     ([] ∷ (Close (nth 1) ∷ sends 3 (connack true) ∷ delivered 3 true (numbers 4 1 ++ numbers 12 6))
     ∷ [])
 
@@ -108,13 +110,13 @@ seventy = subscribed_at qualities.AtLeastOnce ++ commands.Lost (nth 1) ∷ publi
 -- of 70 entries 64 are sent, and PUBACK 1 sends the next with identifier 1
 abbrev pub WindowOf64 : Type 0
 WindowOf64 =
-    Gives usual_limits seventy (connect 3 b ∷ gets 3 (packets.Puback 1) ∷ [])
+    AreAnswered usual_limits seventy (connect 3 b ∷ gets 3 (packets.Puback 1) ∷ [])
     ((sends 3 (connack true) ∷ delivered 3 false (numbers 64 1)) ∷ delivered 3 false (1 ∷ []) ∷ [])
 
 -- a broker whose first window was 16 sends 16, and 64 once a new ballot has begun
 abbrev pub WindowGrowsAtStart : Type 0
 WindowGrowsAtStart =
-    Gives (limits_from 16) seventy (connect 3 b ∷ commands.Start 2 ∷ connect 4 b ∷ [])
+    AreAnswered (limits_from 16) seventy (connect 3 b ∷ commands.Start 2 ∷ connect 4 b ∷ [])
     ((sends 3 (connack true) ∷ delivered 3 false (numbers 16 1)) ∷ []
     ∷ (sends 4 (connack true) ∷ delivered 4 true (numbers 16 1)
     ++ delivered 4 false (numbers 48 17)) ∷ [])

@@ -7,7 +7,7 @@ use Rattle.retained.specs.packet.declared.delivery.Delivery.{Delivery}
 use Rattle.retained.specs.packet.declared.delivery.Delivery.TheVariants as deliveries
 use Rattle.retained.specs.packet.declared.packet.Packet.TheVariants as packets
 use Rattle.broker_spec.specs.Commands.{usual_limits}
-use Rattle.broker_spec.specs.RowWords.{Gives, a, b, nth, connect, gets, sends, connack, publish}
+use Rattle.broker_spec.specs.RowWords.{AreAnswered, a, b, nth, connect, gets, sends, connack, publish}
 use Rattle.broker_spec.specs.RowWords.{subscribe, suback, subscribed_at}
 use Rattle.broker_spec.specs.declared.command.Command.{Command}
 use Rattle.broker_spec.specs.declared.command.Output.{Output}
@@ -16,9 +16,9 @@ use Rattle.broker_spec.specs.declared.command.Output.TheVariants.{Close}
 -- ---- the lower QoS of two (MQTT 3.8.4)
 
 -- b has subscribed at this QoS; a sends x with this delivery, and these are the answers
-abbrev pub Delivers : QoS → Delivery → List Output → Type 0
-Delivers granted sent answers =
-    Gives usual_limits (subscribed_at granted) (gets 2 (publish sent false (codes "x")) ∷ [])
+abbrev pub IsDeliveredAs : QoS → Delivery → List Output → Type 0
+IsDeliveredAs granted sent answers =
+    AreAnswered usual_limits (subscribed_at granted) (gets 2 (publish sent false (codes "x")) ∷ [])
     (answers ∷ [])
 
 -- b is sent x on connection 1 with this delivery
@@ -29,20 +29,20 @@ to_b delivery = sends 1 (publish delivery false (codes "x"))
 -- the publication and the subscription
 abbrev pub LowerQosIsDelivered : Type 0
 LowerQosIsDelivered =
-    Delivers qualities.AtMostOnce deliveries.AtMostOnce (to_b deliveries.AtMostOnce ∷ [])
-    × Delivers qualities.AtMostOnce (deliveries.AtLeastOnce false 7)
+    IsDeliveredAs qualities.AtMostOnce deliveries.AtMostOnce (to_b deliveries.AtMostOnce ∷ [])
+    × IsDeliveredAs qualities.AtMostOnce (deliveries.AtLeastOnce false 7)
     (sends 2 (packets.Puback 7) ∷ to_b deliveries.AtMostOnce ∷ [])
-    × Delivers qualities.AtMostOnce (deliveries.ExactlyOnce false 8)
+    × IsDeliveredAs qualities.AtMostOnce (deliveries.ExactlyOnce false 8)
     (sends 2 (packets.Pubrec 8) ∷ to_b deliveries.AtMostOnce ∷ [])
-    × Delivers qualities.AtLeastOnce deliveries.AtMostOnce (to_b deliveries.AtMostOnce ∷ [])
-    × Delivers qualities.AtLeastOnce (deliveries.AtLeastOnce false 7)
+    × IsDeliveredAs qualities.AtLeastOnce deliveries.AtMostOnce (to_b deliveries.AtMostOnce ∷ [])
+    × IsDeliveredAs qualities.AtLeastOnce (deliveries.AtLeastOnce false 7)
     (sends 2 (packets.Puback 7) ∷ to_b (deliveries.AtLeastOnce false 1) ∷ [])
-    × Delivers qualities.AtLeastOnce (deliveries.ExactlyOnce false 8)
+    × IsDeliveredAs qualities.AtLeastOnce (deliveries.ExactlyOnce false 8)
     (sends 2 (packets.Pubrec 8) ∷ to_b (deliveries.AtLeastOnce false 1) ∷ [])
-    × Delivers qualities.ExactlyOnce deliveries.AtMostOnce (to_b deliveries.AtMostOnce ∷ [])
-    × Delivers qualities.ExactlyOnce (deliveries.AtLeastOnce false 7)
+    × IsDeliveredAs qualities.ExactlyOnce deliveries.AtMostOnce (to_b deliveries.AtMostOnce ∷ [])
+    × IsDeliveredAs qualities.ExactlyOnce (deliveries.AtLeastOnce false 7)
     (sends 2 (packets.Puback 7) ∷ to_b (deliveries.AtLeastOnce false 1) ∷ [])
-    × Delivers qualities.ExactlyOnce (deliveries.ExactlyOnce false 8)
+    × IsDeliveredAs qualities.ExactlyOnce (deliveries.ExactlyOnce false 8)
     (sends 2 (packets.Pubrec 8) ∷ to_b (deliveries.ExactlyOnce false 1) ∷ [])
 
 -- ---- what is retained (MQTT 3.3.1.3)
@@ -50,7 +50,8 @@ LowerQosIsDelivered =
 -- a sends these; then b subscribes to t/# at this QoS, and is sent this after SUBACK
 abbrev pub Retains : List Command → QoS → List Output → Type 0
 Retains sent asked answers =
-    Gives usual_limits (connect 2 a ∷ sent ++ connect 1 b ∷ []) (gets 1 (subscribe 3 asked) ∷ [])
+    AreAnswered usual_limits (connect 2 a ∷ sent ++ connect 1 b ∷ [])
+    (gets 1 (subscribe 3 asked) ∷ [])
     ((sends 1 (suback 3 asked) ∷ answers) ∷ [])
 
 -- a sends a payload on connection 2
@@ -94,7 +95,7 @@ LastIsRetained =
 -- then PUBREL
 abbrev pub ExactlyOnceIsSentAgain : Type 0
 ExactlyOnceIsSentAgain =
-    Gives usual_limits (subscribed_at qualities.ExactlyOnce)
+    AreAnswered usual_limits (subscribed_at qualities.ExactlyOnce)
     (gets 2 (publish (deliveries.ExactlyOnce false 9) false (codes "x")) ∷ connect 3 b
     ∷ gets 3 (packets.Pubrec 1)
     ∷ connect 4 b ∷ gets 4 (packets.Pubrec 1) ∷ gets 4 (packets.Pubcomp 1) ∷ connect 5 b ∷ [])
@@ -112,7 +113,7 @@ ExactlyOnceIsSentAgain =
 -- clients' bytes
 abbrev pub CopiesComeByClient : Type 0
 CopiesComeByClient =
-    Gives usual_limits
+    AreAnswered usual_limits
     (subscribed_at qualities.AtMostOnce ++ gets 2 (subscribe 4 qualities.AtLeastOnce) ∷ [])
     (gets 2 (publish (deliveries.AtLeastOnce false 7) false (codes "x")) ∷ [])
     ((sends 2 (packets.Puback 7)

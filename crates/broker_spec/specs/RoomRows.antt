@@ -4,13 +4,13 @@ use Rattle.retained.specs.packet.declared.qos.QoS.TheVariants as qualities
 use Rattle.retained.specs.packet.declared.delivery.Delivery.TheVariants as deliveries
 use Rattle.retained.specs.packet.declared.suback.SubackCode.TheVariants as return_codes
 use Rattle.retained.specs.packet.declared.packet.Packet.TheVariants as packets
-use Rattle.broker_spec.specs.RowWords.{Gives, a, b, connect, gets, sends, small, publish_on, asks}
+use Rattle.broker_spec.specs.RowWords.{AreAnswered, a, b, connect, gets, sends, small, publish_on, asks}
 use Rattle.broker_spec.specs.RowWords.{asked_at, published_on}
 
 -- t/1 needs one entry and t/# two, so t/2 finds no room left; at QoS 0 it needs none
 abbrev pub RoomIsLessWhatEarlierFiltersNeed : Type 0
 RoomIsLessWhatEarlierFiltersNeed =
-    Gives (small 3 16) (connect 2 a
+    AreAnswered (small 3 16) (connect 2 a
     ∷ published_on qualities.AtLeastOnce (codes "t/1" ∷ codes "t/2" ∷ []) ++ connect 1 b ∷ [])
     (gets 1 (asks 1 (asked_at qualities.AtLeastOnce (codes "t/1" ∷ codes "t/#" ∷ codes "t/2" ∷ [])
     ++ asked_at qualities.AtMostOnce (codes "t/2" ∷ []))) ∷ [])

@@ -19,8 +19,9 @@ use Rattle.broker_spec.specs.declared.command.Output.{Output}
 use Rattle.broker_spec.specs.declared.command.Output.TheVariants.{Send}
 
 -- after the earlier commands, the next ones are answered in this way
-abbrev pub Gives : Limits → List Command → List Command → List (List Output) → Type 0
-Gives limits earlier next answers = answers_from limits (past_of limits earlier) next ≡ answers
+abbrev pub AreAnswered : Limits → List Command → List Command → List (List Output) → Type 0
+AreAnswered limits earlier next answers =
+    answers_from limits (past_of limits earlier) next ≡ answers
 
 -- the first client
 abbrev pub a : Client

@@ -6,32 +6,33 @@ use Rattle.retained.specs.packet.declared.delivery.Delivery.TheVariants as deliv
 use Rattle.retained.specs.packet.declared.suback.SubackCode.TheVariants as return_codes
 use Rattle.retained.specs.packet.declared.packet.Packet.TheVariants as packets
 use Rattle.broker_spec.specs.Commands.{usual_limits}
-use Rattle.broker_spec.specs.RowWords.{Gives, a, b, nth, connect, gets, sends, connack, publish}
+use Rattle.broker_spec.specs.RowWords.{AreAnswered, a, b, nth, connect, gets, sends, connack, publish}
 use Rattle.broker_spec.specs.RowWords.{subscribe, suback, subscribed_at}
 use Rattle.broker_spec.specs.declared.command.Command.{Command}
 use Rattle.broker_spec.specs.declared.command.Output.TheVariants.{Close}
 
 -- a first CONNECT: CONNACK 0, no session present (MQTT 3.2.2.2)
 abbrev pub ConnectIsAnswered : Type 0
-ConnectIsAnswered = Gives usual_limits [] (connect 1 a ∷ []) ((sends 1 (connack false) ∷ []) ∷ [])
+ConnectIsAnswered =
+    AreAnswered usual_limits [] (connect 1 a ∷ []) ((sends 1 (connack false) ∷ []) ∷ [])
 
 -- a client on a second connection: its first is closed, and its session is present (MQTT 3.1.4)
 abbrev pub SecondConnectionTakesOver : Type 0
 SecondConnectionTakesOver =
-    Gives usual_limits (connect 1 a ∷ []) (connect 2 a ∷ [])
+    AreAnswered usual_limits (connect 1 a ∷ []) (connect 2 a ∷ [])
     ((Close (nth 1) ∷ sends 2 (connack true) ∷ []) ∷ [])
 
 -- packets of a connection have no effect any more once its client has a newer one
 abbrev pub OlderConnectionIsSilent : Type 0
 OlderConnectionIsSilent =
-    Gives usual_limits (connect 1 a ∷ connect 2 a ∷ [])
+    AreAnswered usual_limits (connect 1 a ∷ connect 2 a ∷ [])
     (gets 1 packets.Pingreq ∷ gets 2 packets.Pingreq ∷ [])
     ([] ∷ (sends 2 packets.Pingresp ∷ []) ∷ [])
 
 -- SUBACK has the QoS that was asked for (MQTT 3.9.3)
 abbrev pub SubscribeIsGranted : Type 0
 SubscribeIsGranted =
-    Gives usual_limits (connect 1 b ∷ []) (gets 1 (subscribe 1 qualities.ExactlyOnce) ∷ [])
+    AreAnswered usual_limits (connect 1 b ∷ []) (gets 1 (subscribe 1 qualities.ExactlyOnce) ∷ [])
     ((sends 1 (suback 1 qualities.ExactlyOnce) ∷ []) ∷ [])
 
 -- b has subscribed to t/# at QoS 2, and a has sent the publication x with identifier 1
@@ -43,7 +44,7 @@ published_x =
 -- a publication at QoS 2: PUBREC to its publisher, PUBLISH to the subscriber (MQTT 4.3.3)
 abbrev pub PublishReachesTheSubscriber : Type 0
 PublishReachesTheSubscriber =
-    Gives usual_limits (subscribed_at qualities.ExactlyOnce)
+    AreAnswered usual_limits (subscribed_at qualities.ExactlyOnce)
     (gets 2 (publish (deliveries.ExactlyOnce false 1) false (codes "x")) ∷ [])
     ((sends 2 (packets.Pubrec 1)
     ∷ sends 1 (publish (deliveries.ExactlyOnce false 1) false (codes "x")) ∷ []) ∷ [])
@@ -52,14 +53,14 @@ PublishReachesTheSubscriber =
 -- (MQTT 4.3.3)
 abbrev pub RepeatBeforePubrel : Type 0
 RepeatBeforePubrel =
-    Gives usual_limits published_x
+    AreAnswered usual_limits published_x
     (gets 2 (publish (deliveries.ExactlyOnce true 1) false (codes "x")) ∷ [])
     ((sends 2 (packets.Pubrec 1) ∷ []) ∷ [])
 
 -- a PUBLISH with DUP 1 after PUBREL: a publication like any other (MQTT 3.3.1.1, 4.3.3)
 abbrev pub DupAfterPubrel : Type 0
 DupAfterPubrel =
-    Gives usual_limits (published_x ++ gets 2 (packets.Pubrel 1) ∷ [])
+    AreAnswered usual_limits (published_x ++ gets 2 (packets.Pubrel 1) ∷ [])
     (gets 2 (publish (deliveries.ExactlyOnce true 1) false (codes "y")) ∷ [])
     ((sends 2 (packets.Pubrec 1)
     ∷ sends 1 (publish (deliveries.ExactlyOnce false 2) false (codes "y")) ∷ []) ∷ [])
@@ -67,14 +68,15 @@ DupAfterPubrel =
 -- PUBREL is answered by PUBCOMP each time (MQTT 4.3.3)
 abbrev pub PubrelTwice : Type 0
 PubrelTwice =
-    Gives usual_limits published_x (gets 2 (packets.Pubrel 1) ∷ gets 2 (packets.Pubrel 1) ∷ [])
+    AreAnswered usual_limits published_x
+    (gets 2 (packets.Pubrel 1) ∷ gets 2 (packets.Pubrel 1) ∷ [])
     ((sends 2 (packets.Pubcomp 1) ∷ []) ∷ (sends 2 (packets.Pubcomp 1) ∷ []) ∷ [])
 
 -- a publication with RETAIN 1 is sent with RETAIN 0 to those who subscribed before, and with RETAIN
 -- 1 to those who subscribe after (MQTT 3.3.1.3)
 abbrev pub RetainedAtSubscribe : Type 0
 RetainedAtSubscribe =
-    Gives usual_limits (subscribed_at qualities.ExactlyOnce)
+    AreAnswered usual_limits (subscribed_at qualities.ExactlyOnce)
     (gets 2 (publish (deliveries.ExactlyOnce false 1) true (codes "x")) ∷ gets 1 (packets.Pubrec 1)
     ∷ gets 1 (packets.Pubcomp 1) ∷ gets 1 (subscribe 2 qualities.ExactlyOnce) ∷ [])
     ((sends 2 (packets.Pubrec 1)
@@ -86,7 +88,7 @@ RetainedAtSubscribe =
 -- two filters of one client match: one PUBLISH, at the greater QoS (MQTT 3.3.5)
 abbrev pub TwoFiltersOnePublication : Type 0
 TwoFiltersOnePublication =
-    Gives usual_limits (subscribed_at qualities.ExactlyOnce)
+    AreAnswered usual_limits (subscribed_at qualities.ExactlyOnce)
     (gets 1
     (packets.Subscribe
     (record {

@@ -24,40 +24,40 @@ abbrev pub connect_clean : ℕ → Client → Command
 connect_clean n c = commands.Connect (nth n) c true
 
 -- after these commands the session of a is the one that began at this place
-abbrev pub Began : List Command → Option ℕ → Type 0
-Began commands start = session_start (past_of usual_limits commands) a ≡ start
+abbrev pub SessionBegan : List Command → Option ℕ → Type 0
+SessionBegan commands start = session_start (past_of usual_limits commands) a ≡ start
 
 -- a session that is not clean outlives its connection; a clean Connect begins one at its own place
 abbrev pub SessionsBegin : Type 0
 SessionsBegin =
-    Began [] None × Began (connect 1 a ∷ []) (Some 0)
-    × Began (connect 1 b ∷ connect 2 a ∷ []) (Some 1)
-    × Began (connect 1 a ∷ commands.Lost (nth 1) ∷ connect 2 a ∷ []) (Some 0)
-    × Began (connect 1 a ∷ connect 2 a ∷ commands.Start 2 ∷ []) (Some 0)
-    × Began (connect 1 a ∷ connect_clean 2 a ∷ []) (Some 1)
-    × Began (connect_clean 1 a ∷ connect 2 a ∷ []) (Some 1)
-    × Began (connect_clean 1 a ∷ connect_clean 2 a ∷ []) (Some 1)
-    × Began (connect_clean 1 a ∷ commands.Lost (nth 1) ∷ []) None
-    × Began (connect_clean 1 a ∷ commands.Start 2 ∷ []) None
-    × Began (connect_clean 1 a ∷ gets 1 packets.Disconnect ∷ []) None
-    × Began (connect_clean 1 a ∷ commands.Lost (nth 1) ∷ connect 2 a ∷ []) (Some 2)
+    SessionBegan [] None × SessionBegan (connect 1 a ∷ []) (Some 0)
+    × SessionBegan (connect 1 b ∷ connect 2 a ∷ []) (Some 1)
+    × SessionBegan (connect 1 a ∷ commands.Lost (nth 1) ∷ connect 2 a ∷ []) (Some 0)
+    × SessionBegan (connect 1 a ∷ connect 2 a ∷ commands.Start 2 ∷ []) (Some 0)
+    × SessionBegan (connect 1 a ∷ connect_clean 2 a ∷ []) (Some 1)
+    × SessionBegan (connect_clean 1 a ∷ connect 2 a ∷ []) (Some 1)
+    × SessionBegan (connect_clean 1 a ∷ connect_clean 2 a ∷ []) (Some 1)
+    × SessionBegan (connect_clean 1 a ∷ commands.Lost (nth 1) ∷ []) None
+    × SessionBegan (connect_clean 1 a ∷ commands.Start 2 ∷ []) None
+    × SessionBegan (connect_clean 1 a ∷ gets 1 packets.Disconnect ∷ []) None
+    × SessionBegan (connect_clean 1 a ∷ commands.Lost (nth 1) ∷ connect 2 a ∷ []) (Some 2)
 
 -- after the earlier commands, whether the next one ends the session of a
-abbrev pub Ends : List Command → Command → Bool → Type 0
-Ends earlier next ended =
+abbrev pub EndsSession : List Command → Command → Bool → Type 0
+EndsSession earlier next ended =
     ends_session (place_of usual_limits (past_of usual_limits earlier) next)
     (past_of usual_limits earlier) a ≡ ended
 
 -- a session ends at a clean Connect, and where a clean one loses its connection
 abbrev pub SessionsEnd : Type 0
 SessionsEnd =
-    Ends [] (connect 1 a) false × Ends (connect 1 a ∷ []) (connect 2 a) false
-    × Ends (connect 1 a ∷ []) (connect_clean 2 a) true
-    × Ends (connect_clean 1 a ∷ []) (connect 2 a) true
-    × Ends (connect 1 a ∷ []) (commands.Start 2) false
-    × Ends (connect_clean 1 a ∷ []) (commands.Start 2) true
-    × Ends (connect_clean 1 a ∷ []) (commands.Lost (nth 1)) true
-    × Ends (connect_clean 1 a ∷ []) (commands.Lost (nth 2)) false
+    EndsSession [] (connect 1 a) false × EndsSession (connect 1 a ∷ []) (connect 2 a) false
+    × EndsSession (connect 1 a ∷ []) (connect_clean 2 a) true
+    × EndsSession (connect_clean 1 a ∷ []) (connect 2 a) true
+    × EndsSession (connect 1 a ∷ []) (commands.Start 2) false
+    × EndsSession (connect_clean 1 a ∷ []) (commands.Start 2) true
+    × EndsSession (connect_clean 1 a ∷ []) (commands.Lost (nth 1)) true
+    × EndsSession (connect_clean 1 a ∷ []) (commands.Lost (nth 2)) false
 
 -- the session of places 0 and 1 is over at place 2, where the next one begins
 abbrev pub PlacesStandInSessions : Type 0

@@ -9,7 +9,7 @@ use Rattle.session.specs.session_base.Publication.{is_acknowledged}
 use Rattle.broker_form.specs.broker_spec.Commands.{usual_limits}
 use Rattle.broker_form.specs.broker_spec.Entries.{Entry}
 use Rattle.broker_form.specs.broker_spec.Place.{Client, Past, Limits}
-use Rattle.broker_form.specs.broker_spec.RowWords.{Gives, b, nth, connect, gets, sends, connack}
+use Rattle.broker_form.specs.broker_spec.RowWords.{AreAnswered, b, nth, connect, gets, sends, connack}
 use Rattle.broker_form.specs.broker_spec.RowWords.{publish, subscribed_at}
 use Rattle.broker_form.specs.broker_spec.Times.{entries_of}
 use Rattle.broker_form.specs.broker_spec.declared.command.Command.TheVariants as commands
@@ -32,7 +32,7 @@ EntriesFitTheirQoS =
 -- PUBACK of 2 are nothing: when b comes back it is sent both again
 abbrev pub AnswersOfAnotherQoSAreNothing : Type 0
 AnswersOfAnotherQoSAreNothing =
-    Gives usual_limits
+    AreAnswered usual_limits
     (subscribed_at qualities.ExactlyOnce
     ++ gets 2 (publish (deliveries.AtLeastOnce false 7) false (codes "x"))
     ∷ gets 2 (publish (deliveries.ExactlyOnce false 8) false (codes "y")) ∷ [])
@@ -45,7 +45,7 @@ AnswersOfAnotherQoSAreNothing =
 -- that begins a client's own or begins with it: b continues as it was.
 abbrev pub ExpelsOfNobodyAreNothing : Type 0
 ExpelsOfNobodyAreNothing =
-    Gives usual_limits (subscribed_at qualities.ExactlyOnce ++ connect 4 (codes "bc")
+    AreAnswered usual_limits (subscribed_at qualities.ExactlyOnce ++ connect 4 (codes "bc")
     ∷ gets 2 (publish (deliveries.ExactlyOnce false 1) false (codes "x")) ∷ [])
     (commands.Expel (codes "c") ∷ commands.Expel [] ∷ commands.Expel (0 ∷ [])
     ∷ commands.Expel (codes "ba")
@@ -58,7 +58,7 @@ ExpelsOfNobodyAreNothing =
 -- when it comes back a new session begins
 abbrev pub ExpelledWhileAway : Type 0
 ExpelledWhileAway =
-    Gives usual_limits (subscribed_at qualities.ExactlyOnce ++ commands.Lost (nth 1)
+    AreAnswered usual_limits (subscribed_at qualities.ExactlyOnce ++ commands.Lost (nth 1)
     ∷ gets 2 (publish (deliveries.ExactlyOnce false 1) false (codes "x")) ∷ [])
     (commands.Expel b ∷ commands.Expel b ∷ connect 3 b ∷ [])
     ([] ∷ [] ∷ (sends 3 (connack false) ∷ []) ∷ [])
