@@ -3,7 +3,7 @@
 ghost use Rattle.std.specs.Prelude.{◌≡◌, false, true, [], ◌∷◌, ◌++◌, IfOk, OnOk};
 ghost use Rattle.packet.specs.packet_base.Outcome.{Reads};
 ghost use Rattle.packet.specs.packet_base.Reading.{number_at};
-ghost use Rattle.session_base.specs.Counted.{counted_at, items_after, last_of, Adds};
+ghost use Rattle.session_base.specs.Counted.{counted_at, items_after, last_of, AddsItem};
 ghost use Rattle.broker_tables.specs.broker_spec.Connection.{ConnectionName as SpecName};
 ghost use Rattle.broker_tables.specs.broker_rows.Owners.{owned_by};
 ghost use Rattle.broker_form.specs.Form.{row_at};
@@ -56,7 +56,7 @@ impl Rows {
     // Adds one more session, which may come after the others.
     fn add(&mut self, client: ClientId, row: ClientRow) -> Result<(), Stop>
         requires { AreOwned self.old }
-        ensures adds { Adds row_follows self.old.sessions.entries
+        ensures adds { AddsItem row_follows self.old.sessions.entries
             (client, row) result self.new.sessions.entries }
         ensures owned { OnOk result (AreOwned self.new) }
     {

@@ -6,7 +6,7 @@ ghost use Rattle.std.specs.Cmp.Lexicographic.{slice_cmp};
 ghost use Rattle.std.specs.Ordering.{nat_cmp};
 ghost use Rattle.packet.specs.packet_base.Outcome.{Gives, Reads};
 ghost use Rattle.packet.specs.packet_base.Reading.{number_at};
-ghost use Rattle.session_base.specs.Counted.{counted_at, items_after, last_of, Adds};
+ghost use Rattle.session_base.specs.Counted.{counted_at, items_after, last_of, AddsItem};
 ghost use Rattle.broker_tables.specs.subs_base.Content.{no_subscriptions};
 ghost use Rattle.broker_tables.specs.subs_base.ListIndex.{content_of};
 ghost use Rattle.broker_form.specs.Form.{broker_at, retained_at};
@@ -97,7 +97,7 @@ fn add_topic(
     kept: RetainedPublication,
 ) -> Result<(), Stop>
     requires { length retained.old < MAX_TOPICS }
-    ensures { Adds topic_follows retained.old (topic, kept) result retained.new }
+    ensures { AddsItem topic_follows retained.old (topic, kept) result retained.new }
 {
     check_form(is_after(retained, &topic))?;
     match retained.keep(topic, kept) {

@@ -5,7 +5,7 @@ ghost use Rattle.std.specs.List.Sorted.{IsStrictlySortedBy};
 ghost use Rattle.std.specs.Ordering.{nat_cmp};
 ghost use Rattle.session_base.specs.packet_base.Outcome.{Gives, Reads};
 ghost use Rattle.session_base.specs.packet_base.Reading.{byte_at, number_at, id_at};
-ghost use Rattle.session_base.specs.Counted.{counted_at, items_after, last_of, Adds};
+ghost use Rattle.session_base.specs.Counted.{counted_at, items_after, last_of, AddsItem};
 ghost use Rattle.session_base.specs.Form.{is_new_filter, granted_filter_at, is_above, may_follow, flight_at};
 ghost use Rattle.session_base.specs.Form.{anything, was_released, waiting_at, state_at};
 ghost use Rattle.session_base.specs.Identifiers.{max_id};
@@ -42,7 +42,7 @@ impl Subscriptions {
 
     // Adds a filter that the session does not have yet.
     fn add(&mut self, filter: Filter, qos: QoS) -> Result<(), Stop>
-        ensures { Adds is_new_filter self.old (filter, qos) result self.new }
+        ensures { AddsItem is_new_filter self.old (filter, qos) result self.new }
     {
         check_form(!self.contains(&filter))?;
         match self.set(filter, qos) {
@@ -79,7 +79,7 @@ impl Received {
     // Adds an identifier that is above the last.
     #[tactic(auto, using(crate::proofs::LastIdentifiers::comes_last))]
     fn add(&mut self, id: PacketId) -> Result<(), Stop>
-        ensures { Adds is_above self.old id result self.new }
+        ensures { AddsItem is_above self.old id result self.new }
     {
         check_form(self.is_above(id))?;
         match self.insert(id) {
@@ -190,7 +190,7 @@ fn add_flight(
     id: PacketId,
     awaits: Awaits,
 ) -> Result<(), Stop>
-    ensures { Adds may_follow in_flight.old.entries (id, awaits) result in_flight.new.entries }
+    ensures { AddsItem may_follow in_flight.old.entries (id, awaits) result in_flight.new.entries }
 {
     check_form(may_follow(in_flight, id, &awaits))?;
     match put_last(in_flight, id, awaits) {
@@ -258,7 +258,7 @@ fn read_publications(
 
 // Adds a publication that waits.
 fn add_waiting(waiting: &mut VecDeque<Publication>, publication: Publication) -> Result<(), Stop>
-    ensures { Adds anything waiting.old.items publication result waiting.new.items }
+    ensures { AddsItem anything waiting.old.items publication result waiting.new.items }
 {
     match waiting.push_back(publication) {
         Ok(()) => Ok(()),

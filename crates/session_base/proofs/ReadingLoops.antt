@@ -8,7 +8,7 @@ use Rattle.packet_base.specs.Outcome.{StopsBy}
 use Rattle.packet_base.specs.Lists.{ItemAt}
 use Rattle.packet_base.specs.Reading.{◌>>=◌, ◌>>◌}
 use Rattle.packet_base.proofs.ItemsInALoop.{stops_at, stops_cases}
-use Rattle.session_base.specs.Counted.{check_form, items_after, Adds}
+use Rattle.session_base.specs.Counted.{check_form, items_after, AddsItem}
 
 module _ {A : Type 0} (follows : List A → A → Bool) (item : ItemAt A) where
   abbrev Read : Type 0
@@ -47,7 +47,7 @@ module _ {A : Type 0} (follows : List A → A → Bool) (item : ItemAt A) where
             stops_at stop total (sym e ∙ turn_is n i front bytes less ∙ turn)
       ]
 
-  adds_cases : (front : List A) (one : A) (after : List A) (stop : Stop) → Adds follows front one (Err stop) after →
+  adds_cases : (front : List A) (one : A) (after : List A) (stop : Stop) → AddsItem follows front one (Err stop) after →
       (stop ≡ stops.Malformed kinds.Memory) ⊎ ((follows front one ≡ false) × (stop ≡ stops.Malformed kinds.Shape))
   adds_cases front one after stops.More h = inr h
   adds_cases front one after (stops.Malformed kinds.Memory) h = inl refl
@@ -56,7 +56,7 @@ module _ {A : Type 0} (follows : List A → A → Bool) (item : ItemAt A) where
 
   -- an item that may not be there
   pub refused_so : (n i : ℕ) (front after : List A) (bytes rest : List ℕ) (one : A) (total : Read) (stop : Stop) → i < n → left n i front bytes ≡ total →
-      item bytes ≡ Ok (one, rest) → Adds follows front one (Err stop) after → StopsBy stop total
+      item bytes ≡ Ok (one, rest) → AddsItem follows front one (Err stop) after → StopsBy stop total
   refused_so n i front after bytes rest one total stop less e read h =
       elim (adds_cases front one after stop h) [
         | inl memory ↦ subst (λ (s : Stop). StopsBy s total) (sym memory) tt

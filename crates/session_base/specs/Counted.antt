@@ -39,9 +39,10 @@ counted count bytes items = count (length items) ++ flat_map bytes items
 
 -- what adding an item to those that were read does: it comes last if it may, and all else stops the
 -- reading; memory may run out
-abbrev pub Adds : {A : Type 0} → (List A → A → Bool) → List A → A → Result (Unit {0}) Stop →
+abbrev pub AddsItem : {A : Type 0} → (List A → A → Bool) → List A → A → Result (Unit {0}) Stop →
     List A → Type 0
-Adds follows front one (Ok done) after = (follows front one ≡ true) × (after ≡ front ++ one ∷ [])
-Adds follows front one (Err (stops.Malformed kinds.Memory)) after = Unit {0}
-Adds follows front one (Err stop) after =
+AddsItem follows front one (Ok done) after =
+    (follows front one ≡ true) × (after ≡ front ++ one ∷ [])
+AddsItem follows front one (Err (stops.Malformed kinds.Memory)) after = Unit {0}
+AddsItem follows front one (Err stop) after =
     (follows front one ≡ false) × (stop ≡ stops.Malformed kinds.Shape)
