@@ -6,8 +6,8 @@ use Rattle.server.specs.declared.outcome.Outcome.{Outcome}
 use Rattle.server.specs.declared.serve_error.ServeError.{ServeError}
 
 -- its report is added to the others
-abbrev pub Adds : NodeReport → Outcome → Outcome → Type 0
-Adds report old new =
+abbrev pub AddsReport : NodeReport → Outcome → Outcome → Type 0
+AddsReport report old new =
     (new.reports.items ≡ old.reports.items ++ report ∷ []) × (new.failure ≡ old.failure)
 
 -- it was not served, by this cause, which is kept if it is the first

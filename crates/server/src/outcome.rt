@@ -2,7 +2,7 @@
 
 ghost use Rattle.std.specs.Prelude.{◌≡◌, ◌<◌, ◌≤◌, ◌⊎◌, [], None, Some, IfErr, IfOk, IsPermutation, OnErr, OnOk, vec_capacity, vec_len};
 ghost use Rattle.std.specs.List.Sorted.{IsNonDecreasingBy};
-ghost use Rattle.server.specs.Inside.{Adds, Fails};
+ghost use Rattle.server.specs.Inside.{AddsReport, Fails};
 
 use crate::serve_error::ServeError;
 use node::Memory;
@@ -35,12 +35,12 @@ impl Outcome {
     /// keeps [`ServeError::Memory`] as the cause.
     pub(crate) fn keep(&mut self, closed: Result<NodeReport, Memory>)
         ensures report { IfOk closed (λ report.
-            Adds report self.old self.new ⊎ Fails ServeError.Memory self.old self.new) }
+            AddsReport report self.old self.new ⊎ Fails ServeError.Memory self.old self.new) }
 
         // If there is capacity for the report, it is kept.
         ensures capacity { IfOk closed (λ report.
             vec_len self.old.reports < vec_capacity self.old.reports
-            → Adds report self.old self.new) }
+            → AddsReport report self.old self.new) }
         ensures none { OnErr closed (Fails ServeError.Memory self.old self.new) }
     {
         match closed {
