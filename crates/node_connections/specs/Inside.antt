@@ -11,12 +11,12 @@ use Rattle.node_connections.specs.Fronts.{IsFault, FrontNeedsMemory}
 use Rattle.node_connections.specs.Refusing.{refused}
 
 -- what is at the front of the bytes of a connection, and what is left of them
-abbrev pub Reads : List ℕ → Front → List ℕ → Type 0
-Reads bytes fronts.More left = (verdict bytes ≡ Err stops.More) × (left ≡ bytes)
-Reads bytes (fronts.Packet packet) left = (verdict bytes ≡ Ok (packet, left)) × IsSized packet
-Reads bytes (fronts.Refused code) left = verdict bytes ≡ Err (stops.Refused code)
-Reads bytes fronts.Fault left = IsFault (verdict bytes)
-Reads bytes fronts.OutOfMemory left = MayNeedMemory bytes × (left ≡ bytes)
+abbrev pub ReadsFront : List ℕ → Front → List ℕ → Type 0
+ReadsFront bytes fronts.More left = (verdict bytes ≡ Err stops.More) × (left ≡ bytes)
+ReadsFront bytes (fronts.Packet packet) left = (verdict bytes ≡ Ok (packet, left)) × IsSized packet
+ReadsFront bytes (fronts.Refused code) left = verdict bytes ≡ Err (stops.Refused code)
+ReadsFront bytes fronts.Fault left = IsFault (verdict bytes)
+ReadsFront bytes fronts.OutOfMemory left = MayNeedMemory bytes × (left ≡ bytes)
 
 -- what reading the next packet at this time does to a connection
 abbrev pub TakesFront : ℕ → Connection → Front → Connection → Type 0

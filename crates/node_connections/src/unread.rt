@@ -1,7 +1,7 @@
 // The bytes of a connection that came and are not read yet.
 
 ghost use Rattle.std.specs.Prelude.{◌≡◌, ◌++◌, [], length, OnErr, OnOk};
-ghost use Rattle.node_connections.specs.Inside.{Reads};
+ghost use Rattle.node_connections.specs.Inside.{ReadsFront};
 
 use crate::front::Front;
 use cutter::{CutError, Cutter, Memory, Piece};
@@ -59,7 +59,7 @@ impl Unread {
 
     /// Reads the packet at the front. At a fault nothing is left.
     pub fn next(&mut self) -> Front
-        ensures { Reads self.old result self.new }
+        ensures { ReadsFront self.old result self.new }
     {
         match self.cutter.next() {
             Ok(None) => Front::More,
