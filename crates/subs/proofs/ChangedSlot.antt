@@ -6,7 +6,7 @@ use Rattle.slab.specs.Slab.{Slab, get, Updates, with_value}
 use Rattle.slab.proofs.SlabLemmas.{Updates-with_value}
 use Rattle.subs_base.specs.packet.declared.qos.QoS.{QoS}
 use Rattle.subs.specs.declared.node.Node.{Node}
-use Rattle.subs.specs.Changes.{same_side, SetsRow, SetsSide, SetsChild, Writes, Fills, Links, AddsNode, FreesNode, IsBare}
+use Rattle.subs.specs.Changes.{same_side, SetsRow, SetsSide, SetsChild, WritesRow, Fills, Links, AddsNode, FreesNode, IsBare}
 use Rattle.subs.specs.Inside.{held_in, child_in, shape_of, HoldsNothing}
 
 -- every number but one has what it had
@@ -138,7 +138,7 @@ module _ (old new : Slab Node) (n : ℕ) where
             by true e = sets l ∙ ap (cond (bytes_eq level l) below) (sym (ap (child_of l) (self old n k (Some was) there e)))
             by false e = refl
 
-    pub written : (rest : Bool) (client : List ℕ) (kept : Option QoS) → SetsRow (held_in was) (held_in is) rest client kept → child_in is ≡ child_in was → Writes (shape_of old) (shape_of new) n rest client kept
+    pub written : (rest : Bool) (client : List ℕ) (kept : Option QoS) → SetsRow (held_in was) (held_in is) rest client kept → child_in is ≡ child_in was → WritesRow (shape_of old) (shape_of new) n rest client kept
     written rest client kept sets children = record {
       child = λ i k l. children_same children k l i;
       used = λ i k. used_same k i;

@@ -6,7 +6,7 @@ use Rattle.topics.specs.Text.{Levels}
 use Rattle.subs_base.specs.packet.declared.qos.QoS.{QoS}
 use Rattle.subs.specs.Shape.{Children, Shape, rows}
 use Rattle.subs.specs.Ways.{reach, led, slot, IsTree}
-use Rattle.subs.specs.Changes.{Writes}
+use Rattle.subs.specs.Changes.{WritesRow}
 use Rattle.subs.specs.Inside.{Asked, same_levels, with_asked}
 use Rattle.subs.proofs.Ways.{row_at, rows_are, same_levels_is}
 use Rattle.subs.proofs.Written.{written}
@@ -40,9 +40,9 @@ nothing_goes a filter client none = λ i f c. go f c i
 pub written_at :
     (old new : Shape) (root : Option ℕ) (f : Levels) (at : ℕ) (rest : Bool) (client : List ℕ) (kept : Option QoS)
     → IsTree old.child old.used root → led old.child root (slot f).0 ≡ Some at → rest ≡ (slot f).1
-    → Writes old new at rest client kept → rows new root ≡ with_asked (rows old root) f client kept
+    → WritesRow old new at rest client kept → rows new root ≡ with_asked (rows old root) f client kept
 written_at old new root f at rest client kept tree way side writes =
-    written old new root f at client kept tree way (subst (λ (r : Bool). Writes old new at r client kept) side writes)
+    written old new root f at client kept tree way (subst (λ (r : Bool). WritesRow old new at r client kept) side writes)
 
 pub row_of : (s : Shape) (root : Option ℕ) (f : Levels) (at : ℕ) (rest : Bool) (c : List ℕ) → led s.child root (slot f).0 ≡ Some at → rest ≡ (slot f).1 → rows s root f c ≡ s.held at rest c
 row_of s root f at rest c way side = row_found s root f at c way ∙ ap (λ r. s.held at r c) (sym side)

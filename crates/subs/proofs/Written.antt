@@ -5,7 +5,7 @@ use Rattle.topics.specs.Text.{Levels}
 use Rattle.subs_base.specs.packet.declared.qos.QoS.{QoS}
 use Rattle.subs.specs.Shape.{Children, Shape, rows}
 use Rattle.subs.specs.Ways.{led, slot, IsTree}
-use Rattle.subs.specs.Changes.{same_side, Writes, Fills}
+use Rattle.subs.specs.Changes.{same_side, WritesRow, Fills}
 use Rattle.subs.specs.Inside.{same_levels, with_asked, with_rows}
 use Rattle.subs.proofs.Ways.{same_levels_is, same_levels_self, one_filter, row_at, rows_are}
 
@@ -72,7 +72,7 @@ pub written :
     (old new : Shape) (root : Option ℕ) (f : Levels) (at : ℕ) (client : List ℕ) (kept : Option QoS)
     → IsTree old.child old.used root
     → led old.child root (slot f).0 ≡ Some at
-    → Writes old new at (slot f).1 client kept
+    → WritesRow old new at (slot f).1 client kept
     → rows new root ≡ with_asked (rows old root) f client kept
 written old new root f at client kept tree way writes = λ i g c. go g c i
   where
@@ -125,6 +125,6 @@ tree_filled old new root at rest kept tree fills =
 -- the nodes stay a tree
 pub tree_written :
     (old new : Shape) (root : Option ℕ) (at : ℕ) (rest : Bool) (client : List ℕ) (kept : Option QoS)
-    → IsTree old.child old.used root → Writes old new at rest client kept → IsTree new.child new.used root
+    → IsTree old.child old.used root → WritesRow old new at rest client kept → IsTree new.child new.used root
 tree_written old new root at rest client kept tree writes =
     subst (λ (u : ℕ → Bool). IsTree new.child u root) (sym writes.used) (subst (λ (ch : Children). IsTree ch old.used root) (sym writes.child) tree)

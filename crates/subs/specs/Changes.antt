@@ -33,7 +33,7 @@ abbrev pub SetsChild : NodeChildren → NodeChildren → List ℕ → Option ℕ
 SetsChild old new level below = (l : List ℕ) → new l ≡ (if bytes_eq level l then below else old l)
 
 -- a row of one node is changed
-pub record Writes (old new : Shape) (at : ℕ) (rest : Bool) (client : List ℕ)
+pub record WritesRow (old new : Shape) (at : ℕ) (rest : Bool) (client : List ℕ)
     (kept : Option QoS) : Type 0 where
   pub child : new.child ≡ old.child
   pub used : new.used ≡ old.used

@@ -2,7 +2,7 @@
 
 ghost use Rattle.std.specs.Prelude.{◌≡◌, OnOk, OnErr, IfOk, IsTrue, is_some, true, Some};
 ghost use Rattle.std.specs.Prelude.{None, option_map};
-ghost use Rattle.subs.specs.Changes.{Writes, Fills, Links, AddsNode, FreesNode, IsBare};
+ghost use Rattle.subs.specs.Changes.{WritesRow, Fills, Links, AddsNode, FreesNode, IsBare};
 ghost use Rattle.subs.specs.Inside.{shape_of};
 ghost use Rattle.subs.specs.Rows.{row_at};
 
@@ -98,7 +98,7 @@ pub(crate) fn set_at(
 ) -> Result<(), AllocError>
     requires { (shape_of nodes.old).used slot.node.number ≡ true }
     ensures ok { OnOk result
-        (Writes (shape_of nodes.old)
+        (WritesRow (shape_of nodes.old)
         (shape_of nodes.new) slot.node.number slot.rest client.now (Some qos)) }
     ensures err { OnErr result (shape_of nodes.new ≡ shape_of nodes.old) }
     ensures absent { OnErr result
@@ -126,7 +126,7 @@ pub(crate) fn clear_at(nodes: &mut Slab<Node>, slot: Slot, client: &ClientId) ->
     requires { (shape_of nodes.old).used slot.node.number ≡ true }
     ensures found { result
         ≡ is_some ((shape_of nodes.old).held slot.node.number slot.rest client.now) }
-    ensures after { Writes (shape_of nodes.old)
+    ensures after { WritesRow (shape_of nodes.old)
         (shape_of nodes.new) slot.node.number slot.rest client.now None }
 {
     match nodes.get_mut(slot.node.number) {
