@@ -7,7 +7,7 @@ use Rattle.std.proofs.KnownBytes.{Appends-trans, Appends-nil}
 use Rattle.client.specs.client_base.declared.accepted.Accepted.{Accepted}
 use Rattle.user_client.specs.Printing.{line_of}
 use Rattle.user_client.specs.Tracing.{Called, Trace}
-use Rattle.user_client.specs.Listening.{Listening, Asks, Hears, Shows, lines_of}
+use Rattle.user_client.specs.Listening.{Listening, PrintsNothing, PrintsAccepted, Shows, lines_of}
 use Rattle.user_client.proofs.TracesJoin.{traces_join, traces_follow, traces_end}
 
 pub less_more : (a b c : ℕ) → (a - b) - c ≡ a - (b + c)
@@ -53,12 +53,12 @@ pub shows_none : (left : ℕ) (a : Option (List ℕ)) → Shows [] left left a a
 shows_none left a = (omega arith, subst (Appends a a) (sym (lines_none left)) (Appends-nil a))
 
 -- nothing was received
-pub hears_none : (old : Listening) (a : Option (List ℕ)) → Hears old a old a
+pub hears_none : (old : Listening) (a : Option (List ℕ)) → PrintsAccepted old a old a
 hears_none old a = ([], Trace.starts, refl, shows_none old.left a)
 
 -- what was received, and what was received after it
 pub hears_join : (a b c : Option (List ℕ)) (old middle new : Listening)
-    → Hears old a middle b → Hears middle b new c → Hears old a new c
+    → PrintsAccepted old a middle b → PrintsAccepted middle b new c → PrintsAccepted old a new c
 hears_join a b c old middle new one two = (
   one.0 ++ two.0,
   traces_join one.1 two.1,
@@ -68,7 +68,7 @@ hears_join a b c old middle new one two = (
 
 -- after what printed nothing
 pub asks_hears : (a b : Option (List ℕ)) (old middle new : Listening)
-    → Asks old middle → Hears middle a new b → Hears old a new b
+    → PrintsNothing old middle → PrintsAccepted middle a new b → PrintsAccepted old a new b
 asks_hears a b old middle new one two = (
   two.0,
   traces_follow one.0 two.1,
@@ -78,7 +78,7 @@ asks_hears a b old middle new one two = (
 
 -- before what printed nothing
 pub hears_asks : (a b : Option (List ℕ)) (old middle new : Listening)
-    → Hears old a middle b → Asks middle new → Hears old a new b
+    → PrintsAccepted old a middle b → PrintsNothing middle new → PrintsAccepted old a new b
 hears_asks a b old middle new one two = (
   one.0,
   traces_end one.1 two.0,
@@ -92,12 +92,12 @@ made_of caller count left = record { caller = caller; count = count; left = left
 
 -- its client did something
 pub asks_made : (caller new : Called) (count left : ℕ) {seen : Listening} → made_of caller count left ≡ seen
-    → Trace caller [] new → Asks seen (made_of new count left)
+    → Trace caller [] new → PrintsNothing seen (made_of new count left)
 asks_made caller new count left is trace =
-    subst (λ (s : Listening). Asks s (made_of new count left)) is (trace, refl, refl)
+    subst (λ (s : Listening). PrintsNothing s (made_of new count left)) is (trace, refl, refl)
 
 -- if the call that followed was done
 pub asks_hears_ok : {T E : Type 0} (a b : Option (List ℕ)) (old middle new : Listening) (result : Result T E)
-    → Asks old middle → OnOk result (Hears middle a new b) → OnOk result (Hears old a new b)
+    → PrintsNothing old middle → OnOk result (PrintsAccepted middle a new b) → OnOk result (PrintsAccepted old a new b)
 asks_hears_ok a b old middle new (Ok value) one two = asks_hears a b old middle new one two
 asks_hears_ok a b old middle new (Err error) one two = tt

@@ -30,13 +30,14 @@ Shows accepted left rest before after =
     (rest ≡ left - length accepted) × Appends before after (lines_of left accepted)
 
 -- what was accepted between the two was printed
-abbrev pub Hears : Listening → Option (List ℕ) → Listening → Option (List ℕ) → Type 0
-Hears old before new after =
+abbrev pub PrintsAccepted : Listening → Option (List ℕ) → Listening → Option (List ℕ) → Type 0
+PrintsAccepted old before new after =
     (accepted : List Accepted)
     × Trace old.caller accepted new.caller
     × (new.count ≡ old.count)
     × Shows accepted old.left new.left before after
 
 -- nothing was printed between the two
-abbrev pub Asks : Listening → Listening → Type 0
-Asks old new = Trace old.caller [] new.caller × (new.count ≡ old.count) × (new.left ≡ old.left)
+abbrev pub PrintsNothing : Listening → Listening → Type 0
+PrintsNothing old new =
+    Trace old.caller [] new.caller × (new.count ≡ old.count) × (new.left ≡ old.left)

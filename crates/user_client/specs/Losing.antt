@@ -13,10 +13,11 @@ AsksNext opens pauses zero old new = opens old new
 AsksNext {S} opens pauses (suc asked) old new = (paused : S) × pauses old paused × opens paused new
 
 -- this many connections were asked for, one after another
-pub data Asks {S : Type 0} (opens pauses : S → S → Type 0) (start : S) : ℕ → S → Type 0 where
-  none : Asks opens pauses start 0 start
-  more : {asked : ℕ} {old : S} (new : S) → Asks opens pauses start asked old
-      → AsksNext opens pauses asked old new → Asks opens pauses start (asked + 1) new
+pub data AsksForConnections {S : Type 0} (opens pauses : S → S → Type 0) (start : S) : ℕ → S →
+    Type 0 where
+  none : AsksForConnections opens pauses start 0 start
+  more : {asked : ℕ} {old : S} (new : S) → AsksForConnections opens pauses start asked old
+      → AsksNext opens pauses asked old new → AsksForConnections opens pauses start (asked + 1) new
 
 -- after some steps the server answered a CONNECT with a CONNACK that shows that it lost the session
 pub record LosesSession (start end : Called) : Type 0 where
@@ -35,4 +36,4 @@ abbrev pub IsGivenUp :
     {S : Type 0} → (S → S → Type 0) → (S → S → Type 0)
     → ℕ → S → S → Called → Called → UserClientError → Type 0
 IsGivenUp opens pauses tries first last start end fault =
-    fault ≡ faults.Lost → Asks opens pauses first tries last ⊎ LosesSession start end
+    fault ≡ faults.Lost → AsksForConnections opens pauses first tries last ⊎ LosesSession start end

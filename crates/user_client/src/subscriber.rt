@@ -5,7 +5,7 @@ ghost use Rattle.std.specs.Io.KnownBytes.{Appends};
 ghost use Rattle.client.specs.packet.ClientId.{client_fault};
 ghost use Rattle.client.specs.topics.Text.{filter_fault};
 ghost use Rattle.user_client.specs.Printing.{line_of};
-ghost use Rattle.user_client.specs.Listening.{Asks, Hears, Shows, begun, new_listening};
+ghost use Rattle.user_client.specs.Listening.{PrintsNothing, PrintsAccepted, Shows, begun, new_listening};
 ghost use Rattle.user_client.specs.Losing.{IsGivenUp, IsLostBy};
 ghost use Rattle.user_client.specs.Refusals.{RefusesListener};
 
@@ -82,7 +82,8 @@ impl Subscriber {
         tries: u32,
     ) -> Result<(), UserClientError>
         ensures printed { OnOk result
-            (Hears (begun self.old) (W.contents output.old) self.new (W.contents output.new)) }
+            (PrintsAccepted (begun self.old) (W.contents output.old) self.new
+            (W.contents output.new)) }
         ensures all { OnOk result (self.new.left ≡ 0) }
 
         // `Lost` comes once all `tries` connections were asked for, or the session was lost.
@@ -108,7 +109,7 @@ impl Subscriber {
         output: &mut W,
     ) -> Result<bool, UserClientError>
         ensures printed { OnOk result
-            (Hears self.old (W.contents output.old) self.new (W.contents output.new)) }
+            (PrintsAccepted self.old (W.contents output.old) self.new (W.contents output.new)) }
         ensures all { IfOk result (λ done. done ≡ true → self.new.left ≡ 0) }
         ensures lost { IfErr result (IsLostBy self.old.caller self.new.caller) }
     {
@@ -136,7 +137,7 @@ impl Subscriber {
         output: &mut W,
     ) -> Result<bool, UserClientError>
         ensures printed { OnOk result
-            (Hears self.old (W.contents output.old) self.new (W.contents output.new)) }
+            (PrintsAccepted self.old (W.contents output.old) self.new (W.contents output.new)) }
         ensures lost { IfErr result (IsLostBy self.old.caller self.new.caller) }
     {
         let news = exchange(self.alloc, stream, buffer, &mut self.caller)?;
@@ -147,7 +148,7 @@ impl Subscriber {
     // Subscribes to the filter on a new connection, and prints what was accepted.
     fn go_on<W: Write>(&mut self, news: News, output: &mut W) -> Result<(), UserClientError>
         ensures printed { OnOk result
-            (Hears self.old (W.contents output.old) self.new (W.contents output.new)) }
+            (PrintsAccepted self.old (W.contents output.old) self.new (W.contents output.new)) }
         ensures lost { IfErr result (λ fault. fault ≢ UserClientError.Lost) }
     {
         self.ask(news)?;
@@ -157,7 +158,7 @@ impl Subscriber {
     // Subscribes to the filter if a connection was accepted: until something is printed, the
     // subscription may have been lost with the connection before.
     fn ask(&mut self, news: News) -> Result<(), UserClientError>
-        ensures asked { OnOk result (Asks self.old self.new) }
+        ensures asked { OnOk result (PrintsNothing self.old self.new) }
         ensures lost { IfErr result (λ fault. fault ≢ UserClientError.Lost) }
     {
         if !is_to_ask(news, self.left, self.count) {
@@ -169,7 +170,7 @@ impl Subscriber {
     // Prints what was accepted, as much as is to be printed.
     fn print_accepted<W: Write>(&mut self, output: &mut W) -> Result<(), UserClientError>
         ensures printed { OnOk result
-            (Hears self.old (W.contents output.old) self.new (W.contents output.new)) }
+            (PrintsAccepted self.old (W.contents output.old) self.new (W.contents output.new)) }
         ensures lost { IfErr result (λ fault. fault ≢ UserClientError.Lost) }
     {
         let accepted = self.caller.take_accepted();

@@ -1,12 +1,12 @@
 use Rattle.std.proofs.Common.{◌≡◌, ℕ, arith, inl, refl, subst, ◌∙◌}
-use Rattle.user_client.specs.Losing.{Asks}
+use Rattle.user_client.specs.Losing.{AsksForConnections}
 use Rattle.user_client.specs.Tracing.{Trace}
 use Rattle.user_client.proofs.LossFollows.{gives_up_later}
 use Rattle.user_client.proofs.TracesJoin.{traces_follow}
 use Rattle.user_client.proofs.publisher.Publisher.run.Goals as goal
 
 pub loop-opened-init : goal.loop-opened-init
-loop-opened-init g c = (Trace.starts, refl, Asks.none)
+loop-opened-init g c = (Trace.starts, refl, AsksForConnections.none)
 
 pub returns-then-branch-clause-trace : goal.returns-then-branch-clause-trace
 returns-then-branch-clause-trace g c = traces_follow c.loop-opened.invariant.0 c.in_ok-visit.ensures.trace
@@ -20,19 +20,19 @@ returns-in_err-visit-clause-lost g c =
 pub returns-clause-lost : goal.returns-clause-lost
 returns-clause-lost g c =
     let all : c.loop-opened.opened ≡ c.args.tries = omega (arith, c.loop-opened.auto.opened-end, c.loop-opened-test.false) in
-    λ _. inl (subst (λ (n : ℕ). Asks g.S.Servers.opens g.S.Servers.pauses c.args.servers.now n c.loop-opened.servers) all
+    λ _. inl (subst (λ (n : ℕ). AsksForConnections g.S.Servers.opens g.S.Servers.pauses c.args.servers.now n c.loop-opened.servers) all
     c.loop-opened.invariant.2)
 
 pub loop-opened-preserved : goal.loop-opened-preserved
 loop-opened-preserved g c = (
   traces_follow c.loop-opened.invariant.0 c.in_ok-visit.ensures.trace,
   c.in_ok-visit.ensures.same ∙ c.loop-opened.invariant.1,
-  Asks.more c.next_stream.new.servers c.loop-opened.invariant.2 c.next_stream.ensures,
+  AsksForConnections.more c.next_stream.new.servers c.loop-opened.invariant.2 c.next_stream.ensures,
 )
 
 pub loop-opened-preserved-in_default : goal.loop-opened-preserved-in_default
 loop-opened-preserved-in_default g c = (
   c.loop-opened.invariant.0,
   c.loop-opened.invariant.1,
-  Asks.more c.next_stream.new.servers c.loop-opened.invariant.2 c.next_stream.ensures,
+  AsksForConnections.more c.next_stream.new.servers c.loop-opened.invariant.2 c.next_stream.ensures,
 )

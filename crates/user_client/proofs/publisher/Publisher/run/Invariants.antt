@@ -1,5 +1,5 @@
 use Rattle.std.proofs.Common.{◌≡◌, []}
-use Rattle.user_client.specs.Losing.{Asks}
+use Rattle.user_client.specs.Losing.{AsksForConnections}
 use Rattle.user_client.specs.Tracing.{Trace}
 use Rattle.user_client.proofs.publisher.Publisher.run.Given as goal
 
@@ -7,4 +7,4 @@ abbrev pub invariant-loop-opened : goal.invariant-loop-opened
 invariant-loop-opened g l =
     Trace l.fn.self.caller [] l.self.caller
     × (l.self.once ≡ l.fn.self.once)
-    × Asks g.S.Servers.opens g.S.Servers.pauses l.fn.servers l.opened l.servers
+    × AsksForConnections g.S.Servers.opens g.S.Servers.pauses l.fn.servers l.opened l.servers

@@ -1,6 +1,6 @@
 use Rattle.std.proofs.Common.{◌≡◌, ℕ, arith, inl, subst}
-use Rattle.user_client.specs.Listening.{Listening, Hears, begun}
-use Rattle.user_client.specs.Losing.{Asks}
+use Rattle.user_client.specs.Listening.{Listening, PrintsAccepted, begun}
+use Rattle.user_client.specs.Losing.{AsksForConnections}
 use Rattle.user_client.proofs.LossFollows.{gives_up_later}
 use Rattle.user_client.proofs.PrintsJoin.{made_of, hears_join, hears_none}
 use Rattle.user_client.proofs.subscriber.Subscriber.run.Goals as goal
@@ -10,8 +10,8 @@ loop-opened-init g c =
     let first = made_of c.self.inside.caller c.self.inside.count c.self.inside.count in
     let out = g.W.Write.contents c.args.output.now in
     record {
-      hears = subst (λ (s : Listening). Hears (begun s) out first out) c.self.view_is (hears_none first out);
-      asks = Asks.none;
+      hears = subst (λ (s : Listening). PrintsAccepted (begun s) out first out) c.self.view_is (hears_none first out);
+      asks = AsksForConnections.none;
     }
 
 pub returns-then-branch-clause-printed : goal.returns-then-branch-clause-printed
@@ -29,7 +29,7 @@ returns-in_err-visit-clause-lost g c =
 pub returns-clause-lost : goal.returns-clause-lost
 returns-clause-lost g c =
     let all : c.loop-opened.opened ≡ c.args.tries = omega (arith, c.loop-opened.auto.opened-end, c.loop-opened-test.false) in
-    λ _. inl (subst (λ (n : ℕ). Asks g.S.Servers.opens g.S.Servers.pauses c.args.servers.now n c.loop-opened.servers) all
+    λ _. inl (subst (λ (n : ℕ). AsksForConnections g.S.Servers.opens g.S.Servers.pauses c.args.servers.now n c.loop-opened.servers) all
     c.loop-opened.invariant.asks)
 
 pub loop-opened-preserved : goal.loop-opened-preserved
@@ -37,11 +37,11 @@ loop-opened-preserved g c = record {
   hears = hears_join (g.W.Write.contents c.args.output.now) (g.W.Write.contents c.loop-opened.output)
       (g.W.Write.contents c.visit.new.output) (begun c.args.self.now) c.loop-opened.self c.visit.new.self
       c.loop-opened.invariant.hears c.in_ok-visit.ensures.printed;
-  asks = Asks.more c.next_stream.new.servers c.loop-opened.invariant.asks c.next_stream.ensures;
+  asks = AsksForConnections.more c.next_stream.new.servers c.loop-opened.invariant.asks c.next_stream.ensures;
 }
 
 pub loop-opened-preserved-in_default : goal.loop-opened-preserved-in_default
 loop-opened-preserved-in_default g c = record {
   hears = c.loop-opened.invariant.hears;
-  asks = Asks.more c.next_stream.new.servers c.loop-opened.invariant.asks c.next_stream.ensures;
+  asks = AsksForConnections.more c.next_stream.new.servers c.loop-opened.invariant.asks c.next_stream.ensures;
 }
