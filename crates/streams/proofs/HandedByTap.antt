@@ -8,13 +8,13 @@ use Rattle.node.specs.Growth.{counted}
 use Rattle.node.specs.Handing.{answer_of, bytes_of, listed_at}
 use Rattle.node.specs.State.{Replays, Seen}
 use Rattle.connection.specs.Writing.{HandsOver}
-use Rattle.streams.specs.Tapping.{Began, HandsOut}
+use Rattle.streams.specs.Tapping.{NodesBegan, HandsOut}
 use Rattle.streams.specs.declared.port_tap.PortTap.{PortTap}
 
 pub handed_by_tap :
     (first_of : ℕ → CountedCore) (before after : PortTap) (seen : Seen) (answer : Handed) (old new : List ℕ)
     (was is count : ℕ)
-    → Began first_of
+    → NodesBegan first_of
     → Replays (first_of seen.taker.inbox) seen.taker.taken seen.node
     → new ≡ old ++ bytes_of (listed_at before.port seen.node.core)
     → answer ≡ answer_of (listed_at before.port seen.node.core)

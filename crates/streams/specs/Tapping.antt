@@ -11,7 +11,7 @@ use Rattle.streams.specs.declared.port_tap.PortTap.{PortTap}
 
 -- the node of each inbox's number began as the one of that number in this configuration of ballot
 -- 1
-pub record Began (first_of : ℕ → CountedCore) : Type 0 where
+pub record NodesBegan (first_of : ℕ → CountedCore) : Type 0 where
   pub config : Config
   pub is : (inbox : ℕ) → first_of inbox ≡ record { core = opening_core inbox config; losses = 0 }
 
@@ -34,6 +34,6 @@ HandsNone tap = tap.handed ≡ 0
 pub record HandsOut (before : PortTap) (bytes : List ℕ) (answer : Handed) (after : PortTap)
     : Type 0 where
   pub first_of : ℕ → CountedCore
-  pub began : Began first_of
+  pub began : NodesBegan first_of
   pub hands : IsHandedOver first_of before.port bytes answer
   pub counts : after ≡ record before { handed = counted (before.handed + length bytes) }

@@ -3,7 +3,7 @@
 ghost use Rattle.std.specs.Prelude.{◌≡◌, ◌++◌, IfOk, OnErr, OnOk};
 ghost use Rattle.connection.specs.Writing.{HandsOver};
 ghost use Rattle.node.specs.Handing.{bytes_of, hands_over, listed_at};
-ghost use Rattle.streams.specs.Tapping.{Began, HandsOut};
+ghost use Rattle.streams.specs.Tapping.{NodesBegan, HandsOut};
 
 use connection::Tap;
 use node::{Handed, Memory, NodeNaming, NodeState, Port};
@@ -47,7 +47,7 @@ impl PortTap {
         node: &mut NodeState<J>,
         out: &mut Vec<u8>,
     ) -> Result<Handed, Memory>
-        requires began { Began J.first_of }
+        requires began { NodesBegan J.first_of }
         ensures ok { IfOk result (λ answer.
             HandsOver HandsOut self.old answer self.new out.old.items out.new.items) }
 
