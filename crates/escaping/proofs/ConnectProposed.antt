@@ -32,7 +32,7 @@ use Rattle.node_moves.specs.world_base.Step.{node_step, settled}
 use Rattle.node_moves.specs.world_base.Turns.{has_room, is_message, proposes, without_messages, repeated, handled, then_also}
 use Rattle.node_moves.proofs.Views.{each_kept}
 use Rattle.escaping.specs.Asking.{ConnectIsProposed, asked_now, proposal_at, with_asked}
-use Rattle.escaping.specs.Delivery.{IsCalm}
+use Rattle.escaping.specs.Delivery.{ReportsItsLosses}
 use Rattle.escaping.proofs.OneDelivery.{calm_finds, none_lost, none_handled, only_messages, with_replica}
 
 -- ---- a change, and another of the same connection
@@ -115,7 +115,7 @@ repeated_once n next core t first rests =
     ∙ ap (λ (u : Turn). let v : Turn = record { core = u.core; messages = t.messages ++ u.messages } in v) (repeated_rests n next t.core rests)
     ∙ ap (λ (l : List (Effect Command Output)). let v : Turn = record { core = t.core; messages = l } in v) (append-nil t.messages)
 
-module _ (core : CoreState) (port : Port) (now : ℕ) (piece : List ℕ) (c : Connection) (connect : Connect) (room : has_room core ≡ true) (calm : IsCalm core)
+module _ (core : CoreState) (port : Port) (now : ℕ) (piece : List ℕ) (c : Connection) (connect : Connect) (room : has_room core ≡ true) (calm : ReportsItsLosses core)
     (opened : open_at port core ≡ Some c) (awaits : is_first c.stage ≡ true) (unread : c.unread ≡ []) (whole : verdict piece ≡ Ok (packets.Connect connect, []))
     (silent : outputs (proposal_at core (commands.Connect c.name connect.client connect.clean)).effects ≡ []) where
   abbrev command : Command
@@ -190,7 +190,7 @@ module _ (core : CoreState) (port : Port) (now : ℕ) (piece : List ℕ) (c : Co
       by [] e = absurd (two_kinds (packets.Connect connect, []) stops.More (sym e ∙ is_more))
       by (b ∷ bs) e = repeated_once (length bs) (reads_next now port) (with_change (holding piece)) first_turn first_read then_rests
 
-  after_calm : IsCalm after
+  after_calm : ReportsItsLosses after
   after_calm = each_kept (λ (d : Connection). has_failed d ≡ false) (is_open_at port) (asked_now now connect.keep_alive) core.connections (λ d e. refl) calm
 
   settled_after : settled after ≡ with_asked now port connect command core

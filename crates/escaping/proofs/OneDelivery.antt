@@ -22,7 +22,7 @@ use Rattle.node_moves.specs.world_base.Failing.{closes_failed, loses_all_failed,
 use Rattle.node_moves.specs.world_base.Step.{node_step, settled}
 use Rattle.node_moves.specs.world_base.Turns.{drives, is_message, moved, proposes, without_messages, repeated, handled, then_also}
 use Rattle.node_moves.proofs.LossesReported.{each_loss_is_reported}
-use Rattle.escaping.specs.Delivery.{AStepIsADelivery, IsCalm, heard_by}
+use Rattle.escaping.specs.Delivery.{AStepIsADelivery, ReportsItsLosses, heard_by}
 
 -- ---- effects that give nothing
 
@@ -92,7 +92,7 @@ unfolding repeated
 none_lost zero core none = refl
 none_lost (suc n) core none = ap (λ (t : Turn). then_also t (repeated n loses_failed)) (failed_next core none) ∙ none_lost n core none
 
-all_keep : (core : CoreState) → IsCalm core ⊎ (is_active core.replica.state.role ≡ false) → KeepsReplica core (loses_all_failed core)
+all_keep : (core : CoreState) → ReportsItsLosses core ⊎ (is_active core.replica.state.role ≡ false) → KeepsReplica core (loses_all_failed core)
 all_keep core (inl calm) =
     subst (λ (t : Turn). KeepsReplica core t) (sym (none_lost (length core.connections) core (calm_finds core.connections calm)))
     (let k : KeepsReplica core (without_messages core) = record { replica = refl; last_name = refl; messages = refl } in k)

@@ -19,7 +19,7 @@ use Rattle.node_moves.specs.world_base.Core.{CoreState, rules}
 use Rattle.node_moves.specs.world_base.Reading.{open_at}
 use Rattle.node_moves.specs.world_base.Step.{node_step}
 use Rattle.node_moves.specs.world_base.Turns.{has_room}
-use Rattle.escaping.specs.Delivery.{IsCalm}
+use Rattle.escaping.specs.Delivery.{ReportsItsLosses}
 
 -- the connection whose CONNECT became whole at this time
 abbrev pub asked_now : ℕ → ℕ → Connection → Connection
@@ -44,7 +44,7 @@ with_asked now port connect command core =
 abbrev pub ConnectIsProposed : Type 0
 ConnectIsProposed =
     (core : CoreState) (port : Port) (now : ℕ) (piece : List ℕ) (c : Connection)
-    (connect : Connect) → has_room core ≡ true → IsCalm core →
+    (connect : Connect) → has_room core ≡ true → ReportsItsLosses core →
     open_at port core ≡ Some c → is_first c.stage ≡ true → c.unread ≡ [] →
     verdict piece ≡ Ok (packets.Connect connect, []) →
     outputs (proposal_at core (commands.Connect c.name connect.client connect.clean)).effects ≡ [] →

@@ -21,8 +21,8 @@ heard_by core message = received rules core.replica.state message.from message.b
 
 -- the loss of each connection that was closed because there was no room for what was to be sent is
 -- reported to the broker
-abbrev pub IsCalm : CoreState → Type 0
-IsCalm core = Each (λ (c : Connection). has_failed c ≡ false) core.connections
+abbrev pub ReportsItsLosses : CoreState → Type 0
+ReportsItsLosses core = Each (λ (c : Connection). has_failed c ≡ false) core.connections
 
 -- this turn does to the node's replica what the outcome says, sends just its messages, and gives no
 -- name
@@ -31,7 +31,7 @@ pub record IsDelivery (core : CoreState) (o : Outcome State Command Output)
   pub replica : turn.core.replica ≡ record core.replica { state = o.state }
   pub last_name : turn.core.last_name ≡ core.last_name
   pub messages : turn.messages ≡ o.effects
-  pub calm : IsCalm turn.core
+  pub calm : ReportsItsLosses turn.core
 
 -- A node's step on a message is a delivery, if the replica runs and has no output, and the node is
 -- calm or is no active primary afterwards.
@@ -39,5 +39,5 @@ abbrev pub AStepIsADelivery : Type 0
 AStepIsADelivery =
     (core : CoreState) (message : Message Command) → core.replica.state.stopped ≡ false →
     outputs (heard_by core message).effects ≡ [] →
-    IsCalm core ⊎ (is_active (heard_by core message).state.role ≡ false) →
+    ReportsItsLosses core ⊎ (is_active (heard_by core message).state.role ≡ false) →
     IsDelivery core (heard_by core message) (node_step (Peer message) core)

@@ -8,7 +8,7 @@ use Rattle.node_moves.specs.world_base.Connections.{fresh, is_at, is_listed}
 use Rattle.node_moves.specs.world_base.Core.{CoreState, serves}
 use Rattle.node_moves.specs.world_base.Step.{node_step}
 use Rattle.node_moves.specs.world_base.Turns.{without_messages}
-use Rattle.escaping.specs.Delivery.{IsCalm}
+use Rattle.escaping.specs.Delivery.{ReportsItsLosses}
 
 -- the first name of the ballot that the node joined
 abbrev pub first_name : CoreState → ConnectionName
@@ -26,7 +26,7 @@ with_first port core =
 -- of which it lists none, under that name
 abbrev pub FirstIsOpened : Type 0
 FirstIsOpened =
-    (core : CoreState) (port : Port) (now : ℕ) → serves core ≡ true → IsCalm core →
+    (core : CoreState) (port : Port) (now : ℕ) → serves core ≡ true → ReportsItsLosses core →
     core.last_name.ballot < core.replica.state.joined →
     core.replica.state.joined ≤ max_ballot → list_any (is_at port) core.connections ≡ false →
     node_step (Opened port now) core ≡ without_messages (with_first port core)

@@ -17,7 +17,7 @@ use Rattle.node_moves.specs.world_base.Handing.{hands_over, listed_at}
 use Rattle.node_moves.specs.world_base.Reading.{open_at}
 use Rattle.node_moves.specs.world_base.Step.{node_step}
 use Rattle.escaping.specs.Asking.{with_asked}
-use Rattle.escaping.specs.Delivery.{IsCalm, heard_by}
+use Rattle.escaping.specs.Delivery.{ReportsItsLosses, heard_by}
 use Rattle.escaping.specs.Opening.{first_name, with_first}
 
 -- a connection of this name at this port is open, and nothing was queued for it
@@ -32,7 +32,7 @@ pub record AwaitsAnswer (port : Port) (x : ConnectionName) (core : CoreState) : 
 abbrev pub MessagesKeepItWaiting : Type 0
 MessagesKeepItWaiting =
     (port : Port) (x : ConnectionName) (core : CoreState) (message : Message Command) →
-    AwaitsAnswer port x core → IsCalm core →
+    AwaitsAnswer port x core → ReportsItsLosses core →
     core.replica.state.stopped ≡ false → outputs (heard_by core message).effects ≡ [] →
     is_active (heard_by core message).state.role ≡ true →
     (heard_by core message).state.stopped ≡ false →

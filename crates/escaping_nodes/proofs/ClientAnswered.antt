@@ -25,7 +25,7 @@ use Rattle.escaping.specs.broker_base.State.{State}
 use Rattle.escaping.specs.ballot.Config.{Config}
 use Rattle.escaping.specs.Answering.{PutsOutFirst}
 use Rattle.escaping.specs.Asking.{proposal_at, with_asked}
-use Rattle.escaping.specs.Delivery.{IsCalm, heard_by}
+use Rattle.escaping.specs.Delivery.{ReportsItsLosses, heard_by}
 use Rattle.escaping.specs.Waiting.{AwaitsAnswer}
 use Rattle.escaping.specs.Welcome.{IsWelcomedBack}
 use Rattle.world_nodes.specs.node_group.Group.{replica_of}
@@ -96,13 +96,13 @@ itself ballot index port x n v old new there is leads waits =
 leads_with : (ballot : ℕ) (r s : CountedReplica State Command) → s ≡ r → LeadsAt ballot r.state → LeadsAt ballot s.state
 leads_with ballot r s same l = subst (λ (q : CountedReplica State Command). LeadsAt ballot q.state) (sym same) l
 
-calm_now : (ballot : ℕ) (node : CountedCore) → LeadsAt ballot (replica_of node.core) → IsCalmOrLow ballot node → IsCalm node.core
+calm_now : (ballot : ℕ) (node : CountedCore) → LeadsAt ballot (replica_of node.core) → IsCalmOrLow ballot node → ReportsItsLosses node.core
 calm_now ballot node l (inl calm) = calm
 calm_now ballot node l (inr low) = absurd (let e = l.joined in omega (arith, e, low))
 
 -- a message comes to it
 message_kept : (ballot index : ℕ) (port : Port) (x : ConnectionName) (n : NodesState) (node : CountedCore) (m : Message Command) → slice_get n.nodes index ≡ Some node →
-    IsCalm node.core → outputs (heard_by node.core m).effects ≡ [] → (heard_by node.core m).state.joined ≡ ballot →
+    ReportsItsLosses node.core → outputs (heard_by node.core m).effects ≡ [] → (heard_by node.core m).state.joined ≡ ballot →
     (node_step (Peer m) node.core).core.replica ≡ record node.core.replica { state = (heard_by node.core m).state } → LeadsAt ballot (replica_of node.core) → AwaitsAnswer port x node.core →
     StillWaits ballot index port x (after_node_call index node (takes (Peer m)) n)
 message_kept ballot index port x n node m there calm silent joined replica leads waits =
@@ -192,7 +192,7 @@ module _ (config : Config) (a : Moment State Command Output) (past : List (Momen
   leads : LeadsAt ballot r
   leads = record { joined = can.serves.leads.joined; held = can.serves.held; role = can.serves.leads.role; runs = can.serves.leads.runs }
 
-  calm : IsCalm core
+  calm : ReportsItsLosses core
   calm = calm_now ballot node leads (can.calm index node can.stands)
 
   long : places r.log ≡ length log

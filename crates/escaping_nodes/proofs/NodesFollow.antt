@@ -38,7 +38,7 @@ use Rattle.ways_out.specs.CutDeliveries.{Delivered, after_activate, after_outcom
 use Rattle.ways_out.specs.CutDeliveries.Delivered.{all_came, to_master, to_node}
 use Rattle.escaping_nodes.specs.Coming.Come.{all_came as none_comes, to_node as comes_to_node, to_master as comes_to_master, hands}
 use Rattle.escaping_nodes.specs.Coming.{AreCalm, AreFollowed, Come, DeliveriesAreFollowed, IsSeen, KeepNames}
-use Rattle.escaping.specs.Delivery.{IsCalm, IsDelivery, heard_by}
+use Rattle.escaping.specs.Delivery.{ReportsItsLosses, IsDelivery, heard_by}
 use Rattle.escaping.proofs.OneDelivery.{a_step_is_a_delivery}
 
 -- ---- places
@@ -64,7 +64,7 @@ pub some_one : {X : Type 0} (o : Option X) (x y : X) → o ≡ Some x → o ≡ 
 some_one o x y e f = cc
 
 abbrev pub IsCalmOrLow : ℕ → CountedCore → Type 0
-IsCalmOrLow ballot node = IsCalm node.core ⊎ (node.core.replica.state.joined < ballot)
+IsCalmOrLow ballot node = ReportsItsLosses node.core ⊎ (node.core.replica.state.joined < ballot)
 
 -- if one becomes another that is calm, or has not joined the ballot, all are so still
 pub set_calm : (ballot : ℕ) (nodes : List CountedCore) (at : ℕ) (node new : CountedCore) → slice_get nodes at ≡ Some node → IsCalmOrLow ballot new →
@@ -86,11 +86,11 @@ set_same_replica n at node there =
 
 -- ---- bytes are handed over
 
-pub hands_keep : (port : Port) (core : CoreState) → ((hands_over port core).replica ≡ core.replica) × (IsCalm core → IsCalm (hands_over port core))
+pub hands_keep : (port : Port) (core : CoreState) → ((hands_over port core).replica ≡ core.replica) × (ReportsItsLosses core → ReportsItsLosses (hands_over port core))
 unfolding hands_over
 hands_keep port core = by (listed_at port core)
   where
-    by : (o : Option Connection) → ((left_by port core o).replica ≡ core.replica) × (IsCalm core → IsCalm (left_by port core o))
+    by : (o : Option Connection) → ((left_by port core o).replica ≡ core.replica) × (ReportsItsLosses core → ReportsItsLosses (left_by port core o))
     by None = (refl, λ calm. calm)
     by (Some c) = (
       refl,
@@ -116,7 +116,7 @@ pub hands_calm : (ballot : ℕ) (n : NodesState) (at : ℕ) (node : CountedCore)
 hands_calm ballot n at node port there calm =
     set_calm ballot n.nodes at node (record node { core = hands_over port node.core }) there (now (calm at node there)) calm
   where
-    now : IsCalmOrLow ballot node → IsCalm (hands_over port node.core) ⊎ ((hands_over port node.core).replica.state.joined < ballot)
+    now : IsCalmOrLow ballot node → ReportsItsLosses (hands_over port node.core) ⊎ ((hands_over port node.core).replica.state.joined < ballot)
     now (inl quiet) = inl ((hands_keep port node.core).1 quiet)
     now (inr low) = inr (subst (λ (r : CountedReplica State Command). r.state.joined < ballot) (sym (hands_keep port node.core).0) low)
 
@@ -204,7 +204,7 @@ module _ (ballot : ℕ) (b : Moment State Command Output) (n : NodesState) (calm
             joined = in_ballot;
           }
         where
-          may : (heard_by node.core message).state.joined ≡ ballot → IsCalmOrLow ballot node → IsCalm node.core ⊎ (is_active (heard_by node.core message).state.role ≡ false)
+          may : (heard_by node.core message).state.joined ≡ ballot → IsCalmOrLow ballot node → ReportsItsLosses node.core ⊎ (is_active (heard_by node.core message).state.role ≡ false)
           may in_ballot (inl quiet) = inl quiet
           may in_ballot (inr low) = inr (not_active ballot node.core message in_ballot low)
   node_comes a k ks (to_master j from asked sent d) s at node message came there going =

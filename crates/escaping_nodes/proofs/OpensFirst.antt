@@ -10,7 +10,7 @@ use Rattle.escaping.specs.broker_spec.declared.command.Command.{Command}
 use Rattle.escaping.specs.broker_spec.Connection.{ConnectionName}
 use Rattle.escaping.specs.broker_spec.declared.command.Output.{Output}
 use Rattle.escaping.specs.broker_base.State.{State}
-use Rattle.escaping.specs.Delivery.{IsCalm}
+use Rattle.escaping.specs.Delivery.{ReportsItsLosses}
 use Rattle.escaping.specs.Opening.{first_name, with_first}
 use Rattle.escaping.specs.Waiting.{AwaitsConnect}
 use Rattle.world_nodes.specs.node_group.Group.{replica_of}
@@ -38,7 +38,7 @@ use Rattle.escaping_nodes.proofs.NodesFollow.{IsCalmOrLow, hands_calm, hands_kee
 
 -- a primary that leads its ballot serves clients, and each failed connection is reported to the
 -- broker
-calm_there : (ballot : ℕ) (node : CountedCore) → node.core.replica.state.joined ≡ ballot → IsCalmOrLow ballot node → IsCalm node.core
+calm_there : (ballot : ℕ) (node : CountedCore) → node.core.replica.state.joined ≡ ballot → IsCalmOrLow ballot node → ReportsItsLosses node.core
 calm_there ballot node same (inl calm) = calm
 calm_there ballot node same (inr low) = absurd (omega (arith, same, low))
 

@@ -15,7 +15,7 @@ use Rattle.escaping.specs.world_base.Core.{CountedCore, rules}
 use Rattle.world_nodes.specs.ExactSteps.{after_answer, after_node_call}
 use Rattle.world_nodes.specs.Nodes.{NodesState, cores_of}
 use Rattle.ways_out.specs.CutDeliveries.{Delivered}
-use Rattle.escaping.specs.Delivery.{IsCalm}
+use Rattle.escaping.specs.Delivery.{ReportsItsLosses}
 
 -- the messages of these numbers come, one after another, to nodes that run or to the master; in
 -- between nodes hand over bytes
@@ -48,7 +48,7 @@ pub record IsSeen (a : Moment State Command Output) (n : NodesState) : Type 0 wh
 abbrev pub AreCalm : ℕ → NodesState → Type 0
 AreCalm ballot n =
     (at : ℕ) (node : CountedCore) → slice_get n.nodes at ≡ Some node →
-    IsCalm node.core ⊎ (node.core.replica.state.joined < ballot)
+    ReportsItsLosses node.core ⊎ (node.core.replica.state.joined < ballot)
 
 -- no node has given a name in between
 abbrev pub KeepNames : NodesState → NodesState → Type 0
