@@ -21,7 +21,7 @@ use Rattle.byte_world.specs.World.{ClientPipes, HasPipe, Pipe, World, is_used, l
 use Rattle.byte_world.proofs.NodesGoOn.{IsOpened, carries_with}
 use Rattle.byte_world.proofs.PipesHold.{PipeHolds, apart_on}
 use Rattle.byte_world.proofs.PortsKept.{IsOfOld}
-use Rattle.byte_world.proofs.WorldsHold.{Holds, IsUnheard, Leads}
+use Rattle.byte_world.proofs.WorldsHold.{Holds, IsUnheard, LeadsToPort}
 
 -- ---- a port that no pipe leads to
 
@@ -34,7 +34,7 @@ any_at test (y ∷ xs) (suc i) x e is = by (test y) (any_at test xs i x e is)
     by true rest = refl
     by false rest = rest
 
-leads_used : (v : World) (n : ℕ) (port : Port) → Leads v n port → is_used n port v.clients ≡ true
+leads_used : (v : World) (n : ℕ) (port : Port) → LeadsToPort v n port → is_used n port v.clients ≡ true
 leads_used v n port l =
     any_at (λ (c : ClientPipes). list_any (leads_to n port) c.pipes) v.clients l.i l.c l.has.client
     (any_at (leads_to n port) l.c.pipes l.j l.p l.has.pipe (both (l.p.node == n) (l.p.port.0 == port.0) (ap (λ k. l.p.node == k) (sym l.node) ∙ eq_same l.p.node) (ap (λ k. l.p.port.0 == k) (sym l.at) ∙ eq_same l.p.port.0)))
@@ -55,19 +55,19 @@ opened_port _ = 0
 -- the pipes continue
 pub record OpensUnused {nodes : ℕ} {config : Config} (v : World) (went : GroupTrace nodes config v.group) (n : ℕ) (port : Port) (now : ℕ)
     (d : DoesCall v.group (Some (n, takes (Opened port now)))) : Type 0 where
-  pub no_lead : Leads v n port → ⊥
-  pub old_led : (m : ℕ) (old : CoreState) (e : NodesEnd) → slice_get v.group.nodes m ≡ Some old → IsOfOld old.connections e → Leads v m e.port
+  pub no_lead : LeadsToPort v n port → ⊥
+  pub old_led : (m : ℕ) (old : CoreState) (e : NodesEnd) → slice_get v.group.nodes m ≡ Some old → IsOfOld old.connections e → LeadsToPort v m e.port
   pub opened_there : (m : ℕ) (old : CoreState) (e : NodesEnd) → IsOpened (node_call_of d.step) m old e → (m ≡ n) × (e.port.0 ≡ port.0)
   pub still_unheard : (x : ConnectionName) → IsUnheard went x → IsUnheard (then_went went d.step) x
   pub old_holds : (i : ℕ) (c : ClientPipes) (j : ℕ) (κ : ClientConnection) (p : Pipe) → HasPipe v i c j κ p → PipeHolds (then_went went d.step) κ p
 
 module _ {nodes : ℕ} {config : Config} (v : World) (went : GroupTrace nodes config v.group) (h : Holds v went) (n : ℕ) (port : Port) (now : ℕ) (d : DoesCall v.group (Some (n, takes (Opened port now))))
     (unused : is_used n port v.clients ≡ false) where
-  no_lead : Leads v n port → ⊥
+  no_lead : LeadsToPort v n port → ⊥
   no_lead l = both_ways (is_used n port v.clients) unused (leads_used v n port l)
 
   -- a connection that was there before has a pipe
-  old_led : (m : ℕ) (old : CoreState) (e : NodesEnd) → slice_get v.group.nodes m ≡ Some old → IsOfOld old.connections e → Leads v m e.port
+  old_led : (m : ℕ) (old : CoreState) (e : NodesEnd) → slice_get v.group.nodes m ≡ Some old → IsOfOld old.connections e → LeadsToPort v m e.port
   old_led m old e at o =
       let l = h.used m old o.was at o.among in
       record { i = l.i; c = l.c; j = l.j; κ = l.κ; p = l.p; has = l.has; node = l.node; at = l.at ∙ sym (ap (λ (z : Port). z.0) o.later.port) }

@@ -20,7 +20,7 @@ use Rattle.byte_world.proofs.NodesGoOn.{IsOpened, of_each, stood_as}
 use Rattle.byte_world.proofs.PipesHold.{is_the_port, none_found}
 use Rattle.byte_world.proofs.OpensUnused.{OpensUnused, opens_unused}
 use Rattle.byte_world.proofs.PortsKept.{IsOfOld}
-use Rattle.byte_world.proofs.WorldsHold.{Holds, IsKnown, IsUnheard, Leads, holds_on}
+use Rattle.byte_world.proofs.WorldsHold.{Holds, IsKnown, IsUnheard, LeadsToPort, holds_on}
 
 same_core : (a b : CoreState) → (let o : Option CoreState = Some a in o) ≡ Some b → a ≡ b
 same_core a b e = cc
@@ -34,10 +34,10 @@ module _ {nodes : ℕ} {config : Config} (v : World) (went : GroupTrace nodes co
   not_there : (e : NodesEnd) → In e core.connections → e.port.0 ≡ port.0 → ⊥
   not_there e i same = both_ways (is_at port e) (of_each (λ (z : NodesEnd). is_at port z ≡ false) (none_found (is_at port) core.connections none) i) (is_the_port port e same)
 
-  each_led : (m : ℕ) (z : CoreState) (e : NodesEnd) → slice_get d.after.nodes m ≡ Some z → In e z.connections → Leads v m e.port
+  each_led : (m : ℕ) (z : CoreState) (e : NodesEnd) → slice_get d.after.nodes m ≡ Some z → In e z.connections → LeadsToPort v m e.port
   each_led m z e stood j = by (stood_as v.group d.after went d.step m z stood).core (stood_as v.group d.after went d.step m z stood).stands ((stood_as v.group d.after went d.step m z stood).after.was e j)
     where
-      by : (before : CoreState) → slice_get v.group.nodes m ≡ Some before → IsOfOld before.connections e ⊎ IsOpened (node_call_of d.step) m before e → Leads v m e.port
+      by : (before : CoreState) → slice_get v.group.nodes m ≡ Some before → IsOfOld before.connections e ⊎ IsOpened (node_call_of d.step) m before e → LeadsToPort v m e.port
       by before at (inl o) = facts.old_led m before e at o
       by before at (inr o) =
           let f = facts.opened_there m before e o in

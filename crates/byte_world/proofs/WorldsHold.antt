@@ -19,7 +19,7 @@ use Rattle.node_group.specs.Group.{Group}
 use Rattle.node_group.specs.Steps.{GroupTrace}
 use Rattle.node_group.specs.Streams.{came_up, went_down}
 use Rattle.byte_world.specs.World.{ClientPipes, HasPipe, Pipe, World, packets_of, with_client, with_pipe}
-pub use Rattle.byte_world.specs.AtNodes.{Leads}
+pub use Rattle.byte_world.specs.AtNodes.{LeadsToPort}
 use Rattle.byte_world.proofs.OnTheWay.{IsHandled, packets_after, piece_down}
 use Rattle.byte_world.proofs.PipesHold.{IsPlaced, IsUp, PipeHolds, up_written}
 
@@ -41,7 +41,7 @@ pub record Holds {nodes : ℕ} {config : Config} (w : World) (went : GroupTrace 
   pub each : (i : ℕ) (c : ClientPipes) (j : ℕ) (κ : ClientConnection) (p : Pipe) → HasPipe w i c j κ p → PipeHolds went κ p
   pub one : (i : ℕ) (c : ClientPipes) (j : ℕ) (κ : ClientConnection) (p : Pipe) (k : ℕ) (d : ClientPipes) (l : ℕ) (μ : ClientConnection) (q : Pipe) → HasPipe w i c j κ p → HasPipe w k d l μ q
       → κ.name ≡ μ.name → (i ≡ k) × (j ≡ l)
-  pub used : (n : ℕ) (core : CoreState) (d : NodesEnd) → slice_get w.group.nodes n ≡ Some core → In d core.connections → Leads w n d.port
+  pub used : (n : ℕ) (core : CoreState) (d : NodesEnd) → slice_get w.group.nodes n ≡ Some core → In d core.connections → LeadsToPort w n d.port
   pub known : (x : ConnectionName) → IsUnheard went x ⊎ IsKnown w x
 
 -- ---- a step that opens nothing
@@ -68,7 +68,7 @@ pub record Stays (w : World) (k l : ℕ) (κ : ClientConnection) (p : Pipe) : Ty
 pub holds_on : {nodes : ℕ} {config : Config} (v w : World) (went : GroupTrace nodes config v.group) (after : GroupTrace nodes config w.group) → Holds v went
     → ((k : ℕ) (c : ClientPipes) (l : ℕ) (κ : ClientConnection) (p : Pipe) → HasPipe w k c l κ p → Came v after k l κ p)
     → ((k : ℕ) (c : ClientPipes) (l : ℕ) (κ : ClientConnection) (p : Pipe) → HasPipe v k c l κ p → Stays w k l κ p)
-    → ((n : ℕ) (core : CoreState) (d : NodesEnd) → slice_get w.group.nodes n ≡ Some core → In d core.connections → Leads v n d.port)
+    → ((n : ℕ) (core : CoreState) (d : NodesEnd) → slice_get w.group.nodes n ≡ Some core → In d core.connections → LeadsToPort v n d.port)
     → ((x : ConnectionName) → IsUnheard after x ⊎ IsKnown v x) → Holds w after
 holds_on v w went after h back forth olds knows =
     record {
@@ -81,7 +81,7 @@ holds_on v w went after h back forth olds knows =
       known = λ x. by x (knows x);
     }
   where
-    leads : (n : ℕ) (port : Port) → Leads v n port → Leads w n port
+    leads : (n : ℕ) (port : Port) → LeadsToPort v n port → LeadsToPort w n port
     leads n port l =
         let s = forth l.i l.c l.j l.κ l.p l.has in
         record { i = l.i; c = s.c; j = l.j; κ = s.later; p = s.q; has = s.has; node = s.node ∙ l.node; at = ap (λ (z : Port). z.0) s.port ∙ l.at }

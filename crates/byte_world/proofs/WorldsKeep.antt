@@ -35,13 +35,13 @@ use Rattle.node_group.specs.Steps.{GroupStep, GroupTrace}
 use Rattle.node_group.specs.Steps.GroupTrace.{then_went}
 use Rattle.node_group.specs.Streams.{comes_up, goes_down, went_down}
 use Rattle.byte_world.specs.Steps.{DoesCall, node_call_of, is_apart}
-use Rattle.byte_world.specs.ClientSteps.{CanBeSpelled, after_packet}
+use Rattle.byte_world.specs.ClientSteps.{WritesCanBeSpelled, after_packet}
 use Rattle.byte_world.specs.World.{ClientPipes, HasPipe, Pipe, World, after_writing, newly_written, packets_of, sent_up, with_client, with_pipe}
 use Rattle.byte_world.proofs.NodesGoOn.{IsOpened, carries_with, is_quiet, stood_as}
 use Rattle.byte_world.proofs.OnTheWay.{IsHandled, more_down, newly_is, one_handled}
 use Rattle.byte_world.proofs.PipesHold.{PipeHolds, apart_on, none_opens, opens_in, others_down, others_up, placed_on, up_on, up_piece}
 use Rattle.byte_world.proofs.PortsKept.{IsOfOld}
-use Rattle.byte_world.proofs.WorldsHold.{Came, ChangedAt, Holds, IsKnown, IsUnheard, Leads, Place, Stays, client_holds, does_holds, first_at, holds_on, place_back, place_forth, set_at}
+use Rattle.byte_world.proofs.WorldsHold.{Came, ChangedAt, Holds, IsKnown, IsUnheard, LeadsToPort, Place, Stays, client_holds, does_holds, first_at, holds_on, place_back, place_forth, set_at}
 use Rattle.byte_world.proofs.WorldsHold.Place.{mine, another}
 
 -- ---- a client calls
@@ -110,7 +110,7 @@ no_place xs j x none at = nowhere j (sym (ap (λ l. slice_get l j) none) ∙ at)
     nowhere k e = cc
 
 pub calls_hold : {nodes : ℕ} {config : Config} (v : World) (went : GroupTrace nodes config v.group) (i : ℕ) (c : ClientPipes) (keeper : Keeper) (connections : List ClientConnection) (new : List Written)
-    → slice_get v.clients i ≡ Some c → connections ≡ writes_first new c.connections → CanBeSpelled c.connections connections → Holds v went
+    → slice_get v.clients i ≡ Some c → connections ≡ writes_first new c.connections → WritesCanBeSpelled c.connections connections → Holds v went
     → Holds (with_client i (after_writing keeper connections c) v) went
 calls_hold v went i c keeper connections new at is whole h = by c.connections c.pipes refl refl
   where
@@ -140,7 +140,7 @@ calls_hold v went i c keeper connections new at is whole h = by c.connections c.
 
 pub handles_hold : {nodes : ℕ} {config : Config} (v : World) (went : GroupTrace nodes config v.group) (i : ℕ) (c : ClientPipes) (κ : ClientConnection) (others : List ClientConnection) (p : Pipe)
     (pipes : List Pipe) (packet : Packet) (left : Stream) → slice_get v.clients i ≡ Some c → c.connections ≡ κ ∷ others → c.pipes ≡ p ∷ pipes → Takes p.came (Ok (Some packet)) left
-    → CanBeSpelled c.connections ((handled packet (record { keeper = c.keeper; connection = κ })).connection ∷ others) → Holds v went
+    → WritesCanBeSpelled c.connections ((handled packet (record { keeper = c.keeper; connection = κ })).connection ∷ others) → Holds v went
     → Holds (with_client i (after_packet others pipes p left (handled packet (record { keeper = c.keeper; connection = κ })) c) v) went
 handles_hold v went i c κ others p pipes packet left at are piped cut whole h =
     let side : Side = handled packet (record { keeper = c.keeper; connection = κ }) in
@@ -160,10 +160,10 @@ handles_hold v went i c κ others p pipes packet left at are piped cut whole h =
 
 -- after a step that opens nothing each connection of a node has a pipe
 still_used : {nodes : ℕ} {config : Config} (v : World) (g : Group) (went : GroupTrace nodes config v.group) (step : GroupStep v.group g) → opens_in (node_call_of step) ≡ false → Holds v went
-    → (n : ℕ) (core : CoreState) (d : NodesEnd) → slice_get g.nodes n ≡ Some core → In d core.connections → Leads v n d.port
+    → (n : ℕ) (core : CoreState) (d : NodesEnd) → slice_get g.nodes n ≡ Some core → In d core.connections → LeadsToPort v n d.port
 still_used v g went step none h n core d at i = by (stood_as v.group g went step n core at).core (stood_as v.group g went step n core at).stands ((stood_as v.group g went step n core at).after.was d i)
   where
-    by : (old : CoreState) → slice_get v.group.nodes n ≡ Some old → IsOfOld old.connections d ⊎ IsOpened (node_call_of step) n old d → Leads v n d.port
+    by : (old : CoreState) → slice_get v.group.nodes n ≡ Some old → IsOfOld old.connections d ⊎ IsOpened (node_call_of step) n old d → LeadsToPort v n d.port
     by old stood (inl o) =
         let l = h.used n old o.was stood o.among in
         record { i = l.i; c = l.c; j = l.j; κ = l.κ; p = l.p; has = l.has; node = l.node; at = l.at ∙ sym (ap (λ (z : Port). z.0) o.later.port) }

@@ -13,7 +13,7 @@ use Rattle.byte_world.specs.World.{ClientPipes, HasPipe, Pipe, World}
 use Rattle.byte_world.specs.Steps.{Reached}
 
 -- a pipe leads to this port of the node
-pub record Leads (w : World) (n : ℕ) (port : Port) : Type 0 where
+pub record LeadsToPort (w : World) (n : ℕ) (port : Port) : Type 0 where
   pub i : ℕ
   pub c : ClientPipes
   pub j : ℕ
@@ -29,7 +29,7 @@ abbrev pub PortsHavePipes : Type 0
 PortsHavePipes =
     (nodes : ℕ) (config : Config) (cs : List Client) (w : World) → Reached nodes config cs w →
     (n : ℕ) (core : CoreState) (d : NodesEnd) →
-    slice_get w.group.nodes n ≡ Some core → In d core.connections → Leads w n d.port
+    slice_get w.group.nodes n ≡ Some core → In d core.connections → LeadsToPort w n d.port
 
 -- A node's names are distinct and were given, the last one in a ballot that is not above the one
 -- that the node joined.

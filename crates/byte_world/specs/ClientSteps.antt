@@ -43,5 +43,5 @@ after_packet others pipes p left side c =
     }
 
 -- all that clients write can be spelled
-abbrev pub CanBeSpelled : List ClientConnection → List ClientConnection → Type 0
-CanBeSpelled before after = Each IsPacket (newly_written before after)
+abbrev pub WritesCanBeSpelled : List ClientConnection → List ClientConnection → Type 0
+WritesCanBeSpelled before after = Each IsPacket (newly_written before after)

@@ -20,7 +20,7 @@ use Rattle.node_group.specs.world_base.Handing.{listed_at}
 use Rattle.node_group.specs.node_moves.Moves.{NodeCall}
 use Rattle.node_group.specs.node_moves.Moves.NodeCall.{takes, gives}
 use Rattle.node_group.specs.Streams.{goes_down as goes_down_in}
-use Rattle.byte_world.specs.ClientSteps.{story_alone, after_connecting, after_packet, CanBeSpelled}
+use Rattle.byte_world.specs.ClientSteps.{story_alone, after_connecting, after_packet, WritesCanBeSpelled}
 pub use Rattle.byte_world.specs.Carrying.{CarriesItsBytes, DoesCall, IsFaithful, coming_with, node_call_of, going_with, is_apart}
 use Rattle.byte_world.specs.World.{ClientPipes, HasPipe, Pipe, World, after_writing, is_used, opening, with_client, with_pipe}
 
@@ -36,7 +36,7 @@ pub data WorldStep (w : World) : World → Type 0 where
   -- a client calls, or loses its connection
   calls : (i : ℕ) (c : ClientPipes) (t : Story) (h : StoryStep usual_limits (story_alone c) t) →
       slice_get w.clients i ≡ Some c → is_call h ≡ true →
-      CanBeSpelled c.connections t.connections →
+      WritesCanBeSpelled c.connections t.connections →
       WorldStep w (with_client i (after_writing t.keeper t.connections c) w)
   -- a client opens a connection to a node, at a port that was never used there, and the node takes
   -- it
@@ -78,7 +78,7 @@ pub data WorldStep (w : World) : World → Type 0 where
       (p : Pipe) (pipes : List Pipe) (packet : Packet) (left : Stream) →
       slice_get w.clients i ≡ Some c → c.connections ≡ κ ∷ others → c.pipes ≡ p ∷ pipes →
       c.keeper.is_open ≡ true → Takes p.came (Ok (Some packet)) left →
-      CanBeSpelled c.connections
+      WritesCanBeSpelled c.connections
       ((handled packet (record { keeper = c.keeper; connection = κ })).connection ∷ others) →
       WorldStep w (with_client i
       (after_packet others pipes p left

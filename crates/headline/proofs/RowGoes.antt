@@ -28,7 +28,7 @@ use Rattle.byte_world.proofs.of_node_group.Placed.{get_of_set}
 use Rattle.byte_world.specs.node_group.Streams.{goes_down}
 use Rattle.byte_world.specs.NodeCalls.{NodeCallWasSent}
 use Rattle.byte_world.specs.Steps.{DoesCall, Reached, going_with}
-use Rattle.byte_world.specs.ClientSteps.{CanBeSpelled, story_alone}
+use Rattle.byte_world.specs.ClientSteps.{WritesCanBeSpelled, story_alone}
 use Rattle.byte_world.specs.Steps.Reached.{goes_on}
 use Rattle.byte_world.specs.Steps.WorldStep.{calls, comes_up, goes_down as step_down, arrives, handles}
 use Rattle.byte_world.specs.World.{ClientPipes, Pipe, World, after_writing, newly_written}
@@ -114,7 +114,7 @@ module _ {core : CoreState} {keeper : Keeper} {κ : ClientConnection} {up down h
 
   -- the client handles a packet
   pub row_handles : (packet : Packet) (rest : List ℕ) (side : Side) → side ≡ handled packet (record { keeper = keeper; connection = κ }) → keeper.is_open ≡ true → IsPacket packet
-      → held ≡ spelling packet ++ rest → CanBeSpelled (κ ∷ []) (side.connection ∷ [])
+      → held ≡ spelling packet ++ rest → WritesCanBeSpelled (κ ∷ []) (side.connection ∷ [])
       → Row core (client_with side.keeper side.connection (pipe_with (up ++ spelled (newly_written (κ ∷ []) (side.connection ∷ []))) down rest))
   row_handles packet rest side same is_open whole e fits =
       let spells = (spelling_is packet whole).0 in
@@ -125,18 +125,18 @@ module _ {core : CoreState} {keeper : Keeper} {κ : ClientConnection} {up down h
             (goes_on r.trail (handles 0 (client_with keeper κ (pipe_with up down held)) κ [] (pipe_with up down held) [] packet
             (record { bytes = rest; failed = false }) refl refl refl is_open
             (refl, ap verdict e ∙ verdict_again packet (spelling packet) rest whole spells, (spelling packet, spells, whole, e), refl)
-            (subst (λ (s : Side). CanBeSpelled (κ ∷ []) (s.connection ∷ [])) same fits)));
+            (subst (λ (s : Side). WritesCanBeSpelled (κ ∷ []) (s.connection ∷ [])) same fits)));
         stands = r.stands;
       }
 
   -- the client calls, and writes on its connection
   pub row_calls : (t : Story) (later : ClientConnection) (h : StoryStep usual_limits (story_alone (client_with keeper κ (pipe_with up down held))) t) → is_call h ≡ true → t.connections ≡ later ∷ []
-      → CanBeSpelled (κ ∷ []) (later ∷ []) → Row core (client_with t.keeper later (pipe_with (up ++ spelled (newly_written (κ ∷ []) (later ∷ []))) down held))
+      → WritesCanBeSpelled (κ ∷ []) (later ∷ []) → Row core (client_with t.keeper later (pipe_with (up ++ spelled (newly_written (κ ∷ []) (later ∷ []))) down held))
   row_calls t later h call same fits =
       record {
         group = r.group;
         trail = subst (λ (l : List ClientConnection). Reached 1 one_node (writer ∷ []) (world_with r.group (after_writing t.keeper l (client_with keeper κ (pipe_with up down held))))) same
             (goes_on r.trail (calls 0 (client_with keeper κ (pipe_with up down held)) t h refl call
-            (subst (λ (l : List ClientConnection). CanBeSpelled (κ ∷ []) l) (sym same) fits)));
+            (subst (λ (l : List ClientConnection). WritesCanBeSpelled (κ ∷ []) l) (sym same) fits)));
         stands = r.stands;
       }

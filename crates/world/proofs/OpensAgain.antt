@@ -8,7 +8,7 @@ use Rattle.headline.specs.ballot.Config.{Config}
 use Rattle.headline.specs.broker_spec.Place.{Client}
 use Rattle.escaping_nodes.specs.Opened.{first_of}
 use Rattle.headline.specs.node_moves.Ends.{IsGiven}
-use Rattle.headline.specs.byte_world.AtNodes.{Leads}
+use Rattle.headline.specs.byte_world.AtNodes.{LeadsToPort}
 use Rattle.headline.specs.byte_world.World.{ClientPipes, World, is_used, leads_to}
 use Rattle.headline.specs.byte_world.Steps.{Reached}
 use Rattle.headline.proofs.of_node_group.Placed.{get_mapped}
@@ -57,7 +57,7 @@ module _ {nodes : ℕ} {config : Config} {cs : List Client} (m : World) (trail :
   pub new_port : list_any (is_at next) node.core.connections ≡ false
   new_port = none_passes (is_at next) node.core.connections (λ d i e. by d (ports_have_pipes nodes config cs m trail at node.core d in_model i) e)
     where
-      by : (d : Connection) → Leads m at d.port → is_at next d ≡ true → ⊥
+      by : (d : Connection) → LeadsToPort m at d.port → is_at next d ≡ true → ⊥
       by d l e = clash (at_none (leads_to at next) l.c.pipes l.j l.p
           (at_none (λ (c : ClientPipes). list_any (leads_to at next) c.pipes) m.clients l.i l.c none_used l.has.client) l.has.pipe)
         where

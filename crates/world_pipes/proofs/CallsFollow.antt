@@ -14,7 +14,7 @@ use Rattle.byte_world.specs.node_moves.Puts.{spelled}
 use Rattle.client.specs.session_base.declared.publication.Publication.{Publication}
 use Rattle.byte_world.specs.exactly_once.Sides.{ClientConnection}
 use Rattle.byte_world.specs.World.{ClientPipes, Pipe, after_writing, newly_written, sent_up}
-use Rattle.byte_world.specs.ClientSteps.{CanBeSpelled}
+use Rattle.byte_world.specs.ClientSteps.{WritesCanBeSpelled}
 use Rattle.byte_world.specs.Published.{published_by}
 use Rattle.byte_world.proofs.OnTheWay.{newly_is}
 use Rattle.world_pipes.specs.declared.sending.Sending.{Sending}
@@ -44,7 +44,7 @@ record HasCalled (outcome : ClientOutcome) (core : Core) (older : List Way) (way
   pub leads : (pipe.node ≡ way.node) × (pipe.port ≡ way.port) × (pipe.down ≡ way.down)
   pub many : length others ≡ length further
   pub ways : AreWays (reverse older) further
-  pub spelled : CanBeSpelled m.connections c.connections
+  pub spelled : WritesCanBeSpelled m.connections c.connections
 
 has_called : (outcome : ClientOutcome) (old : Piped) (core : Core) (older : List Way) (way : Way) (m : ClientPipes) (c : IsCalled outcome m) → ClientStandsFor old m →
     is_holding old ≡ true → old.ways ≡ older ++ way ∷ [] → AllSpelled outcome → core.state ≡ outcome.state → AppendsAll old.core.out core.out outcome.writes →

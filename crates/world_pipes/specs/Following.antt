@@ -11,7 +11,7 @@ use Rattle.client.specs.session_base.declared.publication.Publication.{Publicati
 use Rattle.byte_world.specs.exactly_once.Story.{StoryStep, Story}
 use Rattle.byte_world.specs.world_base.declared.Port.{Port}
 use Rattle.byte_world.specs.World.{ClientPipes, after_writing}
-use Rattle.byte_world.specs.ClientSteps.{CanBeSpelled, after_connecting, story_alone}
+use Rattle.byte_world.specs.ClientSteps.{WritesCanBeSpelled, after_connecting, story_alone}
 use Rattle.byte_world.specs.Published.{published_by}
 use Rattle.world_pipes.specs.declared.sending.Sending.{Sending}
 use Rattle.world_pipes.specs.declared.sending.Sending.TheVariants as sendings
@@ -71,7 +71,7 @@ pub record FollowsCalling (published : List Publication) (m : ClientPipes)
   pub call : StoryStep usual_limits (story_alone m) story
   pub is_one : is_call call ≡ true
   pub publishes : published_by call ≡ published
-  pub spelled : CanBeSpelled m.connections story.connections
+  pub spelled : WritesCanBeSpelled m.connections story.connections
   pub stands : ClientStandsFor new (after_writing story.keeper story.connections m)
 
 -- A refusal changes nothing, and nothing is published. If there was no memory for what was written,

@@ -10,14 +10,14 @@ use Rattle.byte_world.specs.exactly_once.Story.{Story, StoryStep}
 use Rattle.byte_world.specs.packet_world.Steps.{is_call}
 use Rattle.byte_world.specs.World.{ClientPipes, Pipe, World, after_writing, with_client, with_pipe}
 use Rattle.byte_world.specs.Steps.{WorldStep}
-use Rattle.byte_world.specs.ClientSteps.{CanBeSpelled, after_packet, story_alone}
+use Rattle.byte_world.specs.ClientSteps.{WritesCanBeSpelled, after_packet, story_alone}
 use Rattle.byte_world.specs.Published.{from_client, published_by, published_in}
 
 -- a step of a world, as the client that takes it sees it
 pub data ClientStep (c : ClientPipes) : ClientPipes → Type 0 where
   -- it calls, or loses its connection
   calls : (t : Story) (h : StoryStep usual_limits (story_alone c) t) → is_call h ≡ true →
-      CanBeSpelled c.connections t.connections →
+      WritesCanBeSpelled c.connections t.connections →
       ClientStep c (after_writing t.keeper t.connections c)
   -- a prefix of the bytes in transit reaches it
   arrives : (j : ℕ) (κ : ClientConnection) (p : Pipe) (piece rest : List ℕ) →
@@ -30,7 +30,7 @@ pub data ClientStep (c : ClientPipes) : ClientPipes → Type 0 where
   handles : (κ : ClientConnection) (others : List ClientConnection) (p : Pipe) (pipes : List Pipe)
       (packet : Packet) (left : Stream) → c.connections ≡ κ ∷ others →
       c.pipes ≡ p ∷ pipes → c.keeper.is_open ≡ true → Takes p.came (Ok (Some packet)) left →
-      CanBeSpelled c.connections
+      WritesCanBeSpelled c.connections
       ((handled packet (record { keeper = c.keeper; connection = κ })).connection ∷ others) →
       ClientStep c
       (after_packet others pipes p left
