@@ -44,5 +44,5 @@ is_lawful_table t = are_told_apart t.nodes.items
     && is_lawful t.config.members t.config.primary)
 
 -- the text is a TOML document with this table and no more
-abbrev pub Says : List ℕ → NodeTable → Type 0
-Says text t = (parse_document text ≡ Some (document_of t)) × (is_lawful_table t ≡ true)
+abbrev pub IsTableText : List ℕ → NodeTable → Type 0
+IsTableText text t = (parse_document text ≡ Some (document_of t)) × (is_lawful_table t ≡ true)

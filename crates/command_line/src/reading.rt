@@ -3,7 +3,7 @@
 ghost use Rattle.std.specs.Prelude.{◌≡◌, IfOk, IsErrOf};
 ghost use Rattle.std.specs.List.{list_all};
 ghost use Rattle.command_line.specs.declared.node_table.NodeTable.{NodeTable};
-ghost use Rattle.command_line.specs.Tables.{Says, are_told_apart, has, is_lawful_table};
+ghost use Rattle.command_line.specs.Tables.{IsTableText, are_told_apart, has, is_lawful_table};
 
 use crate::document::document_table;
 use crate::fault::TableFault;
@@ -14,8 +14,8 @@ use std::alloc::Global;
 /// Reads the table of nodes from a TOML document. [`TableFault::Shape`] comes exactly if the text
 /// is no document of a lawful table, or has an unknown key; the order of its keys is free.
 pub fn table(alloc: Global, text: &str) -> Result<NodeTable, TableFault>
-    ensures value { IfOk result (Says text.now) }
-    ensures shape { IsErrOf result TableFault.Shape → (t : NodeTable) → Says text.now t → ⊥ }
+    ensures value { IfOk result (IsTableText text.now) }
+    ensures shape { IsErrOf result TableFault.Shape → (t : NodeTable) → IsTableText text.now t → ⊥ }
 {
     let document = match toml::table_from_str(alloc, text) {
         Ok(document) => document,
