@@ -37,7 +37,7 @@ pub(crate) fn append_matching(
         (entries.new.items ≡ entries.old.items ++ matching_entries topics.now.entries filter.now) }
     ensures err { OnErr result
         (entries.old.items ≡ take (length entries.old.items) entries.new.items) }
-    ensures none { matching_entries topics.now.entries filter.now ≡ [] → IsOk result }
+    ensures nothing { matching_entries topics.now.entries filter.now ≡ [] → IsOk result }
 {
     match filter.as_topic() {
         Ok(Some(topic)) => append_topic(topics, topic, entries),
@@ -56,7 +56,7 @@ fn append_topic(
     ensures ok { OnOk result
         (entries.new.items ≡ entries.old.items ++ matching_entries topics.now.entries topic) }
     ensures err { OnErr result (entries.new.items ≡ entries.old.items) }
-    ensures none { matching_entries topics.now.entries topic ≡ [] → IsOk result }
+    ensures nothing { matching_entries topics.now.entries topic ≡ [] → IsOk result }
 {
     // This call shows that the topics are in order.
     let _len = topics.len();
@@ -76,7 +76,7 @@ fn append_in_range(
         (entries.new.items ≡ entries.old.items ++ matching_entries topics.now.entries filter.now) }
     ensures err { OnErr result
         (entries.old.items ≡ take (length entries.old.items) entries.new.items) }
-    ensures none { matching_entries topics.now.entries filter.now ≡ [] → IsOk result }
+    ensures nothing { matching_entries topics.now.entries filter.now ≡ [] → IsOk result }
 {
     let bounds = bounds_of(*entries.allocator(), filter.as_str());
     for (topic, kept) in topics.range(bounds) {

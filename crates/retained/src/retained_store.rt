@@ -135,7 +135,7 @@ impl RetainedStore {
         ensures ok { OnOk result
             (entries.new.items ≡ entries.old.items ++ matching_entries self.now filter.now) }
         ensures err { OnErr result (entries.new.items ≡ entries.old.items) }
-        ensures none { matching_entries self.now filter.now ≡ [] → IsOk result }
+        ensures nothing { matching_entries self.now filter.now ≡ [] → IsOk result }
     {
         let before = entries.len();
         let appended = append_matching(&self.topics, filter, entries);

@@ -85,9 +85,9 @@ none_after (p ∷ ps) zero e = absurd (omega (arith, e))
 none_after (p ∷ ps) (suc n) e = none_after ps n (omega (arith, e))
 
 -- if a fill sends nothing, nothing is started: an entry that starts is sent
-pub never_quiet : (w : ℕ) (fs : List Flight) (p : Publication) (ps : List Publication) (out before : List Packet) →
+pub always_sends : (w : ℕ) (fs : List Flight) (p : Publication) (ps : List Publication) (out before : List Packet) →
     length fs < w → out ++ fill_sends w fs (p ∷ ps) ≡ before ++ [] → before ≡ take (length before) out → ⊥
-never_quiet w fs p ps out before e known front =
+always_sends w fs p ps out before e known front =
     let sent : fill_sends w fs (p ∷ ps) ≡ packets.Publish (publish_of false (started_flight fs p).0 p) ∷ fill_sends w (fs ++ started_flight fs p ∷ []) ps =
     rw (open_window (length fs) w e) refl in
     let all = ap length (sym (ap (λ (z : List Packet). out ++ z) sent) ∙ known) in
@@ -102,11 +102,11 @@ still_front before out xs more is e =
     let long = ap length e in let cut = length-take (length before) out in
     e ∙ sym (take-append-le (length before) out xs (omega (arith, long, cut))) ∙ ap (take (length before)) (sym is)
 
--- so if one may start, a fill is not quiet
-pub quiet_starts_none : (w : ℕ) (fs : List Flight) (ps : List Publication) (i : ℕ) (out before more : List Packet) →
+-- so if one may start, a fill sends something
+pub fill_of_nothing_starts_none : (w : ℕ) (fs : List Flight) (ps : List Publication) (i : ℕ) (out before more : List Packet) →
     length fs < w → i < length ps → out ++ fill_sends w fs (drop i ps) ≡ before ++ more → more ≡ [] → before ≡ take (length before) out → ⊥
-quiet_starts_none w fs [] i out before more room below known quiet front = absurd (omega (arith, below))
-quiet_starts_none w fs (p ∷ ps) zero out before more room below known quiet front =
-    never_quiet w fs p ps out before room (known ∙ ap (λ (z : List Packet). before ++ z) quiet) front
-quiet_starts_none w fs (p ∷ ps) (suc i) out before more room below known quiet front =
-    quiet_starts_none w fs ps i out before more room (omega (arith, below)) known quiet front
+fill_of_nothing_starts_none w fs [] i out before more room below known sends_none front = absurd (omega (arith, below))
+fill_of_nothing_starts_none w fs (p ∷ ps) zero out before more room below known sends_none front =
+    always_sends w fs p ps out before room (known ∙ ap (λ (z : List Packet). before ++ z) sends_none) front
+fill_of_nothing_starts_none w fs (p ∷ ps) (suc i) out before more room below known sends_none front =
+    fill_of_nothing_starts_none w fs ps i out before more room (omega (arith, below)) known sends_none front

@@ -157,7 +157,7 @@ impl Session {
         ensures unsent { OnErr result (out.new.items ≡ out.old.items) }
 
         // `Err` only if something is sent.
-        ensures quiet { fill_sends window self.old.queue.in_flight self.old.queue.waiting ≡ []
+        ensures nothing { fill_sends window self.old.queue.in_flight self.old.queue.waiting ≡ []
             → IsOk result }
     {
         self.queue.fill(window, out)
@@ -185,7 +185,8 @@ impl Session {
         ensures unsent { OnErr result (out.new.items ≡ out.old.items) }
 
         // `Err` only if something is sent.
-        ensures quiet { pubrec_sends id (on_pubrec id self.old.queue.in_flight) ≡ [] → IsOk result }
+        ensures nothing { pubrec_sends id (on_pubrec id self.old.queue.in_flight) ≡ [] →
+            IsOk result }
     {
         resend_keeps_the_order();
         self.queue.on_pubrec(id, out)
@@ -206,7 +207,7 @@ impl Session {
         ensures ok { OnOk result
             (out.new.items ≡ out.old.items ++ resend self.now.queue.in_flight) }
         ensures err { OnErr result (out.new.items ≡ out.old.items) }
-        ensures quiet { self.now.queue.in_flight ≡ [] → IsOk result }
+        ensures nothing { self.now.queue.in_flight ≡ [] → IsOk result }
     {
         self.queue.resend(out)
     }

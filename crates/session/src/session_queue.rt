@@ -79,7 +79,7 @@ impl SessionQueue {
         ensures first { IsReleasedFirst self.old.in_flight → IsReleasedFirst self.new.in_flight }
         ensures err { OnErr result (self.new ≡ self.old) }
         ensures unsent { OnErr result (out.new.items ≡ out.old.items) }
-        ensures quiet { fill_sends window self.old.in_flight self.old.waiting ≡ [] → IsOk result }
+        ensures nothing { fill_sends window self.old.in_flight self.old.waiting ≡ [] → IsOk result }
     {
         let flights = self.in_flight.len();
         let packets = out.len();
@@ -112,7 +112,7 @@ impl SessionQueue {
         ensures flights { OnErr result
             (self.old.in_flight ≡ take (length self.old.in_flight) self.new.in_flight) }
         ensures kept { OnErr result (out.old.items ≡ take (length out.old.items) out.new.items) }
-        ensures quiet { fill_sends window self.old.in_flight self.old.waiting ≡ [] → IsOk result }
+        ensures nothing { fill_sends window self.old.in_flight self.old.waiting ≡ [] → IsOk result }
     {
         for index in 0..self.waiting.len() {
             if self.in_flight.len() >= window {
@@ -180,7 +180,7 @@ impl SessionQueue {
             (out.new.items ≡ out.old.items ++ pubrec_sends id (on_pubrec id self.old.in_flight)) }
         ensures err { OnErr result (self.new ≡ self.old) }
         ensures unsent { OnErr result (out.new.items ≡ out.old.items) }
-        ensures quiet { pubrec_sends id (on_pubrec id self.old.in_flight) ≡ [] → IsOk result }
+        ensures nothing { pubrec_sends id (on_pubrec id self.old.in_flight) ≡ [] → IsOk result }
     {
         if self.is_awaited(id) {
             out.push(Packet::Pubrel(id))?;
@@ -257,7 +257,7 @@ impl SessionQueue {
     pub(crate) fn resend(&self, out: &mut Vec<Packet>) -> Result<(), AllocError>
         ensures ok { OnOk result (out.new.items ≡ out.old.items ++ resend self.now.in_flight) }
         ensures err { OnErr result (out.new.items ≡ out.old.items) }
-        ensures quiet { self.now.in_flight ≡ [] → IsOk result }
+        ensures nothing { self.now.in_flight ≡ [] → IsOk result }
     {
         let before = out.len();
         let appended = self.resend_each(out);
@@ -272,7 +272,7 @@ impl SessionQueue {
     fn resend_each(&self, out: &mut Vec<Packet>) -> Result<(), AllocError>
         ensures ok { OnOk result (out.new.items ≡ out.old.items ++ resend self.now.in_flight) }
         ensures err { OnErr result (out.old.items ≡ take (length out.old.items) out.new.items) }
-        ensures quiet { self.now.in_flight ≡ [] → IsOk result }
+        ensures nothing { self.now.in_flight ≡ [] → IsOk result }
     {
         for (id, awaits) in &self.in_flight {
             out.push(packet_anew(*id, awaits)?)?;

@@ -20,14 +20,14 @@ returns-in_default-clause-ok c =
     (one_topic c.args.topic c.args.topics.now.entries c.requires c.len-len.ensures.ordered
     ∙ sym (ap (entry_of c.args.topic) c.in_default.ensures.value))
 
-pub returns-in_err-clone-clause-none : goal.returns-in_err-clone-clause-none
-returns-in_err-clone-clause-none c none =
+pub returns-in_err-clone-clause-nothing : goal.returns-in_err-clone-clause-nothing
+returns-in_err-clone-clause-nothing c none =
     absurd (never_none c.args.topic (matching_entries c.args.topics.now.entries c.args.topic) c.in-Some.kept.now
     (one_topic c.args.topic c.args.topics.now.entries c.requires c.len-len.ensures.ordered
     ∙ sym (ap (entry_of c.args.topic) c.in-Some.ensures.value)) none)
 
-pub returns-in_err-push-clause-none : goal.returns-in_err-push-clause-none
-returns-in_err-push-clause-none c none =
+pub returns-in_err-push-clause-nothing : goal.returns-in_err-push-clause-nothing
+returns-in_err-push-clause-nothing c none =
     absurd (never_none c.args.topic (matching_entries c.args.topics.now.entries c.args.topic) c.in-Some.kept.now
     (one_topic c.args.topic c.args.topics.now.entries c.requires c.len-len.ensures.ordered
     ∙ sym (ap (entry_of c.args.topic) c.in-Some.ensures.value)) none)

@@ -3,7 +3,7 @@ use Rattle.std.proofs.lemmas.List.{append-nil}
 use Rattle.session_base.specs.declared.publication.Publication.{Publication}
 use Rattle.session_base.specs.Sending.{fill_sends}
 use Rattle.session.specs.Inside.{started_with, sends_with}
-use Rattle.session.proofs.FillsStepByStep.{fill_shut, sends_shut, fill_next, sent_next, flights_before, still_front, quiet_starts_none}
+use Rattle.session.proofs.FillsStepByStep.{fill_shut, sends_shut, fill_next, sent_next, flights_before, still_front, fill_of_nothing_starts_none}
 use Rattle.session.proofs.session_queue.SessionQueue.start_all.Goals as goal
 
 pub returns-then-len-window-clause-state : goal.returns-then-len-window-clause-state
@@ -42,10 +42,10 @@ loop-index-preserved c =
       kept = still_front c.args.out.now.items c.loop-index.out.items (sends_with c.loop-index.self.in_flight (drop c.loop-index.index waits)) c.start.new.out.items appended c.loop-index.invariant.kept;
     }
 
-pub returns-in_err-start-clause-quiet : goal.returns-in_err-start-clause-quiet
-returns-in_err-start-clause-quiet c quiet =
+pub returns-in_err-start-clause-nothing : goal.returns-in_err-start-clause-nothing
+returns-in_err-start-clause-nothing c sends_none =
     let has_room : length c.loop-index.self.in_flight < c.args.window = search rules in
     let below : c.loop-index.index < length c.args.self.now.waiting = search rules in
-    absurd (quiet_starts_none c.args.window c.loop-index.self.in_flight c.args.self.now.waiting c.loop-index.index
+    absurd (fill_of_nothing_starts_none c.args.window c.loop-index.self.in_flight c.args.self.now.waiting c.loop-index.index
     c.loop-index.out.items c.args.out.now.items (fill_sends c.args.window c.args.self.now.in_flight c.args.self.now.waiting)
-    has_room below c.loop-index.invariant.sends quiet c.loop-index.invariant.kept)
+    has_room below c.loop-index.invariant.sends sends_none c.loop-index.invariant.kept)
