@@ -14,7 +14,7 @@ use Rattle.node_group.specs.agreement.MasterState.{refusal}
 use Rattle.node_group.specs.snapshots.Moments.{Moment, Moments}
 use Rattle.node_group.proofs.of_snapshots.PastsAgree.{one_primary_a_ballot}
 use Rattle.node_group.specs.world_base.declared.Connection.{Connection}
-use Rattle.node_group.specs.world_base.Core.{CoreState, Turn, rules}
+use Rattle.node_group.specs.world_base.Core.{CoreState, StepOutcome, rules}
 use Rattle.node_group.specs.world_base.Turns.{without_messages}
 use Rattle.node_group.specs.node_moves.Closed.{listed_named}
 use Rattle.node_group.specs.node_moves.Ends.{IsOrderly}
@@ -27,7 +27,7 @@ use Rattle.node_group.proofs.of_node_moves.LossyClosed.{lossy_names_are_of_the_b
 use Rattle.node_group.proofs.of_node_moves.LossyReads.{losses_read_in_order}
 use Rattle.node_group.proofs.of_node_moves.Views.{some_none}
 use Rattle.byte_world.specs.Apart.{HasName, NamesStayApart}
-use Rattle.node_group.specs.Group.{Group, after_turn, moment_of, opening_cores, with_record}
+use Rattle.node_group.specs.Group.{Group, after_outcome, moment_of, opening_cores, with_record}
 use Rattle.node_group.specs.Putting.{recorded_in as recorded_exactly}
 use Rattle.node_group.specs.Steps.{GroupStep, GroupTrace, groups_of, keeping, put_in_step}
 use Rattle.node_group.specs.Losing.{WereSent, all_given, put_in_move, put_in_run, recorded_by, recorded_in}
@@ -58,37 +58,37 @@ record LedOn {config : Config} (g : Group) {earlier : List (Moment State Command
   further : Further came (moment_of h) put
   led : AreLed g (moment_of g ∷ earlier) → AreLed h (moment_of h ∷ further.before)
 
-move_led : {config : Config} (g : Group) (n : ℕ) (core : CoreState) (turn : Turn) (m : LossyMoves core turn) (kept : Given) → slice_get g.nodes n ≡ Some core → WereSent g n (inputs_in m)
-    → Freezes m → Thinned kept turn.messages → IsOrderly core → {earlier : List (Moment State Command Output)} (came : Moments rules config (moment_of g ∷ earlier))
-    → LedOn g came (after_turn (with_record g (recorded_by g.archive m)) n (keeping kept turn) (given_in m)) (put_in_move m)
-move_led {config = config} g n core turn m kept at sent frozen t o {earlier = earlier} came =
-    let f = (losses_happen g n core turn m kept at sent frozen t config earlier came).further in
-    record { further = f; led = λ before x k has. led_later f.kept (on before x k has (set_back g.nodes n k turn.core has.core has.stands)) }
+move_led : {config : Config} (g : Group) (n : ℕ) (core : CoreState) (outcome : StepOutcome) (m : LossyMoves core outcome) (kept : Given) → slice_get g.nodes n ≡ Some core → WereSent g n (inputs_in m)
+    → Freezes m → Thinned kept outcome.messages → IsOrderly core → {earlier : List (Moment State Command Output)} (came : Moments rules config (moment_of g ∷ earlier))
+    → LedOn g came (after_outcome (with_record g (recorded_by g.archive m)) n (keeping kept outcome) (given_in m)) (put_in_move m)
+move_led {config = config} g n core outcome m kept at sent frozen t o {earlier = earlier} came =
+    let f = (losses_happen g n core outcome m kept at sent frozen t config earlier came).further in
+    record { further = f; led = λ before x k has. led_later f.kept (on before x k has (set_back g.nodes n k outcome.core has.core has.stands)) }
   where
-    here_now : AreLed g (moment_of g ∷ earlier) → (x : ConnectionName) (d : Connection) → listed_named x turn.core ≡ Some d → (before : Option Connection) → listed_named x core ≡ before
+    here_now : AreLed g (moment_of g ∷ earlier) → (x : ConnectionName) (d : Connection) → listed_named x outcome.core ≡ Some d → (before : Option Connection) → listed_named x core ≡ before
         → Led (moment_of g ∷ earlier) n x.ballot
-    here_now before x d now None none = leads_now g n core x earlier at (lossy_names_are_of_the_ballot core turn m o x d none now)
+    here_now before x d now None none = leads_now g n core x earlier at (lossy_names_are_of_the_ballot core outcome m o x d none now)
     here_now before x d now (Some c) was = before x n (record { core = core; stands = at; connection = c; listed = was })
 
-    on : AreLed g (moment_of g ∷ earlier) → (x : ConnectionName) (k : ℕ) (has : HasName x (after_turn (with_record g (recorded_by g.archive m)) n (keeping kept turn) (given_in m)) k)
-        → ((k ≡ n) × (has.core ≡ turn.core)) ⊎ (slice_get g.nodes k ≡ Some has.core) → Led (moment_of g ∷ earlier) k x.ballot
+    on : AreLed g (moment_of g ∷ earlier) → (x : ConnectionName) (k : ℕ) (has : HasName x (after_outcome (with_record g (recorded_by g.archive m)) n (keeping kept outcome) (given_in m)) k)
+        → ((k ≡ n) × (has.core ≡ outcome.core)) ⊎ (slice_get g.nodes k ≡ Some has.core) → Led (moment_of g ∷ earlier) k x.ballot
     on before x k has (inl (same, is)) =
         subst (λ i. Led (moment_of g ∷ earlier) i x.ballot) (sym same)
         (here_now before x has.connection (ap (listed_named x) (sym is) ∙ has.listed) (listed_named x core) refl)
     on before x k has (inr stood) = before x k (record { core = has.core; stands = stood; connection = has.connection; listed = has.listed })
 
-run_led : {config : Config} (g : Group) (n : ℕ) (core : CoreState) (turn : Turn) (run : LossyRuns core turn) (kept : Given) → IsOrderly core → slice_get g.nodes n ≡ Some core
-    → WereSent g n (all_inputs run) → AllFreeze run → Thinned kept turn.messages → {earlier : List (Moment State Command Output)} (came : Moments rules config (moment_of g ∷ earlier))
-    → LedOn g came (after_turn (with_record g (recorded_in g.archive run)) n (keeping kept turn) (all_given run)) (put_in_run run)
-run_led g n core turn rests kept o at sent frozen t came =
+run_led : {config : Config} (g : Group) (n : ℕ) (core : CoreState) (outcome : StepOutcome) (run : LossyRuns core outcome) (kept : Given) → IsOrderly core → slice_get g.nodes n ≡ Some core
+    → WereSent g n (all_inputs run) → AllFreeze run → Thinned kept outcome.messages → {earlier : List (Moment State Command Output)} (came : Moments rules config (moment_of g ∷ earlier))
+    → LedOn g came (after_outcome (with_record g (recorded_in g.archive run)) n (keeping kept outcome) (all_given run)) (put_in_run run)
+run_led g n core outcome rests kept o at sent frozen t came =
     subst (λ (h : Group). LedOn g came h [])
-    (same_group g n core at ∙ ap (λ (l : Given). after_turn g n (keeping l (without_messages core)) []) (sym (nothing_kept kept t))) (record { further = unchanged came; led = λ before. before })
-run_led g n core turn (goes_on {first = first} {next = next} m run) kept o at sent frozen t came =
+    (same_group g n core at ∙ ap (λ (l : Given). after_outcome g n (keeping l (without_messages core)) []) (sym (nothing_kept kept t))) (record { further = unchanged came; led = λ before. before })
+run_led g n core outcome (goes_on {first = first} {next = next} m run) kept o at sent frozen t came =
     let k = kept_of_both first.messages next.messages kept t in
     let s = were_both g n (inputs_in m) (all_inputs run) sent in
-    let one : Turn = keeping k.front first in
+    let one : StepOutcome = keeping k.front first in
     let step = move_led g n core first m k.front at s.0 frozen.0 k.first o came in
-    let after : Group = after_turn (with_record g (recorded_by g.archive m)) n one (given_in m) in
+    let after : Group = after_outcome (with_record g (recorded_by g.archive m)) n one (given_in m) in
     let rest = subst (λ (h : Group). LedOn after step.further.past h (put_in_run run)) (kept_turns (with_record g (recorded_in (recorded_by g.archive m) run)) n first next (given_in m) (all_given run) kept k)
     (run_led after n first.core next run k.rest (losses_read_in_order core first m o).0 (get_of_set g.nodes n core first.core at)
     (were_still g (recorded_by g.archive m) n one (given_in m) (all_inputs run) s.1) frozen.1 k.next step.further.past) in
@@ -103,14 +103,14 @@ nodes_led g h same kept before x n has =
 
 step_led : {nodes : ℕ} {config : Config} (g h : Group) → GroupTrace nodes config g → (step : GroupStep g h) → {earlier : List (Moment State Command Output)}
     (came : Moments rules config (moment_of g ∷ earlier)) → LedOn g came h (put_in_step step)
-step_led {nodes = nodes} {config = config} g h went (node_acts n core node_call turn run at is first sent) came =
+step_led {nodes = nodes} {config = config} g h went (node_acts n core node_call outcome run at is first sent) came =
     subst (λ l. LedOn g came h l) (same_put run)
-    (subst (λ l. LedOn g came (after_turn (with_record g (recorded_exactly g.archive run)) n turn l) (put_in_run (losing_none run))) (same_given run)
-    (subst (λ us. LedOn g came (after_turn (with_record g us) n turn (all_given (losing_none run))) (put_in_run (losing_none run))) (same_recorded g.archive run)
-    (run_led g n core turn (losing_none run) turn.messages (each_got _ g.nodes n core (all_well nodes config g went).0 at).orderly at (sent_losing g n run sent)
-    (frozen_losing g n run sent) (all_kept turn.messages) came)))
-step_led {nodes = nodes} {config = config} g h went (node_loses n core item turn kept by at runs sent thinned) came =
-    run_led g n core turn by.run kept (each_got _ g.nodes n core (all_well nodes config g went).0 at).orderly at (subst (WereSent g n) (sym by.hears) sent) by.freezes thinned came
+    (subst (λ l. LedOn g came (after_outcome (with_record g (recorded_exactly g.archive run)) n outcome l) (put_in_run (losing_none run))) (same_given run)
+    (subst (λ us. LedOn g came (after_outcome (with_record g us) n outcome (all_given (losing_none run))) (put_in_run (losing_none run))) (same_recorded g.archive run)
+    (run_led g n core outcome (losing_none run) outcome.messages (each_got _ g.nodes n core (all_well nodes config g went).0 at).orderly at (sent_losing g n run sent)
+    (frozen_losing g n run sent) (all_kept outcome.messages) came)))
+step_led {nodes = nodes} {config = config} g h went (node_loses n core item outcome kept by at runs sent thinned) came =
+    run_led g n core outcome by.run kept (each_got _ g.nodes n core (all_well nodes config g went).0 at).orderly at (subst (WereSent g n) (sym by.hears) sent) by.freezes thinned came
 step_led {config = config} g h went (assigns wanted) {earlier = earlier} came =
     let f = step_goes_on config g h (assigns wanted) earlier came in
     record { further = f; led = nodes_led g h (assigned_nodes g wanted (refusal g.master wanted)) f.kept }

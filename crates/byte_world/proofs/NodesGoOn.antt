@@ -15,7 +15,7 @@ use Rattle.node_group.specs.world_base.declared.Connection.{Connection}
 use Rattle.node_group.specs.world_base.declared.item.Item.{Item}
 use Rattle.node_group.specs.world_base.declared.item.Item.TheVariants.{Peer, Tick, Opened, Bytes, Ended, Expel, Cut, Crash}
 use Rattle.node_group.specs.world_base.declared.Port.{Port}
-use Rattle.node_group.specs.world_base.Core.{CoreState, Turn}
+use Rattle.node_group.specs.world_base.Core.{CoreState, StepOutcome}
 use Rattle.node_group.specs.world_base.LossyStep.{RunsOn}
 use Rattle.node_group.specs.world_base.Step.{next_name}
 use Rattle.node_group.specs.node_moves.Ends.{IsGiven, IsOrderly}
@@ -59,9 +59,9 @@ of_each P all (there i) = of_each P all.1 i
 stays_after : (node_call : Option (ℕ × NodeCall)) (n : ℕ) (core : CoreState) → IsAfter node_call n core core
 stays_after node_call n core = record { given = λ x given. given; was = λ d i. inl (is_still core.connections d i) }
 
-run_given : (x : ConnectionName) (core : CoreState) (turn : Turn) (run : LossyRuns core turn) → IsOrderly core → IsGiven core.last_name x → IsGiven turn.core.last_name x
-run_given x core turn rests o given = given
-run_given x core turn (goes_on {first = first} {next = next} m run) o given =
+run_given : (x : ConnectionName) (core : CoreState) (outcome : StepOutcome) (run : LossyRuns core outcome) → IsOrderly core → IsGiven core.last_name x → IsGiven outcome.core.last_name x
+run_given x core outcome rests o given = given
+run_given x core outcome (goes_on {first = first} {next = next} m run) o given =
     run_given x first.core next run (losses_read_in_order core first m o).0 (stays_given x core first m o given)
 
 old_or_opened : (n : ℕ) (node_call : NodeCall) (core : CoreState) (d : Connection) → In d (done node_call core).core.connections → IsOfOld core.connections d ⊎ IsOpened (Some (n, node_call)) n core d
@@ -80,11 +80,11 @@ old_or_opened n (takes Cut) core d i = inl (of_each _ (each_was (takes Cut) core
 old_or_opened n (takes Crash) core d i = inl (of_each _ (each_was (takes Crash) core tt) i)
 old_or_opened n (gives port) core d i = inl (of_each _ (each_was (gives port) core tt) i)
 
-acts_after : (n : ℕ) (core : CoreState) (node_call : NodeCall) (turn : Turn) → Runs core turn → turn ≡ done node_call core → IsOrderly core → IsAfter (Some (n, node_call)) n core turn.core
-acts_after n core node_call turn run is o =
+acts_after : (n : ℕ) (core : CoreState) (node_call : NodeCall) (outcome : StepOutcome) → Runs core outcome → outcome ≡ done node_call core → IsOrderly core → IsAfter (Some (n, node_call)) n core outcome.core
+acts_after n core node_call outcome run is o =
     record {
-      given = λ x given. run_given x core turn (losing_none run) o given;
-      was = λ d i. old_or_opened n node_call core d (subst (λ (t : Turn). In d t.core.connections) is i);
+      given = λ x given. run_given x core outcome (losing_none run) o given;
+      was = λ d i. old_or_opened n node_call core d (subst (λ (t : StepOutcome). In d t.core.connections) is i);
     }
 
 old_or_new : (n : ℕ) (item : Item) (core new : CoreState) (messages : List (Effect Command Output)) → RunsOn item core new messages → (d : Connection) → In d new.connections
@@ -102,12 +102,12 @@ old_or_new n (Expel client) core new messages runs d i = inl (of_each _ (each_wa
 old_or_new n Cut core new messages runs d i = inl (of_each _ (each_was_losing Cut core new messages tt runs) i)
 old_or_new n Crash core new messages runs d i = inl (of_each _ (each_was_losing Crash core new messages tt runs) i)
 
-loses_after : (n : ℕ) (core : CoreState) (item : Item) (turn : Turn) → IsRunOn item core turn → RunsOn item core turn.core turn.messages → IsOrderly core
-    → IsAfter (Some (n, takes item)) n core turn.core
-loses_after n core item turn by runs o =
+loses_after : (n : ℕ) (core : CoreState) (item : Item) (outcome : StepOutcome) → IsRunOn item core outcome → RunsOn item core outcome.core outcome.messages → IsOrderly core
+    → IsAfter (Some (n, takes item)) n core outcome.core
+loses_after n core item outcome by runs o =
     record {
-      given = λ x given. run_given x core turn by.run o given;
-      was = λ d i. old_or_new n item core turn.core turn.messages runs d i;
+      given = λ x given. run_given x core outcome by.run o given;
+      was = λ d i. old_or_new n item core outcome.core outcome.messages runs d i;
     }
 
 -- ---- a node of a group
@@ -153,10 +153,10 @@ node_stands g h node_call i core new n mine at nodes after stood_there = by (sam
 
 pub stands_as : {nodes : ℕ} {config : Config} (g h : Group) → GroupTrace nodes config g → (step : GroupStep g h) (n : ℕ) (core : CoreState) → slice_get g.nodes n ≡ Some core
     → StandsAs g h (node_call_of step) n core
-stands_as {nodes = nodes} {config = config} g h went (node_acts i core node_call turn run at is first sent) n mine stood_there =
-    node_stands g h node_call i core turn.core n mine at refl (acts_after i core node_call turn run is (each_got _ g.nodes i core (all_well nodes config g went).0 at).orderly) stood_there
-stands_as {nodes = nodes} {config = config} g h went (node_loses i core item turn kept by at runs sent thinned) n mine stood_there =
-    node_stands g h (takes item) i core turn.core n mine at refl (loses_after i core item turn by runs (each_got _ g.nodes i core (all_well nodes config g went).0 at).orderly) stood_there
+stands_as {nodes = nodes} {config = config} g h went (node_acts i core node_call outcome run at is first sent) n mine stood_there =
+    node_stands g h node_call i core outcome.core n mine at refl (acts_after i core node_call outcome run is (each_got _ g.nodes i core (all_well nodes config g went).0 at).orderly) stood_there
+stands_as {nodes = nodes} {config = config} g h went (node_loses i core item outcome kept by at runs sent thinned) n mine stood_there =
+    node_stands g h (takes item) i core outcome.core n mine at refl (loses_after i core item outcome by runs (each_got _ g.nodes i core (all_well nodes config g went).0 at).orderly) stood_there
 stands_as g h went (master_assigns wanted) n core at = master_stands g h None n core (assigned_nodes g wanted (refusal g.master wanted)) at
 stands_as g h went (master_hears from ballot sent) n core at = master_stands g h None n core refl at
 stands_as g h went (assigns_unheard wanted) n core at = master_stands g h None n core refl at
@@ -169,9 +169,9 @@ set_before g i core new n later at (inl (same, e)) = (core, ap (slice_get g.node
 set_before g i core new n later at (inr stood) = (later, stood)
 
 there_before : (g h : Group) (step : GroupStep g h) (n : ℕ) (later : CoreState) → slice_get h.nodes n ≡ Some later → (core : CoreState) × (slice_get g.nodes n ≡ Some core)
-there_before g h (node_acts i core node_call turn run at is first sent) n later stood_there = set_before g i core turn.core n later at (set_back g.nodes i n turn.core later stood_there)
-there_before g h (node_loses i core item turn kept by at runs sent thinned) n later stood_there =
-    set_before g i core turn.core n later at (set_back g.nodes i n turn.core later stood_there)
+there_before g h (node_acts i core node_call outcome run at is first sent) n later stood_there = set_before g i core outcome.core n later at (set_back g.nodes i n outcome.core later stood_there)
+there_before g h (node_loses i core item outcome kept by at runs sent thinned) n later stood_there =
+    set_before g i core outcome.core n later at (set_back g.nodes i n outcome.core later stood_there)
 there_before g h (master_assigns wanted) n later stood_there = (later, ap (λ l. slice_get l n) (sym (assigned_nodes g wanted (refusal g.master wanted))) ∙ stood_there)
 there_before g h (master_hears from ballot sent) n later stood_there = (later, stood_there)
 there_before g h (assigns_unheard wanted) n later stood_there = (later, stood_there)
@@ -215,11 +215,11 @@ came_so x Cut core = refl
 came_so x Crash core = refl
 
 pub carries_with : (g h : Group) (step : GroupStep g h) (n : ℕ) (node_call : NodeCall) → IsFaithful step → node_call_of step ≡ Some (n, node_call) → CarriesWith g h step n node_call
-carries_with g h (node_acts i core done_so turn run at is first sent) n node_call faithful e =
-    subst (λ (z : ℕ × NodeCall). CarriesWith g h (let s : GroupStep g h = node_acts i core done_so turn run at is first sent in s) z.0 z.1) (some_pair (i, done_so) (n, node_call) e)
+carries_with g h (node_acts i core done_so outcome run at is first sent) n node_call faithful e =
+    subst (λ (z : ℕ × NodeCall). CarriesWith g h (let s : GroupStep g h = node_acts i core done_so outcome run at is first sent in s) z.0 z.1) (some_pair (i, done_so) (n, node_call) e)
     (record { core = core; stands = at; up = λ x. (faithful x).0; down = λ x. (faithful x).1 })
-carries_with g h (node_loses i core item turn kept by at runs sent thinned) n node_call faithful e =
-    subst (λ (z : ℕ × NodeCall). CarriesWith g h (let s : GroupStep g h = node_loses i core item turn kept by at runs sent thinned in s) z.0 z.1) (some_pair (i, takes item) (n, node_call) e)
+carries_with g h (node_loses i core item outcome kept by at runs sent thinned) n node_call faithful e =
+    subst (λ (z : ℕ × NodeCall). CarriesWith g h (let s : GroupStep g h = node_loses i core item outcome kept by at runs sent thinned in s) z.0 z.1) (some_pair (i, takes item) (n, node_call) e)
     (record { core = core; stands = at; up = λ x. came_so x item core; down = λ x. refl })
 carries_with g h (master_assigns wanted) n node_call faithful e = absurd (none_pair (n, node_call) e)
 carries_with g h (master_hears from ballot sent) n node_call faithful e = absurd (none_pair (n, node_call) e)
@@ -239,9 +239,9 @@ quiet_with n (takes (Bytes port piece now)) core x e = absurd (both_ways false r
 quiet_with n (gives port) core x e = absurd (both_ways false refl e)
 
 pub is_quiet : (g h : Group) (step : GroupStep g h) → IsFaithful step → is_apart (node_call_of step) ≡ true → (x : ConnectionName) → (comes_up x step ≡ []) × (goes_down x step ≡ [])
-is_quiet g h (node_acts i core node_call turn run at is first sent) faithful e x =
+is_quiet g h (node_acts i core node_call outcome run at is first sent) faithful e x =
     let q = quiet_with i node_call core x e in let f = faithful x in (f.0 ∙ q.0, f.1 ∙ q.1)
-is_quiet g h (node_loses i core item turn kept by at runs sent thinned) faithful e x = (came_so x item core ∙ (quiet_with i (takes item) core x e).0, refl)
+is_quiet g h (node_loses i core item outcome kept by at runs sent thinned) faithful e x = (came_so x item core ∙ (quiet_with i (takes item) core x e).0, refl)
 is_quiet g h (master_assigns wanted) faithful e x = (refl, refl)
 is_quiet g h (master_hears from ballot sent) faithful e x = (refl, refl)
 is_quiet g h (assigns_unheard wanted) faithful e x = (refl, refl)

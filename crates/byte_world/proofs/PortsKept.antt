@@ -27,7 +27,7 @@ use Rattle.node_group.specs.ballot.Cutting.{can_cut}
 use Rattle.node_group.specs.world_base.declared.item.Item.TheVariants.{Peer, Tick, Opened, Bytes, Ended, Expel, Cut, Crash}
 use Rattle.node_group.specs.world_base.declared.Port.{Port}
 use Rattle.node_group.specs.world_base.Connections.{noted_proposed, changed, closed, failing, fresh, handed, holding, is_at, is_first, is_listed, is_open_at, is_open_named, is_proposed, left_with, max_pending, put_out, putting}
-use Rattle.node_group.specs.world_base.Core.{CoreState, Turn, serves}
+use Rattle.node_group.specs.world_base.Core.{CoreState, StepOutcome, serves}
 use Rattle.node_group.specs.world_base.Handing.{hands_over, left_by, listed_at}
 use Rattle.node_group.specs.world_base.KeepAlive.{ends_if, ends_silent, lowest_silent}
 use Rattle.node_group.specs.world_base.Reading.{takes_first_packet, changes, ends, loses, loses_open, open_at, reads, reads_next, reads_of, refused, proposes_packet, unread_of}
@@ -111,7 +111,7 @@ module _ (P : Connection → Type 0) (follows : IsFollowed P) where
   lost_one : (port : Port) (c : Connection) (core : CoreState) → AllOf core → AllOf (loses port c core).core
   lost_one port c core all = by (is_proposed c.stage)
     where
-      by : (b : Bool) → AllOf (let t : Turn = if b then proposes (commands.Lost c.name) (changes port closed core) else without_messages (changes port closed core) in t).core
+      by : (b : Bool) → AllOf (let t : StepOutcome = if b then proposes (commands.Lost c.name) (changes port closed core) else without_messages (changes port closed core) in t).core
       by true = each_proposed P kept (commands.Lost c.name) (changes port closed core) (shut_at port core all)
       by false = shut_at port core all
 
@@ -134,7 +134,7 @@ module _ (P : Connection → Type 0) (follows : IsFollowed P) where
   -- ---- packets
 
   proposed_or_shut : (port : Port) (command : Command) (core : CoreState) (b : Bool) → AllOf core
-      → AllOf (let t : Turn = if b then proposes command core else without_messages (changes port closed core) in t).core
+      → AllOf (let t : StepOutcome = if b then proposes command core else without_messages (changes port closed core) in t).core
   proposed_or_shut port command core true all = each_proposed P kept command core all
   proposed_or_shut port command core false all = shut_at port core all
 
@@ -154,14 +154,14 @@ module _ (P : Connection → Type 0) (follows : IsFollowed P) where
       all_left : AllOf left
       all_left = each_at port (left_with now rest) core (λ d e. record { port = refl; name = refl; lives = λ f. f }) all
 
-      by : (b : Bool) → AllOf (let t : Turn = if b then takes_first_packet port c.name packet left else proposes_packet port c.name packet left in t).core
+      by : (b : Bool) → AllOf (let t : StepOutcome = if b then takes_first_packet port c.name packet left else proposes_packet port c.name packet left in t).core
       by true = each_begun port c.name packet left all_left
       by false = proposed_or_shut port (commands.Packet c.name packet) left (has_room left) all_left
 
   read_refused : (now : ℕ) (port : Port) (c : Connection) (core : CoreState) (code : RefusalCode) → AllOf core → AllOf (reads now port c core (Err (stops.Refused code))).core
   read_refused now port c core code all = by (is_first c.stage)
     where
-      by : (b : Bool) → AllOf (let t : Turn = if b then without_messages (changes port (refused code) core) else loses port c core in t).core
+      by : (b : Bool) → AllOf (let t : StepOutcome = if b then without_messages (changes port (refused code) core) else loses port c core in t).core
       by true = each_at port (refused code) core (λ d e. record { port = refl; name = refl; lives = λ f. absurd cc }) all
       by false = lost_one port c core all
 
@@ -181,7 +181,7 @@ module _ (P : Connection → Type 0) (follows : IsFollowed P) where
 
   -- ---- calls
 
-  each_time : (next : CoreState → Turn) → ((core : CoreState) → AllOf core → AllOf (next core).core) → (times : ℕ) (core : CoreState) → AllOf core
+  each_time : (next : CoreState → StepOutcome) → ((core : CoreState) → AllOf core → AllOf (next core).core) → (times : ℕ) (core : CoreState) → AllOf core
       → AllOf (repeated times next core).core
   unfolding repeated
   each_time next each zero core all = all

@@ -2,7 +2,7 @@
 use Rattle.std.specs.Prelude.{◌≡◌, ℕ, Bool, true, false, List, [], Option, Some, None}
 use Rattle.node_group.specs.broker_spec.Connection.{ConnectionName}
 use Rattle.node_group.specs.world_base.declared.item.Item.TheVariants.{Peer, Tick, Opened, Bytes, Ended, Expel, Cut, Crash}
-use Rattle.node_group.specs.world_base.Core.{CoreState, Turn}
+use Rattle.node_group.specs.world_base.Core.{CoreState, StepOutcome}
 use Rattle.node_group.specs.world_base.Handing.{listed_at}
 use Rattle.node_group.specs.world_base.Reading.{open_at}
 use Rattle.node_group.specs.node_moves.Ends.{piece_on}
@@ -25,7 +25,8 @@ going_with x (gives port) core = bytes_named x (listed_at port core)
 going_with x _ core = []
 
 -- the moves of a node carry just the bytes of its call
-abbrev pub CarriesItsBytes : {core : CoreState} {turn : Turn} → NodeCall → Runs core turn → Type 0
+abbrev pub CarriesItsBytes : {core : CoreState} {outcome : StepOutcome} → NodeCall →
+    Runs core outcome → Type 0
 CarriesItsBytes {core = core} node_call run =
     (x : ConnectionName) →
     (bytes_on x run ≡ coming_with x node_call core)
@@ -33,8 +34,8 @@ CarriesItsBytes {core = core} node_call run =
 
 -- a step carries just the bytes of its call; of a step with losses nothing is required here
 abbrev pub IsFaithful : {g h : Group} → GroupStep g h → Type 0
-IsFaithful (node_acts n core node_call turn run at is first sent) = CarriesItsBytes node_call run
-IsFaithful (node_loses n core item turn kept by at runs sent thinned) = Unit {0}
+IsFaithful (node_acts n core node_call outcome run at is first sent) = CarriesItsBytes node_call run
+IsFaithful (node_loses n core item outcome kept by at runs sent thinned) = Unit {0}
 IsFaithful (master_assigns config) = Unit {0}
 IsFaithful (master_hears from ballot sent) = Unit {0}
 IsFaithful (assigns_unheard config) = Unit {0}
@@ -42,8 +43,8 @@ IsFaithful (answers_unheard from ballot sent) = Unit {0}
 
 -- the call that a node does in a step, with its index; none in a step of the master
 abbrev pub node_call_of : {g h : Group} → GroupStep g h → Option (ℕ × NodeCall)
-node_call_of (node_acts n core node_call turn run at is first sent) = Some (n, node_call)
-node_call_of (node_loses n core item turn kept by at runs sent thinned) = Some (n, takes item)
+node_call_of (node_acts n core node_call outcome run at is first sent) = Some (n, node_call)
+node_call_of (node_loses n core item outcome kept by at runs sent thinned) = Some (n, takes item)
 node_call_of (master_assigns config) = None
 node_call_of (master_hears from ballot sent) = None
 node_call_of (assigns_unheard config) = None

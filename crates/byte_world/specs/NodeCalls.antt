@@ -6,11 +6,11 @@ use Rattle.node_group.specs.broker_spec.declared.command.Command.{Command}
 use Rattle.node_group.specs.broker_spec.declared.command.Output.{Output}
 use Rattle.node_group.specs.world_base.declared.item.Item.TheVariants.{Peer, Cut}
 use Rattle.node_group.specs.ballot.Cutting.{can_cut}
-use Rattle.node_group.specs.world_base.Core.{CoreState, Turn, rules}
+use Rattle.node_group.specs.world_base.Core.{CoreState, StepOutcome, rules}
 use Rattle.node_group.specs.node_moves.Hearing.{HearsAtFirst}
 use Rattle.node_group.specs.node_moves.Moves.{NodeCall, Runs, done}
 use Rattle.node_group.specs.node_moves.Moves.NodeCall.{takes}
-use Rattle.node_group.specs.Group.{Group, after_turn, replica_of, with_record}
+use Rattle.node_group.specs.Group.{Group, after_outcome, replica_of, with_record}
 use Rattle.node_group.specs.Steps.{AllWasSent}
 use Rattle.node_group.specs.Putting.{recorded_in}
 use Rattle.node_group.specs.snapshots.World.{recorded}
@@ -34,8 +34,8 @@ recorded_after archive core _ = archive
 -- moves in which a node's replica first receives what was sent, just the bytes of the call are
 -- carried, and just a cut is recorded
 pub record RunsAs (g : Group) (n : ℕ) (node_call : NodeCall) (core : CoreState)
-    (turn : Turn) : Type 0 where
-  pub run : Runs core turn
+    (outcome : StepOutcome) : Type 0 where
+  pub run : Runs core outcome
   pub first : HearsAtFirst run
   pub sent : AllWasSent g n run
   pub bytes : CarriesItsBytes node_call run
@@ -48,13 +48,13 @@ NodeCallsCarryTheirBytes =
     (g : Group) (n : ℕ) (node_call : NodeCall) (core : CoreState) →
     NodeCallWasSent g n core node_call → RunsAs g n node_call core (done node_call core)
 
--- a step of a group with this call of a node, after which the node is as its own turn leaves it,
+-- a step of a group with this call of a node, after which the node is as its own outcome says,
 -- and the record as the call leaves it; the only other change are the outputs of the node
 pub record DoesNodeCall (g : Group) (n : ℕ) (node_call : NodeCall) (core : CoreState) : Type 0 where
   pub does : DoesCall g (Some (n, node_call))
   pub given : List (Effect Command Output)
   pub is : does.after
-      ≡ after_turn (with_record g (recorded_after g.archive core node_call)) n
+      ≡ after_outcome (with_record g (recorded_after g.archive core node_call)) n
       (done node_call core) given
 
 -- in any group, a node can do each call

@@ -28,7 +28,7 @@ use Rattle.node_moves.specs.world_base.declared.Connection.{Connection}
 use Rattle.node_moves.specs.world_base.declared.item.Item.TheVariants.{Bytes}
 use Rattle.node_moves.specs.world_base.declared.Port.{Port}
 use Rattle.node_moves.specs.world_base.Connections.{noted_proposed, changed, closed, holding, is_at, is_first, is_open_at, is_open_named, is_over, is_proposed, left_with, max_pending}
-use Rattle.node_moves.specs.world_base.Core.{CoreState, Turn, rules, serves}
+use Rattle.node_moves.specs.world_base.Core.{CoreState, StepOutcome, rules, serves}
 use Rattle.node_moves.specs.world_base.Handing.{listed_at}
 use Rattle.node_moves.specs.world_base.Reading.{takes_first_packet, changes, loses, open_at, reads, reads_all, reads_next, reads_of, refused, proposes_packet, unread_of}
 use Rattle.node_moves.specs.world_base.Step.{node_step}
@@ -63,12 +63,12 @@ module _ (at : Port) (front : List ℕ) (some : 0 < length front) where
       now : HasFront (changes port closed core)
       now = keeps_change port closed core (closed_keeps at front some) z
 
-      by : (b : Bool) → HasFront (let t : Turn = if b then proposes (commands.Lost c.name) (changes port closed core) else without_messages (changes port closed core) in t).core
+      by : (b : Bool) → HasFront (let t : StepOutcome = if b then proposes (commands.Lost c.name) (changes port closed core) else without_messages (changes port closed core) in t).core
       by true = front_proposed at front some (commands.Lost c.name) (changes port closed core) now
       by false = now
 
   keeps_proposed : (port : Port) (command : Command) (core : CoreState) → HasFront core → (b : Bool) →
-      HasFront (let t : Turn = if b then proposes command core else without_messages (changes port closed core) in t).core
+      HasFront (let t : StepOutcome = if b then proposes command core else without_messages (changes port closed core) in t).core
   keeps_proposed port command core z true = front_proposed at front some command core z
   keeps_proposed port command core z false = keeps_change port closed core (closed_keeps at front some) z
 
@@ -83,7 +83,7 @@ module _ (at : Port) (front : List ℕ) (some : 0 < length front) where
   keeps_read now port c core (Err (stops.Malformed kind)) z = keeps_lost port c core z
   keeps_read now port c core (Err (stops.Refused code)) z = by (is_first c.stage)
     where
-      by : (b : Bool) → HasFront (let t : Turn = if b then without_messages (changes port (refused code) core) else loses port c core in t).core
+      by : (b : Bool) → HasFront (let t : StepOutcome = if b then without_messages (changes port (refused code) core) else loses port c core in t).core
       by true = keeps_change port (refused code) core (refused_keeps code) z
       by false = keeps_lost port c core z
   keeps_read now port c core (Ok (packet, rest)) z = by (is_first c.stage)
@@ -91,7 +91,7 @@ module _ (at : Port) (front : List ℕ) (some : 0 < length front) where
       left : HasFront (changes port (left_with now rest) core)
       left = keeps_change port (left_with now rest) core (plain (left_with now rest) (λ d. refl) (λ d. refl)) z
 
-      by : (b : Bool) → HasFront (let t : Turn = if b then takes_first_packet port c.name packet (changes port (left_with now rest) core) else proposes_packet port c.name packet (changes port (left_with now rest) core) in t).core
+      by : (b : Bool) → HasFront (let t : StepOutcome = if b then takes_first_packet port c.name packet (changes port (left_with now rest) core) else proposes_packet port c.name packet (changes port (left_with now rest) core) in t).core
       by true = keeps_begun port c.name packet (changes port (left_with now rest) core) left
       by false = keeps_proposed port (commands.Packet c.name packet) (changes port (left_with now rest) core) left (has_room (changes port (left_with now rest) core))
 
@@ -170,7 +170,7 @@ module _ (core : CoreState) (port : Port) (now : ℕ) (piece : List ℕ) (c : Co
   answered : FrontOf port (spelling packet) some (proposes command (with_change now_asked)).core.connections
   unfolding proposes
   answered =
-      subst (λ (b : Bool). FrontOf port (spelling packet) some (let t : Turn = if b then moved (proposed rules core.replica.state command) (with_change now_asked) else without_messages (with_change now_asked) in t).core.connections)
+      subst (λ (b : Bool). FrontOf port (spelling packet) some (let t : StepOutcome = if b then moved (proposed rules core.replica.state command) (with_change now_asked) else without_messages (with_change now_asked) in t).core.connections)
       (sym leads)
       (subst (λ (l : List (Effect Command Output)). FrontOf port (spelling packet) some (fold handled (with_replica (proposal_at core command).state (with_change now_asked)) l).connections) (sym effects)
       (front_delivered port (spelling packet) some (handled (with_replica (proposal_at core command).state (with_change now_asked)) (Out place (outputs.Send c.name packet))) (map (Out place) others ++ more)
@@ -185,7 +185,7 @@ module _ (core : CoreState) (port : Port) (now : ℕ) (piece : List ℕ) (c : Co
       by : (p : List ℕ) → verdict p ≡ Ok (packets.Connect connect, []) → FrontOf port (spelling packet) some (repeated (length p) (reads_next now port) (with_change (holding piece))).core.connections
       by [] e = absurd (two_kinds (packets.Connect connect, []) stops.More (sym e ∙ is_more))
       by (b ∷ bs) e = keeps_from port (spelling packet) some (length bs) now port (with_change (holding piece))
-          (subst (λ (t : Turn). FrontOf port (spelling packet) some t.core.connections) (sym first_read) answered)
+          (subst (λ (t : StepOutcome). FrontOf port (spelling packet) some t.core.connections) (sym first_read) answered)
 
   put_out_first : PutsOutFirst port (spelling packet) (node_step (Bytes port piece now) core).core
   unfolding changes

@@ -9,7 +9,7 @@ use Rattle.node_moves.specs.world_base.declared.Connection.{Connection}
 use Rattle.node_moves.specs.world_base.declared.item.Item.TheVariants.{Peer}
 use Rattle.node_moves.specs.world_base.declared.Port.{Port}
 use Rattle.node_moves.specs.world_base.Connections.{changed, closed, fresh, handed, is_at, is_listed, is_open_at, is_open_named, is_over}
-use Rattle.node_moves.specs.world_base.Core.{CoreState, Turn, serves}
+use Rattle.node_moves.specs.world_base.Core.{CoreState, StepOutcome, serves}
 use Rattle.node_moves.specs.world_base.Failing.{loses_all_failed}
 use Rattle.node_moves.specs.world_base.Handing.{hands_over, left_by, listed_at}
 use Rattle.node_moves.specs.world_base.Step.{node_step, settled}
@@ -93,13 +93,13 @@ messages_keep_it_waiting port x core message waits calm runs silent active going
     leads : serves after ≡ true
     leads = both (is_active (heard_by core message).state.role) (not (heard_by core message).state.stopped) active (ap not going)
 
-    ending : Turn → Turn
+    ending : StepOutcome → StepOutcome
     ending first = record { core = settled (loses_all_failed first.core).core; messages = first.messages ++ (loses_all_failed first.core).messages }
 
     step : (node_step (Peer message) core).core ≡ record after { connections = filter is_listed core.connections }
     step =
-        ap (λ (t : Turn). (ending t).core) (drives_silently core message runs silent)
-        ∙ ap (λ (t : Turn). settled t.core) (none_lost (length core.connections) after (calm_finds core.connections calm))
+        ap (λ (t : StepOutcome). (ending t).core) (drives_silently core message runs silent)
+        ∙ ap (λ (t : StepOutcome). settled t.core) (none_lost (length core.connections) after (calm_finds core.connections calm))
         ∙ settled_leads after leads
 
 -- ---- bytes are handed over

@@ -20,7 +20,7 @@ use Rattle.node_moves.specs.world_base.declared.Connection.{Connection}
 use Rattle.node_moves.specs.world_base.declared.item.Item.TheVariants.{Peer}
 use Rattle.node_moves.specs.world_base.declared.Port.{Port}
 use Rattle.node_moves.specs.world_base.Connections.{changed, closed, failing, has_failed, is_at, is_listed, is_open_named, is_over, max_pending, put_out, putting}
-use Rattle.node_moves.specs.world_base.Core.{CoreState, Turn, rules, serves}
+use Rattle.node_moves.specs.world_base.Core.{CoreState, StepOutcome, rules, serves}
 use Rattle.node_moves.specs.world_base.Failing.{closes_failed, loses_all_failed, loses_failed, loses_if}
 use Rattle.node_moves.specs.world_base.Handing.{listed_at}
 use Rattle.node_moves.specs.world_base.Step.{node_step, settled}
@@ -144,7 +144,7 @@ module _ (port : Port) (front : List ℕ) (some : 0 < length front) where
   unfolding proposes
   front_proposed command core z = by (serves core)
     where
-      by : (b : Bool) → FrontOf (let t : Turn = if b then moved (proposed rules core.replica.state command) core else without_messages core in t).core.connections
+      by : (b : Bool) → FrontOf (let t : StepOutcome = if b then moved (proposed rules core.replica.state command) core else without_messages core in t).core.connections
       by true = front_delivered (with_replica (proposed rules core.replica.state command).state core) (proposed rules core.replica.state command).effects z
       by false = z
 

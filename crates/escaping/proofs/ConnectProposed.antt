@@ -25,7 +25,7 @@ use Rattle.node_moves.specs.world_base.declared.Connection.{Connection}
 use Rattle.node_moves.specs.world_base.declared.item.Item.TheVariants.{Bytes}
 use Rattle.node_moves.specs.world_base.declared.Port.{Port}
 use Rattle.node_moves.specs.world_base.Connections.{noted_proposed, changed, closed, has_failed, holding, is_at, is_first, is_listed, is_open_at, is_over, left_with}
-use Rattle.node_moves.specs.world_base.Core.{CoreState, Turn, rules, serves}
+use Rattle.node_moves.specs.world_base.Core.{CoreState, StepOutcome, rules, serves}
 use Rattle.node_moves.specs.world_base.Failing.{loses_all_failed}
 use Rattle.node_moves.specs.world_base.Reading.{changes, open_at, reads, reads_all, reads_next, reads_of, unread_of}
 use Rattle.node_moves.specs.world_base.Step.{node_step, settled}
@@ -102,18 +102,18 @@ pub two_kinds : {A : Type 0} (a : A) (x : Stop) → (let b : Result A Stop = Ok 
 two_kinds a x f = cc
 
 -- the same next turn, that changes nothing, as often as it may come
-repeated_rests : (n : ℕ) (next : CoreState → Turn) (core : CoreState) → next core ≡ without_messages core → repeated n next core ≡ without_messages core
+repeated_rests : (n : ℕ) (next : CoreState → StepOutcome) (core : CoreState) → next core ≡ without_messages core → repeated n next core ≡ without_messages core
 unfolding repeated
 repeated_rests zero next core rests = refl
-repeated_rests (suc n) next core rests = ap (λ (t : Turn). then_also t (repeated n next)) rests ∙ repeated_rests n next core rests
+repeated_rests (suc n) next core rests = ap (λ (t : StepOutcome). then_also t (repeated n next)) rests ∙ repeated_rests n next core rests
 
 -- one turn, and then none
-repeated_once : (n : ℕ) (next : CoreState → Turn) (core : CoreState) (t : Turn) → next core ≡ t → next t.core ≡ without_messages t.core → repeated (suc n) next core ≡ t
+repeated_once : (n : ℕ) (next : CoreState → StepOutcome) (core : CoreState) (t : StepOutcome) → next core ≡ t → next t.core ≡ without_messages t.core → repeated (suc n) next core ≡ t
 unfolding repeated
 repeated_once n next core t first rests =
-    ap (λ (u : Turn). then_also u (repeated n next)) first
-    ∙ ap (λ (u : Turn). let v : Turn = record { core = u.core; messages = t.messages ++ u.messages } in v) (repeated_rests n next t.core rests)
-    ∙ ap (λ (l : List (Effect Command Output)). let v : Turn = record { core = t.core; messages = l } in v) (append-nil t.messages)
+    ap (λ (u : StepOutcome). then_also u (repeated n next)) first
+    ∙ ap (λ (u : StepOutcome). let v : StepOutcome = record { core = u.core; messages = t.messages ++ u.messages } in v) (repeated_rests n next t.core rests)
+    ∙ ap (λ (l : List (Effect Command Output)). let v : StepOutcome = record { core = t.core; messages = l } in v) (append-nil t.messages)
 
 module _ (core : CoreState) (port : Port) (now : ℕ) (piece : List ℕ) (c : Connection) (connect : Connect) (room : has_room core ≡ true) (calm : ReportsItsLosses core)
     (opened : open_at port core ≡ Some c) (awaits : is_first c.stage ≡ true) (unread : c.unread ≡ []) (whole : verdict piece ≡ Ok (packets.Connect connect, []))
@@ -140,13 +140,13 @@ module _ (core : CoreState) (port : Port) (now : ℕ) (piece : List ℕ) (c : Co
   proposed_silently k same =
       ap (λ (b : Bool). if b then delivered_of (proposed rules k.replica.state command) k else without_messages k)
       (ap (λ (r : CountedReplica State Command). is_active r.state.role && not r.state.stopped) same ∙ leads)
-      ∙ ap (λ (r : CountedReplica State Command). let t : Turn = delivered_of (proposed rules r.state command) k in t) same
-      ∙ ap (λ (x : CoreState). let t : Turn = record { core = x; messages = filter is_message (proposal_at core command).effects } in t)
+      ∙ ap (λ (r : CountedReplica State Command). let t : StepOutcome = delivered_of (proposed rules r.state command) k in t) same
+      ∙ ap (λ (x : CoreState). let t : StepOutcome = record { core = x; messages = filter is_message (proposal_at core command).effects } in t)
       (none_handled (proposal_at core command).effects silent (with_replica (proposal_at core command).state k))
-      ∙ ap (λ (l : List (Effect Command Output)). let t : Turn = record { core = with_replica (proposal_at core command).state k; messages = l } in t)
+      ∙ ap (λ (l : List (Effect Command Output)). let t : StepOutcome = record { core = with_replica (proposal_at core command).state k; messages = l } in t)
       (only_messages (proposal_at core command).effects silent)
     where
-      delivered_of : Outcome State Command Output → CoreState → Turn
+      delivered_of : Outcome State Command Output → CoreState → StepOutcome
       delivered_of o x = record { core = fold handled (with_replica o.state x) o.effects; messages = filter is_message o.effects }
 
   -- the connection is found with its bytes
@@ -161,7 +161,7 @@ module _ (core : CoreState) (port : Port) (now : ℕ) (piece : List ℕ) (c : Co
       (changed_twice (is_open_at port) (noted_proposed connect.keep_alive) (left_with now []) (changed (is_open_at port) (holding piece) core.connections) (λ d e. e)
       ∙ changed_twice (is_open_at port) (λ (d : Connection). noted_proposed connect.keep_alive (left_with now [] d)) (holding piece) core.connections (λ d e. e))
 
-  abbrev first_turn : Turn
+  abbrev first_turn : StepOutcome
   first_turn = record { core = after; messages = (proposal_at core command).effects }
 
   first_read : reads_next now port (with_change (holding piece)) ≡ first_turn
@@ -202,11 +202,11 @@ module _ (core : CoreState) (port : Port) (now : ℕ) (piece : List ℕ) (c : Co
   pub is_proposed : node_step (Bytes port piece now) core ≡ record { core = with_asked now port connect command core; messages = (proposal_at core command).effects }
   unfolding changes
   is_proposed =
-      ap (λ (u : Turn). let v : Turn = record { core = settled (loses_all_failed u.core).core; messages = u.messages ++ (loses_all_failed u.core).messages } in v) all_read
-      ∙ ap (λ (u : Turn). let v : Turn = record { core = settled u.core; messages = (proposal_at core command).effects ++ u.messages } in v)
+      ap (λ (u : StepOutcome). let v : StepOutcome = record { core = settled (loses_all_failed u.core).core; messages = u.messages ++ (loses_all_failed u.core).messages } in v) all_read
+      ∙ ap (λ (u : StepOutcome). let v : StepOutcome = record { core = settled u.core; messages = (proposal_at core command).effects ++ u.messages } in v)
       (none_lost (length after.connections) after (calm_finds after.connections after_calm))
-      ∙ ap (λ (k : CoreState). let v : Turn = record { core = k; messages = (proposal_at core command).effects ++ [] } in v) settled_after
-      ∙ ap (λ (l : List (Effect Command Output)). let v : Turn = record { core = with_asked now port connect command core; messages = l } in v)
+      ∙ ap (λ (k : CoreState). let v : StepOutcome = record { core = k; messages = (proposal_at core command).effects ++ [] } in v) settled_after
+      ∙ ap (λ (l : List (Effect Command Output)). let v : StepOutcome = record { core = with_asked now port connect command core; messages = l } in v)
       (append-nil (proposal_at core command).effects)
 
 pub connect_is_proposed : ConnectIsProposed

@@ -9,7 +9,7 @@ use Rattle.packet_world.specs.broker_spec.Connection.{ConnectionName, is_connect
 use Rattle.node_moves.specs.world_base.declared.Connection.{Connection}
 use Rattle.node_moves.specs.world_base.declared.Port.{Port}
 use Rattle.node_moves.specs.world_base.Connections.{closed, fresh, has_failed, is_at, is_listed}
-use Rattle.node_moves.specs.world_base.Core.{CoreState, Turn, serves}
+use Rattle.node_moves.specs.world_base.Core.{CoreState, StepOutcome, serves}
 use Rattle.node_moves.specs.world_base.Failing.{loses_all_failed}
 use Rattle.node_moves.specs.world_base.Step.{next_name, opens, settled}
 use Rattle.node_moves.specs.world_base.Turns.{without_messages}
@@ -58,10 +58,10 @@ settled_new core port leads =
 pub first_is_opened : FirstIsOpened
 first_is_opened core port now leads calm low most new =
     ap (λ (k : CoreState). ending (without_messages k)) (opens_first core port leads low most new)
-    ∙ ap (λ (t : Turn). let u : Turn = record { core = settled t.core; messages = [] ++ t.messages } in u)
+    ∙ ap (λ (t : StepOutcome). let u : StepOutcome = record { core = settled t.core; messages = [] ++ t.messages } in u)
     (none_lost (length (with_new port core).connections) (with_new port core) (calm_finds (with_new port core).connections
     (each_append (λ (c : Connection). has_failed c ≡ false) core.connections (fresh port (first_name core) ∷ []) calm (refl, tt))))
     ∙ ap without_messages (settled_new core port leads)
   where
-    ending : Turn → Turn
+    ending : StepOutcome → StepOutcome
     ending first = record { core = settled (loses_all_failed first.core).core; messages = first.messages ++ (loses_all_failed first.core).messages }

@@ -17,7 +17,7 @@ use Rattle.packet_world.specs.broker_base.State.{State}
 use Rattle.node_moves.specs.world_base.declared.Connection.{Connection}
 use Rattle.node_moves.specs.world_base.declared.item.Item.TheVariants.{Peer}
 use Rattle.node_moves.specs.world_base.Connections.{has_failed}
-use Rattle.node_moves.specs.world_base.Core.{CoreState, Turn, serves}
+use Rattle.node_moves.specs.world_base.Core.{CoreState, StepOutcome, serves}
 use Rattle.node_moves.specs.world_base.Failing.{closes_failed, loses_all_failed, loses_failed, loses_if}
 use Rattle.node_moves.specs.world_base.Step.{node_step, settled}
 use Rattle.node_moves.specs.world_base.Turns.{drives, is_message, moved, proposes, without_messages, repeated, handled, then_also}
@@ -44,17 +44,17 @@ pub drives_silently : (core : CoreState) (message : Message Command) → core.re
 unfolding drives
 drives_silently core message runs silent =
     ap (λ (b : Bool). moved (if b then (record { state = core.replica.state; effects = [] }) else heard_by core message) core) runs
-    ∙ ap (λ (k : CoreState). let t : Turn = record { core = k; messages = filter is_message (heard_by core message).effects } in t)
+    ∙ ap (λ (k : CoreState). let t : StepOutcome = record { core = k; messages = filter is_message (heard_by core message).effects } in t)
     (none_handled (heard_by core message).effects silent (with_replica (heard_by core message).state core))
-    ∙ ap (λ (l : List (Effect Command Output)). let t : Turn = record { core = with_replica (heard_by core message).state core; messages = l } in t)
+    ∙ ap (λ (l : List (Effect Command Output)). let t : StepOutcome = record { core = with_replica (heard_by core message).state core; messages = l } in t)
     (only_messages (heard_by core message).effects silent)
 
 -- ---- losses that follow from it
 
-record KeepsReplica (core : CoreState) (turn : Turn) : Type 0 where
-  replica : turn.core.replica ≡ core.replica
-  last_name : turn.core.last_name ≡ core.last_name
-  messages : turn.messages ≡ []
+record KeepsReplica (core : CoreState) (outcome : StepOutcome) : Type 0 where
+  replica : outcome.core.replica ≡ core.replica
+  last_name : outcome.core.last_name ≡ core.last_name
+  messages : outcome.messages ≡ []
 
 -- nothing is proposed by a node that does not serve
 loses_quietly : (core : CoreState) → serves core ≡ false → KeepsReplica core (loses_failed core)
@@ -64,7 +64,7 @@ loses_quietly core idle = by (find has_failed core.connections)
     by : (o : Option Connection) → KeepsReplica core (loses_if o core)
     by None = record { replica = refl; last_name = refl; messages = refl }
     by (Some c) =
-        subst (λ (t : Turn). KeepsReplica core t) (sym (rw idle refl)) (let k : KeepsReplica core (without_messages (closes_failed core)) = record { replica = refl; last_name = refl; messages = refl } in k)
+        subst (λ (t : StepOutcome). KeepsReplica core t) (sym (rw idle refl)) (let k : KeepsReplica core (without_messages (closes_failed core)) = record { replica = refl; last_name = refl; messages = refl } in k)
 
 all_lost_quietly : (n : ℕ) (core : CoreState) → serves core ≡ false → KeepsReplica core (repeated n loses_failed core)
 unfolding repeated
@@ -90,27 +90,27 @@ failed_next core none = rw none refl
 pub none_lost : (n : ℕ) (core : CoreState) → find has_failed core.connections ≡ None → repeated n loses_failed core ≡ without_messages core
 unfolding repeated
 none_lost zero core none = refl
-none_lost (suc n) core none = ap (λ (t : Turn). then_also t (repeated n loses_failed)) (failed_next core none) ∙ none_lost n core none
+none_lost (suc n) core none = ap (λ (t : StepOutcome). then_also t (repeated n loses_failed)) (failed_next core none) ∙ none_lost n core none
 
 all_keep : (core : CoreState) → ReportsItsLosses core ⊎ (is_active core.replica.state.role ≡ false) → KeepsReplica core (loses_all_failed core)
 all_keep core (inl calm) =
-    subst (λ (t : Turn). KeepsReplica core t) (sym (none_lost (length core.connections) core (calm_finds core.connections calm)))
+    subst (λ (t : StepOutcome). KeepsReplica core t) (sym (none_lost (length core.connections) core (calm_finds core.connections calm)))
     (let k : KeepsReplica core (without_messages core) = record { replica = refl; last_name = refl; messages = refl } in k)
 all_keep core (inr idle) = all_lost_quietly (length core.connections) core (ap (λ (b : Bool). b && not core.replica.state.stopped) idle)
 
 -- ---- the step
 
-abbrev end_of : CoreState → Turn → Turn
+abbrev end_of : CoreState → StepOutcome → StepOutcome
 end_of core first = record { core = settled (loses_all_failed first.core).core; messages = first.messages ++ (loses_all_failed first.core).messages }
 
 settled_keeps : (core : CoreState) → ((settled core).replica ≡ core.replica) × ((settled core).last_name ≡ core.last_name)
 unfolding settled
 settled_keeps core = (refl, refl)
 
-record Does (core : CoreState) (o : Outcome State Command Output) (turn : Turn) : Type 0 where
-  replica : turn.core.replica ≡ record core.replica { state = o.state }
-  last_name : turn.core.last_name ≡ core.last_name
-  messages : turn.messages ≡ o.effects
+record Does (core : CoreState) (o : Outcome State Command Output) (outcome : StepOutcome) : Type 0 where
+  replica : outcome.core.replica ≡ record core.replica { state = o.state }
+  last_name : outcome.core.last_name ≡ core.last_name
+  messages : outcome.messages ≡ o.effects
 
 pub a_step_is_a_delivery : AStepIsADelivery
 a_step_is_a_delivery core message runs silent calm =
@@ -133,4 +133,4 @@ a_step_is_a_delivery core message runs silent calm =
         }
 
     now : Does core o (node_step (Peer message) core)
-    now = subst (λ (t : Turn). Does core o (end_of core t)) (sym (drives_silently core message runs silent)) does
+    now = subst (λ (t : StepOutcome). Does core o (end_of core t)) (sym (drives_silently core message runs silent)) does

@@ -12,7 +12,7 @@ use Rattle.packet_world.specs.broker_base.State.{State}
 use Rattle.node_moves.specs.world_base.declared.Connection.{Connection}
 use Rattle.node_moves.specs.world_base.declared.item.Item.TheVariants.{Peer}
 use Rattle.node_moves.specs.world_base.Connections.{has_failed}
-use Rattle.node_moves.specs.world_base.Core.{CoreState, Turn, rules}
+use Rattle.node_moves.specs.world_base.Core.{CoreState, StepOutcome, rules}
 use Rattle.node_moves.specs.world_base.Step.{node_step}
 
 -- what a message does to the node's replica
@@ -24,14 +24,14 @@ heard_by core message = received rules core.replica.state message.from message.b
 abbrev pub ReportsItsLosses : CoreState → Type 0
 ReportsItsLosses core = Each (λ (c : Connection). has_failed c ≡ false) core.connections
 
--- this turn does to the node's replica what the outcome says, sends just its messages, and gives no
--- name
+-- the node's outcome has in its replica what that of the replica says, sends just its messages, and
+-- gives no name
 pub record IsDelivery (core : CoreState) (o : Outcome State Command Output)
-    (turn : Turn) : Type 0 where
-  pub replica : turn.core.replica ≡ record core.replica { state = o.state }
-  pub last_name : turn.core.last_name ≡ core.last_name
-  pub messages : turn.messages ≡ o.effects
-  pub calm : ReportsItsLosses turn.core
+    (outcome : StepOutcome) : Type 0 where
+  pub replica : outcome.core.replica ≡ record core.replica { state = o.state }
+  pub last_name : outcome.core.last_name ≡ core.last_name
+  pub messages : outcome.messages ≡ o.effects
+  pub calm : ReportsItsLosses outcome.core
 
 -- A node's step on a message is a delivery, if the replica runs and has no output, and the node is
 -- calm or is no active primary afterwards.

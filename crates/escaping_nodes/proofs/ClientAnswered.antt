@@ -36,7 +36,7 @@ use Rattle.escaping.specs.world_base.declared.Connection.{Connection}
 use Rattle.escaping.specs.world_base.declared.item.Item.TheVariants.{Bytes, Peer}
 use Rattle.escaping.specs.world_base.declared.Port.{Port}
 use Rattle.escaping.specs.world_base.Connections.{is_open_named, max_pending}
-use Rattle.escaping.specs.world_base.Core.{CoreState, CountedCore, Turn, rules, serves}
+use Rattle.escaping.specs.world_base.Core.{CoreState, CountedCore, StepOutcome, rules, serves}
 use Rattle.escaping.specs.world_base.Handing.{hands_over}
 use Rattle.escaping.specs.world_base.Step.{node_step}
 use Rattle.escaping.specs.world_base.Turns.{has_room}
@@ -229,8 +229,8 @@ module _ (config : Config) (a : Moment State Command Output) (past : List (Momen
   -- ---- with others
 
   module _ (front : List ℕ) (last : ℕ) (h : IsHeldByAll rules a index ballot r log c front last) where
-    abbrev turn : Turn
-    turn = node_step (Bytes port piece now) core
+    abbrev outcome : StepOutcome
+    outcome = node_step (Bytes port piece now) core
 
     abbrev o : Outcome State Command Output
     o = replica_step rules r (Proposes c)
@@ -238,31 +238,31 @@ module _ (config : Config) (a : Moment State Command Output) (past : List (Momen
     abbrev first : NodesState
     first = after_node_call index node (takes (Bytes port piece now)) n
 
-    stepped : turn ≡ record { core = with_asked now port connect c core; messages = (proposal_at core c).effects }
+    stepped : outcome ≡ record { core = with_asked now port connect c core; messages = (proposal_at core c).effects }
     stepped =
         connect_is_proposed core port now piece connection connect room calm can.awaits.opened can.awaits.first can.awaits.unread can.is_connect
         (ap (λ (d : Command). outputs (proposal_at core d).effects) proposes_c ∙ h.no_outputs)
-        ∙ ap (λ (d : Command). let t : Turn = record { core = with_asked now port connect d core; messages = (proposal_at core d).effects } in t) proposes_c
+        ∙ ap (λ (d : Command). let t : StepOutcome = record { core = with_asked now port connect d core; messages = (proposal_at core d).effects } in t) proposes_c
 
     seen_first : IsSeen (after_outcome index o a) first
     seen_first =
         record {
           master = can.seen.master;
           nodes = ap (λ (l : List (ReplicaState State Command)). slice_set l index o.state) can.seen.nodes
-              ∙ sym (nodes_set n.nodes index (record node { core = turn.core })
-              ∙ ap (λ (t : Turn). slice_set (map replica_of (cores_of n.nodes)) index (replica_of t.core)) stepped);
-          sent = ap (λ (l : List (ℕ × Message Command)). l ++ messages o.effects) can.seen.sent ∙ ap (λ (t : Turn). n.sent ++ messages t.messages) (sym stepped);
+              ∙ sym (nodes_set n.nodes index (record node { core = outcome.core })
+              ∙ ap (λ (t : StepOutcome). slice_set (map replica_of (cores_of n.nodes)) index (replica_of t.core)) stepped);
+          sent = ap (λ (l : List (ℕ × Message Command)). l ++ messages o.effects) can.seen.sent ∙ ap (λ (t : StepOutcome). n.sent ++ messages t.messages) (sym stepped);
           archive = can.seen.archive;
         }
 
     calm_first : AreCalm ballot first
-    calm_first = set_calm ballot n.nodes index node (record node { core = turn.core }) can.stands (inl (each_loss_is_reported (Bytes port piece now) core)) can.calm
+    calm_first = set_calm ballot n.nodes index node (record node { core = outcome.core }) can.stands (inl (each_loss_is_reported (Bytes port piece now) core)) can.calm
 
     waits_first : StillWaits ballot index port x first
     waits_first =
-        itself ballot index port x n first node (record node { core = turn.core }) can.stands refl
-        (subst (λ (t : Turn). LeadsAt ballot (replica_of t.core)) (sym stepped) (leads_proposing {O = Output} rules ballot r leads c))
-        (subst (λ (t : Turn). AwaitsAnswer port x t.core) (sym stepped) (asked_awaits_answer port x core now connect c can.awaits))
+        itself ballot index port x n first node (record node { core = outcome.core }) can.stands refl
+        (subst (λ (t : StepOutcome). LeadsAt ballot (replica_of t.core)) (sym stepped) (leads_proposing {O = Output} rules ballot r leads c))
+        (subst (λ (t : StepOutcome). AwaitsAnswer port x t.core) (sym stepped) (asked_awaits_answer port x core now connect c can.awaits))
 
     delivered : Delivered rules ballot (after_outcome index o a) (numbers_from (length n.sent) (length front + 1) ++ numbers_from (length n.sent + (length front + 1)) (length front)) h.before
     delivered = subst (λ (l : List (ℕ × Message Command)). Delivered rules ballot (after_outcome index o a)

@@ -21,7 +21,7 @@ use Rattle.ways_out.specs.snapshots.World.{messages}
 use Rattle.escaping.specs.world_base.declared.item.Item.TheVariants.{Opened}
 use Rattle.escaping.specs.world_base.declared.Port.{Port}
 use Rattle.escaping.specs.world_base.Connections.{is_open_named}
-use Rattle.escaping.specs.world_base.Core.{CoreState, CountedCore, Turn, serves}
+use Rattle.escaping.specs.world_base.Core.{CoreState, CountedCore, StepOutcome, serves}
 use Rattle.escaping.specs.world_base.Handing.{hands_over}
 use Rattle.escaping.specs.world_base.Step.{node_step}
 use Rattle.escaping.specs.world_base.Turns.{without_messages}
@@ -65,7 +65,7 @@ module _ (a : Moment State Command Output) (n : NodesState) (ballot index : ℕ)
   after = record node { core = (node_step (Opened port now) core).core }
 
   same : after.core.replica ≡ core.replica
-  same = ap (λ (t : Turn). t.core.replica) step
+  same = ap (λ (t : StepOutcome). t.core.replica) step
 
   pub opened_first : IsOpened a (after_node_call index node (takes (Opened port now)) n) ballot index others_of log port
   opened_first =
@@ -74,7 +74,7 @@ module _ (a : Moment State Command Output) (n : NodesState) (ballot index : ℕ)
           master = can.seen.master;
           nodes = can.seen.nodes ∙ sym (nodes_set n.nodes index after ∙ ap (λ (r : CountedReplica State Command). slice_set (map replica_of (cores_of n.nodes)) index r.state) same
               ∙ set_same_replica n index node can.stands);
-          sent = can.seen.sent ∙ sym (ap (λ (t : Turn). n.sent ++ messages t.messages) step ∙ append-nil n.sent);
+          sent = can.seen.sent ∙ sym (ap (λ (t : StepOutcome). n.sent ++ messages t.messages) step ∙ append-nil n.sent);
           archive = can.seen.archive;
         };
         calm = set_calm ballot n.nodes index node after can.stands (inl (each_loss_is_reported (Opened port now) core)) can.calm;
@@ -82,7 +82,7 @@ module _ (a : Moment State Command Output) (n : NodesState) (ballot index : ℕ)
         stands = get_set n.nodes index node after can.stands;
         serves = subst (λ (r : CountedReplica State Command). Serves ballot log others_of (index + 1) (whole a.world.archive r.state)) (sym same) can.serves;
         awaits = subst (λ (x : ConnectionName). AwaitsConnect port x after.core) named
-            (subst (λ (t : Turn). AwaitsConnect port (first_name core) t.core) (sym step)
+            (subst (λ (t : StepOutcome). AwaitsConnect port (first_name core) t.core) (sym step)
             (first_awaits_connect port core can.free (ap (λ (x : ConnectionName). find (is_open_named x) core.connections) named ∙ can.unnamed)));
       }
 

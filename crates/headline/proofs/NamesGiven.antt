@@ -17,7 +17,7 @@ use Rattle.byte_world.specs.world_base.declared.item.Item.{Item}
 use Rattle.byte_world.specs.world_base.declared.item.Item.TheVariants.{Peer, Tick, Opened, Bytes, Ended, Expel, Cut, Crash}
 use Rattle.byte_world.specs.world_base.declared.Port.{Port}
 use Rattle.byte_world.specs.world_base.Connections.{fresh, is_at}
-use Rattle.byte_world.specs.world_base.Core.{CoreState, Turn, serves}
+use Rattle.byte_world.specs.world_base.Core.{CoreState, StepOutcome, serves}
 use Rattle.byte_world.specs.world_base.LossyStep.{RunsOn}
 use Rattle.byte_world.specs.world_base.Step.{acts_on, next_name, opens, does_item}
 use Rattle.byte_world.specs.node_moves.Moves.{NodeCall, done}
@@ -86,10 +86,10 @@ lost_named Crash core new messages runs all = each_lost IsNamed later_named Cras
 -- ---- a group
 
 step_named : (g h : Group) → GroupStep g h → Each AreNamed g.nodes → Each AreNamed h.nodes
-step_named g h (node_acts n core node_call turn run at is first sent) all =
-    each_set AreNamed g.nodes n turn.core all (subst (λ (t : Turn). AreNamed t.core) (sym is) (done_named node_call core (each_got AreNamed g.nodes n core all at)))
-step_named g h (node_loses n core item turn kept by at runs sent thinned) all =
-    each_set AreNamed g.nodes n turn.core all (lost_named item core turn.core turn.messages runs (each_got AreNamed g.nodes n core all at))
+step_named g h (node_acts n core node_call outcome run at is first sent) all =
+    each_set AreNamed g.nodes n outcome.core all (subst (λ (t : StepOutcome). AreNamed t.core) (sym is) (done_named node_call core (each_got AreNamed g.nodes n core all at)))
+step_named g h (node_loses n core item outcome kept by at runs sent thinned) all =
+    each_set AreNamed g.nodes n outcome.core all (lost_named item core outcome.core outcome.messages runs (each_got AreNamed g.nodes n core all at))
 step_named g h (master_assigns wanted) all = subst (Each AreNamed) (sym (assigned_nodes g wanted (refusal g.master wanted))) all
 step_named g h (master_hears from ballot sent) all = all
 step_named g h (assigns_unheard wanted) all = all

@@ -6,7 +6,7 @@ use Rattle.packet_world.specs.broker_base.State.{State}
 use Rattle.packet_world.specs.broker_spec.declared.command.Command.{Command}
 use Rattle.packet_world.specs.broker_spec.declared.command.Command.TheVariants as commands
 use Rattle.node_moves.specs.world_base.Connections.{noted_proposed, closed, failing, left_with}
-use Rattle.node_moves.specs.world_base.Core.{CoreState, Turn, rules}
+use Rattle.node_moves.specs.world_base.Core.{CoreState, StepOutcome, rules}
 use Rattle.node_moves.specs.world_base.Lossy.{Account, TakesCommand}
 use Rattle.node_moves.specs.world_base.Reading.{changes}
 use Rattle.node_moves.specs.LossyMoves.{LossyMoves}
@@ -27,18 +27,18 @@ taken_role command core between did same taken =
     ∙ taken.done.state)
     ∙ (added_same rules (replica_of between) command).role ∙ ap (λ (r : ReplicaState State Command). r.role) same
 
-pub calm_role : (core : CoreState) (turn : Turn) (m : LossyMoves core turn) → hears_in m ≡ false → (replica_of turn.core).role ≡ (replica_of core).role
-calm_role core turn (exactly m) calm = (move_same core turn m calm).role
-calm_role core turn (hears_losing input did other drives) calm = absurd cc
-calm_role core turn (first_losing now port c connect rest did at first is taken) calm =
+pub calm_role : (core : CoreState) (outcome : StepOutcome) (m : LossyMoves core outcome) → hears_in m ≡ false → (replica_of outcome.core).role ≡ (replica_of core).role
+calm_role core outcome (exactly m) calm = (move_same core outcome m calm).role
+calm_role core outcome (hears_losing input did other drives) calm = absurd cc
+calm_role core outcome (first_losing now port c connect rest did at first is taken) calm =
     taken_role _ core (changes port (noted_proposed connect.keep_alive) (changes port (left_with now rest) core)) did
     (changed_state port (noted_proposed connect.keep_alive) (changes port (left_with now rest) core) ∙ changed_state port (left_with now rest) core) taken
-calm_role core turn (later_losing now port c packet rest did at later is taken) calm =
+calm_role core outcome (later_losing now port c packet rest did at later is taken) calm =
     taken_role _ core (changes port (left_with now rest) core) did (changed_state port (left_with now rest) core) taken
-calm_role core turn (tells_losing name did taken) calm = taken_role (commands.Lost name) core core did refl taken
-calm_role core turn (expels_losing client did taken) calm = taken_role (commands.Expel client) core core did refl taken
-calm_role core turn forgets calm = refl
-calm_role core turn halts calm = refl
-calm_role core turn (fails port) calm = ap (λ (r : ReplicaState State Command). r.role) (changed_state port failing core)
-calm_role core turn unheard calm = refl
-calm_role core turn (drops port piece) calm = ap (λ (r : ReplicaState State Command). r.role) (changed_state port closed core)
+calm_role core outcome (tells_losing name did taken) calm = taken_role (commands.Lost name) core core did refl taken
+calm_role core outcome (expels_losing client did taken) calm = taken_role (commands.Expel client) core core did refl taken
+calm_role core outcome forgets calm = refl
+calm_role core outcome halts calm = refl
+calm_role core outcome (fails port) calm = ap (λ (r : ReplicaState State Command). r.role) (changed_state port failing core)
+calm_role core outcome unheard calm = refl
+calm_role core outcome (drops port piece) calm = ap (λ (r : ReplicaState State Command). r.role) (changed_state port closed core)

@@ -26,7 +26,7 @@ use Rattle.node_moves.specs.LossyRuns.{came_with}
 use Rattle.node_moves.specs.LossyRuns.{bytes_on as bytes_losing}
 use Rattle.node_moves.proofs.Kept.{named}
 use Rattle.node_moves.proofs.ProposesInOrder.{commands_join, front_of}
-use Rattle.node_group.specs.Group.{Group, after_turn, moment_of, opening_cores, opening_group, with_master, with_record}
+use Rattle.node_group.specs.Group.{Group, after_outcome, moment_of, opening_cores, opening_group, with_master, with_record}
 use Rattle.node_group.specs.Steps.{GroupStep, GroupTrace, all_put, after_assign, groups_of, put_in_run, put_in_step}
 use Rattle.node_group.specs.Steps.GroupStep.{node_acts, node_loses, master_assigns, master_hears, assigns_unheard, answers_unheard}
 use Rattle.node_group.specs.Steps.GroupTrace.{opened, then_went}
@@ -92,9 +92,9 @@ group_steps : {config : Config} (g h : Group) (step : GroupStep g h) {earlier : 
     → Steps g came h (put_in_step step) (λ x. comes_up x step) (λ x. goes_down x step)
 group_steps g h (node_acts n core node_call turn run at is first sent) came well =
     let mine = each_got IsWell g.nodes n core well at in
-    subst (λ (given : List (Effect Command Output)). Steps g came (after_turn (with_record g (recorded_in g.archive run)) n turn given) (put_in_run run) (λ x. bytes_on x run)
+    subst (λ (given : List (Effect Command Output)). Steps g came (after_outcome (with_record g (recorded_in g.archive run)) n turn given) (put_in_run run) (λ x. bytes_on x run)
     (λ x. handed_in_run x run)) (same_given run)
-    (subst (λ (archive : List Command). Steps g came (after_turn (with_record g archive) n turn (given_losing (losing_none run))) (put_in_run run) (λ x. bytes_on x run)
+    (subst (λ (archive : List Command). Steps g came (after_outcome (with_record g archive) n turn (given_losing (losing_none run))) (put_in_run run) (λ x. bytes_on x run)
     (λ x. handed_in_run x run)) (same_recorded g.archive run)
     (steps_as came (put_losing (losing_none run)) (put_in_run run) (λ x. bytes_losing x (losing_none run)) (λ x. bytes_on x run) (λ x. handed_losing x (losing_none run))
     (λ x. handed_in_run x run) (same_put run) (λ x. same_bytes x run) (λ x. same_handed x run)

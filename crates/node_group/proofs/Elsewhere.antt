@@ -13,7 +13,7 @@ use Rattle.node_moves.specs.cutter.Pipe.{Joins}
 use Rattle.packet_world.specs.exactly_once.StoryCommands.{is_packet_of}
 use Rattle.node_moves.specs.world_base.declared.Port.{Port}
 use Rattle.node_moves.specs.world_base.declared.Connection.{Connection}
-use Rattle.node_moves.specs.world_base.Core.{CoreState, Turn, serves}
+use Rattle.node_moves.specs.world_base.Core.{CoreState, StepOutcome, serves}
 use Rattle.node_moves.specs.world_base.Reading.{open_at}
 use Rattle.node_moves.specs.Closed.{exact_refusal}
 use Rattle.node_moves.specs.Ends.{IsEnd, IsGiven, IsOrderly, open_named, piece_on}
@@ -47,20 +47,20 @@ one_other x core port c command o none at same = by (named x c) refl
     by false other = ap (λ (b : Bool). let l : List Command = if b then command ∷ [] else [] in l) (same ∙ other)
 
 -- nothing is put for it
-exactly_none_put : (x : ConnectionName) (core : CoreState) (turn : Turn) (m : Moves core turn) → IsOrderly core → open_named x core ≡ None
+exactly_none_put : (x : ConnectionName) (core : CoreState) (outcome : StepOutcome) (m : Moves core outcome) → IsOrderly core → open_named x core ≡ None
     → packets_of x (exactly_proposed m) ≡ []
-exactly_none_put x core turn (reads_first now port c connect rest at first is room) o none =
+exactly_none_put x core outcome (reads_first now port c connect rest at first is room) o none =
     one_other x core port c (commands.Connect c.name connect.client connect.clean) o none at refl
-exactly_none_put x core turn (reads_later now port c packet rest at later is room) o none = one_other x core port c (commands.Packet c.name packet) o none at refl
-exactly_none_put x core turn m o none = refl
+exactly_none_put x core outcome (reads_later now port c packet rest at later is room) o none = one_other x core port c (commands.Packet c.name packet) o none at refl
+exactly_none_put x core outcome m o none = refl
 
-pub none_put : (x : ConnectionName) (core : CoreState) (turn : Turn) (m : LossyMoves core turn) → IsOrderly core → open_named x core ≡ None
+pub none_put : (x : ConnectionName) (core : CoreState) (outcome : StepOutcome) (m : LossyMoves core outcome) → IsOrderly core → open_named x core ≡ None
     → packets_of x (proposal_of m) ≡ []
-none_put x core turn (exactly m) o none = exactly_none_put x core turn m o none
-none_put x core turn (first_losing now port c connect rest did at first is taken) o none =
+none_put x core outcome (exactly m) o none = exactly_none_put x core outcome m o none
+none_put x core outcome (first_losing now port c connect rest did at first is taken) o none =
     one_other x core port c (commands.Connect c.name connect.client connect.clean) o none at refl
-none_put x core turn (later_losing now port c packet rest did at later is taken) o none = one_other x core port c (commands.Packet c.name packet) o none at refl
-none_put x core turn m o none = refl
+none_put x core outcome (later_losing now port c packet rest did at later is taken) o none = one_other x core port c (commands.Packet c.name packet) o none at refl
+none_put x core outcome m o none = refl
 
 -- no bytes come on it
 no_piece : (x : ConnectionName) (core : CoreState) (port : Port) (piece : List ℕ) → IsOrderly core → open_named x core ≡ None → piece_on x piece (open_at port core) ≡ []
@@ -74,14 +74,14 @@ no_piece x core port piece o none = by (open_at port core) refl
     by None at = refl
     by (Some c) at = on c at (named x c) refl
 
-exactly_none_came : (x : ConnectionName) (core : CoreState) (turn : Turn) (m : Moves core turn) → IsOrderly core → open_named x core ≡ None → exactly_came x m ≡ []
-exactly_none_came x core turn (holds port piece) o none = no_piece x core port piece o none
-exactly_none_came x core turn m o none = refl
+exactly_none_came : (x : ConnectionName) (core : CoreState) (outcome : StepOutcome) (m : Moves core outcome) → IsOrderly core → open_named x core ≡ None → exactly_came x m ≡ []
+exactly_none_came x core outcome (holds port piece) o none = no_piece x core port piece o none
+exactly_none_came x core outcome m o none = refl
 
-pub none_came : (x : ConnectionName) (core : CoreState) (turn : Turn) (m : LossyMoves core turn) → IsOrderly core → open_named x core ≡ None → came_on x m ≡ []
-none_came x core turn (exactly m) o none = exactly_none_came x core turn m o none
-none_came x core turn (drops port piece) o none = no_piece x core port piece o none
-none_came x core turn m o none = refl
+pub none_came : (x : ConnectionName) (core : CoreState) (outcome : StepOutcome) (m : LossyMoves core outcome) → IsOrderly core → open_named x core ≡ None → came_on x m ≡ []
+none_came x core outcome (exactly m) o none = exactly_none_came x core outcome m o none
+none_came x core outcome (drops port piece) o none = no_piece x core port piece o none
+none_came x core outcome m o none = refl
 
 -- ---- what is put are the packets that are proposed
 
@@ -93,15 +93,15 @@ expelled_or_not : (x : ConnectionName) (client : List ℕ) (b : Bool) → packet
 expelled_or_not x client true = refl
 expelled_or_not x client false = refl
 
-exactly_packets : (x : ConnectionName) (core : CoreState) (turn : Turn) (m : Moves core turn) → packets_of x (exactly_put m) ≡ packets_of x (exactly_proposed m)
-exactly_packets x core turn (loses_one port c at asked) = lost_or_not x c.name (serves core)
-exactly_packets x core turn (loses_next c at) = lost_or_not x c.name (serves core)
-exactly_packets x core turn (expels_one client) = expelled_or_not x client (serves core)
-exactly_packets x core turn m = refl
+exactly_packets : (x : ConnectionName) (core : CoreState) (outcome : StepOutcome) (m : Moves core outcome) → packets_of x (exactly_put m) ≡ packets_of x (exactly_proposed m)
+exactly_packets x core outcome (loses_one port c at asked) = lost_or_not x c.name (serves core)
+exactly_packets x core outcome (loses_next c at) = lost_or_not x c.name (serves core)
+exactly_packets x core outcome (expels_one client) = expelled_or_not x client (serves core)
+exactly_packets x core outcome m = refl
 
-pub packets_put : (x : ConnectionName) (core : CoreState) (turn : Turn) (m : LossyMoves core turn) → packets_of x (commands_put m) ≡ packets_of x (proposal_of m)
-packets_put x core turn (exactly m) = exactly_packets x core turn m
-packets_put x core turn m = refl
+pub packets_put : (x : ConnectionName) (core : CoreState) (outcome : StepOutcome) (m : LossyMoves core outcome) → packets_of x (commands_put m) ≡ packets_of x (proposal_of m)
+packets_put x core outcome (exactly m) = exactly_packets x core outcome m
+packets_put x core outcome m = refl
 
 -- ---- no CONNECT is refused if the bytes are those of packets
 
@@ -116,9 +116,9 @@ no_stop rest held later code joined e = by rest joined
     by [] j = let f = sym (ap verdict j) ∙ stays in cc
     by (p ∷ ps) (front, left, sp, kp, is, j) = let f = sym (ap verdict is ∙ verdict_again p front left kp sp) ∙ stays in cc
 
-exactly_refused : (x : ConnectionName) (core : CoreState) (turn : Turn) (m : Moves core turn) (written read : List Packet) (in_transit : List ℕ) → IsOrderly core
+exactly_refused : (x : ConnectionName) (core : CoreState) (outcome : StepOutcome) (m : Moves core outcome) (written read : List Packet) (in_transit : List ℕ) → IsOrderly core
     → IsEnd x core written read in_transit → exact_refusal x m ≡ []
-exactly_refused x core turn (refuses port c code at first is) written read in_transit o end = by (same_connection c.name x) refl
+exactly_refused x core outcome (refuses port c code at first is) written read in_transit o end = by (same_connection c.name x) refl
   where
     there : named x c ≡ true → IsEnd x core written read in_transit → ⊥
     there named_so (not_yet below none piped) = not_both core.last_name x below (subst (IsGiven core.last_name) (same_name c.name x named_so) (found_given core port c o at))
@@ -130,12 +130,12 @@ exactly_refused x core turn (refuses port c code at first is) written read in_tr
         one a b e = cc
     there named_so (is_over given none front) = not_there x core port c o none at named_so
 
-    by : (b : Bool) → same_connection c.name x ≡ b → (exact_refusal x (let k : Moves core turn = refuses port c code at first is in k)) ≡ []
+    by : (b : Bool) → same_connection c.name x ≡ b → (exact_refusal x (let k : Moves core outcome = refuses port c code at first is in k)) ≡ []
     by true e = absurd (there e end)
     by false e = rw e refl
-exactly_refused x core turn m written read in_transit o end = refl
+exactly_refused x core outcome m written read in_transit o end = refl
 
-pub none_refused : (x : ConnectionName) (core : CoreState) (turn : Turn) (m : LossyMoves core turn) (written read : List Packet) (in_transit : List ℕ) → IsOrderly core
+pub none_refused : (x : ConnectionName) (core : CoreState) (outcome : StepOutcome) (m : LossyMoves core outcome) (written read : List Packet) (in_transit : List ℕ) → IsOrderly core
     → IsEnd x core written read in_transit → refusal_in x m ≡ []
-none_refused x core turn (exactly m) written read in_transit o end = exactly_refused x core turn m written read in_transit o end
-none_refused x core turn m written read in_transit o end = refl
+none_refused x core outcome (exactly m) written read in_transit o end = exactly_refused x core outcome m written read in_transit o end
+none_refused x core outcome m written read in_transit o end = refl

@@ -9,7 +9,7 @@ use Rattle.packet_world.proofs.of_lists.Prefixes.{prefix_same}
 use Rattle.node_moves.specs.world_base.declared.Port.{Port}
 use Rattle.node_moves.specs.world_base.declared.Connection.{Connection}
 use Rattle.node_moves.specs.world_base.Connections.{changed, closed, fresh, handed, is_at, is_listed}
-use Rattle.node_moves.specs.world_base.Core.{CoreState, Turn, serves}
+use Rattle.node_moves.specs.world_base.Core.{CoreState, StepOutcome, serves}
 use Rattle.node_moves.specs.world_base.Handing.{hands_over, left_by}
 use Rattle.node_moves.specs.world_base.Step.{next_name, opens, settled}
 use Rattle.node_moves.specs.Closed.{listed_named}
@@ -157,33 +157,33 @@ hands_flow x port core o = by (find (is_at port) core.connections) refl
 
 -- ---- each move
 
-exactly_flows : (x : ConnectionName) (core : CoreState) (turn : Turn) (m : Moves core turn) → IsOrderly core
-    → Flows (exactly_handed x m) (exactly_sent x m) (listed_named x core) (listed_named x turn.core)
-exactly_flows x core turn (opens_one port) o = opens_flow x port core
-exactly_flows x core turn settles o = settles_flow x core o
-exactly_flows x core turn (hands port) o = hands_flow x port core o
-exactly_flows x core turn (hears input other) o = from_shuts (move_shuts core turn (hears input other) o x tt)
-exactly_flows x core turn (holds port piece) o = from_shuts (move_shuts core turn (holds port piece) o x tt)
-exactly_flows x core turn (reads_first now port c connect rest at first is room) o = from_shuts (move_shuts core turn (reads_first now port c connect rest at first is room) o x tt)
-exactly_flows x core turn (reads_later now port c packet rest at later is room) o = from_shuts (move_shuts core turn (reads_later now port c packet rest at later is room) o x tt)
-exactly_flows x core turn (closes port) o = from_shuts (move_shuts core turn (closes port) o x tt)
-exactly_flows x core turn (refuses port c code at first is) o = from_shuts (move_shuts core turn (refuses port c code at first is) o x tt)
-exactly_flows x core turn (loses_one port c at asked) o = from_shuts (move_shuts core turn (loses_one port c at asked) o x tt)
-exactly_flows x core turn (loses_next c at) o = from_shuts (move_shuts core turn (loses_next c at) o x tt)
-exactly_flows x core turn (expels_one client) o = from_shuts (move_shuts core turn (expels_one client) o x tt)
-exactly_flows x core turn (cuts_log can) o = from_shuts (move_shuts core turn (cuts_log can) o x tt)
-exactly_flows x core turn crashes o = from_shuts (move_shuts core turn crashes o x tt)
+exactly_flows : (x : ConnectionName) (core : CoreState) (outcome : StepOutcome) (m : Moves core outcome) → IsOrderly core
+    → Flows (exactly_handed x m) (exactly_sent x m) (listed_named x core) (listed_named x outcome.core)
+exactly_flows x core outcome (opens_one port) o = opens_flow x port core
+exactly_flows x core outcome settles o = settles_flow x core o
+exactly_flows x core outcome (hands port) o = hands_flow x port core o
+exactly_flows x core outcome (hears input other) o = from_shuts (move_shuts core outcome (hears input other) o x tt)
+exactly_flows x core outcome (holds port piece) o = from_shuts (move_shuts core outcome (holds port piece) o x tt)
+exactly_flows x core outcome (reads_first now port c connect rest at first is room) o = from_shuts (move_shuts core outcome (reads_first now port c connect rest at first is room) o x tt)
+exactly_flows x core outcome (reads_later now port c packet rest at later is room) o = from_shuts (move_shuts core outcome (reads_later now port c packet rest at later is room) o x tt)
+exactly_flows x core outcome (closes port) o = from_shuts (move_shuts core outcome (closes port) o x tt)
+exactly_flows x core outcome (refuses port c code at first is) o = from_shuts (move_shuts core outcome (refuses port c code at first is) o x tt)
+exactly_flows x core outcome (loses_one port c at asked) o = from_shuts (move_shuts core outcome (loses_one port c at asked) o x tt)
+exactly_flows x core outcome (loses_next c at) o = from_shuts (move_shuts core outcome (loses_next c at) o x tt)
+exactly_flows x core outcome (expels_one client) o = from_shuts (move_shuts core outcome (expels_one client) o x tt)
+exactly_flows x core outcome (cuts_log can) o = from_shuts (move_shuts core outcome (cuts_log can) o x tt)
+exactly_flows x core outcome crashes o = from_shuts (move_shuts core outcome crashes o x tt)
 
-pub move_flows : (x : ConnectionName) (core : CoreState) (turn : Turn) (m : LossyMoves core turn) → IsOrderly core
-    → Flows (handed_on x m) (sent_in x m) (listed_named x core) (listed_named x turn.core)
-move_flows x core turn (exactly m) o = exactly_flows x core turn m o
-move_flows x core turn (hears_losing input did other drives) o = from_shuts (lossy_shuts core turn (hears_losing input did other drives) o x tt)
-move_flows x core turn (first_losing now port c connect rest did at first is taken) o = from_shuts (lossy_shuts core turn (first_losing now port c connect rest did at first is taken) o x tt)
-move_flows x core turn (later_losing now port c packet rest did at later is taken) o = from_shuts (lossy_shuts core turn (later_losing now port c packet rest did at later is taken) o x tt)
-move_flows x core turn (tells_losing name did taken) o = from_shuts (lossy_shuts core turn (tells_losing name did taken) o x tt)
-move_flows x core turn (expels_losing client did taken) o = from_shuts (lossy_shuts core turn (expels_losing client did taken) o x tt)
-move_flows x core turn forgets o = from_shuts (lossy_shuts core turn forgets o x tt)
-move_flows x core turn halts o = from_shuts (lossy_shuts core turn halts o x tt)
-move_flows x core turn (fails port) o = from_shuts (lossy_shuts core turn (fails port) o x tt)
-move_flows x core turn unheard o = from_shuts (lossy_shuts core turn unheard o x tt)
-move_flows x core turn (drops port piece) o = from_shuts (lossy_shuts core turn (drops port piece) o x tt)
+pub move_flows : (x : ConnectionName) (core : CoreState) (outcome : StepOutcome) (m : LossyMoves core outcome) → IsOrderly core
+    → Flows (handed_on x m) (sent_in x m) (listed_named x core) (listed_named x outcome.core)
+move_flows x core outcome (exactly m) o = exactly_flows x core outcome m o
+move_flows x core outcome (hears_losing input did other drives) o = from_shuts (lossy_shuts core outcome (hears_losing input did other drives) o x tt)
+move_flows x core outcome (first_losing now port c connect rest did at first is taken) o = from_shuts (lossy_shuts core outcome (first_losing now port c connect rest did at first is taken) o x tt)
+move_flows x core outcome (later_losing now port c packet rest did at later is taken) o = from_shuts (lossy_shuts core outcome (later_losing now port c packet rest did at later is taken) o x tt)
+move_flows x core outcome (tells_losing name did taken) o = from_shuts (lossy_shuts core outcome (tells_losing name did taken) o x tt)
+move_flows x core outcome (expels_losing client did taken) o = from_shuts (lossy_shuts core outcome (expels_losing client did taken) o x tt)
+move_flows x core outcome forgets o = from_shuts (lossy_shuts core outcome forgets o x tt)
+move_flows x core outcome halts o = from_shuts (lossy_shuts core outcome halts o x tt)
+move_flows x core outcome (fails port) o = from_shuts (lossy_shuts core outcome (fails port) o x tt)
+move_flows x core outcome unheard o = from_shuts (lossy_shuts core outcome unheard o x tt)
+move_flows x core outcome (drops port piece) o = from_shuts (lossy_shuts core outcome (drops port piece) o x tt)

@@ -7,7 +7,7 @@ use Rattle.packet_world.specs.broker_spec.Connection.{ConnectionName, is_connect
 use Rattle.node_moves.specs.world_base.declared.Port.{Port}
 use Rattle.node_moves.specs.world_base.declared.Connection.{Connection}
 use Rattle.node_moves.specs.world_base.Connections.{noted_proposed, closed, failing, fresh, is_at, left_with}
-use Rattle.node_moves.specs.world_base.Core.{CoreState, Turn, serves}
+use Rattle.node_moves.specs.world_base.Core.{CoreState, StepOutcome, serves}
 use Rattle.node_moves.specs.world_base.Failing.{closes_failed}
 use Rattle.node_moves.specs.world_base.Lossy.{Account, TakesCommand}
 use Rattle.node_moves.specs.world_base.Reading.{changes}
@@ -43,50 +43,50 @@ opened_given x port core o given = by ((serves core && not (list_any (is_at port
     by true = given_later core.last_name (next_name core) x (next_precedes core o.within) given
     by false = given
 
-exactly_given : (x : ConnectionName) (core : CoreState) (turn : Turn) (m : Moves core turn) → IsOrderly core → IsGiven core.last_name x → IsGiven turn.core.last_name x
-exactly_given x core turn (hears input other) o given = by_same x core turn.core (stays_driven input core o).last given
-exactly_given x core turn (opens_one port) o given = opened_given x port core o given
-exactly_given x core turn (holds port piece) o given = by_same x core turn.core (same_last port _ core) given
-exactly_given x core turn (reads_first now port c connect rest at first is room) o given =
+exactly_given : (x : ConnectionName) (core : CoreState) (outcome : StepOutcome) (m : Moves core outcome) → IsOrderly core → IsGiven core.last_name x → IsGiven outcome.core.last_name x
+exactly_given x core outcome (hears input other) o given = by_same x core outcome.core (stays_driven input core o).last given
+exactly_given x core outcome (opens_one port) o given = opened_given x port core o given
+exactly_given x core outcome (holds port piece) o given = by_same x core outcome.core (same_last port _ core) given
+exactly_given x core outcome (reads_first now port c connect rest at first is room) o given =
     let left : CoreState = changes port (left_with now rest) core in
-    by_same x core turn.core
+    by_same x core outcome.core
     (after _ core (changes port (noted_proposed connect.keep_alive) left) (at_orderly port (noted_proposed connect.keep_alive) left (at_orderly port (left_with now rest) core o (λ d. refl)) (λ d. refl))
     (same_last port (noted_proposed connect.keep_alive) left ∙ same_last port (left_with now rest) core)) given
-exactly_given x core turn (reads_later now port c packet rest at later is room) o given =
-    by_same x core turn.core
+exactly_given x core outcome (reads_later now port c packet rest at later is room) o given =
+    by_same x core outcome.core
     (after _ core (changes port (left_with now rest) core) (at_orderly port (left_with now rest) core o (λ d. refl)) (same_last port (left_with now rest) core)) given
-exactly_given x core turn (closes port) o given = by_same x core turn.core (same_last port closed core) given
-exactly_given x core turn (refuses port c code at first is) o given = by_same x core turn.core (same_last port _ core) given
-exactly_given x core turn (loses_one port c at asked_before) o given =
-    by_same x core turn.core (after (commands.Lost c.name) core (changes port closed core) (at_orderly port closed core o (λ d. refl)) (same_last port closed core)) given
-exactly_given x core turn (loses_next c at) o given =
-    by_same x core turn.core (after (commands.Lost c.name) core (closes_failed core) (stays_failed core o).orderly refl) given
-exactly_given x core turn (expels_one client) o given = by_same x core turn.core (after (commands.Expel client) core core o refl) given
-exactly_given x core turn (cuts_log can) o given = by_same x core turn.core (stays_cut core o).last given
-exactly_given x core turn crashes o given = by_same x core turn.core (stays_crashed core o).last given
-exactly_given x core turn settles o given = by_same x core turn.core (stays_settled core o).last given
-exactly_given x core turn (hands port) o given = by_same x core turn.core (stays_handed port core o).last given
+exactly_given x core outcome (closes port) o given = by_same x core outcome.core (same_last port closed core) given
+exactly_given x core outcome (refuses port c code at first is) o given = by_same x core outcome.core (same_last port _ core) given
+exactly_given x core outcome (loses_one port c at asked_before) o given =
+    by_same x core outcome.core (after (commands.Lost c.name) core (changes port closed core) (at_orderly port closed core o (λ d. refl)) (same_last port closed core)) given
+exactly_given x core outcome (loses_next c at) o given =
+    by_same x core outcome.core (after (commands.Lost c.name) core (closes_failed core) (stays_failed core o).orderly refl) given
+exactly_given x core outcome (expels_one client) o given = by_same x core outcome.core (after (commands.Expel client) core core o refl) given
+exactly_given x core outcome (cuts_log can) o given = by_same x core outcome.core (stays_cut core o).last given
+exactly_given x core outcome crashes o given = by_same x core outcome.core (stays_crashed core o).last given
+exactly_given x core outcome settles o given = by_same x core outcome.core (stays_settled core o).last given
+exactly_given x core outcome (hands port) o given = by_same x core outcome.core (stays_handed port core o).last given
 
 -- .. if a command is taken after a change
 taken_last : (command : Command) (core between : CoreState) (did : Account) → IsOrderly between → between.last_name ≡ core.last_name → TakesCommand command between did
     → did.core.last_name ≡ core.last_name
 taken_last command core between did o same taken = (stays_takes command between did taken o).last ∙ same
 
-pub stays_given : (x : ConnectionName) (core : CoreState) (turn : Turn) (m : LossyMoves core turn) → IsOrderly core → IsGiven core.last_name x → IsGiven turn.core.last_name x
-stays_given x core turn (exactly m) o given = exactly_given x core turn m o given
-stays_given x core turn (hears_losing input did other drives_so) o given = by_same x core turn.core (stays_drives input core did drives_so o).last given
-stays_given x core turn (first_losing now port c connect rest did at first is taken) o given =
+pub stays_given : (x : ConnectionName) (core : CoreState) (outcome : StepOutcome) (m : LossyMoves core outcome) → IsOrderly core → IsGiven core.last_name x → IsGiven outcome.core.last_name x
+stays_given x core outcome (exactly m) o given = exactly_given x core outcome m o given
+stays_given x core outcome (hears_losing input did other drives_so) o given = by_same x core outcome.core (stays_drives input core did drives_so o).last given
+stays_given x core outcome (first_losing now port c connect rest did at first is taken) o given =
     let left : CoreState = changes port (left_with now rest) core in
-    by_same x core turn.core
+    by_same x core outcome.core
     (taken_last _ core (changes port (noted_proposed connect.keep_alive) left) did (at_orderly port (noted_proposed connect.keep_alive) left (at_orderly port (left_with now rest) core o (λ d. refl)) (λ d. refl))
     (same_last port (noted_proposed connect.keep_alive) left ∙ same_last port (left_with now rest) core) taken) given
-stays_given x core turn (later_losing now port c packet rest did at later is taken) o given =
-    by_same x core turn.core
+stays_given x core outcome (later_losing now port c packet rest did at later is taken) o given =
+    by_same x core outcome.core
     (taken_last _ core (changes port (left_with now rest) core) did (at_orderly port (left_with now rest) core o (λ d. refl)) (same_last port (left_with now rest) core) taken) given
-stays_given x core turn (tells_losing name did taken) o given = by_same x core turn.core (taken_last _ core core did o refl taken) given
-stays_given x core turn (expels_losing client did taken) o given = by_same x core turn.core (taken_last _ core core did o refl taken) given
-stays_given x core turn forgets o given = given
-stays_given x core turn halts o given = given
-stays_given x core turn (fails port) o given = by_same x core turn.core (same_last port failing core) given
-stays_given x core turn unheard o given = by_same x core turn.core (stays_failed core o).last given
-stays_given x core turn (drops port piece) o given = by_same x core turn.core (same_last port closed core) given
+stays_given x core outcome (tells_losing name did taken) o given = by_same x core outcome.core (taken_last _ core core did o refl taken) given
+stays_given x core outcome (expels_losing client did taken) o given = by_same x core outcome.core (taken_last _ core core did o refl taken) given
+stays_given x core outcome forgets o given = given
+stays_given x core outcome halts o given = given
+stays_given x core outcome (fails port) o given = by_same x core outcome.core (same_last port failing core) given
+stays_given x core outcome unheard o given = by_same x core outcome.core (stays_failed core o).last given
+stays_given x core outcome (drops port piece) o given = by_same x core outcome.core (same_last port closed core) given

@@ -13,7 +13,7 @@ use Rattle.packet_world.specs.snapshots.Steps.{world_after}
 use Rattle.packet_world.specs.snapshots.Steps.MayHappen.{master_assigns, master_hears, assignment_lost, answer_lost}
 use Rattle.packet_world.specs.snapshots.World.{World}
 use Rattle.node_moves.specs.world_base.Core.{rules}
-use Rattle.node_group.specs.Group.{Group, after_turn, moment_of, opening_group, with_master, with_record}
+use Rattle.node_group.specs.Group.{Group, after_outcome, moment_of, opening_group, with_master, with_record}
 use Rattle.node_group.specs.Steps.{GroupStep, all_given, all_put, after_assign, groups_of, put_in_step}
 use Rattle.node_group.specs.Steps.GroupStep.{node_acts, node_loses, master_assigns as assigns, master_hears as hears_master, assigns_unheard, answers_unheard}
 use Rattle.node_group.specs.Steps.GroupTrace.{opened, then_went}
@@ -44,9 +44,9 @@ assigned_as g config None = refl
 pub goes_on : (config : Config) (g h : Group) (step : GroupStep g h) (earlier : List (Moment State Command Output)) (came : Moments rules config (moment_of g ∷ earlier))
     → Further came (moment_of h) (put_in_step step)
 goes_on config g h (node_acts n core node_call turn run at is first sent) earlier came =
-    subst (λ l. Further came (moment_of (after_turn (with_record g (recorded_in g.archive run)) n turn (all_given run))) l) (same_put run)
-    (subst (λ l. Further came (moment_of (after_turn (with_record g (recorded_in g.archive run)) n turn l)) (put_losing (losing_none run))) (same_given run)
-    (subst (λ us. Further came (moment_of (after_turn (with_record g us) n turn (given_losing (losing_none run)))) (put_losing (losing_none run))) (same_recorded g.archive run)
+    subst (λ l. Further came (moment_of (after_outcome (with_record g (recorded_in g.archive run)) n turn (all_given run))) l) (same_put run)
+    (subst (λ l. Further came (moment_of (after_outcome (with_record g (recorded_in g.archive run)) n turn l)) (put_losing (losing_none run))) (same_given run)
+    (subst (λ us. Further came (moment_of (after_outcome (with_record g us) n turn (given_losing (losing_none run)))) (put_losing (losing_none run))) (same_recorded g.archive run)
     (runs_happen g n core turn (losing_none run) turn.messages at (sent_losing g n run sent) (frozen_losing g n run sent) (all_kept turn.messages) config earlier came)))
 goes_on config g h (node_loses n core item turn kept by at runs sent thinned) earlier came =
     runs_happen g n core turn by.run kept at (subst (WereSent g n) (sym by.hears) sent) by.freezes thinned config earlier came

@@ -1,7 +1,7 @@
 -- What is handed over in a run of moves in which something may be lost.
 use Rattle.std.proofs.Common.{◌≡◌, ℕ, false, List, [], ◌++◌, refl, ap, ◌∙◌}
 use Rattle.packet_world.specs.broker_spec.Connection.{ConnectionName}
-use Rattle.node_moves.specs.world_base.Core.{CoreState, Turn}
+use Rattle.node_moves.specs.world_base.Core.{CoreState, StepOutcome}
 use Rattle.node_moves.specs.LossyMoves.{LossyMoves}
 use Rattle.node_moves.specs.LossyParts.{is_handing}
 use Rattle.node_moves.specs.LossyRuns.{HandsNothing, LossyRuns}
@@ -15,28 +15,28 @@ use Rattle.node_group.proofs.LosingNone.{losing_none}
 use Rattle.node_group.specs.Streams.{handed_in_run}
 use Rattle.node_group.specs.Streams.{handed_on as exactly_handed}
 
-abbrev pub handed_on : ConnectionName → {core : CoreState} {turn : Turn} → LossyMoves core turn → List ℕ
+abbrev pub handed_on : ConnectionName → {core : CoreState} {outcome : StepOutcome} → LossyMoves core outcome → List ℕ
 handed_on x (exactly m) = exactly_handed x m
 handed_on x _ = []
 
-abbrev pub handed_losing : ConnectionName → {core : CoreState} {turn : Turn} → LossyRuns core turn → List ℕ
+abbrev pub handed_losing : ConnectionName → {core : CoreState} {outcome : StepOutcome} → LossyRuns core outcome → List ℕ
 handed_losing x rests_losing = []
 handed_losing x (goes_losing m run) = handed_on x m ++ handed_losing x run
 
 -- if nothing is lost
-pub same_handed : (x : ConnectionName) {core : CoreState} {turn : Turn} (run : Runs core turn) → handed_losing x (losing_none run) ≡ handed_in_run x run
+pub same_handed : (x : ConnectionName) {core : CoreState} {outcome : StepOutcome} (run : Runs core outcome) → handed_losing x (losing_none run) ≡ handed_in_run x run
 same_handed x rests = refl
 same_handed x (goes_on m run) = ap (λ l. exactly_handed x m ++ l) (same_handed x run)
 
-none_exactly : (x : ConnectionName) {core : CoreState} {turn : Turn} (m : Moves core turn) → exactly_handing m ≡ false → exactly_handed x m ≡ []
+none_exactly : (x : ConnectionName) {core : CoreState} {outcome : StepOutcome} (m : Moves core outcome) → exactly_handing m ≡ false → exactly_handed x m ≡ []
 none_exactly x (hands port) none = absurd cc
 none_exactly x m none = refl
 
-none_on : (x : ConnectionName) {core : CoreState} {turn : Turn} (m : LossyMoves core turn) → is_handing m ≡ false → handed_on x m ≡ []
+none_on : (x : ConnectionName) {core : CoreState} {outcome : StepOutcome} (m : LossyMoves core outcome) → is_handing m ≡ false → handed_on x m ≡ []
 none_on x (exactly m) none = none_exactly x m none
 none_on x m none = refl
 
 -- and if nothing is handed over
-pub none_handed : (x : ConnectionName) {core : CoreState} {turn : Turn} (run : LossyRuns core turn) → HandsNothing run → handed_losing x run ≡ []
+pub none_handed : (x : ConnectionName) {core : CoreState} {outcome : StepOutcome} (run : LossyRuns core outcome) → HandsNothing run → handed_losing x run ≡ []
 none_handed x rests_losing none = refl
 none_handed x (goes_losing m run) none = ap (λ l. l ++ handed_losing x run) (none_on x m none.0) ∙ none_handed x run none.1

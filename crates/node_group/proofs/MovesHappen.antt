@@ -46,7 +46,7 @@ use Rattle.packet_world.proofs.of_agreement.Given.Places.{none_between}
 use Rattle.packet_world.proofs.of_agreement.Given.StepGives.{from_active}
 use Rattle.node_moves.specs.world_base.declared.Connection.{Connection}
 use Rattle.node_moves.specs.world_base.declared.Port.{Port}
-use Rattle.node_moves.specs.world_base.Core.{CoreState, Turn, rules, serves}
+use Rattle.node_moves.specs.world_base.Core.{CoreState, StepOutcome, rules, serves}
 use Rattle.node_moves.specs.world_base.Failing.{closes_failed}
 use Rattle.node_moves.specs.world_base.Reading.{changes}
 use Rattle.node_moves.specs.world_base.Turns.{drives, has_room, heard, moved, proposes, without_messages}
@@ -61,7 +61,7 @@ use Rattle.node_moves.specs.ballot.Cutting.{can_cut, cut}
 use Rattle.packet_world.specs.snapshots.World.{recorded}
 use Rattle.std.specs.Prelude.{not}
 use Rattle.std.proofs.lemmas.Bool.{and_parts, ltb-true}
-use Rattle.node_group.specs.Group.{Group, after_turn, moment_of, replica_of, with_record}
+use Rattle.node_group.specs.Group.{Group, after_outcome, moment_of, replica_of, with_record}
 use Rattle.node_group.specs.Steps.{InputWasSent, WasSent, keeping, put_in_move}
 use Rattle.node_group.specs.Pasts.{packets_in}
 use Rattle.node_group.specs.Putting.{recorded_by}
@@ -118,24 +118,24 @@ abbrev with_world : MasterState → World State Command Output → Moment State 
 with_world m w = record { master = m; world = w }
 
 -- after a turn the replica at the index is this one
-after_is : (g : Group) (n : ℕ) (turn : Turn) (given effects : Given) (new : ReplicaState State Command) → replica_of turn.core ≡ new
-    → messages turn.messages ≡ messages effects → outputs given ≡ outputs effects
+after_is : (g : Group) (n : ℕ) (outcome : StepOutcome) (given effects : Given) (new : ReplicaState State Command) → replica_of outcome.core ≡ new
+    → messages outcome.messages ≡ messages effects → outputs given ≡ outputs effects
     → with_world g.master (let w : World State Command Output = record { nodes = slice_set (map replica_of g.nodes) n new; sent = g.sent ++ messages effects; left = g.left ++ outputs effects; archive = g.archive } in w)
-    ≡ moment_of (after_turn g n turn given)
-after_is g n turn given effects new replica sent left =
+    ≡ moment_of (after_outcome g n outcome given)
+after_is g n outcome given effects new replica sent left =
     ap (with_world g.master)
-    (sym (same_world g.archive (set_mapped replica_of g.nodes n turn.core ∙ ap (λ r. slice_set (map replica_of g.nodes) n r) replica)
+    (sym (same_world g.archive (set_mapped replica_of g.nodes n outcome.core ∙ ap (λ r. slice_set (map replica_of g.nodes) n r) replica)
     (ap (λ l. g.sent ++ l) sent) (ap (λ l. g.left ++ l) left)))
 
 -- ---- no event
 
 -- a turn that leaves the replica as it is, and hands out nothing
-stays_as_it_is : (g : Group) (n : ℕ) (core : CoreState) (turn : Turn) (given : Given) → slice_get g.nodes n ≡ Some core → replica_of turn.core ≡ replica_of core
-    → messages turn.messages ≡ [] → outputs given ≡ [] → moment_of g ≡ moment_of (after_turn g n turn given)
-stays_as_it_is g n core turn given at same none_sent none_left =
+stays_as_it_is : (g : Group) (n : ℕ) (core : CoreState) (outcome : StepOutcome) (given : Given) → slice_get g.nodes n ≡ Some core → replica_of outcome.core ≡ replica_of core
+    → messages outcome.messages ≡ [] → outputs given ≡ [] → moment_of g ≡ moment_of (after_outcome g n outcome given)
+stays_as_it_is g n core outcome given at same none_sent none_left =
     ap (with_world g.master)
     (same_world g.archive
-    (sym (set_mapped replica_of g.nodes n turn.core ∙ ap (λ r. slice_set (map replica_of g.nodes) n r) same
+    (sym (set_mapped replica_of g.nodes n outcome.core ∙ ap (λ r. slice_set (map replica_of g.nodes) n r) same
     ∙ set_same (map replica_of g.nodes) n (replica_of core) (get_mapped replica_of g.nodes n core at)))
     (sym (ap (λ l. g.sent ++ l) none_sent ∙ append-nil g.sent)) (sym (ap (λ l. g.left ++ l) none_left ∙ append-nil g.left)))
 
@@ -191,13 +191,13 @@ no_event config a b earlier came n same =
 -- ---- one step of a replica
 
 -- the replica takes a step on this, perhaps with losses; these messages and these outputs are what it gave
-pub one_step : (g : Group) (n : ℕ) (core : CoreState) (turn : Turn) (input : Input Command) (new : ReplicaState State Command) (given thin : Given) (config : Config)
+pub one_step : (g : Group) (n : ℕ) (core : CoreState) (outcome : StepOutcome) (input : Input Command) (new : ReplicaState State Command) (given thin : Given) (config : Config)
     (earlier : List (Moment State Command Output)) (came : Moments rules config (moment_of g ∷ earlier)) → slice_get g.nodes n ≡ Some core
-    → (replica_of core).stopped ≡ false → MayTake (moment_of g).world n input → replica_of turn.core ≡ new
-    → Loses rules (replica_of core) (replica_step rules (replica_of core) input) new thin → messages turn.messages ≡ messages thin → outputs given ≡ outputs thin
-    → AreTaken (replica_of core) new input → Once came (moment_of (after_turn g n turn given)) (proposal_by (replica_of core) input) n (outputs given)
-one_step g n core turn input new given thin config earlier came at runs may replica lost sent left took =
-    subst (λ z. Once came z (proposal_by (replica_of core) input) n (outputs given)) (after_is g n turn given thin new replica sent left)
+    → (replica_of core).stopped ≡ false → MayTake (moment_of g).world n input → replica_of outcome.core ≡ new
+    → Loses rules (replica_of core) (replica_step rules (replica_of core) input) new thin → messages outcome.messages ≡ messages thin → outputs given ≡ outputs thin
+    → AreTaken (replica_of core) new input → Once came (moment_of (after_outcome g n outcome given)) (proposal_by (replica_of core) input) n (outputs given)
+one_step g n core outcome input new given thin config earlier came at runs may replica lost sent left took =
+    subst (λ z. Once came z (proposal_by (replica_of core) input) n (outputs given)) (after_is g n outcome given thin new replica sent left)
     (by_event came _ step (proposal_by (replica_of core) input) n (outputs given) refl took
     (ap (λ b. if b then outputs thin else []) (eq_same n) ∙ sym left))
   where
@@ -205,11 +205,11 @@ one_step g n core turn input new given thin config earlier came at runs may repl
     step = node_goes (goes.takes n (replica_of core) input (get_mapped replica_of g.nodes n core at) runs may lost)
 
 -- a crash
-pub one_stop : (g : Group) (n : ℕ) (core : CoreState) (turn : Turn) (given : Given) (config : Config) (earlier : List (Moment State Command Output))
-    (came : Moments rules config (moment_of g ∷ earlier)) → slice_get g.nodes n ≡ Some core → replica_of turn.core ≡ halted rules (replica_of core)
-    → messages turn.messages ≡ [] → outputs given ≡ [] → Once came (moment_of (after_turn g n turn given)) [] n (outputs given)
-one_stop g n core turn given config earlier came at replica none_sent none_left =
-    subst (λ z. Once came z [] n (outputs given)) (after_is g n turn given [] (halted rules (replica_of core)) replica none_sent none_left)
+pub one_stop : (g : Group) (n : ℕ) (core : CoreState) (outcome : StepOutcome) (given : Given) (config : Config) (earlier : List (Moment State Command Output))
+    (came : Moments rules config (moment_of g ∷ earlier)) → slice_get g.nodes n ≡ Some core → replica_of outcome.core ≡ halted rules (replica_of core)
+    → messages outcome.messages ≡ [] → outputs given ≡ [] → Once came (moment_of (after_outcome g n outcome given)) [] n (outputs given)
+one_stop g n core outcome given config earlier came at replica none_sent none_left =
+    subst (λ z. Once came z [] n (outputs given)) (after_is g n outcome given [] (halted rules (replica_of core)) replica none_sent none_left)
     (by_event came _ step [] n (outputs given) refl (λ x. refl) (sym none_left))
   where
     step : MayHappen rules g.master (moment_of g).world g.master (moved_world (moment_of g).world n (halted rules (replica_of core)) [])
@@ -219,7 +219,7 @@ one_stop g n core turn given config earlier came at replica none_sent none_left 
 pub one_cut : (g : Group) (n : ℕ) (core : CoreState) (config : Config) (earlier : List (Moment State Command Output))
     (came : Moments rules config (moment_of g ∷ earlier)) → slice_get g.nodes n ≡ Some core → can_cut (replica_of core) ≡ true
     → rules.thawed (rules.frozen (replica_of core).machine) ≡ Some (replica_of core).machine
-    → Once came (moment_of (after_turn (with_record g (recorded g.archive (replica_of core))) n (without_messages (with_cut core)) [])) [] n []
+    → Once came (moment_of (after_outcome (with_record g (recorded g.archive (replica_of core))) n (without_messages (with_cut core)) [])) [] n []
 one_cut g n core config earlier came at can reads =
     subst (λ z. Once came z [] n []) (after_is (with_record g (recorded g.archive (replica_of core))) n (without_messages (with_cut core)) [] [] (cut rules (replica_of core)) refl refl refl)
     (by_event came _ step [] n [] refl (λ x. refl) refl)
@@ -238,23 +238,23 @@ one_cut g n core config earlier came at can reads =
         (ltb-true (replica_of core).log.base (replica_of core).committed parts.1) reads)
 
 -- nothing happens to the replica
-pub no_step : (g : Group) (n : ℕ) (core : CoreState) (turn : Turn) (given : Given) (config : Config) (earlier : List (Moment State Command Output))
-    (came : Moments rules config (moment_of g ∷ earlier)) → slice_get g.nodes n ≡ Some core → replica_of turn.core ≡ replica_of core
-    → messages turn.messages ≡ [] → outputs given ≡ [] → Once came (moment_of (after_turn g n turn given)) [] n (outputs given)
-no_step g n core turn given config earlier came at replica none_sent none_left =
-    subst (λ (l : List (ℕ × Output)). Once came (moment_of (after_turn g n turn given)) [] n l) (sym none_left)
-    (no_event config (moment_of g) _ earlier came n (stays_as_it_is g n core turn given at replica none_sent none_left))
+pub no_step : (g : Group) (n : ℕ) (core : CoreState) (outcome : StepOutcome) (given : Given) (config : Config) (earlier : List (Moment State Command Output))
+    (came : Moments rules config (moment_of g ∷ earlier)) → slice_get g.nodes n ≡ Some core → replica_of outcome.core ≡ replica_of core
+    → messages outcome.messages ≡ [] → outputs given ≡ [] → Once came (moment_of (after_outcome g n outcome given)) [] n (outputs given)
+no_step g n core outcome given config earlier came at replica none_sent none_left =
+    subst (λ (l : List (ℕ × Output)). Once came (moment_of (after_outcome g n outcome given)) [] n l) (sym none_left)
+    (no_event config (moment_of g) _ earlier came n (stays_as_it_is g n core outcome given at replica none_sent none_left))
 
 -- ---- moves
 
 -- what must hold for each move, of which these messages are kept
-abbrev Happens : Group → ℕ → (core : CoreState) (turn : Turn) → Moves core turn → Given → Type 0
-Happens g n core turn m kept = (config : Config) (earlier : List (Moment State Command Output)) (came : Moments rules config (moment_of g ∷ earlier))
-    → Once came (moment_of (after_turn (with_record g (recorded_by g.archive m)) n (keeping kept turn) (given_in m))) (put_in_move m) n (outputs (given_in m))
+abbrev Happens : Group → ℕ → (core : CoreState) (outcome : StepOutcome) → Moves core outcome → Given → Type 0
+Happens g n core outcome m kept = (config : Config) (earlier : List (Moment State Command Output)) (came : Moments rules config (moment_of g ∷ earlier))
+    → Once came (moment_of (after_outcome (with_record g (recorded_by g.archive m)) n (keeping kept outcome) (given_in m))) (put_in_move m) n (outputs (given_in m))
 
 pub happens_without_messages : (g : Group) (n : ℕ) (core later : CoreState) (kept : Given) → slice_get g.nodes n ≡ Some core → replica_of later ≡ replica_of core → Thinned kept []
     → (config : Config) (earlier : List (Moment State Command Output)) (came : Moments rules config (moment_of g ∷ earlier))
-    → Once came (moment_of (after_turn g n (keeping kept (without_messages later)) [])) [] n []
+    → Once came (moment_of (after_outcome g n (keeping kept (without_messages later)) [])) [] n []
 happens_without_messages g n core later kept at same t config earlier came =
     no_step g n core (keeping kept (without_messages later)) [] config earlier came at same (ap messages (nothing_kept kept t)) refl
 
@@ -273,7 +273,7 @@ moved_happens : (g : Group) (n : ℕ) (core between : CoreState) (input : Input 
     → (replica_of core).stopped ≡ false → MayTake (moment_of g).world n input → AreTaken (replica_of core) (replica_step rules (replica_of core) input).state input
     → KeptOf kept (replica_step rules (replica_of core) input).effects → (config : Config) (earlier : List (Moment State Command Output))
     (came : Moments rules config (moment_of g ∷ earlier))
-    → Once came (moment_of (after_turn g n (keeping kept (moved (replica_step rules (replica_of core) input) between)) (replica_step rules (replica_of core) input).effects))
+    → Once came (moment_of (after_outcome g n (keeping kept (moved (replica_step rules (replica_of core) input) between)) (replica_step rules (replica_of core) input).effects))
     (proposal_by (replica_of core) input) n (outputs (replica_step rules (replica_of core) input).effects)
 moved_happens g n core between input kept at runs may took k config earlier came =
     one_step g n core (keeping kept (moved (replica_step rules (replica_of core) input) between)) input (replica_step rules (replica_of core) input).state
@@ -284,11 +284,11 @@ moved_happens g n core between input kept at runs may took k config earlier came
 put_happens : (g : Group) (n : ℕ) (core between : CoreState) (command : Command) (kept : Given) → slice_get g.nodes n ≡ Some core → between.replica ≡ core.replica
     → serves core ≡ true → HasRoomFor core command → Thinned kept (proposes command between).messages → (config : Config) (earlier : List (Moment State Command Output))
     (came : Moments rules config (moment_of g ∷ earlier))
-    → Once came (moment_of (after_turn g n (keeping kept (proposes command between)) (proposed rules (replica_of core) command).effects)) (((replica_of core).joined, command) ∷ []) n
+    → Once came (moment_of (after_outcome g n (keeping kept (proposes command between)) (proposed rules (replica_of core) command).effects)) (((replica_of core).joined, command) ∷ []) n
     (outputs (proposed rules (replica_of core) command).effects)
 unfolding proposes
 put_happens g n core between command kept at same serving room t config earlier came =
-    subst (λ (c : CoreState). Once came (moment_of (after_turn g n (let u : Turn = record { core = c; messages = kept } in u) (proposed rules (replica_of core) command).effects))
+    subst (λ (c : CoreState). Once came (moment_of (after_outcome g n (let u : StepOutcome = record { core = c; messages = kept } in u) (proposed rules (replica_of core) command).effects))
     (((replica_of core).joined, command) ∷ []) n (outputs (proposed rules (replica_of core) command).effects)) (sym is)
     (moved_happens g n core between (Proposes command) kept at (serving_runs core serving) tt (proposal_taken core command serving room)
     (kept_of_all (proposed rules (replica_of core) command).effects kept (by serving_between t)) config earlier came)
@@ -297,12 +297,12 @@ put_happens g n core between command kept at same serving room t config earlier 
     serving_between = serves_as between core same ∙ serving
 
     core_if : Bool → CoreState
-    core_if b = (let u : Turn = if b then moved (proposed rules (replica_of between) command) between else without_messages between in u).core
+    core_if b = (let u : StepOutcome = if b then moved (proposed rules (replica_of between) command) between else without_messages between in u).core
 
     is : core_if (serves between) ≡ (moved (proposed rules (replica_of core) command) between).core
     is = ap core_if serving_between ∙ ap (λ (r : ReplicaState State Command). (moved (proposed rules r command) between).core) (state_of between core same)
 
-    by : {b : Bool} → b ≡ true → Thinned kept (let u : Turn = if b then moved (proposed rules (replica_of between) command) between else without_messages between in u).messages
+    by : {b : Bool} → b ≡ true → Thinned kept (let u : StepOutcome = if b then moved (proposed rules (replica_of between) command) between else without_messages between in u).messages
         → Thinned kept (moved (proposed rules (replica_of core) command) between).messages
     by {b = true} e f = subst (λ (r : ReplicaState State Command). Thinned kept (moved (proposed rules r command) between).messages) (state_of between core same) f
     by {b = false} e f = absurd cc
@@ -337,12 +337,12 @@ none_put core Ticks e = refl
 heard_happens : (g : Group) (n : ℕ) (core : CoreState) (input : Input Command) (kept : Given) → slice_get g.nodes n ≡ Some core → is_proposal input ≡ false
     → InputWasSent g n input → Thinned kept (drives input core).messages → (config : Config) (earlier : List (Moment State Command Output))
     (came : Moments rules config (moment_of g ∷ earlier))
-    → Once came (moment_of (after_turn g n (keeping kept (drives input core)) (heard input (replica_of core)).effects)) [] n (outputs (heard input (replica_of core)).effects)
+    → Once came (moment_of (after_outcome g n (keeping kept (drives input core)) (heard input (replica_of core)).effects)) [] n (outputs (heard input (replica_of core)).effects)
 unfolding drives
 heard_happens g n core input kept at other sent t config earlier came = by (replica_of core).stopped refl t
   where
     after : Outcome State Command Output → Type 0
-    after o = Thinned kept (moved o core).messages → Once came (moment_of (after_turn g n (keeping kept (moved o core)) o.effects)) [] n (outputs o.effects)
+    after o = Thinned kept (moved o core).messages → Once came (moment_of (after_outcome g n (keeping kept (moved o core)) o.effects)) [] n (outputs o.effects)
 
     by : (b : Bool) → (replica_of core).stopped ≡ b → after (heard input (replica_of core))
     by true e =
@@ -353,7 +353,7 @@ heard_happens g n core input kept at other sent t config earlier came = by (repl
     by false e =
         subst after (sym (heard_as_running (replica_of core) input e))
         (λ f.
-        subst (λ l. Once came (moment_of (after_turn g n (keeping kept (moved (replica_step rules (replica_of core) input) core)) (replica_step rules (replica_of core) input).effects)) l n
+        subst (λ l. Once came (moment_of (after_outcome g n (keeping kept (moved (replica_step rules (replica_of core) input) core)) (replica_step rules (replica_of core) input).effects)) l n
         (outputs (replica_step rules (replica_of core) input).effects))
         (none_put core input other)
         (moved_happens g n core core input kept at e (may_take g n input other sent) (none_taken (replica_of core) (replica_step rules (replica_of core) input).state input other)
@@ -362,12 +362,12 @@ heard_happens g n core input kept at other sent t config earlier came = by (repl
 -- if the node does not serve, it is not reported that a connection is lost
 lost_unheard : (g : Group) (n : ℕ) (core between : CoreState) (command : Command) (kept : Given) → slice_get g.nodes n ≡ Some core → between.replica ≡ core.replica
     → serves core ≡ false → Thinned kept (proposes command between).messages → (config : Config) (earlier : List (Moment State Command Output))
-    (came : Moments rules config (moment_of g ∷ earlier)) → Once came (moment_of (after_turn g n (keeping kept (proposes command between)) [])) [] n []
+    (came : Moments rules config (moment_of g ∷ earlier)) → Once came (moment_of (after_outcome g n (keeping kept (proposes command between)) [])) [] n []
 unfolding proposes
 lost_unheard g n core between command kept at same none_served t config earlier came = by (serves between) (serves_as between core same ∙ none_served) t
   where
-    by : (b : Bool) → b ≡ false → Thinned kept (let u : Turn = if b then moved (proposed rules (replica_of between) command) between else without_messages between in u).messages
-        → Once came (moment_of (after_turn g n (keeping kept (let u : Turn = if b then moved (proposed rules (replica_of between) command) between else without_messages between in u)) [])) [] n []
+    by : (b : Bool) → b ≡ false → Thinned kept (let u : StepOutcome = if b then moved (proposed rules (replica_of between) command) between else without_messages between in u).messages
+        → Once came (moment_of (after_outcome g n (keeping kept (let u : StepOutcome = if b then moved (proposed rules (replica_of between) command) between else without_messages between in u)) [])) [] n []
     by true e f = absurd cc
     by false e f = happens_without_messages g n core between kept at (state_of between core same) f config earlier came
 
@@ -375,7 +375,7 @@ lost_unheard g n core between command kept at same none_served t config earlier 
 lost_happens : (g : Group) (n : ℕ) (core between : CoreState) (command : Command) (kept : Given) → slice_get g.nodes n ≡ Some core → between.replica ≡ core.replica
     → HasRoomFor core command → (b : Bool) → serves core ≡ b → Thinned kept (proposes command between).messages → (config : Config)
     (earlier : List (Moment State Command Output)) (came : Moments rules config (moment_of g ∷ earlier))
-    → Once came (moment_of (after_turn g n (keeping kept (proposes command between)) (if b then (proposed rules (replica_of core) command).effects else [])))
+    → Once came (moment_of (after_outcome g n (keeping kept (proposes command between)) (if b then (proposed rules (replica_of core) command).effects else [])))
     (map (λ put. ((replica_of core).joined, put)) (if b then command ∷ [] else [])) n (outputs (if b then (proposed rules (replica_of core) command).effects else []))
 lost_happens g n core between command kept at same room true e t = put_happens g n core between command kept at same e room t
 lost_happens g n core between command kept at same room false e t = lost_unheard g n core between command kept at same e t
@@ -398,33 +398,33 @@ expel_is_none core client x is = let e : is_packet_of (commands.Expel client) x 
 cut_happens : (g : Group) (n : ℕ) (core : CoreState) (kept : Given) → slice_get g.nodes n ≡ Some core → can_cut (replica_of core) ≡ true
     → rules.thawed (rules.frozen (replica_of core).machine) ≡ Some (replica_of core).machine → Thinned kept []
     → (config : Config) (earlier : List (Moment State Command Output)) (came : Moments rules config (moment_of g ∷ earlier))
-    → Once came (moment_of (after_turn (with_record g (recorded g.archive (replica_of core))) n (keeping kept (without_messages (with_cut core))) [])) [] n []
+    → Once came (moment_of (after_outcome (with_record g (recorded g.archive (replica_of core))) n (keeping kept (without_messages (with_cut core))) [])) [] n []
 cut_happens g n core kept at can reads t config earlier came =
-    subst (λ (l : Given). Once came (moment_of (after_turn (with_record g (recorded g.archive (replica_of core))) n (keeping l (without_messages (with_cut core))) [])) [] n [])
+    subst (λ (l : Given). Once came (moment_of (after_outcome (with_record g (recorded g.archive (replica_of core))) n (keeping l (without_messages (with_cut core))) [])) [] n [])
     (sym (nothing_kept kept t)) (one_cut g n core config earlier came at can reads)
 
-pub moves_happen : (g : Group) (n : ℕ) (core : CoreState) (turn : Turn) (m : Moves core turn) (kept : Given) → slice_get g.nodes n ≡ Some core → WasSent g n m
-    → Thinned kept turn.messages → Happens g n core turn m kept
-moves_happen g n core turn (hears input other) kept at sent t = heard_happens g n core input kept at other sent t
-moves_happen g n core turn (opens_one port) kept at sent t = happens_without_messages g n core _ kept at (state_of (opens port core) core (opens_keeps port core)) t
-moves_happen g n core turn (holds port piece) kept at sent t = happens_without_messages g n core _ kept at (changed_state port (holding piece) core) t
-moves_happen g n core turn (reads_first now port c connect rest is_at first is room) kept at sent t =
+pub moves_happen : (g : Group) (n : ℕ) (core : CoreState) (outcome : StepOutcome) (m : Moves core outcome) (kept : Given) → slice_get g.nodes n ≡ Some core → WasSent g n m
+    → Thinned kept outcome.messages → Happens g n core outcome m kept
+moves_happen g n core outcome (hears input other) kept at sent t = heard_happens g n core input kept at other sent t
+moves_happen g n core outcome (opens_one port) kept at sent t = happens_without_messages g n core _ kept at (state_of (opens port core) core (opens_keeps port core)) t
+moves_happen g n core outcome (holds port piece) kept at sent t = happens_without_messages g n core _ kept at (changed_state port (holding piece) core) t
+moves_happen g n core outcome (reads_first now port c connect rest is_at first is room) kept at sent t =
     put_happens g n core (changes port (noted_proposed connect.keep_alive) (changes port (left_with now rest) core)) _ kept at
     (changes_keep port (noted_proposed connect.keep_alive) (changes port (left_with now rest) core) ∙ changes_keep port (left_with now rest) core)
     (room_serves core (nat_lt (places (replica_of core).log) max_places) room) (λ x is_one. room_is core room) t
-moves_happen g n core turn (reads_later now port c packet rest is_at later is room) kept at sent t =
+moves_happen g n core outcome (reads_later now port c packet rest is_at later is room) kept at sent t =
     put_happens g n core (changes port (left_with now rest) core) _ kept at (changes_keep port (left_with now rest) core)
     (room_serves core (nat_lt (places (replica_of core).log) max_places) room) (λ x is_one. room_is core room) t
-moves_happen g n core turn (closes port) kept at sent t = happens_without_messages g n core _ kept at (changed_state port closed core) t
-moves_happen g n core turn (refuses port c code is_at first is) kept at sent t = happens_without_messages g n core _ kept at (changed_state port (refused code) core) t
-moves_happen g n core turn (loses_one port c is_at was_asked) kept at sent t =
+moves_happen g n core outcome (closes port) kept at sent t = happens_without_messages g n core _ kept at (changed_state port closed core) t
+moves_happen g n core outcome (refuses port c code is_at first is) kept at sent t = happens_without_messages g n core _ kept at (changed_state port (refused code) core) t
+moves_happen g n core outcome (loses_one port c is_at was_asked) kept at sent t =
     lost_happens g n core (changes port closed core) (commands.Lost c.name) kept at (changes_keep port closed core) (lost_is_none core c.name) (serves core) refl t
-moves_happen g n core turn (loses_next c is_at) kept at sent t =
+moves_happen g n core outcome (loses_next c is_at) kept at sent t =
     lost_happens g n core (closes_failed core) (commands.Lost c.name) kept at refl (lost_is_none core c.name) (serves core) refl t
-moves_happen g n core turn (expels_one client) kept at sent t =
+moves_happen g n core outcome (expels_one client) kept at sent t =
     lost_happens g n core core (commands.Expel client) kept at refl (expel_is_none core client) (serves core) refl t
-moves_happen g n core turn (cuts_log can) kept at sent t = cut_happens g n core kept at can sent t
-moves_happen g n core turn crashes kept at sent t =
-    λ config earlier came. one_stop g n core (keeping kept turn) [] config earlier came at refl (ap messages (nothing_kept kept t)) refl
-moves_happen g n core turn settles kept at sent t = happens_without_messages g n core _ kept at (state_of (settled core) core (settles_keeps core)) t
-moves_happen g n core turn (hands port) kept at sent t = happens_without_messages g n core _ kept at (state_of (hands_over port core) core (hands_keeps port core)) t
+moves_happen g n core outcome (cuts_log can) kept at sent t = cut_happens g n core kept at can sent t
+moves_happen g n core outcome crashes kept at sent t =
+    λ config earlier came. one_stop g n core (keeping kept outcome) [] config earlier came at refl (ap messages (nothing_kept kept t)) refl
+moves_happen g n core outcome settles kept at sent t = happens_without_messages g n core _ kept at (state_of (settled core) core (settles_keeps core)) t
+moves_happen g n core outcome (hands port) kept at sent t = happens_without_messages g n core _ kept at (state_of (hands_over port core) core (hands_keeps port core)) t

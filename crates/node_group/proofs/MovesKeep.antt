@@ -22,7 +22,7 @@ use Rattle.packet_world.specs.exactly_once.Sends.{sends_to}
 use Rattle.packet_world.proofs.Answers.{counted_in, nothing_put}
 use Rattle.packet_world.proofs.Lists.{same_or_other}
 use Rattle.node_moves.specs.world_base.declared.Connection.{Connection}
-use Rattle.node_moves.specs.world_base.Core.{CoreState, Turn, rules}
+use Rattle.node_moves.specs.world_base.Core.{CoreState, StepOutcome, rules}
 use Rattle.node_moves.specs.Closed.{listed_named}
 use Rattle.node_moves.specs.Ends.{IsEnd, IsGiven, IsOrderly, commands_of, open_named, stream_of}
 use Rattle.node_moves.specs.Ends.IsEnd.{not_yet}
@@ -36,7 +36,7 @@ use Rattle.node_moves.proofs.LossyClosed.{lossy_names_are_of_the_ballot}
 use Rattle.node_moves.proofs.LossyReads.{losses_read_in_order}
 use Rattle.node_moves.proofs.LossyShuts.{sent_in}
 use Rattle.node_moves.proofs.ProposesInOrder.{commands_join}
-use Rattle.node_group.specs.Group.{Group, after_turn, moment_of, replica_of, with_record}
+use Rattle.node_group.specs.Group.{Group, after_outcome, moment_of, replica_of, with_record}
 use Rattle.node_group.specs.Steps.{keeping}
 use Rattle.node_group.specs.Losing.{commands_put, put_in_move, recorded_by}
 use Rattle.node_group.specs.Order.{packets_of}
@@ -78,74 +78,74 @@ same_core : (a b : CoreState) → (let o : Option CoreState = Some a in o) ≡ S
 same_core a b e = cc
 
 -- an open connection is led on: the node led when it leads after the move
-abbrev pub LeadsStill : CoreState → Turn → Type 0
-LeadsStill core turn = (x : ConnectionName) (c : Connection) → listed_named x core ≡ Some c → live c ≡ true → is_active (replica_of turn.core).role ≡ true
+abbrev pub LeadsStill : CoreState → StepOutcome → Type 0
+LeadsStill core outcome = (x : ConnectionName) (c : Connection) → listed_named x core ≡ Some c → live c ≡ true → is_active (replica_of outcome.core).role ≡ true
     → is_active (replica_of core).role ≡ true
 
 -- what is known about a move of the node at an index of a group, of which these messages are kept
 pub record Known {config : Config} (g : Group) {earlier : List (Moment State Command Output)} (came : Moments rules config (moment_of g ∷ earlier)) (a : ℕ)
-    {core : CoreState} {turn : Turn} (m : LossyMoves core turn) (kept : List (Effect Command Output)) : Type 0 where
+    {core : CoreState} {outcome : StepOutcome} (m : LossyMoves core outcome) (kept : List (Effect Command Output)) : Type 0 where
   pub at : slice_get g.nodes a ≡ Some core
   pub orderly : IsOrderly core
-  pub leads : LeadsStill core turn
-  pub once : Once came (moment_of (after_turn (with_record g (recorded_by g.archive m)) a (keeping kept turn) (given_in m))) (put_in_move m) a (outputs (given_in m))
+  pub leads : LeadsStill core outcome
+  pub once : Once came (moment_of (after_outcome (with_record g (recorded_by g.archive m)) a (keeping kept outcome) (given_in m))) (put_in_move m) a (outputs (given_in m))
 
 -- and of one connection in it
 record Here {config : Config} {g : Group} {earlier : List (Moment State Command Output)} {came : Moments rules config (moment_of g ∷ earlier)} {a : ℕ}
-    {core : CoreState} {turn : Turn} {m : LossyMoves core turn} {kept : List (Effect Command Output)} (k : Known g came a m kept) (x : ConnectionName) (put : List (ℕ × Command)) (xs ys : List Command) : Type 0 where
+    {core : CoreState} {outcome : StepOutcome} {m : LossyMoves core outcome} {kept : List (Effect Command Output)} (k : Known g came a m kept) (x : ConnectionName) (put : List (ℕ × Command)) (xs ys : List Command) : Type 0 where
   grown : IsPrefixOf xs ys
-  sends : Sends x (replica_of core) (replica_of turn.core) ys (spelled (sends_to x (outputs_of (given_in m))))
+  sends : Sends x (replica_of core) (replica_of outcome.core) ys (spelled (sends_to x (outputs_of (given_in m))))
   said : IsPrefixOf (packets_of x ys) (packets_of x (commands_in (put ++ put_in_move m)))
 
 abbrev After : {config : Config} {g : Group} {earlier : List (Moment State Command Output)} {came : Moments rules config (moment_of g ∷ earlier)} {a : ℕ}
-    {core : CoreState} {turn : Turn} {m : LossyMoves core turn} {kept : List (Effect Command Output)} → Known g came a m kept → ConnectionName → List Packet → List ℕ → List (ℕ × Command) → List ℕ → List Command → Type 0
-After {g = g} {a = a} {turn = turn} {m = m} {kept = kept} k x written later put down ys =
-    Stands x written later (after_turn (with_record g (recorded_by g.archive m)) a (keeping kept turn) (given_in m)) (moment_of (after_turn (with_record g (recorded_by g.archive m)) a (keeping kept turn) (given_in m)) ∷ k.once.further.before) (put ++ put_in_move m)
+    {core : CoreState} {outcome : StepOutcome} {m : LossyMoves core outcome} {kept : List (Effect Command Output)} → Known g came a m kept → ConnectionName → List Packet → List ℕ → List (ℕ × Command) → List ℕ → List Command → Type 0
+After {g = g} {a = a} {outcome = outcome} {m = m} {kept = kept} k x written later put down ys =
+    Stands x written later (after_outcome (with_record g (recorded_by g.archive m)) a (keeping kept outcome) (given_in m)) (moment_of (after_outcome (with_record g (recorded_by g.archive m)) a (keeping kept outcome) (given_in m)) ∷ k.once.further.before) (put ++ put_in_move m)
     (down ++ handed_on x m) ys
 
-unrefused : (x : ConnectionName) {core : CoreState} {turn : Turn} (m : LossyMoves core turn) → refusal_in x m ≡ [] → sent_in x m ≡ spelled (sends_to x (outputs_of (given_in m)))
+unrefused : (x : ConnectionName) {core : CoreState} {outcome : StepOutcome} (m : LossyMoves core outcome) → refusal_in x m ≡ [] → sent_in x m ≡ spelled (sends_to x (outputs_of (given_in m)))
 unrefused x m none = ap (λ l. spelled (l ++ sends_to x (outputs_of (given_in m)))) none
 
-nothing_more : (x : ConnectionName) (put : List (ℕ × Command)) {core : CoreState} {turn : Turn} (m : LossyMoves core turn) → packets_of x (proposal_of m) ≡ []
+nothing_more : (x : ConnectionName) (put : List (ℕ × Command)) {core : CoreState} {outcome : StepOutcome} (m : LossyMoves core outcome) → packets_of x (proposal_of m) ≡ []
     → packets_of x (commands_in (put ++ put_in_move m)) ≡ packets_of x (commands_in put)
-nothing_more x put {core = core} {turn = turn} m none =
-    packets_more x put m ∙ ap (λ l. packets_of x (commands_in put) ++ l) (packets_put x core turn m ∙ none) ∙ append-nil (packets_of x (commands_in put))
+nothing_more x put {core = core} {outcome = outcome} m none =
+    packets_more x put m ∙ ap (λ l. packets_of x (commands_in put) ++ l) (packets_put x core outcome m ∙ none) ∙ append-nil (packets_of x (commands_in put))
 
 -- ---- no node had it
 
 untouched_keeps : {config : Config} {g : Group} {earlier : List (Moment State Command Output)} {came : Moments rules config (moment_of g ∷ earlier)} {a : ℕ}
-    {core : CoreState} {turn : Turn} {m : LossyMoves core turn} {kept : List (Effect Command Output)} (k : Known g came a m kept) (x : ConnectionName) (written : List Packet) (later : List ℕ) (put : List (ℕ × Command)) (down : List ℕ)
+    {core : CoreState} {outcome : StepOutcome} {m : LossyMoves core outcome} {kept : List (Effect Command Output)} (k : Known g came a m kept) (x : ConnectionName) (written : List Packet) (later : List ℕ) (put : List (ℕ × Command)) (down : List ℕ)
     (xs ys : List Command) → Here k x put xs ys → Untouched x written (came_on x m ++ later) g put down → After k x written later put down ys
-untouched_keeps {g = g} {earlier = earlier} {a = a} {core = core} {turn = turn} {m = m} {kept = kept} k x written later put down xs ys h u =
-    by (listed_named x turn.core) refl (subst (λ (o : Option Connection). Flows (handed_on x m) (sent_in x m) o (listed_named x turn.core)) none (move_flows x core turn m k.orderly))
+untouched_keeps {g = g} {earlier = earlier} {a = a} {core = core} {outcome = outcome} {m = m} {kept = kept} k x written later put down xs ys h u =
+    by (listed_named x outcome.core) refl (subst (λ (o : Option Connection). Flows (handed_on x m) (sent_in x m) o (listed_named x outcome.core)) none (move_flows x core outcome m k.orderly))
   where
     none : listed_named x core ≡ None
     none = u.nowhere a core k.at
 
     unsaid : packets_of x (proposal_of m) ≡ []
-    unsaid = none_put x core turn m k.orderly (unlisted_shut x core none)
+    unsaid = none_put x core outcome m k.orderly (unlisted_shut x core none)
 
     quiet : came_on x m ++ later ≡ later
-    quiet = ap (λ l. l ++ later) (none_came x core turn m k.orderly (unlisted_shut x core none))
+    quiet = ap (λ l. l ++ later) (none_came x core outcome m k.orderly (unlisted_shut x core none))
 
     after : List CoreState
-    after = slice_set g.nodes a turn.core
+    after = slice_set g.nodes a outcome.core
 
-    others : (p : Option Connection) → listed_named x turn.core ≡ p → (n : ℕ) (other : CoreState) → slice_get after n ≡ Some other → ((n ≡ a) × (listed_named x other ≡ p)) ⊎ (listed_named x other ≡ None)
-    others p there n other e = on (set_back g.nodes a n turn.core other e)
+    others : (p : Option Connection) → listed_named x outcome.core ≡ p → (n : ℕ) (other : CoreState) → slice_get after n ≡ Some other → ((n ≡ a) × (listed_named x other ≡ p)) ⊎ (listed_named x other ≡ None)
+    others p there n other e = on (set_back g.nodes a n outcome.core other e)
       where
-        on : ((n ≡ a) × (other ≡ turn.core)) ⊎ (slice_get g.nodes n ≡ Some other) → ((n ≡ a) × (listed_named x other ≡ p)) ⊎ (listed_named x other ≡ None)
+        on : ((n ≡ a) × (other ≡ outcome.core)) ⊎ (slice_get g.nodes n ≡ Some other) → ((n ≡ a) × (listed_named x other ≡ p)) ⊎ (listed_named x other ≡ None)
         on (inl (same, is)) = inl (same, ap (listed_named x) is ∙ there)
         on (inr f) = inr (u.nowhere n other f)
 
-    still_nowhere : listed_named x turn.core ≡ None → (n : ℕ) (other : CoreState) → slice_get after n ≡ Some other → listed_named x other ≡ None
+    still_nowhere : listed_named x outcome.core ≡ None → (n : ℕ) (other : CoreState) → slice_get after n ≡ Some other → listed_named x other ≡ None
     still_nowhere there n other e = on (others None there n other e)
       where
         on : ((n ≡ a) × (listed_named x other ≡ None)) ⊎ (listed_named x other ≡ None) → listed_named x other ≡ None
         on (inl (same, f)) = f
         on (inr f) = f
 
-    elsewhere : (d : Connection) → listed_named x turn.core ≡ Some d → (n : ℕ) (other : CoreState) → slice_get after n ≡ Some other → (n ≡ a → ⊥) → listed_named x other ≡ None
+    elsewhere : (d : Connection) → listed_named x outcome.core ≡ Some d → (n : ℕ) (other : CoreState) → slice_get after n ≡ Some other → (n ≡ a → ⊥) → listed_named x other ≡ None
     elsewhere d there n other e apart = on (others (Some d) there n other e)
       where
         on : ((n ≡ a) × (listed_named x other ≡ Some d)) ⊎ (listed_named x other ≡ None) → listed_named x other ≡ None
@@ -155,28 +155,28 @@ untouched_keeps {g = g} {earlier = earlier} {a = a} {core = core} {turn = turn} 
     silent : packets_of x (commands_in (put ++ put_in_move m)) ≡ []
     silent = nothing_more x put m unsaid ∙ u.unsaid
 
-    opened : (d : Connection) → listed_named x turn.core ≡ Some d → handed_on x m ≡ [] → live d ≡ true → d.pending ≡ [] → After k x written later put down ys
+    opened : (d : Connection) → listed_named x outcome.core ≡ Some d → handed_on x m ≡ [] → live d ≡ true → d.pending ≡ [] → After k x written later put down ys
     opened d there no_bytes lives empty =
-        let next = lossy_names_are_of_the_ballot core turn m k.orderly x d none there in
+        let next = lossy_names_are_of_the_ballot core outcome m k.orderly x d none there in
         let led = leads_now g a core x earlier k.at next in
-        let read = losses_read_in_order core turn m k.orderly in
+        let read = losses_read_in_order core outcome m k.orderly in
         let r = read.1 x written [] (came_on x m ++ later) later (not_yet (still_to_come core x k.orderly next) refl u.piped) refl in
         inr (record {
           n = a;
-          core = turn.core;
-          stands = get_of_set g.nodes a core turn.core k.at;
+          core = outcome.core;
+          stands = get_of_set g.nodes a core outcome.core k.at;
           led = record { moment = led.moment; among = k.once.further.kept led.moment led.among; primary = led.primary };
-          given = listed_given x turn.core d read.0 there;
+          given = listed_given x outcome.core d read.0 there;
           read = r.more;
           end = r.end;
-          said = packets_more x put m ∙ ap (λ l. l ++ packets_of x (commands_put m)) u.unsaid ∙ packets_put x core turn m ∙ r.proposed;
+          said = packets_more x put m ∙ ap (λ l. l ++ packets_of x (commands_put m)) u.unsaid ∙ packets_put x core outcome m ∙ r.proposed;
           others = elsewhere d there;
-          sent = subst (Down x (replica_of turn.core) (down ++ handed_on x m) ys) (sym there)
-              (shows (replica_of turn.core).committed lives h.sends.inside (rw (u.unsent, no_bytes, empty) (sym
-              (none_answered x ys (replica_of turn.core).committed (nothing_before (packets_of x ys) (subst (IsPrefixOf (packets_of x ys)) silent h.said))))) (λ e. refl));
+          sent = subst (Down x (replica_of outcome.core) (down ++ handed_on x m) ys) (sym there)
+              (shows (replica_of outcome.core).committed lives h.sends.inside (rw (u.unsent, no_bytes, empty) (sym
+              (none_answered x ys (replica_of outcome.core).committed (nothing_before (packets_of x ys) (subst (IsPrefixOf (packets_of x ys)) silent h.said))))) (λ e. refl));
         })
 
-    by : (p : Option Connection) → listed_named x turn.core ≡ p → Flows (handed_on x m) (sent_in x m) None p → After k x written later put down ys
+    by : (p : Option Connection) → listed_named x outcome.core ≡ p → Flows (handed_on x m) (sent_in x m) None p → After k x written later put down ys
     by None there (away e) =
         inl (record {
           nowhere = still_nowhere there;
@@ -189,25 +189,25 @@ untouched_keeps {g = g} {earlier = earlier} {a = a} {core = core} {turn = turn} 
 -- ---- the node that has it
 
 held_here : {config : Config} {g : Group} {earlier : List (Moment State Command Output)} {came : Moments rules config (moment_of g ∷ earlier)} {a : ℕ}
-    {core : CoreState} {turn : Turn} {m : LossyMoves core turn} {kept : List (Effect Command Output)} (k : Known g came a m kept) (x : ConnectionName) (written : List Packet) (later : List ℕ) (put : List (ℕ × Command)) (down : List ℕ)
+    {core : CoreState} {outcome : StepOutcome} {m : LossyMoves core outcome} {kept : List (Effect Command Output)} (k : Known g came a m kept) (x : ConnectionName) (written : List Packet) (later : List ℕ) (put : List (ℕ × Command)) (down : List ℕ)
     (xs ys : List Command) → Here k x put xs ys → (held : Held x written (came_on x m ++ later) g (moment_of g ∷ earlier) put down xs) → held.n ≡ a → held.core ≡ core
     → After k x written later put down ys
-held_here {g = g} {earlier = earlier} {a = a} {core = core} {turn = turn} {m = m} {kept = kept} k x written later put down xs ys h held here_so same =
+held_here {g = g} {earlier = earlier} {a = a} {core = core} {outcome = outcome} {m = m} {kept = kept} k x written later put down xs ys h held here_so same =
     inr (record {
       n = a;
-      core = turn.core;
-      stands = get_of_set g.nodes a core turn.core k.at;
+      core = outcome.core;
+      stands = get_of_set g.nodes a core outcome.core k.at;
       led = record { moment = held.led.moment; among = k.once.further.kept held.led.moment held.led.among; primary = subst (λ n. IsPrimary held.led.moment.world n x.ballot) here_so held.led.primary };
-      given = stays_given x core turn m k.orderly given;
+      given = stays_given x core outcome m k.orderly given;
       read = held.read ++ r.more;
       end = r.end;
       said = packets_more x put m ∙ ap (λ l. l ++ packets_of x (commands_put m)) held.said
-          ∙ ap (λ l. commands_of x 0 held.read ++ l) (packets_put x core turn m ∙ r.proposed ∙ ap (λ n. commands_of x n r.more) (from_none (length held.read)))
+          ∙ ap (λ l. commands_of x 0 held.read ++ l) (packets_put x core outcome m ∙ r.proposed ∙ ap (λ n. commands_of x n r.more) (from_none (length held.read)))
           ∙ sym (commands_join x 0 held.read r.more);
       others = elsewhere;
-      sent = down_on (replica_of core) (replica_of turn.core) xs ys down h.grown h.sends (k.leads x) stays_away
-          (subst (λ l. Flows (handed_on x m) l (listed_named x core) (listed_named x turn.core)) (unrefused x m (none_refused x core turn m written held.read _ k.orderly end))
-          (move_flows x core turn m k.orderly))
+      sent = down_on (replica_of core) (replica_of outcome.core) xs ys down h.grown h.sends (k.leads x) stays_away
+          (subst (λ l. Flows (handed_on x m) l (listed_named x core) (listed_named x outcome.core)) (unrefused x m (none_refused x core outcome m written held.read _ k.orderly end))
+          (move_flows x core outcome m k.orderly))
           (subst (λ (c : CoreState). Down x (replica_of c) down xs (listed_named x c)) same held.sent);
     })
   where
@@ -218,34 +218,34 @@ held_here {g = g} {earlier = earlier} {a = a} {core = core} {turn = turn} {m = m
     end = subst (λ (c : CoreState). IsEnd x c written held.read (came_on x m ++ later)) same held.end
 
     r : ReadsOn x m written held.read later
-    r = (losses_read_in_order core turn m k.orderly).1 x written held.read (came_on x m ++ later) later end refl
+    r = (losses_read_in_order core outcome m k.orderly).1 x written held.read (came_on x m ++ later) later end refl
 
     from_none : (n : ℕ) → n ≡ 0 + n
     from_none n = omega arith
 
-    stays_away : listed_named x core ≡ None → listed_named x turn.core ≡ None
-    stays_away none = by (listed_named x turn.core) refl
+    stays_away : listed_named x core ≡ None → listed_named x outcome.core ≡ None
+    stays_away none = by (listed_named x outcome.core) refl
       where
-        by : (p : Option Connection) → listed_named x turn.core ≡ p → p ≡ None
+        by : (p : Option Connection) → listed_named x outcome.core ≡ p → p ≡ None
         by None there = refl
         by (Some d) there =
-            absurd (not_both core.last_name x (still_to_come core x k.orderly (lossy_names_are_of_the_ballot core turn m k.orderly x d none there)) given)
+            absurd (not_both core.last_name x (still_to_come core x k.orderly (lossy_names_are_of_the_ballot core outcome m k.orderly x d none there)) given)
 
-    elsewhere : (n : ℕ) (other : CoreState) → slice_get (slice_set g.nodes a turn.core) n ≡ Some other → (n ≡ a → ⊥) → listed_named x other ≡ None
-    elsewhere n other e apart = on (set_back g.nodes a n turn.core other e)
+    elsewhere : (n : ℕ) (other : CoreState) → slice_get (slice_set g.nodes a outcome.core) n ≡ Some other → (n ≡ a → ⊥) → listed_named x other ≡ None
+    elsewhere n other e apart = on (set_back g.nodes a n outcome.core other e)
       where
-        on : ((n ≡ a) × (other ≡ turn.core)) ⊎ (slice_get g.nodes n ≡ Some other) → listed_named x other ≡ None
+        on : ((n ≡ a) × (other ≡ outcome.core)) ⊎ (slice_get g.nodes n ≡ Some other) → listed_named x other ≡ None
         on (inl (is, f)) = absurd (apart is)
         on (inr f) = held.others n other f (λ e. apart (e ∙ here_so))
 
 -- ---- another node has it
 
 held_there : {config : Config} {g : Group} {earlier : List (Moment State Command Output)} {came : Moments rules config (moment_of g ∷ earlier)} {a : ℕ}
-    {core : CoreState} {turn : Turn} {m : LossyMoves core turn} {kept : List (Effect Command Output)} (k : Known g came a m kept) (x : ConnectionName) (written : List Packet) (later : List ℕ) (put : List (ℕ × Command)) (down : List ℕ)
+    {core : CoreState} {outcome : StepOutcome} {m : LossyMoves core outcome} {kept : List (Effect Command Output)} (k : Known g came a m kept) (x : ConnectionName) (written : List Packet) (later : List ℕ) (put : List (ℕ × Command)) (down : List ℕ)
     (xs ys : List Command) → Here k x put xs ys → (held : Held x written (came_on x m ++ later) g (moment_of g ∷ earlier) put down xs) → (a ≡ held.n → ⊥)
     → After k x written later put down ys
-held_there {config = config} {g = g} {earlier = earlier} {came = came} {a = a} {core = core} {turn = turn} {m = m} {kept = kept} k x written later put down xs ys h held apart =
-    by (listed_named x turn.core) refl (subst (λ (o : Option Connection). Flows (handed_on x m) (sent_in x m) o (listed_named x turn.core)) none (move_flows x core turn m k.orderly))
+held_there {config = config} {g = g} {earlier = earlier} {came = came} {a = a} {core = core} {outcome = outcome} {m = m} {kept = kept} k x written later put down xs ys h held apart =
+    by (listed_named x outcome.core) refl (subst (λ (o : Option Connection). Flows (handed_on x m) (sent_in x m) o (listed_named x outcome.core)) none (move_flows x core outcome m k.orderly))
   where
     none : listed_named x core ≡ None
     none = held.others a core k.at apart
@@ -254,49 +254,49 @@ held_there {config = config} {g = g} {earlier = earlier} {came = came} {a = a} {
     shut = unlisted_shut x core none
 
     quiet : came_on x m ++ later ≡ later
-    quiet = ap (λ l. l ++ later) (none_came x core turn m k.orderly shut)
+    quiet = ap (λ l. l ++ later) (none_came x core outcome m k.orderly shut)
 
-    others : listed_named x turn.core ≡ None → (n : ℕ) (other : CoreState) → slice_get (slice_set g.nodes a turn.core) n ≡ Some other → (n ≡ held.n → ⊥) → listed_named x other ≡ None
-    others there n other e other_so = on (set_back g.nodes a n turn.core other e)
+    others : listed_named x outcome.core ≡ None → (n : ℕ) (other : CoreState) → slice_get (slice_set g.nodes a outcome.core) n ≡ Some other → (n ≡ held.n → ⊥) → listed_named x other ≡ None
+    others there n other e other_so = on (set_back g.nodes a n outcome.core other e)
       where
-        on : ((n ≡ a) × (other ≡ turn.core)) ⊎ (slice_get g.nodes n ≡ Some other) → listed_named x other ≡ None
+        on : ((n ≡ a) × (other ≡ outcome.core)) ⊎ (slice_get g.nodes n ≡ Some other) → listed_named x other ≡ None
         on (inl (is, f)) = ap (listed_named x) f ∙ there
         on (inr f) = held.others n other f other_so
 
-    by : (p : Option Connection) → listed_named x turn.core ≡ p → Flows (handed_on x m) (sent_in x m) None p → After k x written later put down ys
+    by : (p : Option Connection) → listed_named x outcome.core ≡ p → Flows (handed_on x m) (sent_in x m) None p → After k x written later put down ys
     by None there (away e) =
         inr (record {
           n = held.n;
           core = held.core;
-          stands = set_other g.nodes a held.n turn.core (λ f. apart (sym f)) ∙ held.stands;
+          stands = set_other g.nodes a held.n outcome.core (λ f. apart (sym f)) ∙ held.stands;
           led = record { moment = held.led.moment; among = k.once.further.kept held.led.moment held.led.among; primary = held.led.primary };
           given = held.given;
           read = held.read;
           end = subst (IsEnd x held.core written held.read) quiet held.end;
-          said = nothing_more x put m (none_put x core turn m k.orderly shut) ∙ held.said;
+          said = nothing_more x put m (none_put x core outcome m k.orderly shut) ∙ held.said;
           others = others there;
           sent = subst (λ (l : List ℕ). Down x (replica_of held.core) l ys (listed_named x held.core)) (sym (ap (λ l. down ++ l) e ∙ append-nil down)) (down_later xs ys h.grown held.sent);
         })
     by (Some d) there f =
-        let now = leads_now g a core x earlier k.at (lossy_names_are_of_the_ballot core turn m k.orderly x d none there) in
+        let now = leads_now g a core x earlier k.at (lossy_names_are_of_the_ballot core outcome m k.orderly x d none there) in
         absurd (apart (one_primary_a_ballot rules config (moment_of g) earlier came now.moment held.led.moment a held.n x.ballot now.among held.led.among now.primary held.led.primary))
 
 -- ---- the move
 
 pub move_keeps : {config : Config} {g : Group} {earlier : List (Moment State Command Output)} {came : Moments rules config (moment_of g ∷ earlier)} {a : ℕ}
-    {core : CoreState} {turn : Turn} {m : LossyMoves core turn} {kept : List (Effect Command Output)} (k : Known g came a m kept) (x : ConnectionName) (written : List Packet) (later : List ℕ) (put : List (ℕ × Command)) (down : List ℕ)
-    (xs ys : List Command) → IsAgreed config (moment_of g ∷ earlier) xs → IsAgreed config (moment_of (after_turn (with_record g (recorded_by g.archive m)) a (keeping kept turn) (given_in m)) ∷ k.once.further.before) ys
+    {core : CoreState} {outcome : StepOutcome} {m : LossyMoves core outcome} {kept : List (Effect Command Output)} (k : Known g came a m kept) (x : ConnectionName) (written : List Packet) (later : List ℕ) (put : List (ℕ × Command)) (down : List ℕ)
+    (xs ys : List Command) → IsAgreed config (moment_of g ∷ earlier) xs → IsAgreed config (moment_of (after_outcome (with_record g (recorded_by g.archive m)) a (keeping kept outcome) (given_in m)) ∷ k.once.further.before) ys
     → IsPrefixOf (packets_of x ys) (packets_of x (commands_in (put ++ put_in_move m)))
     → Stands x written (came_on x m ++ later) g (moment_of g ∷ earlier) put down xs
-    → Stands x written later (after_turn (with_record g (recorded_by g.archive m)) a (keeping kept turn) (given_in m)) (moment_of (after_turn (with_record g (recorded_by g.archive m)) a (keeping kept turn) (given_in m)) ∷ k.once.further.before) (put ++ put_in_move m) (down ++ handed_on x m) ys
-move_keeps {config = config} {g = g} {earlier = earlier} {came = came} {a = a} {core = core} {turn = turn} {m = m} {kept = kept} k x written later put down xs ys before after said stands = by stands
+    → Stands x written later (after_outcome (with_record g (recorded_by g.archive m)) a (keeping kept outcome) (given_in m)) (moment_of (after_outcome (with_record g (recorded_by g.archive m)) a (keeping kept outcome) (given_in m)) ∷ k.once.further.before) (put ++ put_in_move m) (down ++ handed_on x m) ys
+move_keeps {config = config} {g = g} {earlier = earlier} {came = came} {a = a} {core = core} {outcome = outcome} {m = m} {kept = kept} k x written later put down xs ys before after said stands = by stands
   where
     h : Here k x put xs ys
     h = record {
       grown = k.once.further.grows xs ys before after;
-      sends = gives_answers_to x g.archive (recorded_by g.archive m) (replica_of core) (replica_of turn.core) ys (given_in m)
-          (k.once.gives ys after (replica_of core) (replica_of turn.core) (get_mapped replica_of g.nodes a core k.at)
-          (get_mapped replica_of (slice_set g.nodes a turn.core) a turn.core (get_of_set g.nodes a core turn.core k.at)));
+      sends = gives_answers_to x g.archive (recorded_by g.archive m) (replica_of core) (replica_of outcome.core) ys (given_in m)
+          (k.once.gives ys after (replica_of core) (replica_of outcome.core) (get_mapped replica_of g.nodes a core k.at)
+          (get_mapped replica_of (slice_set g.nodes a outcome.core) a outcome.core (get_of_set g.nodes a core outcome.core k.at)));
       said = said;
     }
 

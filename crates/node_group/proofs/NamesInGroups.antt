@@ -10,7 +10,7 @@ use Rattle.packet_world.specs.broker_spec.Connection.{ConnectionName}
 use Rattle.node_moves.specs.world_base.declared.Connection.{Connection}
 use Rattle.node_moves.specs.world_base.Connections.{closed, is_listed, is_over}
 use Rattle.node_moves.specs.world_base.declared.item.Item.{Item}
-use Rattle.node_moves.specs.world_base.Core.{CoreState, Turn, opening_core, serves}
+use Rattle.node_moves.specs.world_base.Core.{CoreState, StepOutcome, opening_core, serves}
 use Rattle.node_moves.specs.world_base.LossyStep.{RunsOn}
 use Rattle.node_moves.specs.world_base.Step.{acts_on, settled}
 use Rattle.node_moves.specs.Closed.{listed_named}
@@ -67,16 +67,16 @@ node_call_ends : (node_call : NodeCall) (core : CoreState) → IsWell core → A
 node_call_ends (takes item) core well of = settled_names (acts_on item core).core of
 node_call_ends (gives port) core well of = names_keep_their_ballot.moves core (done (gives port) core) (hands port) well.orderly refl well.names
 
-well_after : (node_call : NodeCall) (core : CoreState) (turn : Turn) → turn ≡ done node_call core → IsWell core → IsOrderly turn.core → AreWhereItServes turn.core → IsWell turn.core
-well_after node_call core turn is well orderly of =
+well_after : (node_call : NodeCall) (core : CoreState) (outcome : StepOutcome) → outcome ≡ done node_call core → IsWell core → IsOrderly outcome.core → AreWhereItServes outcome.core → IsWell outcome.core
+well_after node_call core outcome is well orderly of =
     record {
       orderly = orderly;
-      names = subst (λ (t : Turn). AreOfTheBallot t.core) (sym is) (node_call_ends node_call core well (subst (λ (t : Turn). AreWhereItServes t.core) is of));
+      names = subst (λ (t : StepOutcome). AreOfTheBallot t.core) (sym is) (node_call_ends node_call core well (subst (λ (t : StepOutcome). AreWhereItServes t.core) is of));
     }
 
 -- a step with losses ends in the same way
-lost_well : (item : Item) (core : CoreState) (turn : Turn) → RunsOn item core turn.core turn.messages → IsOrderly turn.core → AreWhereItServes turn.core → IsWell turn.core
-lost_well item core turn runs orderly of =
+lost_well : (item : Item) (core : CoreState) (outcome : StepOutcome) → RunsOn item core outcome.core outcome.messages → IsOrderly outcome.core → AreWhereItServes outcome.core → IsWell outcome.core
+lost_well item core outcome runs orderly of =
     record {
       orderly = orderly;
       names = subst (λ (c : CoreState). AreOfTheBallot c) (sym runs.settles) (settled_names runs.did.core (subst (λ (c : CoreState). AreWhereItServes c) runs.settles of));
@@ -111,17 +111,17 @@ assigned_well g config None well = well
 assigned_well g config (Some why) well = well
 
 steps_well : (g h : Group) (step : GroupStep g h) → Each IsWell g.nodes → WentWell step
-steps_well g h (node_acts n core node_call turn run at is first sent) well =
+steps_well g h (node_acts n core node_call outcome run at is first sent) well =
     let mine = each_got IsWell g.nodes n core well at in
     let r = runs_well (losing_none run) (first_still run first) mine.orderly mine.names in
     record {
-      nodes = each_set IsWell g.nodes n turn.core well (well_after node_call core turn is mine r.orderly r.names);
+      nodes = each_set IsWell g.nodes n outcome.core well (well_after node_call core outcome is mine r.orderly r.names);
       puts = subst (Each IsInItsBallot) (same_put run) r.puts;
     }
-steps_well g h (node_loses n core item turn kept by at runs sent thinned) well =
+steps_well g h (node_loses n core item outcome kept by at runs sent thinned) well =
     let mine = each_got IsWell g.nodes n core well at in
     let r = runs_well by.run by.first mine.orderly mine.names in
-    record { nodes = each_set IsWell g.nodes n turn.core well (lost_well item core turn runs r.orderly r.names); puts = r.puts }
+    record { nodes = each_set IsWell g.nodes n outcome.core well (lost_well item core outcome runs r.orderly r.names); puts = r.puts }
 steps_well g h (assigns config) well = record { nodes = assigned_well g config (refusal g.master config) well; puts = tt }
 steps_well g h (hears_master from ballot sent) well = record { nodes = well; puts = tt }
 steps_well g h (assigns_unheard config) well = record { nodes = well; puts = tt }

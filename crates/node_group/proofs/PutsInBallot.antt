@@ -12,7 +12,7 @@ use Rattle.packet_world.specs.broker_spec.declared.command.Command.TheVariants a
 use Rattle.packet_world.specs.broker_spec.Connection.{ConnectionName}
 use Rattle.packet_world.specs.exactly_once.StoryCommands.{is_packet_of}
 use Rattle.node_moves.specs.world_base.Connections.{noted_proposed, left_with}
-use Rattle.node_moves.specs.world_base.Core.{CoreState, Turn, serves}
+use Rattle.node_moves.specs.world_base.Core.{CoreState, StepOutcome, serves}
 use Rattle.node_moves.specs.world_base.Lossy.{Account, TakesCommand}
 use Rattle.node_moves.specs.world_base.Reading.{changes}
 use Rattle.node_moves.specs.Ends.{IsOrderly}
@@ -47,70 +47,70 @@ none_of_an_expel core client true = (λ x is. absurd (both_ways (is_packet_of (c
 none_of_an_expel core client false = tt
 
 -- what is proposed is put by a node that serves
-proposed_in : (core : CoreState) (turn : Turn) (m : LossyMoves core turn) (command : Command) → IsOrderly core → AreWhereItServes core → serves core ≡ true → proposal_of m ≡ command ∷ []
+proposed_in : (core : CoreState) (outcome : StepOutcome) (m : LossyMoves core outcome) (command : Command) → IsOrderly core → AreWhereItServes core → serves core ≡ true → proposal_of m ≡ command ∷ []
     → IsInItsBallot ((replica_of core).joined, command)
-proposed_in core turn m command o of serving is x named =
-    lossy_names_keep_their_ballot.proposes core turn m o of serving x command (subst (In command) (sym is) here) named
+proposed_in core outcome m command o of serving is x named =
+    lossy_names_keep_their_ballot.proposes core outcome m o of serving x command (subst (In command) (sym is) here) named
 
 -- who takes a command after a change of connections serves
 serves_who_takes : (core between : CoreState) (command : Command) (did : Account) → between.replica ≡ core.replica → TakesCommand command between did → serves core ≡ true
 serves_who_takes core between command did same taken =
     sym (serves_as between core same) ∙ room_serves between (nat_lt (places (replica_of between).log) max_places) taken.room
 
-exactly_in : (core : CoreState) (turn : Turn) (m : Moves core turn) → IsOrderly core → AreWhereItServes core → Each IsInItsBallot (exactly_put m)
-exactly_in core turn (reads_first now port c connect rest at first is room) o of = (
-  proposed_in core turn (exactly (reads_first now port c connect rest at first is room)) (commands.Connect c.name connect.client connect.clean) o of
+exactly_in : (core : CoreState) (outcome : StepOutcome) (m : Moves core outcome) → IsOrderly core → AreWhereItServes core → Each IsInItsBallot (exactly_put m)
+exactly_in core outcome (reads_first now port c connect rest at first is room) o of = (
+  proposed_in core outcome (exactly (reads_first now port c connect rest at first is room)) (commands.Connect c.name connect.client connect.clean) o of
       (room_serves core (nat_lt (places (replica_of core).log) max_places) room) refl,
   tt,
 )
-exactly_in core turn (reads_later now port c packet rest at later is room) o of = (
-  proposed_in core turn (exactly (reads_later now port c packet rest at later is room)) (commands.Packet c.name packet) o of
+exactly_in core outcome (reads_later now port c packet rest at later is room) o of = (
+  proposed_in core outcome (exactly (reads_later now port c packet rest at later is room)) (commands.Packet c.name packet) o of
       (room_serves core (nat_lt (places (replica_of core).log) max_places) room) refl,
   tt,
 )
-exactly_in core turn (loses_one port c at asked_before) o of = none_of_a_packet core c.name (serves core)
-exactly_in core turn (loses_next c at) o of = none_of_a_packet core c.name (serves core)
-exactly_in core turn (expels_one client) o of = none_of_an_expel core client (serves core)
-exactly_in core turn m o of = tt
+exactly_in core outcome (loses_one port c at asked_before) o of = none_of_a_packet core c.name (serves core)
+exactly_in core outcome (loses_next c at) o of = none_of_a_packet core c.name (serves core)
+exactly_in core outcome (expels_one client) o of = none_of_an_expel core client (serves core)
+exactly_in core outcome m o of = tt
 
-puts_in : (core : CoreState) (turn : Turn) (m : LossyMoves core turn) → IsOrderly core → AreWhereItServes core → Each IsInItsBallot (put_in_move m)
-puts_in core turn (exactly m) o of = exactly_in core turn m o of
-puts_in core turn (first_losing now port c connect rest did at first is taken) o of = (
-  proposed_in core turn (first_losing now port c connect rest did at first is taken) (commands.Connect c.name connect.client connect.clean) o of
+puts_in : (core : CoreState) (outcome : StepOutcome) (m : LossyMoves core outcome) → IsOrderly core → AreWhereItServes core → Each IsInItsBallot (put_in_move m)
+puts_in core outcome (exactly m) o of = exactly_in core outcome m o of
+puts_in core outcome (first_losing now port c connect rest did at first is taken) o of = (
+  proposed_in core outcome (first_losing now port c connect rest did at first is taken) (commands.Connect c.name connect.client connect.clean) o of
       (serves_who_takes core (changes port (noted_proposed connect.keep_alive) (changes port (left_with now rest) core)) _ did
       (changes_keep port (noted_proposed connect.keep_alive) (changes port (left_with now rest) core) ∙ changes_keep port (left_with now rest) core) taken) refl,
   tt,
 )
-puts_in core turn (later_losing now port c packet rest did at later is taken) o of = (
-  proposed_in core turn (later_losing now port c packet rest did at later is taken) (commands.Packet c.name packet) o of
+puts_in core outcome (later_losing now port c packet rest did at later is taken) o of = (
+  proposed_in core outcome (later_losing now port c packet rest did at later is taken) (commands.Packet c.name packet) o of
       (serves_who_takes core (changes port (left_with now rest) core) _ did (changes_keep port (left_with now rest) core) taken) refl,
   tt,
 )
-puts_in core turn (tells_losing name did taken) o of = none_of_a_packet core name true
-puts_in core turn (expels_losing client did taken) o of = none_of_an_expel core client true
-puts_in core turn m o of = tt
+puts_in core outcome (tells_losing name did taken) o of = none_of_a_packet core name true
+puts_in core outcome (expels_losing client did taken) o of = none_of_an_expel core client true
+puts_in core outcome m o of = tt
 
 -- ---- runs
 
 -- in a run what is put is put in its ballot; and what stays so after it
-pub record RunsWell {core : CoreState} {turn : Turn} (run : LossyRuns core turn) : Type 0 where
-  pub orderly : IsOrderly turn.core
-  pub names : AreWhereItServes turn.core
+pub record RunsWell {core : CoreState} {outcome : StepOutcome} (run : LossyRuns core outcome) : Type 0 where
+  pub orderly : IsOrderly outcome.core
+  pub names : AreWhereItServes outcome.core
   pub puts : Each IsInItsBallot (put_in_run run)
 
-orderly_after : (core : CoreState) (turn : Turn) (m : LossyMoves core turn) → IsOrderly core → IsOrderly turn.core
-orderly_after core turn m o = (losses_read_in_order core turn m o).0
+orderly_after : (core : CoreState) (outcome : StepOutcome) (m : LossyMoves core outcome) → IsOrderly core → IsOrderly outcome.core
+orderly_after core outcome m o = (losses_read_in_order core outcome m o).0
 
 where_it_serves : (core : CoreState) → AreOfTheBallot core → AreWhereItServes core
 where_it_serves core of serving = of
 
-calm_run : {core : CoreState} {turn : Turn} (run : LossyRuns core turn) → HearsNothing run → IsOrderly core → AreWhereItServes core → RunsWell run
+calm_run : {core : CoreState} {outcome : StepOutcome} (run : LossyRuns core outcome) → HearsNothing run → IsOrderly core → AreWhereItServes core → RunsWell run
 calm_run rests calm o of = record { orderly = o; names = of; puts = tt }
 calm_run {core = core} (goes_on {first = first} m run) calm o of =
     let r = calm_run run calm.1 (orderly_after core first m o) (lossy_names_keep_their_ballot.moves core first m o calm.0 of) in
     record { orderly = r.orderly; names = r.names; puts = each_append IsInItsBallot (put_in_move m) (put_in_run run) (puts_in core first m o of) r.puts }
 
-pub runs_well : {core : CoreState} {turn : Turn} (run : LossyRuns core turn) → HearsAtFirst run → IsOrderly core → AreOfTheBallot core → RunsWell run
+pub runs_well : {core : CoreState} {outcome : StepOutcome} (run : LossyRuns core outcome) → HearsAtFirst run → IsOrderly core → AreOfTheBallot core → RunsWell run
 runs_well {core = core} rests first o of = record { orderly = o; names = where_it_serves core of; puts = tt }
 runs_well {core = core} (goes_on {first = first} m run) calm o of =
     let r = calm_run run calm (orderly_after core first m o) (lossy_names_keep_their_ballot.hears core first m o of) in

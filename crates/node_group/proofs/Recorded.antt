@@ -4,7 +4,7 @@ use Rattle.std.proofs.Common.{◌≡◌, ℕ, Bool, true, false, not, nat_lt, if
 use Rattle.std.proofs.lemmas.Bool.{and_parts, ltb-true}
 use Rattle.packet_world.specs.broker_spec.declared.command.Command.{Command}
 use Rattle.packet_world.specs.snapshots.World.{recorded}
-use Rattle.node_moves.specs.world_base.Core.{CoreState, Turn}
+use Rattle.node_moves.specs.world_base.Core.{CoreState, StepOutcome}
 use Rattle.node_moves.specs.Keeping.{moves_replica}
 use Rattle.node_moves.specs.LossyMoves.{LossyMoves}
 use Rattle.node_moves.specs.LossyParts.{hears_in, inputs_in, inputs_of}
@@ -21,15 +21,15 @@ use Rattle.node_group.specs.Putting.{recorded_by as exactly_recorded}
 
 -- ---- no log is cut
 
-exactly_none : (archive : List Command) {core : CoreState} {turn : Turn} (m : Moves core turn) → exactly_cuts m ≡ false → exactly_recorded archive m ≡ archive
+exactly_none : (archive : List Command) {core : CoreState} {outcome : StepOutcome} (m : Moves core outcome) → exactly_cuts m ≡ false → exactly_recorded archive m ≡ archive
 exactly_none archive (cuts_log can) none = absurd cc
 exactly_none archive m none = refl
 
-none_by : (archive : List Command) {core : CoreState} {turn : Turn} (m : LossyMoves core turn) → cuts_in m ≡ false → recorded_by archive m ≡ archive
+none_by : (archive : List Command) {core : CoreState} {outcome : StepOutcome} (m : LossyMoves core outcome) → cuts_in m ≡ false → recorded_by archive m ≡ archive
 none_by archive (exactly m) none = exactly_none archive m none
 none_by archive m none = refl
 
-pub records_none : (archive : List Command) {core : CoreState} {turn : Turn} (run : LossyRuns core turn) → CutsNothing run → recorded_in archive run ≡ archive
+pub records_none : (archive : List Command) {core : CoreState} {outcome : StepOutcome} (run : LossyRuns core outcome) → CutsNothing run → recorded_in archive run ≡ archive
 records_none archive rests none = refl
 records_none archive (goes_on m run) none = ap (λ (l : List Command). recorded_in l run) (none_by archive m none.0) ∙ records_none archive run none.1
 
@@ -59,35 +59,35 @@ goes_to : (archive : List Command) (core : CoreState) (b : Bool) → b ≡ true 
 goes_to archive core true e = refl
 goes_to archive core false e = absurd cc
 
-exactly_heard : (archive : List Command) (core : CoreState) (turn : Turn) (m : Moves core turn) → moves_replica m ≡ true → inputs_of m ≡ []
-    → exactly_recorded archive m ≡ recorded_to archive core (replica_of turn.core).log.base
-exactly_heard archive core turn (cuts_log can) moves none =
+exactly_heard : (archive : List Command) (core : CoreState) (outcome : StepOutcome) (m : Moves core outcome) → moves_replica m ≡ true → inputs_of m ≡ []
+    → exactly_recorded archive m ≡ recorded_to archive core (replica_of outcome.core).log.base
+exactly_heard archive core outcome (cuts_log can) moves none =
     goes_to archive core (nat_lt (replica_of core).log.base (replica_of core).committed)
     (and_parts (not (replica_of core).stopped) (nat_lt (replica_of core).log.base (replica_of core).committed) can).1
-exactly_heard archive core turn crashes moves none = stays_at archive core (replica_of core).log.base refl
-exactly_heard archive core turn (hears input other) moves none = absurd cc
-exactly_heard archive core turn m moves none = absurd cc
+exactly_heard archive core outcome crashes moves none = stays_at archive core (replica_of core).log.base refl
+exactly_heard archive core outcome (hears input other) moves none = absurd cc
+exactly_heard archive core outcome m moves none = absurd cc
 
-heard : (archive : List Command) (core : CoreState) (turn : Turn) (m : LossyMoves core turn) → hears_in m ≡ true → inputs_in m ≡ []
-    → recorded_by archive m ≡ recorded_to archive core (replica_of turn.core).log.base
-heard archive core turn (exactly m) moves none = exactly_heard archive core turn m moves none
-heard archive core turn (hears_losing input did other drives) moves none = absurd cc
-heard archive core turn m moves none = absurd cc
+heard : (archive : List Command) (core : CoreState) (outcome : StepOutcome) (m : LossyMoves core outcome) → hears_in m ≡ true → inputs_in m ≡ []
+    → recorded_by archive m ≡ recorded_to archive core (replica_of outcome.core).log.base
+heard archive core outcome (exactly m) moves none = exactly_heard archive core outcome m moves none
+heard archive core outcome (hears_losing input did other drives) moves none = absurd cc
+heard archive core outcome m moves none = absurd cc
 
-first_records : (archive : List Command) (core : CoreState) (turn : Turn) (m : LossyMoves core turn) → inputs_in m ≡ []
-    → recorded_by archive m ≡ recorded_to archive core (replica_of turn.core).log.base
-first_records archive core turn m none = by (hears_in m) refl
+first_records : (archive : List Command) (core : CoreState) (outcome : StepOutcome) (m : LossyMoves core outcome) → inputs_in m ≡ []
+    → recorded_by archive m ≡ recorded_to archive core (replica_of outcome.core).log.base
+first_records archive core outcome m none = by (hears_in m) refl
   where
-    by : (b : Bool) → hears_in m ≡ b → recorded_by archive m ≡ recorded_to archive core (replica_of turn.core).log.base
-    by true e = heard archive core turn m e none
-    by false e = none_by archive m (still_cuts m e) ∙ stays_at archive core (replica_of turn.core).log.base (calm_base core turn m e)
+    by : (b : Bool) → hears_in m ≡ b → recorded_by archive m ≡ recorded_to archive core (replica_of outcome.core).log.base
+    by true e = heard archive core outcome m e none
+    by false e = none_by archive m (still_cuts m e) ∙ stays_at archive core (replica_of outcome.core).log.base (calm_base core outcome m e)
 
 none_at_first : {C : Type 0} (xs ys : List C) → xs ++ ys ≡ [] → xs ≡ []
 none_at_first [] ys e = refl
 none_at_first (x ∷ xs) ys e = absurd cc
 
-pub records_to : (archive : List Command) {core : CoreState} {turn : Turn} (run : LossyRuns core turn) → HearsAtFirst run → all_inputs run ≡ []
-    → recorded_in archive run ≡ recorded_to archive core (replica_of turn.core).log.base
+pub records_to : (archive : List Command) {core : CoreState} {outcome : StepOutcome} (run : LossyRuns core outcome) → HearsAtFirst run → all_inputs run ≡ []
+    → recorded_in archive run ≡ recorded_to archive core (replica_of outcome.core).log.base
 records_to archive {core = core} rests calm none = stays_at archive core (replica_of core).log.base refl
 records_to archive {core = core} (goes_on {first = first} m run) calm none =
     records_none (recorded_by archive m) run (calm_cuts_none run calm)

@@ -16,7 +16,7 @@ use Rattle.packet_world.specs.agreement.Proposals.{commands_of as commands_in}
 use Rattle.packet_world.specs.snapshots.Proposals.{proposals_of, taken_of}
 use Rattle.packet_world.proofs.of_snapshots.PastsAgree.{has_agreed}
 use Rattle.node_moves.specs.world_base.Connections.{is_over}
-use Rattle.node_moves.specs.world_base.Core.{CoreState, Turn, rules}
+use Rattle.node_moves.specs.world_base.Core.{CoreState, StepOutcome, rules}
 use Rattle.node_moves.specs.world_base.Turns.{without_messages}
 use Rattle.node_moves.specs.Ends.{IsOrderly}
 use Rattle.node_moves.specs.Keeping.{AreOfTheBallot}
@@ -29,7 +29,7 @@ use Rattle.node_moves.proofs.Kept.{left_true}
 use Rattle.node_moves.proofs.LossyReads.{losses_read_in_order}
 use Rattle.node_moves.proofs.OpenAfter.{open_if}
 use Rattle.node_group.specs.Ballots.{IsInItsBallot}
-use Rattle.node_group.specs.Group.{Group, after_turn, moment_of, replica_of, with_record}
+use Rattle.node_group.specs.Group.{Group, after_outcome, moment_of, replica_of, with_record}
 use Rattle.node_group.specs.Steps.{keeping}
 use Rattle.node_group.specs.Losing.{WereSent, all_given, put_in_move, put_in_run, recorded_by, recorded_in}
 use Rattle.node_group.specs.Order.{packets_of}
@@ -84,7 +84,7 @@ nothing_steps {config = config} g {earlier = earlier} came =
           (subst (λ (l : List ℕ). Good config x written later g (moment_of g ∷ earlier) put l) (sym (append-nil sent)) good);
     }
 
-pub same_group : (g : Group) (n : ℕ) (core : CoreState) → slice_get g.nodes n ≡ Some core → g ≡ after_turn g n (without_messages core) []
+pub same_group : (g : Group) (n : ℕ) (core : CoreState) → slice_get g.nodes n ≡ Some core → g ≡ after_outcome g n (without_messages core) []
 same_group g n core at = sym (rw (set_same g.nodes n core at, append-nil g.sent, append-nil g.left) refl)
 
 -- ---- one move
@@ -97,17 +97,17 @@ said_first {config = config} h {more = more} f x put is each ys after =
     let now = put_further put f is in
     in_agreed config h [] (put ++ more) (record { earlier = f.before; past = f.past; proposed = now.proposed; taken = now.taken; seen = tt }) each x ys after
 
-move_steps : {config : Config} (g : Group) (n : ℕ) (core : CoreState) (turn : Turn) (m : LossyMoves core turn) (kept : Given) → slice_get g.nodes n ≡ Some core → WereSent g n (inputs_in m)
-    → Freezes m → Thinned kept turn.messages → IsOrderly core → LeadsStill core turn → {earlier : List (Moment State Command Output)} (came : Moments rules config (moment_of g ∷ earlier))
-    → Steps g came (after_turn (with_record g (recorded_by g.archive m)) n (keeping kept turn) (given_in m)) (put_in_move m) (λ x. came_on x m) (λ x. handed_on x m)
-move_steps {config = config} g n core turn m kept at sent_so frozen t o leads {earlier = earlier} came =
-    let known : Known g came n m kept = record { at = at; orderly = o; leads = leads; once = losses_happen g n core turn m kept at sent_so frozen t config earlier came } in
+move_steps : {config : Config} (g : Group) (n : ℕ) (core : CoreState) (outcome : StepOutcome) (m : LossyMoves core outcome) (kept : Given) → slice_get g.nodes n ≡ Some core → WereSent g n (inputs_in m)
+    → Freezes m → Thinned kept outcome.messages → IsOrderly core → LeadsStill core outcome → {earlier : List (Moment State Command Output)} (came : Moments rules config (moment_of g ∷ earlier))
+    → Steps g came (after_outcome (with_record g (recorded_by g.archive m)) n (keeping kept outcome) (given_in m)) (put_in_move m) (λ x. came_on x m) (λ x. handed_on x m)
+move_steps {config = config} g n core outcome m kept at sent_so frozen t o leads {earlier = earlier} came =
+    let known : Known g came n m kept = record { at = at; orderly = o; leads = leads; once = losses_happen g n core outcome m kept at sent_so frozen t config earlier came } in
     let xs = has_agreed rules config (moment_of g) earlier came in
     record {
       further = known.once.further;
       keeps_each = λ x written later put sent is each good ys after.
           move_keeps known x written later put sent xs.0 ys xs.1 after
-          (said_first (after_turn (with_record g (recorded_by g.archive m)) n (keeping kept turn) (given_in m)) known.once.further x put is each ys after) (good xs.0 xs.1);
+          (said_first (after_outcome (with_record g (recorded_by g.archive m)) n (keeping kept outcome) (given_in m)) known.once.further x put is each ys after) (good xs.0 xs.1);
     }
 
 -- ---- one after another
@@ -144,58 +144,58 @@ steps_as {config = config} {g = g} {h = h} {earlier = earlier} came put more up 
 -- ---- runs
 
 -- a calm move leaves the replica in its role
-calm_leads : (core : CoreState) (turn : Turn) (m : LossyMoves core turn) → hears_in m ≡ false → LeadsStill core turn
-calm_leads core turn m calm x c there lives e = ap is_active (sym (calm_role core turn m calm)) ∙ e
+calm_leads : (core : CoreState) (outcome : StepOutcome) (m : LossyMoves core outcome) → hears_in m ≡ false → LeadsStill core outcome
+calm_leads core outcome m calm x c there lives e = ap is_active (sym (calm_role core outcome m calm)) ∙ e
 
 -- at the beginning of a step who has open connections leads
-first_leads : (core : CoreState) (turn : Turn) → AreOfTheBallot core → LeadsStill core turn
-first_leads core turn of x c there lives e = left_true (is_active (replica_of core).role) _ (of.each x c there (open_if (is_over c.stage) lives)).0
+first_leads : (core : CoreState) (outcome : StepOutcome) → AreOfTheBallot core → LeadsStill core outcome
+first_leads core outcome of x c there lives e = left_true (is_active (replica_of core).role) _ (of.each x c there (open_if (is_over c.stage) lives)).0
 
 -- one move, and a run after it
-move_and_run : {config : Config} (g : Group) (n : ℕ) (core : CoreState) (first next : Turn) (m : LossyMoves core first) (run : LossyRuns first.core next) (kept : Given)
+move_and_run : {config : Config} (g : Group) (n : ℕ) (core : CoreState) (first next : StepOutcome) (m : LossyMoves core first) (run : LossyRuns first.core next) (kept : Given)
     (k : KeptOfBoth kept first.messages next.messages) {earlier : List (Moment State Command Output)} (came : Moments rules config (moment_of g ∷ earlier))
-    → (step : Steps g came (after_turn (with_record g (recorded_by g.archive m)) n (keeping k.front first) (given_in m)) (put_in_move m) (λ x. came_on x m) (λ x. handed_on x m))
-    → Steps (after_turn (with_record g (recorded_by g.archive m)) n (keeping k.front first) (given_in m)) step.further.past
-    (after_turn (with_record (after_turn (with_record g (recorded_by g.archive m)) n (keeping k.front first) (given_in m)) (recorded_in (recorded_by g.archive m) run)) n
+    → (step : Steps g came (after_outcome (with_record g (recorded_by g.archive m)) n (keeping k.front first) (given_in m)) (put_in_move m) (λ x. came_on x m) (λ x. handed_on x m))
+    → Steps (after_outcome (with_record g (recorded_by g.archive m)) n (keeping k.front first) (given_in m)) step.further.past
+    (after_outcome (with_record (after_outcome (with_record g (recorded_by g.archive m)) n (keeping k.front first) (given_in m)) (recorded_in (recorded_by g.archive m) run)) n
     (keeping k.rest next) (all_given run)) (put_in_run run) (λ x. bytes_on x run) (λ x. handed_losing x run)
-    → Steps g came (after_turn (with_record g (recorded_in (recorded_by g.archive m) run)) n (keeping kept (and_then first next)) (given_in m ++ all_given run))
+    → Steps g came (after_outcome (with_record g (recorded_in (recorded_by g.archive m) run)) n (keeping kept (and_then first next)) (given_in m ++ all_given run))
     (put_in_move m ++ put_in_run run) (λ x. came_on x m ++ bytes_on x run) (λ x. handed_on x m ++ handed_losing x run)
 move_and_run g n core first next m run kept k came step rest =
     both_steps came (put_in_move m) (put_in_run run) (λ x. came_on x m) (λ x. bytes_on x run) (λ x. handed_on x m) (λ x. handed_losing x run) step
-    (subst (λ (h : Group). Steps (after_turn (with_record g (recorded_by g.archive m)) n (keeping k.front first) (given_in m)) step.further.past h (put_in_run run)
+    (subst (λ (h : Group). Steps (after_outcome (with_record g (recorded_by g.archive m)) n (keeping k.front first) (given_in m)) step.further.past h (put_in_run run)
     (λ x. bytes_on x run) (λ x. handed_losing x run))
     (kept_turns (with_record g (recorded_in (recorded_by g.archive m) run)) n first next (given_in m) (all_given run) kept k) rest)
 
 no_move : {config : Config} (g : Group) (n : ℕ) (core : CoreState) (kept : Given) → slice_get g.nodes n ≡ Some core → Thinned kept []
     → {earlier : List (Moment State Command Output)} (came : Moments rules config (moment_of g ∷ earlier))
-    → Steps g came (after_turn g n (keeping kept (without_messages core)) []) [] (λ x. []) (λ x. [])
+    → Steps g came (after_outcome g n (keeping kept (without_messages core)) []) [] (λ x. []) (λ x. [])
 no_move g n core kept at t came =
     subst (λ (h : Group). Steps g came h [] (λ x. []) (λ x. []))
-    (same_group g n core at ∙ ap (λ (l : Given). after_turn g n (keeping l (without_messages core)) []) (sym (nothing_kept kept t))) (nothing_steps g came)
+    (same_group g n core at ∙ ap (λ (l : Given). after_outcome g n (keeping l (without_messages core)) []) (sym (nothing_kept kept t))) (nothing_steps g came)
 
-calm_steps : {config : Config} (g : Group) (n : ℕ) (core : CoreState) (turn : Turn) (run : LossyRuns core turn) (kept : Given) → HearsNothing run → IsOrderly core → slice_get g.nodes n ≡ Some core
-    → WereSent g n (all_inputs run) → AllFreeze run → Thinned kept turn.messages → {earlier : List (Moment State Command Output)} (came : Moments rules config (moment_of g ∷ earlier))
-    → Steps g came (after_turn (with_record g (recorded_in g.archive run)) n (keeping kept turn) (all_given run)) (put_in_run run) (λ x. bytes_on x run) (λ x. handed_losing x run)
-calm_steps g n core turn rests kept calm o at sent frozen t came = no_move g n core kept at t came
-calm_steps g n core turn (goes_on {first = first} {next = next} m run) kept calm o at sent frozen t came =
+calm_steps : {config : Config} (g : Group) (n : ℕ) (core : CoreState) (outcome : StepOutcome) (run : LossyRuns core outcome) (kept : Given) → HearsNothing run → IsOrderly core → slice_get g.nodes n ≡ Some core
+    → WereSent g n (all_inputs run) → AllFreeze run → Thinned kept outcome.messages → {earlier : List (Moment State Command Output)} (came : Moments rules config (moment_of g ∷ earlier))
+    → Steps g came (after_outcome (with_record g (recorded_in g.archive run)) n (keeping kept outcome) (all_given run)) (put_in_run run) (λ x. bytes_on x run) (λ x. handed_losing x run)
+calm_steps g n core outcome rests kept calm o at sent frozen t came = no_move g n core kept at t came
+calm_steps g n core outcome (goes_on {first = first} {next = next} m run) kept calm o at sent frozen t came =
     let k = kept_of_both first.messages next.messages kept t in
     let s = were_both g n (inputs_in m) (all_inputs run) sent in
-    let one : Turn = keeping k.front first in
+    let one : StepOutcome = keeping k.front first in
     let step = move_steps g n core first m k.front at s.0 frozen.0 k.first o (calm_leads core first m calm.0) came in
     move_and_run g n core first next m run kept k came step
-    (calm_steps (after_turn (with_record g (recorded_by g.archive m)) n one (given_in m)) n first.core next run k.rest calm.1 (losses_read_in_order core first m o).0 (get_of_set g.nodes n core first.core at)
+    (calm_steps (after_outcome (with_record g (recorded_by g.archive m)) n one (given_in m)) n first.core next run k.rest calm.1 (losses_read_in_order core first m o).0 (get_of_set g.nodes n core first.core at)
     (were_still g (recorded_by g.archive m) n one (given_in m) (all_inputs run) s.1) frozen.1 k.next step.further.past)
 
-pub run_steps : {config : Config} (g : Group) (n : ℕ) (core : CoreState) (turn : Turn) (run : LossyRuns core turn) (kept : Given) → HearsAtFirst run → IsOrderly core → AreOfTheBallot core
-    → slice_get g.nodes n ≡ Some core → WereSent g n (all_inputs run) → AllFreeze run → Thinned kept turn.messages
+pub run_steps : {config : Config} (g : Group) (n : ℕ) (core : CoreState) (outcome : StepOutcome) (run : LossyRuns core outcome) (kept : Given) → HearsAtFirst run → IsOrderly core → AreOfTheBallot core
+    → slice_get g.nodes n ≡ Some core → WereSent g n (all_inputs run) → AllFreeze run → Thinned kept outcome.messages
     → {earlier : List (Moment State Command Output)} (came : Moments rules config (moment_of g ∷ earlier))
-    → Steps g came (after_turn (with_record g (recorded_in g.archive run)) n (keeping kept turn) (all_given run)) (put_in_run run) (λ x. bytes_on x run) (λ x. handed_losing x run)
-run_steps g n core turn rests kept first_so o of at sent frozen t came = no_move g n core kept at t came
-run_steps g n core turn (goes_on {first = first} {next = next} m run) kept calm o of at sent frozen t came =
+    → Steps g came (after_outcome (with_record g (recorded_in g.archive run)) n (keeping kept outcome) (all_given run)) (put_in_run run) (λ x. bytes_on x run) (λ x. handed_losing x run)
+run_steps g n core outcome rests kept first_so o of at sent frozen t came = no_move g n core kept at t came
+run_steps g n core outcome (goes_on {first = first} {next = next} m run) kept calm o of at sent frozen t came =
     let k = kept_of_both first.messages next.messages kept t in
     let s = were_both g n (inputs_in m) (all_inputs run) sent in
-    let one : Turn = keeping k.front first in
+    let one : StepOutcome = keeping k.front first in
     let step = move_steps g n core first m k.front at s.0 frozen.0 k.first o (first_leads core first of) came in
     move_and_run g n core first next m run kept k came step
-    (calm_steps (after_turn (with_record g (recorded_by g.archive m)) n one (given_in m)) n first.core next run k.rest calm (losses_read_in_order core first m o).0 (get_of_set g.nodes n core first.core at)
+    (calm_steps (after_outcome (with_record g (recorded_by g.archive m)) n one (given_in m)) n first.core next run k.rest calm (losses_read_in_order core first m o).0 (get_of_set g.nodes n core first.core at)
     (were_still g (recorded_by g.archive m) n one (given_in m) (all_inputs run) s.1) frozen.1 k.next step.further.past)

@@ -19,7 +19,7 @@ use Rattle.packet_world.specs.snapshots.Whole.{whole}
 use Rattle.packet_world.proofs.of_snapshots.Views.{get_whole}
 use Rattle.packet_world.specs.agreement.Proposals.{commands_of as commands_in}
 use Rattle.node_moves.specs.world_base.declared.Connection.{Connection}
-use Rattle.node_moves.specs.world_base.Core.{CoreState, Turn}
+use Rattle.node_moves.specs.world_base.Core.{CoreState, StepOutcome}
 use Rattle.node_moves.specs.world_base.Step.{next_name}
 use Rattle.node_moves.specs.Closed.{listed_named}
 use Rattle.node_moves.specs.Ends.{IsEnd, IsGiven, IsOrderly, Precedes, commands_of, open_named, stream_of}
@@ -86,7 +86,7 @@ rows_of ballot [] = refl
 rows_of ballot (command ∷ commands) = ap (λ l. command ∷ l) (rows_of ballot commands)
 
 -- the packets after a move are those before and those of the move
-pub packets_more : (x : ConnectionName) (put : List (ℕ × Command)) {core : CoreState} {turn : Turn} (m : LossyMoves core turn)
+pub packets_more : (x : ConnectionName) (put : List (ℕ × Command)) {core : CoreState} {outcome : StepOutcome} (m : LossyMoves core outcome)
     → packets_of x (commands_in (put ++ put_in_move m)) ≡ packets_of x (commands_in put) ++ packets_of x (commands_put m)
 packets_more x put {core = core} m =
     ap (packets_of x) (rows_joined put (put_in_move m) ∙ ap (λ l. commands_in put ++ l) (rows_of (replica_of core).joined (commands_put m)))

@@ -12,7 +12,7 @@ use Rattle.packet_world.specs.agreement.MasterState.{MasterState, opening_master
 use Rattle.packet_world.specs.snapshots.Masters.{MasterOutcome}
 use Rattle.packet_world.specs.snapshots.Moments.{Moment}
 use Rattle.packet_world.specs.snapshots.World.{messages, outputs}
-use Rattle.node_moves.specs.world_base.Core.{CoreState, Turn, opening_core}
+use Rattle.node_moves.specs.world_base.Core.{CoreState, StepOutcome, opening_core}
 
 -- Node n + 1 is at index n. All messages that were ever sent stay, each with its receiver: any may
 -- come late, again or never. So do the outputs that replicas gave, with their places in the log.
@@ -44,12 +44,12 @@ opening_group nodes config =
 
 -- ---- after what happens
 
--- after a turn of the node at index n, in which its replica gave this
-abbrev pub after_turn : Group → ℕ → Turn → List (Effect Command Output) → Group
-after_turn g n turn given =
+-- after this outcome of a step of the node at index n, in which its replica gave this
+abbrev pub after_outcome : Group → ℕ → StepOutcome → List (Effect Command Output) → Group
+after_outcome g n outcome given =
     record g {
-      nodes = slice_set g.nodes n turn.core;
-      sent = g.sent ++ messages turn.messages;
+      nodes = slice_set g.nodes n outcome.core;
+      sent = g.sent ++ messages outcome.messages;
       left = g.left ++ outputs given;
     }
 

@@ -5,7 +5,7 @@ use Rattle.node_moves.specs.ballot.Effect.{Effect}
 use Rattle.node_moves.specs.ballot.Protocol.{Input}
 use Rattle.packet_world.specs.broker_spec.declared.command.Command.{Command}
 use Rattle.packet_world.specs.broker_spec.declared.command.Output.{Output}
-use Rattle.node_moves.specs.world_base.Core.{CoreState, Turn}
+use Rattle.node_moves.specs.world_base.Core.{CoreState, StepOutcome}
 use Rattle.node_moves.specs.LossyMoves.{LossyMoves}
 use Rattle.node_moves.specs.LossyParts.{given_in, proposal_of}
 use Rattle.node_moves.specs.LossyRuns.{LossyRuns}
@@ -21,34 +21,38 @@ WereSent g n [] = Unit {0}
 WereSent g n (input ∷ inputs) = InputWasSent g n input × WereSent g n inputs
 
 -- the record of places after a move
-abbrev pub recorded_by : List Command → {core : CoreState} {turn : Turn} → LossyMoves core turn →
+abbrev pub recorded_by : List Command → {core : CoreState} {outcome : StepOutcome} →
+    LossyMoves core outcome →
     List Command
 recorded_by archive (exactly m) = exactly_recorded archive m
 recorded_by archive _ = archive
 
 -- the record after a run
-abbrev pub recorded_in : List Command → {core : CoreState} {turn : Turn} → LossyRuns core turn →
+abbrev pub recorded_in : List Command → {core : CoreState} {outcome : StepOutcome} →
+    LossyRuns core outcome →
     List Command
 recorded_in archive rests = archive
 recorded_in archive (goes_on m run) = recorded_in (recorded_by archive m) run
 
 -- the effects of its replica
-abbrev pub all_given : {core : CoreState} {turn : Turn} → LossyRuns core turn →
+abbrev pub all_given : {core : CoreState} {outcome : StepOutcome} → LossyRuns core outcome →
     List (Effect Command Output)
 all_given rests = []
 all_given (goes_on m run) = given_in m ++ all_given run
 
 -- the commands that a node proposes to its replica in a move
-abbrev pub commands_put : {core : CoreState} {turn : Turn} → LossyMoves core turn → List Command
+abbrev pub commands_put : {core : CoreState} {outcome : StepOutcome} → LossyMoves core outcome →
+    List Command
 commands_put (exactly m) = exactly_put m
 commands_put m = proposal_of m
 
 -- what a node proposes in a move, each with the ballot that it has joined then
-abbrev pub put_in_move : {core : CoreState} {turn : Turn} → LossyMoves core turn →
+abbrev pub put_in_move : {core : CoreState} {outcome : StepOutcome} → LossyMoves core outcome →
     List (ℕ × Command)
 put_in_move {core = core} m = map (λ command. ((replica_of core).joined, command)) (commands_put m)
 
 -- what a node proposes in a run, in order
-abbrev pub put_in_run : {core : CoreState} {turn : Turn} → LossyRuns core turn → List (ℕ × Command)
+abbrev pub put_in_run : {core : CoreState} {outcome : StepOutcome} → LossyRuns core outcome →
+    List (ℕ × Command)
 put_in_run rests = []
 put_in_run (goes_on m run) = put_in_move m ++ put_in_run run

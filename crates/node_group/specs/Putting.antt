@@ -8,7 +8,7 @@ use Rattle.node_moves.specs.ballot.Protocol.Input.{Receives, Proposes, Ticks}
 use Rattle.packet_world.specs.broker_spec.declared.command.Command.{Command}
 use Rattle.packet_world.specs.broker_spec.declared.command.Command.TheVariants as commands
 use Rattle.packet_world.specs.broker_spec.declared.command.Output.{Output}
-use Rattle.node_moves.specs.world_base.Core.{CoreState, Turn, rules, serves}
+use Rattle.node_moves.specs.world_base.Core.{CoreState, StepOutcome, rules, serves}
 use Rattle.packet_world.specs.snapshots.World.{recorded}
 use Rattle.node_moves.specs.Moves.{Moves, Runs}
 use Rattle.node_moves.specs.Moves.Runs.{rests, goes_on}
@@ -24,37 +24,42 @@ InputWasSent g n Ticks = Unit {0}
 
 -- what a node receives in a move was sent, and the bytes to which it cuts its log thaw to its
 -- machine
-abbrev pub WasSent : Group → ℕ → {core : CoreState} {turn : Turn} → Moves core turn → Type 0
+abbrev pub WasSent : Group → ℕ → {core : CoreState} {outcome : StepOutcome} → Moves core outcome →
+    Type 0
 WasSent g n (hears input is) = InputWasSent g n input
 WasSent g n {core = core} (cuts_log can) =
     rules.thawed (rules.frozen (replica_of core).machine) ≡ Some (replica_of core).machine
 WasSent g n _ = Unit {0}
 
 -- what a node receives in each move of a run was sent
-abbrev pub AllWasSent : Group → ℕ → {core : CoreState} {turn : Turn} → Runs core turn → Type 0
+abbrev pub AllWasSent : Group → ℕ → {core : CoreState} {outcome : StepOutcome} → Runs core outcome →
+    Type 0
 AllWasSent g n rests = Unit {0}
 AllWasSent g n (goes_on m run) = WasSent g n m × AllWasSent g n run
 
 -- the record of places after a move: a cut adds what the log that is cut has applied
-abbrev pub recorded_by : List Command → {core : CoreState} {turn : Turn} → Moves core turn →
+abbrev pub recorded_by : List Command → {core : CoreState} {outcome : StepOutcome} →
+    Moves core outcome →
     List Command
 recorded_by archive {core = core} (cuts_log can) = recorded archive (replica_of core)
 recorded_by archive _ = archive
 
 -- the record after a run
-abbrev pub recorded_in : List Command → {core : CoreState} {turn : Turn} → Runs core turn →
+abbrev pub recorded_in : List Command → {core : CoreState} {outcome : StepOutcome} →
+    Runs core outcome →
     List Command
 recorded_in archive rests = archive
 recorded_in archive (goes_on m run) = recorded_in (recorded_by archive m) run
 
 -- the effects of its replica
-abbrev pub all_given : {core : CoreState} {turn : Turn} → Runs core turn →
+abbrev pub all_given : {core : CoreState} {outcome : StepOutcome} → Runs core outcome →
     List (Effect Command Output)
 all_given rests = []
 all_given (goes_on m run) = given_in m ++ all_given run
 
 -- the commands that a node proposes to its replica in a move
-abbrev pub commands_put : {core : CoreState} {turn : Turn} → Moves core turn → List Command
+abbrev pub commands_put : {core : CoreState} {outcome : StepOutcome} → Moves core outcome →
+    List Command
 commands_put (reads_first now port c connect rest at first is room) =
     commands.Connect c.name connect.client connect.clean ∷ []
 commands_put (reads_later now port c packet rest at later is room) =
@@ -67,10 +72,12 @@ commands_put {core = core} (expels_one client) =
 commands_put _ = []
 
 -- what a node proposes in a move, each with the ballot that it has joined then
-abbrev pub put_in_move : {core : CoreState} {turn : Turn} → Moves core turn → List (ℕ × Command)
+abbrev pub put_in_move : {core : CoreState} {outcome : StepOutcome} → Moves core outcome →
+    List (ℕ × Command)
 put_in_move {core = core} m = map (λ command. ((replica_of core).joined, command)) (commands_put m)
 
 -- what a node proposes in a run, in order
-abbrev pub put_in_run : {core : CoreState} {turn : Turn} → Runs core turn → List (ℕ × Command)
+abbrev pub put_in_run : {core : CoreState} {outcome : StepOutcome} → Runs core outcome →
+    List (ℕ × Command)
 put_in_run rests = []
 put_in_run (goes_on m run) = put_in_move m ++ put_in_run run

@@ -10,13 +10,13 @@ use Rattle.packet_world.specs.broker_spec.declared.command.Output.{Output}
 use Rattle.packet_world.specs.agreement.MasterState.{AssignRefusal, master_after, refusal}
 use Rattle.packet_world.specs.snapshots.Masters.{activated, assigned}
 use Rattle.packet_world.specs.agreement.World.{can_open}
-use Rattle.node_moves.specs.world_base.Core.{CoreState, Turn}
+use Rattle.node_moves.specs.world_base.Core.{CoreState, StepOutcome}
 use Rattle.node_moves.specs.world_base.declared.item.Item.{Item}
 use Rattle.node_moves.specs.world_base.LossyStep.{RunsOn}
 use Rattle.node_moves.specs.Hearing.{HearsAtFirst}
 use Rattle.node_moves.specs.LossyRuns.{IsRunOn, heard_with}
 use Rattle.node_moves.specs.Moves.{NodeCall, Runs, done}
-use Rattle.node_group.specs.Group.{Group, after_turn, opening_group, told_by_master, with_master, with_record}
+use Rattle.node_group.specs.Group.{Group, after_outcome, opening_group, told_by_master, with_master, with_record}
 use Rattle.node_group.specs.Losing.{WereSent}
 use Rattle.node_group.specs.Losing.{all_given as given_losing, put_in_run as put_losing, recorded_in as recorded_losing}
 use Rattle.node_group.specs.Putting.{recorded_in}
@@ -28,25 +28,26 @@ after_assign g config (Some why) = g
 after_assign g config None = told_by_master g (assigned Command g.master config)
 
 -- the effects of a node, if only these messages are not lost
-abbrev pub keeping : List (Effect Command Output) → Turn → Turn
-keeping kept turn = record turn { messages = kept }
+abbrev pub keeping : List (Effect Command Output) → StepOutcome → StepOutcome
+keeping kept outcome = record outcome { messages = kept }
 
 -- one step of a group: of one of its nodes, or of its master
 pub data GroupStep (g : Group) : Group → Type 0 where
   -- a node takes an item, or hands over bytes, by these moves; what its replica receives, or a cut,
   -- comes first
-  node_acts : (n : ℕ) (core : CoreState) (node_call : NodeCall) (turn : Turn)
-      (run : Runs core turn) → slice_get g.nodes n ≡ Some core →
-      turn ≡ done node_call core → HearsAtFirst run → AllWasSent g n run →
-      GroupStep g (after_turn (with_record g (recorded_in g.archive run)) n turn (all_given run))
+  node_acts : (n : ℕ) (core : CoreState) (node_call : NodeCall) (outcome : StepOutcome)
+      (run : Runs core outcome) → slice_get g.nodes n ≡ Some core →
+      outcome ≡ done node_call core → HearsAtFirst run → AllWasSent g n run →
+      GroupStep g
+      (after_outcome (with_record g (recorded_in g.archive run)) n outcome (all_given run))
   -- a node takes an item with losses, by these moves; what comes with it was sent, and some of its
   -- messages may be missing
-  node_loses : (n : ℕ) (core : CoreState) (item : Item) (turn : Turn)
-      (kept : List (Effect Command Output)) (by : IsRunOn item core turn) →
-      slice_get g.nodes n ≡ Some core → RunsOn item core turn.core turn.messages →
-      WereSent g n (heard_with item) → Thinned kept turn.messages →
-      GroupStep g (after_turn (with_record g (recorded_losing g.archive by.run)) n
-      (keeping kept turn) (given_losing by.run))
+  node_loses : (n : ℕ) (core : CoreState) (item : Item) (outcome : StepOutcome)
+      (kept : List (Effect Command Output)) (by : IsRunOn item core outcome) →
+      slice_get g.nodes n ≡ Some core → RunsOn item core outcome.core outcome.messages →
+      WereSent g n (heard_with item) → Thinned kept outcome.messages →
+      GroupStep g (after_outcome (with_record g (recorded_losing g.archive by.run)) n
+      (keeping kept outcome) (given_losing by.run))
   -- an administrator asks for another configuration
   master_assigns : (config : Config) →
       GroupStep g (with_master (after_assign g config (refusal g.master config))
@@ -74,8 +75,8 @@ pub data GroupTrace (nodes : ℕ) (config : Config) : Group → Type 0 where
 -- what nodes proposed to their replicas, each command with the ballot that its node had joined, in
 -- order
 abbrev pub put_in_step : {g h : Group} → GroupStep g h → List (ℕ × Command)
-put_in_step (node_acts n core node_call turn run at is first sent) = put_in_run run
-put_in_step (node_loses n core item turn kept by at runs sent thinned) = put_losing by.run
+put_in_step (node_acts n core node_call outcome run at is first sent) = put_in_run run
+put_in_step (node_loses n core item outcome kept by at runs sent thinned) = put_losing by.run
 put_in_step (master_assigns config) = []
 put_in_step (master_hears from ballot sent) = []
 put_in_step (assigns_unheard config) = []

@@ -4,7 +4,7 @@ use Rattle.std.specs.Prelude.{ℕ, if◌then◌else◌, List, [], ◌++◌, Opti
 use Rattle.node_moves.specs.ballot.Config.{Config}
 use Rattle.packet_world.specs.broker_spec.Connection.{ConnectionName, same_connection}
 use Rattle.node_moves.specs.world_base.declared.Connection.{Connection}
-use Rattle.node_moves.specs.world_base.Core.{CoreState, Turn}
+use Rattle.node_moves.specs.world_base.Core.{CoreState, StepOutcome}
 use Rattle.node_moves.specs.world_base.Handing.{listed_at}
 use Rattle.node_moves.specs.RunProposals.{bytes_on}
 use Rattle.node_moves.specs.LossyRuns.{came_with}
@@ -20,8 +20,8 @@ use Rattle.node_group.specs.Steps.GroupTrace.{opened, then_went}
 
 -- what comes on the connection of a name, at any node
 abbrev pub comes_up : ConnectionName → {g h : Group} → GroupStep g h → List ℕ
-comes_up x (node_acts n core node_call turn run at is first sent) = bytes_on x run
-comes_up x (node_loses n core item turn kept by at runs sent thinned) = came_with x item core
+comes_up x (node_acts n core node_call outcome run at is first sent) = bytes_on x run
+comes_up x (node_loses n core item outcome kept by at runs sent thinned) = came_with x item core
 comes_up x (master_assigns config) = []
 comes_up x (master_hears from ballot sent) = []
 comes_up x (assigns_unheard config) = []
@@ -41,20 +41,22 @@ bytes_named x None = []
 bytes_named x (Some c) = if same_connection c.name x then c.pending else []
 
 -- what is handed over on a connection in a move
-abbrev pub handed_on : ConnectionName → {core : CoreState} {turn : Turn} → Moves core turn → List ℕ
+abbrev pub handed_on : ConnectionName → {core : CoreState} {outcome : StepOutcome} →
+    Moves core outcome → List ℕ
 handed_on x {core = core} (hands port) = bytes_named x (listed_at port core)
 handed_on x _ = []
 
 -- what is handed over on a connection in a run, in order
-abbrev pub handed_in_run : ConnectionName → {core : CoreState} {turn : Turn} → Runs core turn →
+abbrev pub handed_in_run : ConnectionName → {core : CoreState} {outcome : StepOutcome} →
+    Runs core outcome →
     List ℕ
 handed_in_run x rests = []
 handed_in_run x (goes_on m run) = handed_on x m ++ handed_in_run x run
 
 -- what is handed over on a connection in a step of a group: nothing if an item is taken with losses
 abbrev pub goes_down : ConnectionName → {g h : Group} → GroupStep g h → List ℕ
-goes_down x (node_acts n core node_call turn run at is first sent) = handed_in_run x run
-goes_down x (node_loses n core item turn kept by at runs sent thinned) = []
+goes_down x (node_acts n core node_call outcome run at is first sent) = handed_in_run x run
+goes_down x (node_loses n core item outcome kept by at runs sent thinned) = []
 goes_down x (master_assigns config) = []
 goes_down x (master_hears from ballot sent) = []
 goes_down x (assigns_unheard config) = []

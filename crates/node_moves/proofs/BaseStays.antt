@@ -8,7 +8,7 @@ use Rattle.exactly_once.specs.broker_base.State.{State}
 use Rattle.exactly_once.specs.broker_spec.declared.command.Command.{Command}
 use Rattle.exactly_once.specs.broker_spec.declared.command.Command.TheVariants as commands
 use Rattle.world_base.specs.Connections.{noted_proposed, closed, failing, left_with}
-use Rattle.world_base.specs.Core.{CoreState, Turn}
+use Rattle.world_base.specs.Core.{CoreState, StepOutcome}
 use Rattle.world_base.specs.Reading.{changes}
 use Rattle.world_base.specs.Step.{node_step}
 use Rattle.world_base.specs.declared.item.Item.TheVariants.{Cut}
@@ -30,34 +30,34 @@ use Rattle.node_moves.proofs.StepsMove.{First, node_calls_begin}
 base_of : (core later : CoreState) → later.replica ≡ core.replica → later.replica.state.log.base ≡ core.replica.state.log.base
 base_of core later e = ap (λ (r : CountedReplica State Command). r.state.log.base) e
 
-pub calm_base : (core : CoreState) (turn : Turn) (m : LossyMoves core turn) → hears_in m ≡ false → turn.core.replica.state.log.base ≡ core.replica.state.log.base
-calm_base core turn (exactly m) calm = (move_same core turn m calm).base
-calm_base core turn (hears_losing input did other drives) calm = absurd cc
-calm_base core turn (first_losing now port c connect rest did at first is taken) calm =
+pub calm_base : (core : CoreState) (outcome : StepOutcome) (m : LossyMoves core outcome) → hears_in m ≡ false → outcome.core.replica.state.log.base ≡ core.replica.state.log.base
+calm_base core outcome (exactly m) calm = (move_same core outcome m calm).base
+calm_base core outcome (hears_losing input did other drives) calm = absurd cc
+calm_base core outcome (first_losing now port c connect rest did at first is taken) calm =
     (taken_after _ core (changes port (noted_proposed connect.keep_alive) (changes port (left_with now rest) core)) did
     (at_replica port (noted_proposed connect.keep_alive) (changes port (left_with now rest) core) ∙ at_replica port (left_with now rest) core) taken).base
-calm_base core turn (later_losing now port c packet rest did at later is taken) calm =
+calm_base core outcome (later_losing now port c packet rest did at later is taken) calm =
     (taken_after _ core (changes port (left_with now rest) core) did (at_replica port (left_with now rest) core) taken).base
-calm_base core turn (tells_losing name did taken) calm = (taken_same (commands.Lost name) core did taken).base
-calm_base core turn (expels_losing client did taken) calm = (taken_same (commands.Expel client) core did taken).base
-calm_base core turn forgets calm = refl
-calm_base core turn halts calm = refl
-calm_base core turn (fails port) calm = base_of core turn.core (at_replica port failing core)
-calm_base core turn unheard calm = refl
-calm_base core turn (drops port piece) calm = base_of core turn.core (at_replica port closed core)
+calm_base core outcome (tells_losing name did taken) calm = (taken_same (commands.Lost name) core did taken).base
+calm_base core outcome (expels_losing client did taken) calm = (taken_same (commands.Expel client) core did taken).base
+calm_base core outcome forgets calm = refl
+calm_base core outcome halts calm = refl
+calm_base core outcome (fails port) calm = base_of core outcome.core (at_replica port failing core)
+calm_base core outcome unheard calm = refl
+calm_base core outcome (drops port piece) calm = base_of core outcome.core (at_replica port closed core)
 
 -- so it is in a run of such moves
-pub calm_run_base : {core : CoreState} {turn : Turn} (run : LossyRuns core turn) → HearsNothing run → turn.core.replica.state.log.base ≡ core.replica.state.log.base
+pub calm_run_base : {core : CoreState} {outcome : StepOutcome} (run : LossyRuns core outcome) → HearsNothing run → outcome.core.replica.state.log.base ≡ core.replica.state.log.base
 calm_run_base rests calm = refl
 calm_run_base {core = core} (goes_on {first = first} m run) calm = calm_run_base run calm.1 ∙ calm_base core first m calm.0
 
 -- ---- a cut
 
-bare_base : {core : CoreState} {turn : Turn} (run : Runs core turn) → IsBare run → turn.core.replica.state.log.base ≡ core.replica.state.log.base
+bare_base : {core : CoreState} {outcome : StepOutcome} (run : Runs core outcome) → IsBare run → outcome.core.replica.state.log.base ≡ core.replica.state.log.base
 bare_base rests_exactly bare = refl
 bare_base {core = core} (goes_exactly {first = first} m run) bare = bare_base run bare.1 ∙ (move_same core first m bare.0.0).base
 
-cut_moves : {core : CoreState} {turn : Turn} (m : Moves core turn) → part_in m ≡ Part.cut → turn.core.replica.state.log.base ≡ core.replica.state.committed
+cut_moves : {core : CoreState} {outcome : StepOutcome} (m : Moves core outcome) → part_in m ≡ Part.cut → outcome.core.replica.state.log.base ≡ core.replica.state.committed
 cut_moves (cuts_log can) part = refl
 cut_moves (hears (Receives message) is) part = absurd cc
 cut_moves (hears (Proposes command) is) part = absurd cc
@@ -75,7 +75,7 @@ cut_moves crashes part = absurd cc
 cut_moves settles part = absurd cc
 cut_moves (hands port) part = absurd cc
 
-begins_cut : {core : CoreState} {turn : Turn} (run : Runs core turn) → BeginsWith Part.cut run → turn.core.replica.state.log.base ≡ core.replica.state.committed
+begins_cut : {core : CoreState} {outcome : StepOutcome} (run : Runs core outcome) → BeginsWith Part.cut run → outcome.core.replica.state.log.base ≡ core.replica.state.committed
 begins_cut rests_exactly begins = absurd cc
 begins_cut (goes_exactly m run) begins = bare_base run begins.1 ∙ cut_moves m begins.0
 

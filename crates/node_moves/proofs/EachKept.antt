@@ -16,7 +16,7 @@ use Rattle.exactly_once.specs.broker_spec.Connection.{ConnectionName}
 use Rattle.exactly_once.specs.lists.Lists.{Each}
 use Rattle.world_base.specs.declared.Connection.{Connection}
 use Rattle.world_base.specs.Connections.{has_failed, is_listed, is_open_named, closed, put_out}
-use Rattle.world_base.specs.Core.{CoreState, Turn, rules, serves}
+use Rattle.world_base.specs.Core.{CoreState, StepOutcome, rules, serves}
 use Rattle.world_base.specs.Failing.{closes_failed, loses_failed, loses_if}
 use Rattle.world_base.specs.Step.{settled}
 use Rattle.world_base.specs.Turns.{without_messages, repeated, handled, moved, proposes, changes_named}
@@ -49,7 +49,7 @@ module _ (P : Connection → Type 0) (kept : IsKept P) where
   unfolding proposes
   each_proposed command core all = by (serves core)
     where
-      by : (b : Bool) → Each P (let t : Turn = if b then moved (proposed rules core.replica.state command) core else without_messages core in t).core.connections
+      by : (b : Bool) → Each P (let t : StepOutcome = if b then moved (proposed rules core.replica.state command) core else without_messages core in t).core.connections
       by true = each_moved (proposed rules core.replica.state command) core all
       by false = all
 

@@ -19,7 +19,7 @@ use Rattle.world_base.specs.declared.Connection.{Connection}
 use Rattle.world_base.specs.declared.ConnectionStage.{ConnectionStage}
 use Rattle.world_base.specs.declared.ConnectionStage.TheVariants.{Awaits, Proposed, Over, Failed}
 use Rattle.world_base.specs.Connections.{is_over, is_proposed, is_failed, has_failed, is_at, is_open_at, is_open_named, is_listed, max_pending, closed, failing, put_out, putting, handed, changed}
-use Rattle.world_base.specs.Core.{CoreState, Turn, rules, serves}
+use Rattle.world_base.specs.Core.{CoreState, StepOutcome, rules, serves}
 use Rattle.world_base.specs.Failing.{closes_failed}
 use Rattle.world_base.specs.Handing.{hands_over, left_by, listed_at}
 use Rattle.world_base.specs.Reading.{changes}
@@ -198,7 +198,7 @@ pub stays_proposed : (command : Command) (core : CoreState) → IsOrderly core �
 unfolding proposes
 stays_proposed command core o = by (serves core)
   where
-    by : (b : Bool) → Stays core (let t : Turn = if b then moved (proposed rules core.replica.state command) core else without_messages core in t).core
+    by : (b : Bool) → Stays core (let t : StepOutcome = if b then moved (proposed rules core.replica.state command) core else without_messages core in t).core
     by true = stays_moved (proposed rules core.replica.state command) core (up_proposed rules core.replica.state command) o
     by false = stays_same core o
 

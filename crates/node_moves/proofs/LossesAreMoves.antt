@@ -9,7 +9,7 @@ use Rattle.world_base.specs.declared.Port.{Port}
 use Rattle.world_base.specs.declared.item.Item.{Item}
 use Rattle.world_base.specs.declared.item.Item.TheVariants.{Peer, Tick, Opened, Bytes, Ended, Expel, Cut, Crash}
 use Rattle.world_base.specs.Connections.{closed, holding}
-use Rattle.world_base.specs.Core.{CoreState, Turn}
+use Rattle.world_base.specs.Core.{CoreState, StepOutcome}
 use Rattle.world_base.specs.Lossy.{Account, joined, without_effects}
 use Rattle.world_base.specs.LossyStep.{Cuts, HoldsBytes, LosesAllFailed, AcceptsConnection, DoesItem}
 use Rattle.world_base.specs.LossyReading.{EndsSilent, ReadsNext}
@@ -18,7 +18,7 @@ use Rattle.world_base.specs.LossyReading.EndsConnection.{none_open, unproposed, 
 use Rattle.world_base.specs.Reading.{changes, open_at, unread_of}
 use Rattle.world_base.specs.Step.{crashed, opens, settled, with_cut}
 use Rattle.node_moves.specs.Ends.{piece_on}
-use Rattle.node_moves.specs.LossyMoves.{with_loss, turn_of}
+use Rattle.node_moves.specs.LossyMoves.{with_loss, outcome_in}
 use Rattle.node_moves.specs.LossyRuns.{IsRunOn, LossesAreMoves, came_with, heard_with, is_cut}
 use Rattle.node_moves.specs.LossyMoves.LossyMoves.{exactly, hears_losing, forgets, drops}
 use Rattle.node_moves.specs.Moves.{and_then}
@@ -27,7 +27,7 @@ use Rattle.node_moves.proofs.LossyRuns.{Calm, First, Given, Still, all_failed, c
 
 -- what was done is such a run, whatever calm one comes after it
 abbrev Before : CoreState → Account → List (Input Command) → Bool → (ConnectionName → List ℕ) → Type 0
-Before core did inputs may_cut bytes = (next : Turn) → Calm did.core next → First core (and_then (turn_of did) next) inputs may_cut bytes
+Before core did inputs may_cut bytes = (next : StepOutcome) → Calm did.core next → First core (and_then (outcome_in did) next) inputs may_cut bytes
 
 before_is : (core : CoreState) (one did : Account) (inputs : List (Input Command)) (may_cut : Bool) (bytes : ConnectionName → List ℕ) → did ≡ one → Before core one inputs may_cut bytes
     → Before core did inputs may_cut bytes
@@ -36,8 +36,8 @@ before_is core one did inputs may_cut bytes is b = subst (λ (d : Account). Befo
 before_then : (core : CoreState) (one two : Account) (inputs : List (Input Command)) (may_cut : Bool) (bytes : ConnectionName → List ℕ) → Before core one inputs may_cut bytes
     → Still one.core two → Before core (joined one two) inputs may_cut bytes
 before_then core one two inputs may_cut bytes b still next tail =
-    subst (λ (given : Given). First core (let t : Turn = record { core = next.core; messages = given } in t) inputs may_cut bytes)
-    (sym (append_assoc one.messages two.messages next.messages)) (b (and_then (turn_of two) next) (calm_join still tail))
+    subst (λ (given : Given). First core (let t : StepOutcome = record { core = next.core; messages = given } in t) inputs may_cut bytes)
+    (sym (append_assoc one.messages two.messages next.messages)) (b (and_then (outcome_in two) next) (calm_join still tail))
 
 before_calm : (core : CoreState) (did : Account) (may_cut : Bool) (bytes : ConnectionName → List ℕ) → ((x : ConnectionName) → bytes x ≡ []) → Still core did → Before core did [] may_cut bytes
 before_calm core did may_cut bytes none still next tail = first_calm may_cut bytes none (calm_join still tail)
@@ -92,19 +92,19 @@ taken_in Crash core did is =
 -- ---- a step
 
 -- the failed ones are reported to the broker, and connections are settled
-tail_of : (core : CoreState) (did : Account) → LosesAllFailed core did → Calm core (let t : Turn = record { core = settled did.core; messages = did.messages } in t)
+tail_of : (core : CoreState) (did : Account) → LosesAllFailed core did → Calm core (let t : StepOutcome = record { core = settled did.core; messages = did.messages } in t)
 tail_of core did runs =
-    subst (λ (given : Given). Calm core (let t : Turn = record { core = settled did.core; messages = given } in t)) (append-nil did.messages)
+    subst (λ (given : Given). Calm core (let t : StepOutcome = record { core = settled did.core; messages = given } in t)) (append-nil did.messages)
     (calm_join (all_failed core did runs) (calm_move (exactly settles) (refl, refl, refl, λ x. refl)))
 
-as_run : (item : Item) (core : CoreState) (turn : Turn) → First core turn (heard_with item) (is_cut item) (λ x. came_with x item core) → IsRunOn item core turn
-as_run item core turn f = record { run = f.run; first = f.first; hears = f.hears; bytes = f.bytes_so; hands = f.hands; cuts = f.cuts; freezes = f.freezes }
+as_run : (item : Item) (core : CoreState) (outcome : StepOutcome) → First core outcome (heard_with item) (is_cut item) (λ x. came_with x item core) → IsRunOn item core outcome
+as_run item core outcome f = record { run = f.run; first = f.first; hears = f.hears; bytes = f.bytes_so; hands = f.hands; cuts = f.cuts; freezes = f.freezes }
 
 pub losses_are_moves : LossesAreMoves
 losses_are_moves item core later messages r =
-    subst (λ (given : Given). IsRunOn item core (let t : Turn = record { core = later; messages = given } in t)) (sym r.handed)
-    (subst (λ (k : CoreState). IsRunOn item core (let t : Turn = record { core = k; messages = r.did.messages } in t)) (sym r.settles)
-    (subst (λ (d : Account). IsRunOn item core (let t : Turn = record { core = settled d.core; messages = d.messages } in t)) (sym r.acts.is)
+    subst (λ (given : Given). IsRunOn item core (let t : StepOutcome = record { core = later; messages = given } in t)) (sym r.handed)
+    (subst (λ (k : CoreState). IsRunOn item core (let t : StepOutcome = record { core = k; messages = r.did.messages } in t)) (sym r.settles)
+    (subst (λ (d : Account). IsRunOn item core (let t : StepOutcome = record { core = settled d.core; messages = d.messages } in t)) (sym r.acts.is)
     (as_run item core _
-    (taken_in item core r.acts.one r.acts.first (let t : Turn = record { core = settled r.acts.two.core; messages = r.acts.two.messages } in t)
+    (taken_in item core r.acts.one r.acts.first (let t : StepOutcome = record { core = settled r.acts.two.core; messages = r.acts.two.messages } in t)
     (tail_of r.acts.one.core r.acts.two r.acts.next)))))

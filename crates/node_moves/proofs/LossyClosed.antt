@@ -5,7 +5,7 @@ use Rattle.std.proofs.lemmas.Bool.{both_ways}
 use Rattle.exactly_once.specs.broker_spec.Connection.{ConnectionName}
 use Rattle.world_base.specs.declared.Connection.{Connection}
 use Rattle.world_base.specs.Connections.{is_over}
-use Rattle.world_base.specs.Core.{CoreState, Turn}
+use Rattle.world_base.specs.Core.{CoreState, StepOutcome}
 use Rattle.node_moves.specs.Closed.{listed_named}
 use Rattle.node_moves.specs.Closed.{IsExactlyClosedBy}
 use Rattle.node_moves.specs.Closed.IsExactlyClosedBy.{was_closed as exact_was, closes_now as exact_now}
@@ -25,62 +25,62 @@ use Rattle.node_moves.proofs.Views.{same_some}
 
 -- ---- nothing more is queued
 
-closed_by : (x : ConnectionName) (core : CoreState) (turn : Turn) (m : LossyMoves core turn) (d : Connection) (o p : Option Connection) → Shuts (sent_in x m) o p
+closed_by : (x : ConnectionName) (core : CoreState) (outcome : StepOutcome) (m : LossyMoves core outcome) (d : Connection) (o p : Option Connection) → Shuts (sent_in x m) o p
     → listed_named x core ≡ o → p ≡ Some d → is_over d.stage ≡ true → IsClosedBy x m d
-closed_by x core turn m d o None nobody before after over = cc
-closed_by x core turn m d None (Some e) shuts before after over = elim shuts [ ]
-closed_by x core turn m d (Some c) (Some e) (stays_open a b pending) before after over =
+closed_by x core outcome m d o None nobody before after over = cc
+closed_by x core outcome m d None (Some e) shuts before after over = elim shuts [ ]
+closed_by x core outcome m d (Some c) (Some e) (stays_open a b pending) before after over =
     let same = same_some e d after in absurd (both_ways (is_over d.stage) (open_if (is_over d.stage) (sym (ap live same) ∙ b)) over)
-closed_by x core turn m d (Some c) (Some e) (is_shut front a b pending short) before after over =
+closed_by x core outcome m d (Some c) (Some e) (is_shut front a b pending short) before after over =
     closes_now c front (listed_open x core.connections c before a) (sym (ap (λ (z : Connection). z.pending) (same_some e d after)) ∙ pending) short
-closed_by x core turn m d (Some c) (Some e) (was_shut a b pending) before after over =
+closed_by x core outcome m d (Some c) (Some e) (was_shut a b pending) before after over =
     was_closed c before (over_if (is_over c.stage) a) (sym (ap (λ (z : Connection). z.pending) (same_some e d after)) ∙ pending)
 
-exactly_so : (x : ConnectionName) (core : CoreState) (turn : Turn) (m : Moves core turn) (d : Connection) → IsExactlyClosedBy x m d →
-    IsClosedBy x (let k : LossyMoves core turn = exactly m in k) d
-exactly_so x core turn m d (exact_was c there over pending) = was_closed c there over pending
-exactly_so x core turn m d (exact_now c front there pending short) = closes_now c front there pending short
+exactly_so : (x : ConnectionName) (core : CoreState) (outcome : StepOutcome) (m : Moves core outcome) (d : Connection) → IsExactlyClosedBy x m d →
+    IsClosedBy x (let k : LossyMoves core outcome = exactly m in k) d
+exactly_so x core outcome m d (exact_was c there over pending) = was_closed c there over pending
+exactly_so x core outcome m d (exact_now c front there pending short) = closes_now c front there pending short
 
-lost_closed : (core : CoreState) (turn : Turn) (m : LossyMoves core turn) → IsOrderly core → Loses m → (x : ConnectionName) (d : Connection) →
-    listed_named x turn.core ≡ Some d → is_over d.stage ≡ true → IsClosedBy x m d
-lost_closed core turn m o may x d there over =
-    closed_by x core turn m d (listed_named x core) (listed_named x turn.core) (lossy_shuts core turn m o x may) refl there over
+lost_closed : (core : CoreState) (outcome : StepOutcome) (m : LossyMoves core outcome) → IsOrderly core → Loses m → (x : ConnectionName) (d : Connection) →
+    listed_named x outcome.core ≡ Some d → is_over d.stage ≡ true → IsClosedBy x m d
+lost_closed core outcome m o may x d there over =
+    closed_by x core outcome m d (listed_named x core) (listed_named x outcome.core) (lossy_shuts core outcome m o x may) refl there over
 
 pub losses_put_nothing_on_closed : LossesPutNothingOnClosed
-losses_put_nothing_on_closed core turn (exactly m) o x d there over = exactly_so x core turn m d (nothing_on_closed core turn m o x d there over)
-losses_put_nothing_on_closed core turn (hears_losing input did other drives) o x d there over =
-    lost_closed core turn (hears_losing input did other drives) o tt x d there over
-losses_put_nothing_on_closed core turn (first_losing now port c connect rest did at first is taken) o x d there over =
-    lost_closed core turn (first_losing now port c connect rest did at first is taken) o tt x d there over
-losses_put_nothing_on_closed core turn (later_losing now port c packet rest did at later is taken) o x d there over =
-    lost_closed core turn (later_losing now port c packet rest did at later is taken) o tt x d there over
-losses_put_nothing_on_closed core turn (tells_losing name did taken) o x d there over = lost_closed core turn (tells_losing name did taken) o tt x d there over
-losses_put_nothing_on_closed core turn (expels_losing client did taken) o x d there over = lost_closed core turn (expels_losing client did taken) o tt x d there over
-losses_put_nothing_on_closed core turn forgets o x d there over = lost_closed core turn forgets o tt x d there over
-losses_put_nothing_on_closed core turn halts o x d there over = lost_closed core turn halts o tt x d there over
-losses_put_nothing_on_closed core turn (fails port) o x d there over = lost_closed core turn (fails port) o tt x d there over
-losses_put_nothing_on_closed core turn unheard o x d there over = lost_closed core turn unheard o tt x d there over
-losses_put_nothing_on_closed core turn (drops port piece) o x d there over = lost_closed core turn (drops port piece) o tt x d there over
+losses_put_nothing_on_closed core outcome (exactly m) o x d there over = exactly_so x core outcome m d (nothing_on_closed core outcome m o x d there over)
+losses_put_nothing_on_closed core outcome (hears_losing input did other drives) o x d there over =
+    lost_closed core outcome (hears_losing input did other drives) o tt x d there over
+losses_put_nothing_on_closed core outcome (first_losing now port c connect rest did at first is taken) o x d there over =
+    lost_closed core outcome (first_losing now port c connect rest did at first is taken) o tt x d there over
+losses_put_nothing_on_closed core outcome (later_losing now port c packet rest did at later is taken) o x d there over =
+    lost_closed core outcome (later_losing now port c packet rest did at later is taken) o tt x d there over
+losses_put_nothing_on_closed core outcome (tells_losing name did taken) o x d there over = lost_closed core outcome (tells_losing name did taken) o tt x d there over
+losses_put_nothing_on_closed core outcome (expels_losing client did taken) o x d there over = lost_closed core outcome (expels_losing client did taken) o tt x d there over
+losses_put_nothing_on_closed core outcome forgets o x d there over = lost_closed core outcome forgets o tt x d there over
+losses_put_nothing_on_closed core outcome halts o x d there over = lost_closed core outcome halts o tt x d there over
+losses_put_nothing_on_closed core outcome (fails port) o x d there over = lost_closed core outcome (fails port) o tt x d there over
+losses_put_nothing_on_closed core outcome unheard o x d there over = lost_closed core outcome unheard o tt x d there over
+losses_put_nothing_on_closed core outcome (drops port piece) o x d there over = lost_closed core outcome (drops port piece) o tt x d there over
 
 -- ---- new names
 
-none_comes : (core : CoreState) (turn : Turn) (m : LossyMoves core turn) → IsOrderly core → Loses m → (x : ConnectionName) (d : Connection) →
-    listed_named x core ≡ None → listed_named x turn.core ≡ Some d → ⊥
-none_comes core turn m o may x d none there =
-    stays_away (sent_in x m) (listed_named x core) (listed_named x turn.core) d (lossy_shuts core turn m o x may) none there
+none_comes : (core : CoreState) (outcome : StepOutcome) (m : LossyMoves core outcome) → IsOrderly core → Loses m → (x : ConnectionName) (d : Connection) →
+    listed_named x core ≡ None → listed_named x outcome.core ≡ Some d → ⊥
+none_comes core outcome m o may x d none there =
+    stays_away (sent_in x m) (listed_named x core) (listed_named x outcome.core) d (lossy_shuts core outcome m o x may) none there
 
 pub lossy_names_are_of_the_ballot : LossyNamesAreOfTheBallot
-lossy_names_are_of_the_ballot core turn (exactly m) o x d none there = new_names_are_of_the_ballot core turn m o x d none there
-lossy_names_are_of_the_ballot core turn (hears_losing input did other drives) o x d none there =
-    absurd (none_comes core turn (hears_losing input did other drives) o tt x d none there)
-lossy_names_are_of_the_ballot core turn (first_losing now port c connect rest did at first is taken) o x d none there =
-    absurd (none_comes core turn (first_losing now port c connect rest did at first is taken) o tt x d none there)
-lossy_names_are_of_the_ballot core turn (later_losing now port c packet rest did at later is taken) o x d none there =
-    absurd (none_comes core turn (later_losing now port c packet rest did at later is taken) o tt x d none there)
-lossy_names_are_of_the_ballot core turn (tells_losing name did taken) o x d none there = absurd (none_comes core turn (tells_losing name did taken) o tt x d none there)
-lossy_names_are_of_the_ballot core turn (expels_losing client did taken) o x d none there = absurd (none_comes core turn (expels_losing client did taken) o tt x d none there)
-lossy_names_are_of_the_ballot core turn forgets o x d none there = absurd (none_comes core turn forgets o tt x d none there)
-lossy_names_are_of_the_ballot core turn halts o x d none there = absurd (none_comes core turn halts o tt x d none there)
-lossy_names_are_of_the_ballot core turn (fails port) o x d none there = absurd (none_comes core turn (fails port) o tt x d none there)
-lossy_names_are_of_the_ballot core turn unheard o x d none there = absurd (none_comes core turn unheard o tt x d none there)
-lossy_names_are_of_the_ballot core turn (drops port piece) o x d none there = absurd (none_comes core turn (drops port piece) o tt x d none there)
+lossy_names_are_of_the_ballot core outcome (exactly m) o x d none there = new_names_are_of_the_ballot core outcome m o x d none there
+lossy_names_are_of_the_ballot core outcome (hears_losing input did other drives) o x d none there =
+    absurd (none_comes core outcome (hears_losing input did other drives) o tt x d none there)
+lossy_names_are_of_the_ballot core outcome (first_losing now port c connect rest did at first is taken) o x d none there =
+    absurd (none_comes core outcome (first_losing now port c connect rest did at first is taken) o tt x d none there)
+lossy_names_are_of_the_ballot core outcome (later_losing now port c packet rest did at later is taken) o x d none there =
+    absurd (none_comes core outcome (later_losing now port c packet rest did at later is taken) o tt x d none there)
+lossy_names_are_of_the_ballot core outcome (tells_losing name did taken) o x d none there = absurd (none_comes core outcome (tells_losing name did taken) o tt x d none there)
+lossy_names_are_of_the_ballot core outcome (expels_losing client did taken) o x d none there = absurd (none_comes core outcome (expels_losing client did taken) o tt x d none there)
+lossy_names_are_of_the_ballot core outcome forgets o x d none there = absurd (none_comes core outcome forgets o tt x d none there)
+lossy_names_are_of_the_ballot core outcome halts o x d none there = absurd (none_comes core outcome halts o tt x d none there)
+lossy_names_are_of_the_ballot core outcome (fails port) o x d none there = absurd (none_comes core outcome (fails port) o tt x d none there)
+lossy_names_are_of_the_ballot core outcome unheard o x d none there = absurd (none_comes core outcome unheard o tt x d none there)
+lossy_names_are_of_the_ballot core outcome (drops port piece) o x d none there = absurd (none_comes core outcome (drops port piece) o tt x d none there)

@@ -15,7 +15,7 @@ use Rattle.exactly_once.specs.lists.Lists.{In}
 use Rattle.exactly_once.specs.StoryCommands.{is_packet_of}
 use Rattle.world_base.specs.declared.Connection.{Connection}
 use Rattle.world_base.specs.Connections.{noted_proposed, failing, closed, is_over, left_with}
-use Rattle.world_base.specs.Core.{CoreState, Turn, rules, serves}
+use Rattle.world_base.specs.Core.{CoreState, StepOutcome, rules, serves}
 use Rattle.world_base.specs.Lossy.{Account, Drives, TakesCommand}
 use Rattle.world_base.specs.Reading.{changes}
 use Rattle.world_base.specs.Step.{crashed}
@@ -74,12 +74,12 @@ taken_after command core between did same t =
 
 -- ---- a move in which it receives nothing
 
-by_same : (core : CoreState) (turn : Turn) (m : LossyMoves core turn) → IsOrderly core → Loses m → Same core.replica.state turn.core.replica.state
+by_same : (core : CoreState) (turn : StepOutcome) (m : LossyMoves core turn) → IsOrderly core → Loses m → Same core.replica.state turn.core.replica.state
     → AreWhereItServes core → AreWhereItServes turn.core
 by_same core turn m o may same of serving =
     record { each = λ x d e lives. by_shuts x core turn.core (sent_in x m) d (of (sym (serves_same core turn.core same) ∙ serving)) same (lossy_shuts core turn m o x may) e lives }
 
-exact_calm : (core : CoreState) (turn : Turn) (m : Moves core turn) → IsOrderly core → moves_replica m ≡ false → AreWhereItServes core → AreWhereItServes turn.core
+exact_calm : (core : CoreState) (turn : StepOutcome) (m : Moves core turn) → IsOrderly core → moves_replica m ≡ false → AreWhereItServes core → AreWhereItServes turn.core
 exact_calm core turn m o calm of serving =
     names_keep_their_ballot.moves core turn m o calm (of (sym (serves_same core turn.core (move_same core turn m calm)) ∙ serving))
 
@@ -87,7 +87,7 @@ exact_calm core turn m o calm of serving =
 stopped_not : (core : CoreState) → AreWhereItServes (halting core)
 stopped_not core serving = absurd (both_ways (serves (halting core)) (and_false (is_active core.replica.state.role)) serving)
 
-calm_keeps : (core : CoreState) (turn : Turn) (m : LossyMoves core turn) → IsOrderly core → hears_in m ≡ false → AreWhereItServes core → AreWhereItServes turn.core
+calm_keeps : (core : CoreState) (turn : StepOutcome) (m : LossyMoves core turn) → IsOrderly core → hears_in m ≡ false → AreWhereItServes core → AreWhereItServes turn.core
 calm_keeps core turn (exactly m) o calm of = exact_calm core turn m o calm of
 calm_keeps core turn (hears_losing input did other drives) o calm of = absurd cc
 calm_keeps core turn (first_losing now port c connect rest did at first is taken) o calm of =
@@ -149,7 +149,7 @@ lossy_heard input core did other m o of =
 where_it_serves : (core : CoreState) → AreOfTheBallot core → AreWhereItServes core
 where_it_serves core of serving = of
 
-exact_keeps : (core : CoreState) (turn : Turn) (m : Moves core turn) → IsOrderly core → AreOfTheBallot core → AreWhereItServes turn.core
+exact_keeps : (core : CoreState) (turn : StepOutcome) (m : Moves core turn) → IsOrderly core → AreOfTheBallot core → AreWhereItServes turn.core
 exact_keeps core turn (hears input other) o of = exact_heard core input o of
 exact_keeps core turn (cuts_log can) o of = λ serving. record { each = of.each }
 exact_keeps core turn crashes o of = λ serving. absurd (both_ways (serves (crashed core)) (and_false (is_active core.replica.state.role)) serving)
@@ -167,7 +167,7 @@ exact_keeps core turn (expels_one client) o of = exact_calm core turn (expels_on
 exact_keeps core turn settles o of = exact_calm core turn settles o refl (where_it_serves core of)
 exact_keeps core turn (hands port) o of = exact_calm core turn (hands port) o refl (where_it_serves core of)
 
-first_keeps : (core : CoreState) (turn : Turn) (m : LossyMoves core turn) → IsOrderly core → AreOfTheBallot core → AreWhereItServes turn.core
+first_keeps : (core : CoreState) (turn : StepOutcome) (m : LossyMoves core turn) → IsOrderly core → AreOfTheBallot core → AreWhereItServes turn.core
 first_keeps core turn (exactly m) o of = exact_keeps core turn m o of
 first_keeps core turn (hears_losing input did other drives) o of = lossy_heard input core did other drives o of
 first_keeps core turn (first_losing now port c connect rest did at first is taken) o of =
@@ -184,7 +184,7 @@ first_keeps core turn (drops port piece) o of = calm_keeps core turn (drops port
 
 -- ---- what is proposed
 
-proposes_of : (core : CoreState) (turn : Turn) (m : LossyMoves core turn) → IsOrderly core → AreOfTheBallot core → (x : ConnectionName) (command : Command)
+proposes_of : (core : CoreState) (turn : StepOutcome) (m : LossyMoves core turn) → IsOrderly core → AreOfTheBallot core → (x : ConnectionName) (command : Command)
     → In command (proposal_of m) → is_packet_of command x ≡ true → x.ballot ≡ core.replica.state.joined
 proposes_of core turn (exactly m) o of x command i named' = names_keep_their_ballot.proposes core turn m o of x command i named'
 proposes_of core turn (first_losing now port c connect rest did at first is taken) o of x command i named' =

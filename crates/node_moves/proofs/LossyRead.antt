@@ -11,7 +11,7 @@ use Rattle.exactly_once.specs.broker_spec.declared.command.Command.{Command}
 use Rattle.exactly_once.specs.broker_spec.Connection.{ConnectionName}
 use Rattle.exactly_once.specs.StoryCommands.{is_packet_of}
 use Rattle.world_base.specs.Connections.{noted_proposed, left_with}
-use Rattle.world_base.specs.Core.{CoreState, Turn, rules}
+use Rattle.world_base.specs.Core.{CoreState, StepOutcome, rules}
 use Rattle.world_base.specs.Lossy.{Account, TakesCommand}
 use Rattle.world_base.specs.Reading.{changes}
 use Rattle.node_moves.specs.Ends.{IsEnd, IsOrderly, commands_of}
@@ -31,12 +31,12 @@ use Rattle.node_moves.proofs.Taken.{reads_are_taken}
 
 -- ---- all that is read
 
-record ReadsThrough (x : ConnectionName) {core : CoreState} {turn : Turn} (run : LossyRuns core turn) (written read : List Packet) (later : List ℕ) : Type 0 where
+record ReadsThrough (x : ConnectionName) {core : CoreState} {outcome : StepOutcome} (run : LossyRuns core outcome) (written read : List Packet) (later : List ℕ) : Type 0 where
   more : List Packet
-  end : IsEnd x turn.core written (read ++ more) later
+  end : IsEnd x outcome.core written (read ++ more) later
   proposed : filter (λ command. is_packet_of command x) (proposals_of run) ≡ commands_of x (length read) more
 
-one_then : (x : ConnectionName) {core : CoreState} {first next : Turn} (m : LossyMoves core first) (run : LossyRuns first.core next) (written read : List Packet) (between later : List ℕ)
+one_then : (x : ConnectionName) {core : CoreState} {first next : StepOutcome} (m : LossyMoves core first) (run : LossyRuns first.core next) (written read : List Packet) (between later : List ℕ)
     → (one : ReadsOn x m written read between) → ReadsThrough x run written (read ++ one.more) later → ReadsThrough x (goes_on m run) written read later
 one_then x {next = next} m run written read between later one two =
     record {
@@ -49,7 +49,7 @@ one_then x {next = next} m run written read between later one two =
           ∙ sym (commands_join x (length read) one.more two.more);
     }
 
-runs_read : (x : ConnectionName) {core : CoreState} {turn : Turn} (run : LossyRuns core turn) (written read : List Packet) (in_transit later : List ℕ) → IsOrderly core
+runs_read : (x : ConnectionName) {core : CoreState} {outcome : StepOutcome} (run : LossyRuns core outcome) (written read : List Packet) (in_transit later : List ℕ) → IsOrderly core
     → IsEnd x core written read in_transit → in_transit ≡ bytes_on x run ++ later → ReadsThrough x run written read later
 runs_read x {core = core} rests written read in_transit later o end same =
     record { more = []; end = subst (λ (ps : List Packet). IsEnd x core written ps later) (sym (append-nil read)) (subst (IsEnd x core written read) same end); proposed = refl }
@@ -60,10 +60,10 @@ runs_read x {core = core} (goes_on {first = first} m run) written read in_transi
     (runs_read x run written (read ++ one.more) (bytes_on x run ++ later) later all.0 one.end refl)
 
 pub losses_propose_in_order : LossesProposeInOrder
-losses_propose_in_order id config turn run x written later some joined =
+losses_propose_in_order id config outcome run x written later some joined =
     let z = runs_read x run written [] (bytes_on x run ++ later) later (opening_orderly id config)
     (not_yet (still_to_come x some) refl (record { rest = written; is = refl; joined = joined; sound = refl })) refl in
-    record { read = z.more; end = z.end; prefix = front_of x turn.core written z.more later z.end; proposed = z.proposed }
+    record { read = z.more; end = z.end; prefix = front_of x outcome.core written z.more later z.end; proposed = z.proposed }
 
 -- ---- what is read is taken
 
@@ -75,17 +75,17 @@ taken_log command core between did same t =
     ∙ ap (λ (r : CountedReplica State Command). pushed r.state.log command) same
 
 pub losses_are_taken : LossesAreTaken
-losses_are_taken core turn (exactly m) read = reads_are_taken core turn m read
-losses_are_taken core turn (first_losing now port c connect rest did at first is taken) read =
+losses_are_taken core outcome (exactly m) read = reads_are_taken core outcome m read
+losses_are_taken core outcome (first_losing now port c connect rest did at first is taken) read =
     taken_log _ core (changes port (noted_proposed connect.keep_alive) (changes port (left_with now rest) core)) did
     (at_replica port (noted_proposed connect.keep_alive) (changes port (left_with now rest) core) ∙ at_replica port (left_with now rest) core) taken
-losses_are_taken core turn (later_losing now port c packet rest did at later is taken) read =
+losses_are_taken core outcome (later_losing now port c packet rest did at later is taken) read =
     taken_log _ core (changes port (left_with now rest) core) did (at_replica port (left_with now rest) core) taken
-losses_are_taken core turn (hears_losing input did other drives) read = absurd cc
-losses_are_taken core turn (tells_losing name did taken) read = absurd cc
-losses_are_taken core turn (expels_losing client did taken) read = absurd cc
-losses_are_taken core turn forgets read = absurd cc
-losses_are_taken core turn halts read = absurd cc
-losses_are_taken core turn (fails port) read = absurd cc
-losses_are_taken core turn unheard read = absurd cc
-losses_are_taken core turn (drops port piece) read = absurd cc
+losses_are_taken core outcome (hears_losing input did other drives) read = absurd cc
+losses_are_taken core outcome (tells_losing name did taken) read = absurd cc
+losses_are_taken core outcome (expels_losing client did taken) read = absurd cc
+losses_are_taken core outcome forgets read = absurd cc
+losses_are_taken core outcome halts read = absurd cc
+losses_are_taken core outcome (fails port) read = absurd cc
+losses_are_taken core outcome unheard read = absurd cc
+losses_are_taken core outcome (drops port piece) read = absurd cc

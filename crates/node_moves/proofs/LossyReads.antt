@@ -17,7 +17,7 @@ use Rattle.exactly_once.specs.StoryCommands.{is_packet_of}
 use Rattle.world_base.specs.declared.Port.{Port}
 use Rattle.world_base.specs.declared.Connection.{Connection}
 use Rattle.world_base.specs.Connections.{noted_proposed, closed, failing, is_at, is_first, is_open_at, left_with}
-use Rattle.world_base.specs.Core.{CoreState, Turn, rules}
+use Rattle.world_base.specs.Core.{CoreState, StepOutcome, rules}
 use Rattle.world_base.specs.Lossy.{Account, Drives, TakesCommand}
 use Rattle.world_base.specs.Reading.{changes, open_at}
 use Rattle.world_base.specs.Turns.{heard}
@@ -67,23 +67,23 @@ stays_takes command core did t o =
 
 -- ---- moves that read nothing
 
-none_more : (x : ConnectionName) {core : CoreState} {turn : Turn} (m : LossyMoves core turn) (written read : List Packet) (later : List ℕ)
-    → IsEnd x turn.core written read later → filter (λ command. is_packet_of command x) (proposal_of m) ≡ [] → ReadsOn x m written read later
-none_more x {turn = turn} m written read later end none =
-    record { more = []; end = subst (λ (ps : List Packet). IsEnd x turn.core written ps later) (sym (append-nil read)) end; proposed = none }
+none_more : (x : ConnectionName) {core : CoreState} {outcome : StepOutcome} (m : LossyMoves core outcome) (written read : List Packet) (later : List ℕ)
+    → IsEnd x outcome.core written read later → filter (λ command. is_packet_of command x) (proposal_of m) ≡ [] → ReadsOn x m written read later
+none_more x {outcome = outcome} m written read later end none =
+    record { more = []; end = subst (λ (ps : List Packet). IsEnd x outcome.core written ps later) (sym (append-nil read)) end; proposed = none }
 
-abbrev ReadsAll : {core : CoreState} {turn : Turn} → LossyMoves core turn → Type 0
-ReadsAll {core = core} {turn = turn} m = IsOrderly turn.core
+abbrev ReadsAll : {core : CoreState} {outcome : StepOutcome} → LossyMoves core outcome → Type 0
+ReadsAll {core = core} {outcome = outcome} m = IsOrderly outcome.core
     × ((x : ConnectionName) (written read : List Packet) (in_transit later : List ℕ) → IsEnd x core written read in_transit → in_transit ≡ came_on x m ++ later
     → ReadsOn x m written read later)
 
-stays_reads : {core : CoreState} {turn : Turn} (m : LossyMoves core turn) → Stays core turn.core → ((x : ConnectionName) → came_on x m ≡ [])
+stays_reads : {core : CoreState} {outcome : StepOutcome} (m : LossyMoves core outcome) → Stays core outcome.core → ((x : ConnectionName) → came_on x m ≡ [])
     → ((x : ConnectionName) → filter (λ command. is_packet_of command x) (proposal_of m) ≡ []) → ReadsAll m
-stays_reads {core = core} {turn = turn} m s no_bytes none = (
+stays_reads {core = core} {outcome = outcome} m s no_bytes none = (
   s.orderly,
   λ x written read in_transit later end same.
       none_more x m written read later
-      (end_kept x core turn.core written read later
+      (end_kept x core outcome.core written read later
       (subst (IsEnd x core written read) (same ∙ ap (λ (l : List ℕ). l ++ later) (no_bytes x)) end) (s.kept x) s.last) (none x),
 )
 
@@ -205,29 +205,29 @@ drop_reads core port piece o =
 
 -- ---- each move
 
-exact_reads : {core : CoreState} {turn : Turn} (m : Moves core turn) → IsOrderly core → ReadsAll (let k : LossyMoves core turn = exactly m in k)
-exact_reads {core = core} {turn = turn} m o =
-    let r = nodes_read_in_order core turn m o in (
+exact_reads : {core : CoreState} {outcome : StepOutcome} (m : Moves core outcome) → IsOrderly core → ReadsAll (let k : LossyMoves core outcome = exactly m in k)
+exact_reads {core = core} {outcome = outcome} m o =
+    let r = nodes_read_in_order core outcome m o in (
       r.0,
       λ x written read in_transit later end same.
           let z = r.1 x written read in_transit later end same in record { more = z.more; end = z.end; proposed = z.proposed },
     )
 
 pub losses_read_in_order : LossesReadInOrder
-losses_read_in_order core turn (exactly m) o = exact_reads m o
-losses_read_in_order core turn (hears_losing input did other drives) o =
+losses_read_in_order core outcome (exactly m) o = exact_reads m o
+losses_read_in_order core outcome (hears_losing input did other drives) o =
     stays_reads (hears_losing input did other drives) (stays_drives input core did drives o) (λ x. refl) (λ x. refl)
-losses_read_in_order core turn (first_losing now port c connect rest did at first reads taken) o = first_reads now core port c connect rest did at first reads taken o
-losses_read_in_order core turn (later_losing now port c packet rest did at later reads taken) o = later_reads now core port c packet rest did at later reads taken o
-losses_read_in_order core turn (tells_losing name did taken) o =
+losses_read_in_order core outcome (first_losing now port c connect rest did at first reads taken) o = first_reads now core port c connect rest did at first reads taken o
+losses_read_in_order core outcome (later_losing now port c packet rest did at later reads taken) o = later_reads now core port c packet rest did at later reads taken o
+losses_read_in_order core outcome (tells_losing name did taken) o =
     stays_reads (tells_losing name did taken) (stays_takes (commands.Lost name) core did taken o) (λ x. refl) (λ x. refl)
-losses_read_in_order core turn (expels_losing client did taken) o =
+losses_read_in_order core outcome (expels_losing client did taken) o =
     stays_reads (expels_losing client did taken) (stays_takes (commands.Expel client) core did taken o) (λ x. refl) (λ x. refl)
-losses_read_in_order core turn forgets o =
+losses_read_in_order core outcome forgets o =
     stays_reads forgets (stays_replica core (record core.replica { losses = one_more core.replica.losses }) (same_le core.replica.state.joined) o) (λ x. refl) (λ x. refl)
-losses_read_in_order core turn halts o =
+losses_read_in_order core outcome halts o =
     stays_reads halts
     (stays_replica core (record { state = halted rules core.replica.state; losses = one_more core.replica.losses }) (same_le core.replica.state.joined) o) (λ x. refl) (λ x. refl)
-losses_read_in_order core turn (fails port) o = stays_reads (fails port) (stays_at port failing core o failing_is_mild) (λ x. refl) (λ x. refl)
-losses_read_in_order core turn unheard o = stays_reads unheard (stays_failed core o) (λ x. refl) (λ x. refl)
-losses_read_in_order core turn (drops port piece) o = drop_reads core port piece o
+losses_read_in_order core outcome (fails port) o = stays_reads (fails port) (stays_at port failing core o failing_is_mild) (λ x. refl) (λ x. refl)
+losses_read_in_order core outcome unheard o = stays_reads unheard (stays_failed core o) (λ x. refl) (λ x. refl)
+losses_read_in_order core outcome (drops port piece) o = drop_reads core port piece o

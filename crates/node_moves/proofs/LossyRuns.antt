@@ -14,7 +14,7 @@ use Rattle.exactly_once.specs.broker_spec.declared.command.Output.{Output}
 use Rattle.world_base.specs.declared.Port.{Port}
 use Rattle.world_base.specs.declared.Connection.{Connection}
 use Rattle.world_base.specs.Connections.{noted_proposed, closed, failing, is_at, is_first, is_open_at, is_over, left_with}
-use Rattle.world_base.specs.Core.{CoreState, Turn}
+use Rattle.world_base.specs.Core.{CoreState, StepOutcome}
 use Rattle.world_base.specs.Failing.{closes_failed}
 use Rattle.world_base.specs.Lossy.{Account, Repeated, Then, without_effects}
 use Rattle.world_base.specs.LossyProposals.{Declines, ProposesCommand}
@@ -27,7 +27,7 @@ use Rattle.world_base.specs.LossyReading.LosesFailed.{none_failed, tells_one}
 use Rattle.world_base.specs.LossyReading.ReadsNext.{waits, first, later, refuses as refuses_it, ends}
 use Rattle.world_base.specs.Reading.{changes, open_at, refused}
 use Rattle.world_base.specs.Turns.{without_messages}
-use Rattle.node_moves.specs.LossyMoves.{LossyMoves, with_loss, halting, turn_of}
+use Rattle.node_moves.specs.LossyMoves.{LossyMoves, with_loss, halting, outcome_in}
 use Rattle.node_moves.specs.LossyParts.{came_on, hears_in, inputs_in, is_handing}
 use Rattle.node_moves.specs.LossyRuns.{AllFreeze, CutsNothing, Freezes, HandsNothing, HearsAtFirst, HearsNothing, LossyRuns, all_inputs, bytes_on, cuts_in, exactly_cuts}
 use Rattle.node_moves.specs.LossyMoves.LossyMoves.{exactly, hears_losing, first_losing, later_losing, tells_losing, expels_losing, forgets, halts, fails, unheard, drops}
@@ -42,37 +42,37 @@ Given = List (Effect Command Output)
 
 -- ---- moves in which nothing is received, nothing comes, and nothing is handed over
 
-abbrev pub IsStill : {core : CoreState} {turn : Turn} → LossyMoves core turn → Type 0
+abbrev pub IsStill : {core : CoreState} {outcome : StepOutcome} → LossyMoves core outcome → Type 0
 IsStill m = (hears_in m ≡ false) × (is_handing m ≡ false) × (inputs_in m ≡ []) × ((x : ConnectionName) → came_on x m ≡ [])
 
-abbrev pub AreStill : {core : CoreState} {turn : Turn} → LossyRuns core turn → Type 0
+abbrev pub AreStill : {core : CoreState} {outcome : StepOutcome} → LossyRuns core outcome → Type 0
 AreStill rests = Unit {0}
 AreStill (goes_on m run) = IsStill m × AreStill run
 
 -- a run of such
-abbrev pub Calm : CoreState → Turn → Type 0
-Calm core turn = (run : LossyRuns core turn) × AreStill run
+abbrev pub Calm : CoreState → StepOutcome → Type 0
+Calm core outcome = (run : LossyRuns core outcome) × AreStill run
 
-calm_then : {core : CoreState} {a b : Turn} (run : LossyRuns core a) → AreStill run → Calm a.core b → Calm core (and_then a b)
+calm_then : {core : CoreState} {a b : StepOutcome} (run : LossyRuns core a) → AreStill run → Calm a.core b → Calm core (and_then a b)
 calm_then rests still r = r
 calm_then {b = b} (goes_on {core = core} {first = one} {next = next} m run) still r =
     let rest = calm_then run still.1 r in
-    subst (λ (given : Given). Calm core (let t : Turn = record { core = b.core; messages = given } in t)) (sym (append_assoc one.messages next.messages b.messages))
+    subst (λ (given : Given). Calm core (let t : StepOutcome = record { core = b.core; messages = given } in t)) (sym (append_assoc one.messages next.messages b.messages))
     (goes_on m rest.0, (still.0, rest.1))
 
-pub calm_join : {core : CoreState} {a b : Turn} → Calm core a → Calm a.core b → Calm core (and_then a b)
+pub calm_join : {core : CoreState} {a b : StepOutcome} → Calm core a → Calm a.core b → Calm core (and_then a b)
 calm_join q r = calm_then q.0 q.1 r
 
-pub calm_move : {core : CoreState} {t : Turn} (m : LossyMoves core t) → IsStill m → Calm core t
+pub calm_move : {core : CoreState} {t : StepOutcome} (m : LossyMoves core t) → IsStill m → Calm core t
 calm_move {core = core} {t = t} m still =
-    subst (λ (given : Given). Calm core (let u : Turn = record { core = t.core; messages = given } in u)) (append-nil t.messages) (goes_on m rests, (still, tt))
+    subst (λ (given : Given). Calm core (let u : StepOutcome = record { core = t.core; messages = given } in u)) (append-nil t.messages) (goes_on m rests, (still, tt))
 
 -- what was done is such a run
 abbrev pub Still : CoreState → Account → Type 0
-Still core did = Calm core (turn_of did)
+Still core did = Calm core (outcome_in did)
 
 by_account : (core new : CoreState) (did : Account) → did ≡ without_effects new → Calm core (without_messages new) → Still core did
-by_account core new did is calm = subst (λ (d : Account). Calm core (turn_of d)) (sym is) calm
+by_account core new did is calm = subst (λ (d : Account). Calm core (outcome_in d)) (sym is) calm
 
 by_none : (core : CoreState) (did : Account) → did ≡ without_effects core → Still core did
 by_none core did is = by_account core core did is (rests, tt)
@@ -165,9 +165,9 @@ declined port f core between did same change t =
     (by t.one t.first)
   where
     ends_so : CoreState → Given → Type 0
-    ends_so k messages = Calm core (let u : Turn = record { core = k; messages = messages } in u)
+    ends_so k messages = Calm core (let u : StepOutcome = record { core = k; messages = messages } in u)
 
-    by : (one : Account) → Declines between one → Calm core (let u : Turn = record { core = changes port f one.core; messages = one.messages ++ [] } in u)
+    by : (one : Account) → Declines between one → Calm core (let u : StepOutcome = record { core = changes port f one.core; messages = one.messages ++ [] } in u)
     by one (no_room full is) = subst (λ (d : Account). ends_so (changes port f d.core) (d.messages ++ [])) (sym is) (subst (λ (k : CoreState). ends_so k []) (sym same) change)
     by one (forgets_it room is) =
         subst (λ (d : Account). ends_so (changes port f d.core) (d.messages ++ [])) (sym is)
@@ -223,36 +223,36 @@ still_reads now port core did (ends may runs) = still_ends port core did runs
 
 -- ---- a step
 
-calm_of : {core : CoreState} {turn : Turn} (run : LossyRuns core turn) → AreStill run → HearsNothing run
+calm_of : {core : CoreState} {outcome : StepOutcome} (run : LossyRuns core outcome) → AreStill run → HearsNothing run
 calm_of rests still = tt
 calm_of (goes_on m run) still = (still.0.0, calm_of run still.1)
 
-hands_of : {core : CoreState} {turn : Turn} (run : LossyRuns core turn) → AreStill run → HandsNothing run
+hands_of : {core : CoreState} {outcome : StepOutcome} (run : LossyRuns core outcome) → AreStill run → HandsNothing run
 hands_of rests still = tt
 hands_of (goes_on m run) still = (still.0.1, hands_of run still.1)
 
-inputs_none : {core : CoreState} {turn : Turn} (run : LossyRuns core turn) → AreStill run → all_inputs run ≡ []
+inputs_none : {core : CoreState} {outcome : StepOutcome} (run : LossyRuns core outcome) → AreStill run → all_inputs run ≡ []
 inputs_none rests still = refl
 inputs_none (goes_on m run) still = ap (λ l. l ++ all_inputs run) still.0.2 ∙ inputs_none run still.1
 
-bytes_none : {core : CoreState} {turn : Turn} (run : LossyRuns core turn) → AreStill run → (x : ConnectionName) → bytes_on x run ≡ []
+bytes_none : {core : CoreState} {outcome : StepOutcome} (run : LossyRuns core outcome) → AreStill run → (x : ConnectionName) → bytes_on x run ≡ []
 bytes_none rests still x = refl
 bytes_none (goes_on m run) still x = ap (λ l. l ++ bytes_on x run) (still.0.3 x) ∙ bytes_none run still.1 x
 
 -- in such a move no log is cut
-exactly_still : {core : CoreState} {turn : Turn} (m : Moves core turn) → moves_replica m ≡ false → exactly_cuts m ≡ false
+exactly_still : {core : CoreState} {outcome : StepOutcome} (m : Moves core outcome) → moves_replica m ≡ false → exactly_cuts m ≡ false
 exactly_still (cuts_log can) calm = absurd cc
 exactly_still m calm = refl
 
-pub still_cuts : {core : CoreState} {turn : Turn} (m : LossyMoves core turn) → hears_in m ≡ false → cuts_in m ≡ false
+pub still_cuts : {core : CoreState} {outcome : StepOutcome} (m : LossyMoves core outcome) → hears_in m ≡ false → cuts_in m ≡ false
 still_cuts (exactly m) calm = exactly_still m calm
 still_cuts m calm = refl
 
-pub calm_cuts_none : {core : CoreState} {turn : Turn} (run : LossyRuns core turn) → HearsNothing run → CutsNothing run
+pub calm_cuts_none : {core : CoreState} {outcome : StepOutcome} (run : LossyRuns core outcome) → HearsNothing run → CutsNothing run
 calm_cuts_none rests calm = tt
 calm_cuts_none (goes_on m run) calm = (still_cuts m calm.0, calm_cuts_none run calm.1)
 
-still_freezes : {core : CoreState} {turn : Turn} (m : LossyMoves core turn) → hears_in m ≡ false → Freezes m
+still_freezes : {core : CoreState} {outcome : StepOutcome} (m : LossyMoves core outcome) → hears_in m ≡ false → Freezes m
 still_freezes (exactly (hears input other)) calm = tt
 still_freezes (exactly (opens_one port)) calm = tt
 still_freezes (exactly (holds port piece)) calm = tt
@@ -278,13 +278,13 @@ still_freezes (fails port) calm = tt
 still_freezes unheard calm = tt
 still_freezes (drops port piece) calm = tt
 
-all_freeze : {core : CoreState} {turn : Turn} (run : LossyRuns core turn) → AreStill run → AllFreeze run
+all_freeze : {core : CoreState} {outcome : StepOutcome} (run : LossyRuns core outcome) → AreStill run → AllFreeze run
 all_freeze rests still = tt
 all_freeze (goes_on m run) still = (still_freezes m still.0.0, all_freeze run still.1)
 
 -- a run in which these are received, at first, or a log is cut if it may be, and these bytes come
-pub record First (core : CoreState) (turn : Turn) (inputs : List (Input Command)) (may_cut : Bool) (bytes : ConnectionName → List ℕ) : Type 0 where
-  pub run : LossyRuns core turn
+pub record First (core : CoreState) (outcome : StepOutcome) (inputs : List (Input Command)) (may_cut : Bool) (bytes : ConnectionName → List ℕ) : Type 0 where
+  pub run : LossyRuns core outcome
   pub first : HearsAtFirst run
   pub hears : all_inputs run ≡ inputs
   pub bytes_so : (x : ConnectionName) → bytes_on x run ≡ bytes x
@@ -292,8 +292,8 @@ pub record First (core : CoreState) (turn : Turn) (inputs : List (Input Command)
   pub cuts : may_cut ≡ false → CutsNothing run
   pub freezes : AllFreeze run
 
-pub first_calm : {core : CoreState} {turn : Turn} (may_cut : Bool) (bytes : ConnectionName → List ℕ) → ((x : ConnectionName) → bytes x ≡ []) → Calm core turn
-    → First core turn [] may_cut bytes
+pub first_calm : {core : CoreState} {outcome : StepOutcome} (may_cut : Bool) (bytes : ConnectionName → List ℕ) → ((x : ConnectionName) → bytes x ≡ []) → Calm core outcome
+    → First core outcome [] may_cut bytes
 first_calm may_cut bytes none (rests, still) = record { run = rests; first = tt; hears = refl; bytes_so = λ x. sym (none x); hands = tt; cuts = λ e. tt; freezes = tt }
 first_calm may_cut bytes none (goes_on m run, still) =
     record {
@@ -306,7 +306,7 @@ first_calm may_cut bytes none (goes_on m run, still) =
       freezes = all_freeze (goes_on m run) still;
     }
 
-pub first_move : {core : CoreState} {one next : Turn} (m : LossyMoves core one) (may_cut : Bool) (bytes : ConnectionName → List ℕ) → is_handing m ≡ false
+pub first_move : {core : CoreState} {one next : StepOutcome} (m : LossyMoves core one) (may_cut : Bool) (bytes : ConnectionName → List ℕ) → is_handing m ≡ false
     → ((x : ConnectionName) → came_on x m ≡ bytes x) → (may_cut ≡ false → cuts_in m ≡ false) → Freezes m → Calm one.core next → First core (and_then one next) (inputs_in m) may_cut bytes
 first_move m may_cut bytes no_hand came no_cut frozen (run, still) =
     record {

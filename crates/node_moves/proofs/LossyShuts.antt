@@ -8,7 +8,7 @@ use Rattle.exactly_once.specs.broker_spec.Connection.{ConnectionName}
 use Rattle.exactly_once.specs.Sends.{sends_to}
 use Rattle.world_base.specs.declared.Connection.{Connection}
 use Rattle.world_base.specs.Connections.{noted_proposed, closed, failing, has_failed, is_open_named, left_with}
-use Rattle.world_base.specs.Core.{CoreState, Turn}
+use Rattle.world_base.specs.Core.{CoreState, StepOutcome}
 use Rattle.world_base.specs.Lossy.{Account, Drives, TakesCommand}
 use Rattle.world_base.specs.Reading.{changes}
 use Rattle.world_base.specs.Turns.{heard}
@@ -33,7 +33,7 @@ use Rattle.node_moves.proofs.ShutByOutputs.{bytes_for, right_true}
 use Rattle.node_moves.proofs.Views.{found_passes, same_some, some_none, view_of_changed}
 
 -- what a move queues for a name
-abbrev pub sent_in : ConnectionName → {core : CoreState} {turn : Turn} → LossyMoves core turn → List ℕ
+abbrev pub sent_in : ConnectionName → {core : CoreState} {outcome : StepOutcome} → LossyMoves core outcome → List ℕ
 sent_in x m = spelled (refusal_in x m ++ sends_to x (outputs_of (given_in m)))
 
 -- ---- the replica
@@ -53,32 +53,32 @@ taken_shuts x command core did t o =
 -- ---- each move that loses
 
 -- a move with losses
-abbrev pub Loses : {core : CoreState} {turn : Turn} → LossyMoves core turn → Type 0
+abbrev pub Loses : {core : CoreState} {outcome : StepOutcome} → LossyMoves core outcome → Type 0
 Loses (exactly m) = ⊥
 Loses _ = Unit {0}
 
-pub lossy_shuts : (core : CoreState) (turn : Turn) (m : LossyMoves core turn) → IsOrderly core → (x : ConnectionName) → Loses m
-    → Shuts (sent_in x m) (listed_named x core) (listed_named x turn.core)
-lossy_shuts core turn (exactly m) o x may = absurd may
-lossy_shuts core turn (hears_losing input did other drives) o x may = driven x input core did drives o
-lossy_shuts core turn (first_losing now port c connect rest did at first is taken) o x may =
+pub lossy_shuts : (core : CoreState) (outcome : StepOutcome) (m : LossyMoves core outcome) → IsOrderly core → (x : ConnectionName) → Loses m
+    → Shuts (sent_in x m) (listed_named x core) (listed_named x outcome.core)
+lossy_shuts core outcome (exactly m) o x may = absurd may
+lossy_shuts core outcome (hears_losing input did other drives) o x may = driven x input core did drives o
+lossy_shuts core outcome (first_losing now port c connect rest did at first is taken) o x may =
     let left : CoreState = changes port (left_with now rest) core in
     let ordered = at_orderly port (left_with now rest) core o (λ z. refl) in
     shuts_joined
     (shuts_joined (at_shuts x port (left_with now rest) core o (λ z. refl) (left_shuts now rest))
     (at_shuts x port (noted_proposed connect.keep_alive) left ordered (λ z. refl) (asked_shuts connect.keep_alive)))
     (taken_shuts x _ (changes port (noted_proposed connect.keep_alive) left) did taken (at_orderly port (noted_proposed connect.keep_alive) left ordered (λ z. refl)))
-lossy_shuts core turn (later_losing now port c packet rest did at later is taken) o x may =
+lossy_shuts core outcome (later_losing now port c packet rest did at later is taken) o x may =
     shuts_joined (at_shuts x port (left_with now rest) core o (λ z. refl) (left_shuts now rest))
     (taken_shuts x _ (changes port (left_with now rest) core) did taken (at_orderly port (left_with now rest) core o (λ z. refl)))
-lossy_shuts core turn (tells_losing name did taken) o x may = taken_shuts x (commands.Lost name) core did taken o
-lossy_shuts core turn (expels_losing client did taken) o x may = taken_shuts x (commands.Expel client) core did taken o
-lossy_shuts core turn forgets o x may = shuts_same (listed_named x core)
-lossy_shuts core turn halts o x may = shuts_same (listed_named x core)
-lossy_shuts core turn (fails port) o x may = at_shuts x port failing core o (λ z. refl) (failing_shuts [])
-lossy_shuts core turn unheard o x may =
+lossy_shuts core outcome (tells_losing name did taken) o x may = taken_shuts x (commands.Lost name) core did taken o
+lossy_shuts core outcome (expels_losing client did taken) o x may = taken_shuts x (commands.Expel client) core did taken o
+lossy_shuts core outcome forgets o x may = shuts_same (listed_named x core)
+lossy_shuts core outcome halts o x may = shuts_same (listed_named x core)
+lossy_shuts core outcome (fails port) o x may = at_shuts x port failing core o (λ z. refl) (failing_shuts [])
+lossy_shuts core outcome unheard o x may =
     shuts_tested x has_failed closed core.connections (o.names x) (λ z. refl) (λ z failed. was_shut (failed_dead z failed) refl refl)
-lossy_shuts core turn (drops port piece) o x may = at_shuts x port closed core o (λ z. refl) (λ z lives. shuts_closed z)
+lossy_shuts core outcome (drops port piece) o x may = at_shuts x port closed core o (λ z. refl) (λ z lives. shuts_closed z)
 
 -- ---- what is queued on an open connection
 
@@ -96,28 +96,28 @@ put_by bytes (Some b) (Some e) c d (stays_open f g h) before after lives =
 put_by bytes (Some b) (Some e) c d (is_shut front f g h i) before after lives = absurd (both_ways (live d) (ap live (sym (same_some e d after)) ∙ g) lives)
 put_by bytes (Some b) (Some e) c d (was_shut f g h) before after lives = absurd (both_ways (live d) (ap live (sym (same_some e d after)) ∙ g) lives)
 
-lossy_puts : (core : CoreState) (turn : Turn) (m : LossyMoves core turn) → IsOrderly core → IsOrderly turn.core → Loses m → (x : ConnectionName) (c d : Connection) →
-    open_named x core ≡ Some c → open_named x turn.core ≡ Some d → d.pending ≡ c.pending ++ sent_in x m
-lossy_puts core turn m o later may x c d before after =
-    put_by (sent_in x m) (listed_named x core) (listed_named x turn.core) c d (lossy_shuts core turn m o x may) (listed_of x core c o before)
-    (listed_of x turn.core d later after) (left_true (live d) (named x d) (found_passes (is_open_named x) turn.core.connections d after))
+lossy_puts : (core : CoreState) (outcome : StepOutcome) (m : LossyMoves core outcome) → IsOrderly core → IsOrderly outcome.core → Loses m → (x : ConnectionName) (c d : Connection) →
+    open_named x core ≡ Some c → open_named x outcome.core ≡ Some d → d.pending ≡ c.pending ++ sent_in x m
+lossy_puts core outcome m o later may x c d before after =
+    put_by (sent_in x m) (listed_named x core) (listed_named x outcome.core) c d (lossy_shuts core outcome m o x may) (listed_of x core c o before)
+    (listed_of x outcome.core d later after) (left_true (live d) (named x d) (found_passes (is_open_named x) outcome.core.connections d after))
 
-later_orderly : (core : CoreState) (turn : Turn) (m : LossyMoves core turn) → IsOrderly core → IsOrderly turn.core
-later_orderly core turn m o = (losses_read_in_order core turn m o).0
+later_orderly : (core : CoreState) (outcome : StepOutcome) (m : LossyMoves core outcome) → IsOrderly core → IsOrderly outcome.core
+later_orderly core outcome m o = (losses_read_in_order core outcome m o).0
 
-abbrev lost_puts : (core : CoreState) (turn : Turn) (m : LossyMoves core turn) → IsOrderly core → Loses m → (x : ConnectionName) (c d : Connection) →
-    open_named x core ≡ Some c → open_named x turn.core ≡ Some d → d.pending ≡ c.pending ++ sent_in x m
-lost_puts core turn m o may x c d before after = lossy_puts core turn m o (later_orderly core turn m o) may x c d before after
+abbrev lost_puts : (core : CoreState) (outcome : StepOutcome) (m : LossyMoves core outcome) → IsOrderly core → Loses m → (x : ConnectionName) (c d : Connection) →
+    open_named x core ≡ Some c → open_named x outcome.core ≡ Some d → d.pending ≡ c.pending ++ sent_in x m
+lost_puts core outcome m o may x c d before after = lossy_puts core outcome m o (later_orderly core outcome m o) may x c d before after
 
 pub losses_put_in_order : LossesPutInOrder
-losses_put_in_order core turn (exactly m) o no_hand x c d before after = puts_in_order core turn m o no_hand x c d before after
-losses_put_in_order core turn (hears_losing input did other drives) o no_hand x c d before after = lost_puts core turn (hears_losing input did other drives) o tt x c d before after
-losses_put_in_order core turn (first_losing now port b connect rest did at first is taken) o no_hand x c d before after = lost_puts core turn (first_losing now port b connect rest did at first is taken) o tt x c d before after
-losses_put_in_order core turn (later_losing now port b packet rest did at later is taken) o no_hand x c d before after = lost_puts core turn (later_losing now port b packet rest did at later is taken) o tt x c d before after
-losses_put_in_order core turn (tells_losing name did taken) o no_hand x c d before after = lost_puts core turn (tells_losing name did taken) o tt x c d before after
-losses_put_in_order core turn (expels_losing client did taken) o no_hand x c d before after = lost_puts core turn (expels_losing client did taken) o tt x c d before after
-losses_put_in_order core turn forgets o no_hand x c d before after = lost_puts core turn forgets o tt x c d before after
-losses_put_in_order core turn halts o no_hand x c d before after = lost_puts core turn halts o tt x c d before after
-losses_put_in_order core turn (fails port) o no_hand x c d before after = lost_puts core turn (fails port) o tt x c d before after
-losses_put_in_order core turn unheard o no_hand x c d before after = lost_puts core turn unheard o tt x c d before after
-losses_put_in_order core turn (drops port piece) o no_hand x c d before after = lost_puts core turn (drops port piece) o tt x c d before after
+losses_put_in_order core outcome (exactly m) o no_hand x c d before after = puts_in_order core outcome m o no_hand x c d before after
+losses_put_in_order core outcome (hears_losing input did other drives) o no_hand x c d before after = lost_puts core outcome (hears_losing input did other drives) o tt x c d before after
+losses_put_in_order core outcome (first_losing now port b connect rest did at first is taken) o no_hand x c d before after = lost_puts core outcome (first_losing now port b connect rest did at first is taken) o tt x c d before after
+losses_put_in_order core outcome (later_losing now port b packet rest did at later is taken) o no_hand x c d before after = lost_puts core outcome (later_losing now port b packet rest did at later is taken) o tt x c d before after
+losses_put_in_order core outcome (tells_losing name did taken) o no_hand x c d before after = lost_puts core outcome (tells_losing name did taken) o tt x c d before after
+losses_put_in_order core outcome (expels_losing client did taken) o no_hand x c d before after = lost_puts core outcome (expels_losing client did taken) o tt x c d before after
+losses_put_in_order core outcome forgets o no_hand x c d before after = lost_puts core outcome forgets o tt x c d before after
+losses_put_in_order core outcome halts o no_hand x c d before after = lost_puts core outcome halts o tt x c d before after
+losses_put_in_order core outcome (fails port) o no_hand x c d before after = lost_puts core outcome (fails port) o tt x c d before after
+losses_put_in_order core outcome unheard o no_hand x c d before after = lost_puts core outcome unheard o tt x c d before after
+losses_put_in_order core outcome (drops port piece) o no_hand x c d before after = lost_puts core outcome (drops port piece) o tt x c d before after

@@ -15,7 +15,7 @@ use Rattle.exactly_once.specs.broker_spec.declared.command.Output.TheVariants as
 use Rattle.world_base.specs.declared.Port.{Port}
 use Rattle.world_base.specs.declared.Connection.{Connection}
 use Rattle.world_base.specs.Connections.{noted_proposed, closed, fresh, is_at, left_with, put_out}
-use Rattle.world_base.specs.Core.{CoreState, Turn, rules, serves}
+use Rattle.world_base.specs.Core.{CoreState, StepOutcome, rules, serves}
 use Rattle.world_base.specs.Failing.{closes_failed}
 use Rattle.world_base.specs.Handing.{hands_over, left_by}
 use Rattle.world_base.specs.Reading.{changes}
@@ -58,7 +58,7 @@ proposes_same : (command : Command) (core : CoreState) → Same core.replica.sta
 unfolding proposes
 proposes_same command core = by (serves core)
   where
-    by : (b : Bool) → Same core.replica.state (let t : Turn = if b then moved (proposed rules core.replica.state command) core else without_messages core in t).core.replica.state
+    by : (b : Bool) → Same core.replica.state (let t : StepOutcome = if b then moved (proposed rules core.replica.state command) core else without_messages core in t).core.replica.state
     by true =
         subst (λ (r : ReplicaState State Command). Same core.replica.state r) (sym (moved_replica (proposed rules core.replica.state command) core))
         (proposed_same rules core.replica.state command)
@@ -90,7 +90,7 @@ hands_replica port core = by (find (is_at port) core.connections)
     by None = refl
     by (Some c) = refl
 
-pub move_same : (core : CoreState) (turn : Turn) (m : Moves core turn) → moves_replica m ≡ false → Same core.replica.state turn.core.replica.state
+pub move_same : (core : CoreState) (turn : StepOutcome) (m : Moves core turn) → moves_replica m ≡ false → Same core.replica.state turn.core.replica.state
 move_same core turn (hears input other) calm = absurd cc
 move_same core turn (cuts_log can) calm = absurd cc
 move_same core turn crashes calm = absurd cc

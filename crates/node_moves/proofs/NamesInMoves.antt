@@ -5,7 +5,7 @@ use Rattle.exactly_once.specs.broker_spec.Connection.{ConnectionName, is_connect
 use Rattle.world_base.specs.declared.Port.{Port}
 use Rattle.world_base.specs.declared.Connection.{Connection}
 use Rattle.world_base.specs.Connections.{fresh, is_at, is_over}
-use Rattle.world_base.specs.Core.{CoreState, Turn, serves}
+use Rattle.world_base.specs.Core.{CoreState, StepOutcome, serves}
 use Rattle.world_base.specs.Step.{next_name, opens, settled}
 use Rattle.node_moves.specs.Closed.{listed_named}
 use Rattle.node_moves.specs.Ends.{IsOrderly}
@@ -59,24 +59,24 @@ opened_of x port core d of same e lives (Some c) there' =
 
 -- ---- the moves
 
-pub move_of : (core : CoreState) (turn : Turn) (m : Moves core turn) → IsOrderly core → AreOfTheBallot core → Same core.replica.state turn.core.replica.state → moves_replica m ≡ false
-    → (x : ConnectionName) (d : Connection) → listed_named x turn.core ≡ Some d → is_over d.stage ≡ false → (serves turn.core ≡ true) × (x.ballot ≡ turn.core.replica.state.joined)
-move_of core turn (hears input other) o of same calm x d e lives = absurd cc
-move_of core turn (cuts_log can) o of same calm x d e lives = absurd cc
-move_of core turn crashes o of same calm x d e lives = absurd cc
-move_of core turn (opens_one port) o of same calm x d e lives = opened_of x port core d of same e lives (listed_named x core) refl
-move_of core turn settles o of same calm x d e lives = let z = settled_open x core d o e lives in still_of x core (settled core) d of same z.1 lives
-move_of core turn (hands port) o of same calm x d e lives = let z = handed_open x port core d o e lives in still_of x core turn.core z.0 of same z.1 z.2
-move_of core turn (holds port piece) o of same calm x d e lives =
-    by_shuts x core turn.core _ d of same (move_shuts core turn (holds port piece) o x tt) e lives
-move_of core turn (reads_first now port c connect rest at first is room) o of same calm x d e lives =
-    by_shuts x core turn.core _ d of same (move_shuts core turn (reads_first now port c connect rest at first is room) o x tt) e lives
-move_of core turn (reads_later now port c packet rest at later is room) o of same calm x d e lives =
-    by_shuts x core turn.core _ d of same (move_shuts core turn (reads_later now port c packet rest at later is room) o x tt) e lives
-move_of core turn (loses_next c at) o of same calm x d e lives = by_shuts x core turn.core _ d of same (move_shuts core turn (loses_next c at) o x tt) e lives
-move_of core turn (expels_one client) o of same calm x d e lives = by_shuts x core turn.core _ d of same (move_shuts core turn (expels_one client) o x tt) e lives
-move_of core turn (closes port) o of same calm x d e lives = by_shuts x core turn.core _ d of same (move_shuts core turn (closes port) o x tt) e lives
-move_of core turn (refuses port c code at first is) o of same calm x d e lives =
-    by_shuts x core turn.core _ d of same (move_shuts core turn (refuses port c code at first is) o x tt) e lives
-move_of core turn (loses_one port c at asked_before) o of same calm x d e lives =
-    by_shuts x core turn.core _ d of same (move_shuts core turn (loses_one port c at asked_before) o x tt) e lives
+pub move_of : (core : CoreState) (outcome : StepOutcome) (m : Moves core outcome) → IsOrderly core → AreOfTheBallot core → Same core.replica.state outcome.core.replica.state → moves_replica m ≡ false
+    → (x : ConnectionName) (d : Connection) → listed_named x outcome.core ≡ Some d → is_over d.stage ≡ false → (serves outcome.core ≡ true) × (x.ballot ≡ outcome.core.replica.state.joined)
+move_of core outcome (hears input other) o of same calm x d e lives = absurd cc
+move_of core outcome (cuts_log can) o of same calm x d e lives = absurd cc
+move_of core outcome crashes o of same calm x d e lives = absurd cc
+move_of core outcome (opens_one port) o of same calm x d e lives = opened_of x port core d of same e lives (listed_named x core) refl
+move_of core outcome settles o of same calm x d e lives = let z = settled_open x core d o e lives in still_of x core (settled core) d of same z.1 lives
+move_of core outcome (hands port) o of same calm x d e lives = let z = handed_open x port core d o e lives in still_of x core outcome.core z.0 of same z.1 z.2
+move_of core outcome (holds port piece) o of same calm x d e lives =
+    by_shuts x core outcome.core _ d of same (move_shuts core outcome (holds port piece) o x tt) e lives
+move_of core outcome (reads_first now port c connect rest at first is room) o of same calm x d e lives =
+    by_shuts x core outcome.core _ d of same (move_shuts core outcome (reads_first now port c connect rest at first is room) o x tt) e lives
+move_of core outcome (reads_later now port c packet rest at later is room) o of same calm x d e lives =
+    by_shuts x core outcome.core _ d of same (move_shuts core outcome (reads_later now port c packet rest at later is room) o x tt) e lives
+move_of core outcome (loses_next c at) o of same calm x d e lives = by_shuts x core outcome.core _ d of same (move_shuts core outcome (loses_next c at) o x tt) e lives
+move_of core outcome (expels_one client) o of same calm x d e lives = by_shuts x core outcome.core _ d of same (move_shuts core outcome (expels_one client) o x tt) e lives
+move_of core outcome (closes port) o of same calm x d e lives = by_shuts x core outcome.core _ d of same (move_shuts core outcome (closes port) o x tt) e lives
+move_of core outcome (refuses port c code at first is) o of same calm x d e lives =
+    by_shuts x core outcome.core _ d of same (move_shuts core outcome (refuses port c code at first is) o x tt) e lives
+move_of core outcome (loses_one port c at asked_before) o of same calm x d e lives =
+    by_shuts x core outcome.core _ d of same (move_shuts core outcome (loses_one port c at asked_before) o x tt) e lives

@@ -16,7 +16,7 @@ use Rattle.exactly_once.specs.StoryCommands.{is_packet_of}
 use Rattle.world_base.specs.declared.Port.{Port}
 use Rattle.world_base.specs.declared.Connection.{Connection}
 use Rattle.world_base.specs.Connections.{is_at, is_open_at, is_over}
-use Rattle.world_base.specs.Core.{CoreState, Turn, rules, serves}
+use Rattle.world_base.specs.Core.{CoreState, StepOutcome, rules, serves}
 use Rattle.world_base.specs.Reading.{open_at}
 use Rattle.world_base.specs.Step.{crashed, settled, with_cut}
 use Rattle.world_base.specs.Turns.{drives, heard}
@@ -111,30 +111,30 @@ pub only_one : (x : ConnectionName) (z command : Command) → In command (z ∷ 
 only_one x z command here is = is
 only_one x z command (there i) is = elim i [ ]
 
-proposes_of : (core : CoreState) (turn : Turn) (m : Moves core turn) → IsOrderly core → AreOfTheBallot core → (x : ConnectionName) (command : Command)
+proposes_of : (core : CoreState) (outcome : StepOutcome) (m : Moves core outcome) → IsOrderly core → AreOfTheBallot core → (x : ConnectionName) (command : Command)
     → In command (proposal_of m) → is_packet_of command x ≡ true → x.ballot ≡ core.replica.state.joined
-proposes_of core turn (reads_first now port c connect rest at first is room) o of x command i named' =
+proposes_of core outcome (reads_first now port c connect rest at first is room) o of x command i named' =
     proposed_of core port c x o of at (only_one x (commands.Connect c.name connect.client connect.clean) command i named')
-proposes_of core turn (reads_later now port c packet rest at later is room) o of x command i named' =
+proposes_of core outcome (reads_later now port c packet rest at later is room) o of x command i named' =
     proposed_of core port c x o of at (only_one x (commands.Packet c.name packet) command i named')
-proposes_of core turn (loses_one port c at asked_before) o of x command i named' = let z = only_one x (commands.Lost c.name) command i named' in absurd cc
-proposes_of core turn (loses_next c at) o of x command i named' = let z = only_one x (commands.Lost c.name) command i named' in absurd cc
-proposes_of core turn (expels_one client) o of x command i named' = let z = only_one x (commands.Expel client) command i named' in absurd cc
-proposes_of core turn (hears input other) o of x command i named' = elim i [ ]
-proposes_of core turn (opens_one port) o of x command i named' = elim i [ ]
-proposes_of core turn (holds port piece) o of x command i named' = elim i [ ]
-proposes_of core turn (closes port) o of x command i named' = elim i [ ]
-proposes_of core turn (refuses port c code at first is) o of x command i named' = elim i [ ]
-proposes_of core turn (cuts_log can) o of x command i named' = elim i [ ]
-proposes_of core turn crashes o of x command i named' = elim i [ ]
-proposes_of core turn settles o of x command i named' = elim i [ ]
-proposes_of core turn (hands port) o of x command i named' = elim i [ ]
+proposes_of core outcome (loses_one port c at asked_before) o of x command i named' = let z = only_one x (commands.Lost c.name) command i named' in absurd cc
+proposes_of core outcome (loses_next c at) o of x command i named' = let z = only_one x (commands.Lost c.name) command i named' in absurd cc
+proposes_of core outcome (expels_one client) o of x command i named' = let z = only_one x (commands.Expel client) command i named' in absurd cc
+proposes_of core outcome (hears input other) o of x command i named' = elim i [ ]
+proposes_of core outcome (opens_one port) o of x command i named' = elim i [ ]
+proposes_of core outcome (holds port piece) o of x command i named' = elim i [ ]
+proposes_of core outcome (closes port) o of x command i named' = elim i [ ]
+proposes_of core outcome (refuses port c code at first is) o of x command i named' = elim i [ ]
+proposes_of core outcome (cuts_log can) o of x command i named' = elim i [ ]
+proposes_of core outcome crashes o of x command i named' = elim i [ ]
+proposes_of core outcome settles o of x command i named' = elim i [ ]
+proposes_of core outcome (hands port) o of x command i named' = elim i [ ]
 
 pub names_keep_their_ballot : NamesKeepTheirBallot
 names_keep_their_ballot =
     record {
       opens = λ id config. record { each = λ x c e lives. cc };
-      moves = λ core turn m o calm of. record { each = λ x d e lives. move_of core turn m o of (move_same core turn m calm) calm x d e lives };
+      moves = λ core outcome m o calm of. record { each = λ x d e lives. move_of core outcome m o of (move_same core outcome m calm) calm x d e lives };
       hears = λ core input o of. record { each = λ x d e lives. heard_of core input o of x d e lives };
       cuts = λ core o of. record { each = λ x d e lives. cut_of core o of x d e lives };
       stops = λ core o. record {
@@ -142,5 +142,5 @@ names_keep_their_ballot =
             let z = settled_open x (crashed core) d (orderly_crashed core o) e lives in
             absurd (both_ways (serves (crashed core)) (and_false (is_active core.replica.state.role)) z.0);
       };
-      proposes = λ core turn m o of x command i named'. proposes_of core turn m o of x command i named';
+      proposes = λ core outcome m o of x command i named'. proposes_of core outcome m o of x command i named';
     }

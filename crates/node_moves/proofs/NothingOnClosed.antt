@@ -12,7 +12,7 @@ use Rattle.world_base.specs.Connections.{noted_proposed, closed, fresh, handed, 
 use Rattle.world_base.specs.declared.ConnectionStage.{ConnectionStage}
 use Rattle.world_base.specs.declared.ConnectionStage.TheVariants.{Awaits, Proposed, Over, Failed}
 use Rattle.world_base.specs.Failing.{closes_failed}
-use Rattle.world_base.specs.Core.{CoreState, Turn, serves}
+use Rattle.world_base.specs.Core.{CoreState, StepOutcome, serves}
 use Rattle.world_base.specs.Handing.{hands_over, left_by}
 use Rattle.world_base.specs.Reading.{changes}
 use Rattle.world_base.specs.Step.{next_name, opens, settled}
@@ -38,19 +38,19 @@ open_if true e = cc
 open_if false e = refl
 
 -- what a move queues for a name
-abbrev pub sent_in : ConnectionName → {core : CoreState} {turn : Turn} → Moves core turn → List ℕ
+abbrev pub sent_in : ConnectionName → {core : CoreState} {outcome : StepOutcome} → Moves core outcome → List ℕ
 sent_in x m = spelled (exact_refusal x m ++ sends_to x (outputs_of (given_in m)))
 
 -- from what happens to a connection to how it came to be closed
-closed_by : (x : ConnectionName) (core : CoreState) (turn : Turn) (m : Moves core turn) (d : Connection) (o p : Option Connection) → Shuts (sent_in x m) o p
+closed_by : (x : ConnectionName) (core : CoreState) (outcome : StepOutcome) (m : Moves core outcome) (d : Connection) (o p : Option Connection) → Shuts (sent_in x m) o p
     → listed_named x core ≡ o → p ≡ Some d → is_over d.stage ≡ true → IsExactlyClosedBy x m d
-closed_by x core turn m d o None nobody before after over = cc
-closed_by x core turn m d None (Some e) shuts before after over = elim shuts [ ]
-closed_by x core turn m d (Some c) (Some e) (stays_open a b pending) before after over =
+closed_by x core outcome m d o None nobody before after over = cc
+closed_by x core outcome m d None (Some e) shuts before after over = elim shuts [ ]
+closed_by x core outcome m d (Some c) (Some e) (stays_open a b pending) before after over =
     let same = same_some e d after in absurd (both_ways (is_over d.stage) (open_if (is_over d.stage) (sym (ap live same) ∙ b)) over)
-closed_by x core turn m d (Some c) (Some e) (is_shut front a b pending short) before after over =
+closed_by x core outcome m d (Some c) (Some e) (is_shut front a b pending short) before after over =
     closes_now c front (listed_open x core.connections c before a) (sym (ap (λ (z : Connection). z.pending) (same_some e d after)) ∙ pending) short
-closed_by x core turn m d (Some c) (Some e) (was_shut a b pending) before after over =
+closed_by x core outcome m d (Some c) (Some e) (was_shut a b pending) before after over =
     was_closed c before (over_if (is_over c.stage) a) (sym (ap (λ (z : Connection). z.pending) (same_some e d after)) ∙ pending)
 
 -- ---- a connection that is opened
@@ -144,65 +144,65 @@ failed_dead c failed = by c.stage failed
     by Failed e = refl
 
 -- a move that opens nothing, and does not settle or hand over
-abbrev pub Changes : {core : CoreState} {turn : Turn} → Moves core turn → Type 0
+abbrev pub Changes : {core : CoreState} {outcome : StepOutcome} → Moves core outcome → Type 0
 Changes (opens_one port) = ⊥
 Changes settles = ⊥
 Changes (hands port) = ⊥
 Changes _ = Unit {0}
 
 -- changes the connection of a name, if there is one
-pub move_shuts : (core : CoreState) (turn : Turn) (m : Moves core turn) → IsOrderly core → (x : ConnectionName) → Changes m
-    → Shuts (sent_in x m) (listed_named x core) (listed_named x turn.core)
-move_shuts core turn (hears input other) o x may = driven_shuts x input core o
-move_shuts core turn (holds port piece) o x may = at_shuts x port (holding piece) core o (λ z. refl) (holding_shuts piece)
-move_shuts core turn (reads_first now port c connect rest at first is room) o x may =
+pub move_shuts : (core : CoreState) (outcome : StepOutcome) (m : Moves core outcome) → IsOrderly core → (x : ConnectionName) → Changes m
+    → Shuts (sent_in x m) (listed_named x core) (listed_named x outcome.core)
+move_shuts core outcome (hears input other) o x may = driven_shuts x input core o
+move_shuts core outcome (holds port piece) o x may = at_shuts x port (holding piece) core o (λ z. refl) (holding_shuts piece)
+move_shuts core outcome (reads_first now port c connect rest at first is room) o x may =
     let left : CoreState = changes port (left_with now rest) core in
     let ordered = at_orderly port (left_with now rest) core o (λ z. refl) in
     with_room x _ core (changes port (noted_proposed connect.keep_alive) left) room
     (after_shuts x _ core (changes port (noted_proposed connect.keep_alive) left)
     (shuts_joined (at_shuts x port (left_with now rest) core o (λ z. refl) (left_shuts now rest)) (at_shuts x port (noted_proposed connect.keep_alive) left ordered (λ z. refl) (asked_shuts connect.keep_alive)))
     (at_orderly port (noted_proposed connect.keep_alive) left ordered (λ z. refl)) (at_replica port (noted_proposed connect.keep_alive) left ∙ at_replica port (left_with now rest) core))
-move_shuts core turn (reads_later now port c packet rest at later is room) o x may =
+move_shuts core outcome (reads_later now port c packet rest at later is room) o x may =
     with_room x _ core (changes port (left_with now rest) core) room
     (after_shuts x _ core (changes port (left_with now rest) core) (at_shuts x port (left_with now rest) core o (λ z. refl) (left_shuts now rest))
     (at_orderly port (left_with now rest) core o (λ z. refl)) (at_replica port (left_with now rest) core))
-move_shuts core turn (closes port) o x may = at_shuts x port closed core o (λ z. refl) (λ z lives. shuts_closed z)
-move_shuts core turn (refuses port c code at first is) o x may =
-    subst (λ l. Shuts (spelled l) (listed_named x core) (listed_named x turn.core)) (sym (append-nil (exact_refusal x {core = core} (refuses port c code at first is))))
+move_shuts core outcome (closes port) o x may = at_shuts x port closed core o (λ z. refl) (λ z lives. shuts_closed z)
+move_shuts core outcome (refuses port c code at first is) o x may =
+    subst (λ l. Shuts (spelled l) (listed_named x core) (listed_named x outcome.core)) (sym (append-nil (exact_refusal x {core = core} (refuses port c code at first is))))
     (refused_shuts x port c code core o at)
-move_shuts core turn (loses_one port c at asked_before) o x may =
+move_shuts core outcome (loses_one port c at asked_before) o x may =
     after_shuts x _ core (changes port closed core) (at_shuts x port closed core o (λ z. refl) (λ z lives. shuts_closed z))
     (at_orderly port closed core o (λ z. refl)) (at_replica port closed core)
-move_shuts core turn (loses_next c at) o x may =
+move_shuts core outcome (loses_next c at) o x may =
     after_shuts x _ core (closes_failed core)
     (shuts_tested x has_failed closed core.connections (o.names x) (λ z. refl) (λ z failed. was_shut (failed_dead z failed) refl refl)) (stays_failed core o).orderly refl
-move_shuts core turn (expels_one client) o x may = after_shuts x _ core core (shuts_same (listed_named x core)) o refl
-move_shuts core turn (cuts_log can) o x may = shuts_same (listed_named x core)
-move_shuts core turn crashes o x may = shuts_same (listed_named x core)
-move_shuts core turn (opens_one port) o x may = absurd may
-move_shuts core turn settles o x may = absurd may
-move_shuts core turn (hands port) o x may = absurd may
+move_shuts core outcome (expels_one client) o x may = after_shuts x _ core core (shuts_same (listed_named x core)) o refl
+move_shuts core outcome (cuts_log can) o x may = shuts_same (listed_named x core)
+move_shuts core outcome crashes o x may = shuts_same (listed_named x core)
+move_shuts core outcome (opens_one port) o x may = absurd may
+move_shuts core outcome settles o x may = absurd may
+move_shuts core outcome (hands port) o x may = absurd may
 
-changed_closed : (core : CoreState) (turn : Turn) (m : Moves core turn) → IsOrderly core → (x : ConnectionName) (d : Connection) → Changes m →
-    listed_named x turn.core ≡ Some d → is_over d.stage ≡ true → IsExactlyClosedBy x m d
-changed_closed core turn m o x d may there over =
-    closed_by x core turn m d (listed_named x core) (listed_named x turn.core) (move_shuts core turn m o x may) refl there over
+changed_closed : (core : CoreState) (outcome : StepOutcome) (m : Moves core outcome) → IsOrderly core → (x : ConnectionName) (d : Connection) → Changes m →
+    listed_named x outcome.core ≡ Some d → is_over d.stage ≡ true → IsExactlyClosedBy x m d
+changed_closed core outcome m o x d may there over =
+    closed_by x core outcome m d (listed_named x core) (listed_named x outcome.core) (move_shuts core outcome m o x may) refl there over
 
 pub nothing_on_closed : NothingOnClosed
-nothing_on_closed core turn (opens_one port) o x d there over = was_closed d (opened_closed x port core d there over) over refl
-nothing_on_closed core turn settles o x d there over = settled_closed x core d o there over
-nothing_on_closed core turn (hands port) o x d there over = was_closed d (handed_closed x port core d o there over) over refl
-nothing_on_closed core turn (hears input other) o x d there over = changed_closed core turn (hears input other) o x d tt there over
-nothing_on_closed core turn (holds port piece) o x d there over = changed_closed core turn (holds port piece) o x d tt there over
-nothing_on_closed core turn (reads_first now port c connect rest at first is room) o x d there over =
-    changed_closed core turn (reads_first now port c connect rest at first is room) o x d tt there over
-nothing_on_closed core turn (reads_later now port c packet rest at later is room) o x d there over =
-    changed_closed core turn (reads_later now port c packet rest at later is room) o x d tt there over
-nothing_on_closed core turn (closes port) o x d there over = changed_closed core turn (closes port) o x d tt there over
-nothing_on_closed core turn (refuses port c code at first is) o x d there over = changed_closed core turn (refuses port c code at first is) o x d tt there over
-nothing_on_closed core turn (loses_one port c at asked_before) o x d there over =
-    changed_closed core turn (loses_one port c at asked_before) o x d tt there over
-nothing_on_closed core turn (loses_next c at) o x d there over = changed_closed core turn (loses_next c at) o x d tt there over
-nothing_on_closed core turn (expels_one client) o x d there over = changed_closed core turn (expels_one client) o x d tt there over
-nothing_on_closed core turn (cuts_log can) o x d there over = changed_closed core turn (cuts_log can) o x d tt there over
-nothing_on_closed core turn crashes o x d there over = changed_closed core turn crashes o x d tt there over
+nothing_on_closed core outcome (opens_one port) o x d there over = was_closed d (opened_closed x port core d there over) over refl
+nothing_on_closed core outcome settles o x d there over = settled_closed x core d o there over
+nothing_on_closed core outcome (hands port) o x d there over = was_closed d (handed_closed x port core d o there over) over refl
+nothing_on_closed core outcome (hears input other) o x d there over = changed_closed core outcome (hears input other) o x d tt there over
+nothing_on_closed core outcome (holds port piece) o x d there over = changed_closed core outcome (holds port piece) o x d tt there over
+nothing_on_closed core outcome (reads_first now port c connect rest at first is room) o x d there over =
+    changed_closed core outcome (reads_first now port c connect rest at first is room) o x d tt there over
+nothing_on_closed core outcome (reads_later now port c packet rest at later is room) o x d there over =
+    changed_closed core outcome (reads_later now port c packet rest at later is room) o x d tt there over
+nothing_on_closed core outcome (closes port) o x d there over = changed_closed core outcome (closes port) o x d tt there over
+nothing_on_closed core outcome (refuses port c code at first is) o x d there over = changed_closed core outcome (refuses port c code at first is) o x d tt there over
+nothing_on_closed core outcome (loses_one port c at asked_before) o x d there over =
+    changed_closed core outcome (loses_one port c at asked_before) o x d tt there over
+nothing_on_closed core outcome (loses_next c at) o x d there over = changed_closed core outcome (loses_next c at) o x d tt there over
+nothing_on_closed core outcome (expels_one client) o x d there over = changed_closed core outcome (expels_one client) o x d tt there over
+nothing_on_closed core outcome (cuts_log can) o x d there over = changed_closed core outcome (cuts_log can) o x d tt there over
+nothing_on_closed core outcome crashes o x d there over = changed_closed core outcome crashes o x d tt there over

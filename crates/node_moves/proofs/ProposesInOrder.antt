@@ -10,7 +10,7 @@ use Rattle.exactly_once.specs.broker_spec.Connection.{ConnectionName}
 use Rattle.world_base.specs.ballot.Config.{Config}
 use Rattle.exactly_once.specs.lists.Lists.{IsPrefixOf}
 use Rattle.exactly_once.specs.StoryCommands.{is_packet_of, command_of}
-use Rattle.world_base.specs.Core.{CoreState, Turn, opening_core}
+use Rattle.world_base.specs.Core.{CoreState, StepOutcome, opening_core}
 use Rattle.node_moves.specs.Moves.{Moves, Runs}
 use Rattle.node_moves.specs.Moves.Runs.{rests, goes_on}
 use Rattle.node_moves.specs.Ends.{Precedes, IsOrderly, IsEnd, ReadsOn, proposal_of, came_on, commands_of}
@@ -30,12 +30,12 @@ commands_join x n (p ∷ ps) qs =
     moved_on n k = omega arith
 
 -- what is read in a run
-record ReadsThrough (x : ConnectionName) {core : CoreState} {turn : Turn} (run : Runs core turn) (written read : List Packet) (later : List ℕ) : Type 0 where
+record ReadsThrough (x : ConnectionName) {core : CoreState} {outcome : StepOutcome} (run : Runs core outcome) (written read : List Packet) (later : List ℕ) : Type 0 where
   more : List Packet
-  end : IsEnd x turn.core written (read ++ more) later
+  end : IsEnd x outcome.core written (read ++ more) later
   proposed : filter (λ command. is_packet_of command x) (proposals_of run) ≡ commands_of x (length read) more
 
-one_then : (x : ConnectionName) {core : CoreState} {first next : Turn} (m : Moves core first) (run : Runs first.core next) (written read : List Packet) (between later : List ℕ)
+one_then : (x : ConnectionName) {core : CoreState} {first next : StepOutcome} (m : Moves core first) (run : Runs first.core next) (written read : List Packet) (between later : List ℕ)
     → (one : ReadsOn x m written read between) → ReadsThrough x run written (read ++ one.more) later → ReadsThrough x (goes_on m run) written read later
 one_then x {next = next} m run written read between later one two =
     record {
@@ -48,7 +48,7 @@ one_then x {next = next} m run written read between later one two =
           ∙ sym (commands_join x (length read) one.more two.more);
     }
 
-runs_read : (x : ConnectionName) {core : CoreState} {turn : Turn} (run : Runs core turn) (written read : List Packet) (in_transit later : List ℕ) → IsOrderly core
+runs_read : (x : ConnectionName) {core : CoreState} {outcome : StepOutcome} (run : Runs core outcome) (written read : List Packet) (in_transit later : List ℕ) → IsOrderly core
     → IsEnd x core written read in_transit → in_transit ≡ bytes_on x run ++ later → ReadsThrough x run written read later
 runs_read x {core = core} rests written read in_transit later o end same =
     record { more = []; end = subst (λ (ps : List Packet). IsEnd x core written ps later) (sym (append-nil read)) (subst (IsEnd x core written read) same end); proposed = refl }
@@ -78,7 +78,7 @@ still_to_come x some = by (cases_lt 0 x.ballot)
     by (inr none) = inr (omega (arith, none), some)
 
 pub nodes_propose_in_order : NodesProposeInOrder
-nodes_propose_in_order id config turn run x written later some joined =
+nodes_propose_in_order id config outcome run x written later some joined =
     let z = runs_read x run written [] (bytes_on x run ++ later) later (opening_orderly id config)
     (not_yet (still_to_come x some) refl (record { rest = written; is = refl; joined = joined; sound = refl })) refl in
-    record { read = z.more; end = z.end; prefix = front_of x turn.core written z.more later z.end; proposed = z.proposed }
+    record { read = z.more; end = z.end; prefix = front_of x outcome.core written z.more later z.end; proposed = z.proposed }

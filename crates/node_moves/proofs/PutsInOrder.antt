@@ -22,7 +22,7 @@ use Rattle.world_base.specs.ballot.Protocol.{Input}
 use Rattle.world_base.specs.ballot.Replica.{CountedReplica, ReplicaState}
 use Rattle.world_base.specs.Step.{settled, opens}
 use Rattle.world_base.specs.Connections.{noted_proposed, holding, left_with, is_listed, is_at, is_open_at, is_open_named, max_pending, closed, failing, put_out, putting, changed}
-use Rattle.world_base.specs.Core.{CoreState, Turn, rules, serves}
+use Rattle.world_base.specs.Core.{CoreState, StepOutcome, rules, serves}
 use Rattle.world_base.specs.Failing.{closes_failed}
 use Rattle.world_base.specs.Reading.{changes, refused}
 use Rattle.world_base.specs.Turns.{without_messages, moved, handled, proposes, changes_named, drives, heard, has_room}
@@ -208,7 +208,7 @@ unfolding proposes
 proposed_puts x command core o = by (serves core)
   where
     by : (b : Bool) → Puts (bytes_for x (given_by command b core.replica.state)) (open_named x core)
-        (open_named x (let t : Turn = if b then moved (proposed rules core.replica.state command) core else without_messages core in t).core)
+        (open_named x (let t : StepOutcome = if b then moved (proposed rules core.replica.state command) core else without_messages core in t).core)
     by true = moved_puts x (proposed rules core.replica.state command) core (up_proposed rules core.replica.state command) o
     by false = puts_none (open_named x core)
 
@@ -295,7 +295,7 @@ opened_puts x port core c o there =
     subst (λ (z : Option Connection). Puts [] z (open_named x (opens port core))) (sym there)
     (subst (Puts [] (Some c)) (sym (open_stays x port core c o there)) (put (sym (append-nil c.pending))))
 
-all_puts : (core : CoreState) (turn : Turn) (m : Moves core turn) → IsOrderly core → is_handing m ≡ false → (x : ConnectionName) (c : Connection) → open_named x core ≡ Some c
+all_puts : (core : CoreState) (turn : StepOutcome) (m : Moves core turn) → IsOrderly core → is_handing m ≡ false → (x : ConnectionName) (c : Connection) → open_named x core ≡ Some c
     → Puts (bytes_for x (given_in m)) (open_named x core) (open_named x turn.core)
 all_puts core turn (hears input other) o no_hand x c there = driven_puts x input core o
 all_puts core turn (opens_one port) o no_hand x c there = opened_puts x port core c o there

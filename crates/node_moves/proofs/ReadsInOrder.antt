@@ -15,7 +15,7 @@ use Rattle.exactly_once.specs.StoryCommands.{is_packet_of}
 use Rattle.world_base.specs.declared.Port.{Port}
 use Rattle.world_base.specs.declared.Connection.{Connection}
 use Rattle.world_base.specs.Connections.{is_first, is_at, is_open_at, noted_proposed, holding, left_with, closed, changed}
-use Rattle.world_base.specs.Core.{CoreState, Turn}
+use Rattle.world_base.specs.Core.{CoreState, StepOutcome}
 use Rattle.world_base.specs.Reading.{changes, open_at, refused}
 use Rattle.world_base.specs.Failing.{closes_failed}
 use Rattle.world_base.specs.Step.{opens}
@@ -59,24 +59,24 @@ end_kept x core later written read in_transit (is_over given is front) kept same
     by (Some d) None ended e f = absurd (some_none d e)
 
 -- nothing more is read
-none_more : (x : ConnectionName) {core : CoreState} {turn : Turn} (m : Moves core turn) (written read : List Packet) (later : List ℕ)
-    → IsEnd x turn.core written read later → filter (λ command. is_packet_of command x) (proposal_of m) ≡ [] → ReadsOn x m written read later
-none_more x {turn = turn} m written read later end none =
-    record { more = []; end = subst (λ (ps : List Packet). IsEnd x turn.core written ps later) (sym (append-nil read)) end; proposed = none }
+none_more : (x : ConnectionName) {core : CoreState} {outcome : StepOutcome} (m : Moves core outcome) (written read : List Packet) (later : List ℕ)
+    → IsEnd x outcome.core written read later → filter (λ command. is_packet_of command x) (proposal_of m) ≡ [] → ReadsOn x m written read later
+none_more x {outcome = outcome} m written read later end none =
+    record { more = []; end = subst (λ (ps : List Packet). IsEnd x outcome.core written ps later) (sym (append-nil read)) end; proposed = none }
 
 -- what holds for each connection in a move
-abbrev ReadsAll : {core : CoreState} {turn : Turn} → Moves core turn → Type 0
-ReadsAll {core = core} {turn = turn} m = IsOrderly turn.core
+abbrev ReadsAll : {core : CoreState} {outcome : StepOutcome} → Moves core outcome → Type 0
+ReadsAll {core = core} {outcome = outcome} m = IsOrderly outcome.core
     × ((x : ConnectionName) (written read : List Packet) (in_transit later : List ℕ) → IsEnd x core written read in_transit → in_transit ≡ came_on x m ++ later
     → ReadsOn x m written read later)
 
-stays_reads : {core : CoreState} {turn : Turn} (m : Moves core turn) → Stays core turn.core → ((x : ConnectionName) → came_on x m ≡ [])
+stays_reads : {core : CoreState} {outcome : StepOutcome} (m : Moves core outcome) → Stays core outcome.core → ((x : ConnectionName) → came_on x m ≡ [])
     → ((x : ConnectionName) → filter (λ command. is_packet_of command x) (proposal_of m) ≡ []) → ReadsAll m
-stays_reads {core = core} {turn = turn} m s no_bytes none = (
+stays_reads {core = core} {outcome = outcome} m s no_bytes none = (
   s.orderly,
   λ x written read in_transit later end same.
       none_more x m written read later
-      (end_kept x core turn.core written read later
+      (end_kept x core outcome.core written read later
       (subst (IsEnd x core written read) (same ∙ ap (λ (l : List ℕ). l ++ later) (no_bytes x)) end) (s.kept x) s.last) (none x),
 )
 
@@ -341,27 +341,27 @@ refused_is_mild : (code : RefusalCode) → IsMild (refused code)
 refused_is_mild code = record { name = λ c. refl; stage = λ c. inr refl }
 
 pub nodes_read_in_order : NodesReadInOrder
-nodes_read_in_order core turn (hears input other) o = stays_reads (hears input other) (stays_driven input core o) (λ x. refl) (λ x. refl)
-nodes_read_in_order core turn (opens_one port) o = open_reads core port o
-nodes_read_in_order core turn (holds port piece) o = hold_reads core port piece o
-nodes_read_in_order core turn (reads_first now port c connect rest at first reads room) o = first_reads now core port c connect rest at first reads room o
-nodes_read_in_order core turn (reads_later now port c packet rest at later reads room) o = later_reads now core port c packet rest at later reads room o
-nodes_read_in_order core turn (closes port) o = stays_reads (closes port) (stays_at port closed core o closed_is_mild) (λ x. refl) (λ x. refl)
-nodes_read_in_order core turn (refuses port c code at first is) o =
+nodes_read_in_order core outcome (hears input other) o = stays_reads (hears input other) (stays_driven input core o) (λ x. refl) (λ x. refl)
+nodes_read_in_order core outcome (opens_one port) o = open_reads core port o
+nodes_read_in_order core outcome (holds port piece) o = hold_reads core port piece o
+nodes_read_in_order core outcome (reads_first now port c connect rest at first reads room) o = first_reads now core port c connect rest at first reads room o
+nodes_read_in_order core outcome (reads_later now port c packet rest at later reads room) o = later_reads now core port c packet rest at later reads room o
+nodes_read_in_order core outcome (closes port) o = stays_reads (closes port) (stays_at port closed core o closed_is_mild) (λ x. refl) (λ x. refl)
+nodes_read_in_order core outcome (refuses port c code at first is) o =
     stays_reads (refuses port c code at first is) (stays_at port (refused code) core o (refused_is_mild code)) (λ x. refl) (λ x. refl)
-nodes_read_in_order core turn (loses_one port c at proposed) o =
+nodes_read_in_order core outcome (loses_one port c at proposed) o =
     let s = stays_at port closed core o closed_is_mild in
     stays_reads (loses_one port c at proposed)
     (stays_joined core (changes port closed core) (proposes (commands.Lost c.name) (changes port closed core)).core s
     (stays_proposed (commands.Lost c.name) (changes port closed core) s.orderly)) (λ x. refl) (λ x. refl)
-nodes_read_in_order core turn (loses_next c at) o =
+nodes_read_in_order core outcome (loses_next c at) o =
     let s = stays_failed core o in
     stays_reads (loses_next c at)
     (stays_joined core (closes_failed core) (proposes (commands.Lost c.name) (closes_failed core)).core s
     (stays_proposed (commands.Lost c.name) (closes_failed core) s.orderly)) (λ x. refl) (λ x. refl)
-nodes_read_in_order core turn (expels_one client) o =
+nodes_read_in_order core outcome (expels_one client) o =
     stays_reads (expels_one client) (stays_proposed (commands.Expel client) core o) (λ x. refl) (λ x. refl)
-nodes_read_in_order core turn (cuts_log can) o = stays_reads (cuts_log can) (stays_cut core o) (λ x. refl) (λ x. refl)
-nodes_read_in_order core turn crashes o = stays_reads crashes (stays_crashed core o) (λ x. refl) (λ x. refl)
-nodes_read_in_order core turn settles o = stays_reads settles (stays_settled core o) (λ x. refl) (λ x. refl)
-nodes_read_in_order core turn (hands port) o = stays_reads (hands port) (stays_handed port core o) (λ x. refl) (λ x. refl)
+nodes_read_in_order core outcome (cuts_log can) o = stays_reads (cuts_log can) (stays_cut core o) (λ x. refl) (λ x. refl)
+nodes_read_in_order core outcome crashes o = stays_reads crashes (stays_crashed core o) (λ x. refl) (λ x. refl)
+nodes_read_in_order core outcome settles o = stays_reads settles (stays_settled core o) (λ x. refl) (λ x. refl)
+nodes_read_in_order core outcome (hands port) o = stays_reads (hands port) (stays_handed port core o) (λ x. refl) (λ x. refl)

@@ -19,7 +19,7 @@ use Rattle.exactly_once.proofs.of_broker_spec.ConnectionNames.{same_name, same_i
 use Rattle.exactly_once.specs.Sends.{sends_to}
 use Rattle.world_base.specs.declared.Connection.{Connection}
 use Rattle.world_base.specs.Connections.{is_open_named, closed, put_out, changed}
-use Rattle.world_base.specs.Core.{CoreState, Turn, rules, serves}
+use Rattle.world_base.specs.Core.{CoreState, StepOutcome, rules, serves}
 use Rattle.world_base.specs.Turns.{without_messages, moved, handled, proposes, changes_named, drives, heard}
 use Rattle.node_moves.specs.Closed.{listed_named}
 use Rattle.node_moves.specs.Ends.{AtMostOne, IsOrderly}
@@ -131,6 +131,6 @@ unfolding proposes
 proposed_shuts x command core o = by (serves core)
   where
     by : (b : Bool) → Shuts (bytes_for x (given_by command b core.replica.state)) (listed_named x core)
-        (listed_named x (let t : Turn = if b then moved (proposed rules core.replica.state command) core else without_messages core in t).core)
+        (listed_named x (let t : StepOutcome = if b then moved (proposed rules core.replica.state command) core else without_messages core in t).core)
     by true = moved_shuts x (proposed rules core.replica.state command) core (up_proposed rules core.replica.state command) o
     by false = shuts_same (listed_named x core)

@@ -9,7 +9,7 @@ use Rattle.world_base.specs.declared.Port.{Port}
 use Rattle.world_base.specs.declared.item.Item.TheVariants.{Tick}
 use Rattle.world_base.specs.declared.Connection.{Connection}
 use Rattle.world_base.specs.Connections.{is_over, is_proposed, is_silent, is_at, is_open_at, closed, failing}
-use Rattle.world_base.specs.Core.{CoreState, Turn}
+use Rattle.world_base.specs.Core.{CoreState, StepOutcome}
 use Rattle.world_base.specs.KeepAlive.{lower, lower_silent, lowest_silent, ends_if, ends_silent}
 use Rattle.world_base.specs.Reading.{changes, ends, loses, loses_open, open_at}
 use Rattle.world_base.specs.Step.{acts_on, does_item}
@@ -60,7 +60,7 @@ loses_lowers : (port : Port) (c : Connection) (core : CoreState) → open_at por
     → total open_weight (loses port c core).core.connections < total open_weight core.connections
 loses_lowers port c core at = by (is_proposed c.stage)
   where
-    by : (b : Bool) → total open_weight (let t : Turn = if b then proposes (commands.Lost c.name) (changes port closed core) else without_messages (changes port closed core) in t).core.connections
+    by : (b : Bool) → total open_weight (let t : StepOutcome = if b then proposes (commands.Lost c.name) (changes port closed core) else without_messages (changes port closed core) in t).core.connections
         < total open_weight core.connections
     by true =
         let less = closes_lowers port c core at in

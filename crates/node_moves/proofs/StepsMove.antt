@@ -19,7 +19,7 @@ use Rattle.world_base.specs.declared.item.Item.{Item}
 use Rattle.world_base.specs.declared.item.Item.TheVariants.{Peer, Tick, Opened, Bytes, Ended, Expel, Cut, Crash}
 use Rattle.world_base.specs.declared.Connection.{Connection}
 use Rattle.world_base.specs.Connections.{is_over, is_first, is_proposed, has_failed, is_at, is_open_at, noted_proposed, holding, left_with, closed, changed}
-use Rattle.world_base.specs.Core.{CoreState, Turn}
+use Rattle.world_base.specs.Core.{CoreState, StepOutcome}
 use Rattle.world_base.specs.Reading.{changes, open_at, loses, loses_open, ends, connects, proposes_packet, takes_first_packet, reads, reads_of, reads_next, refused, unread_of}
 use Rattle.world_base.specs.ballot.Cutting.{can_cut}
 use Rattle.world_base.specs.Step.{node_step, acts_on, cuts, settled, does_item, with_cut}
@@ -38,50 +38,50 @@ Given = List (Effect Command Output)
 
 -- ---- runs join
 
-pub runs_join : {core : CoreState} {a b : Turn} → Runs core a → Runs a.core b → Runs core (and_then a b)
+pub runs_join : {core : CoreState} {a b : StepOutcome} → Runs core a → Runs a.core b → Runs core (and_then a b)
 runs_join rests r = r
 runs_join {b = b} (goes_on {core = core} {first = first} {next = next} m r) q =
-    subst (λ (given : Given). Runs core (let t : Turn = record { core = b.core; messages = given } in t)) (sym (append_assoc first.messages next.messages b.messages))
+    subst (λ (given : Given). Runs core (let t : StepOutcome = record { core = b.core; messages = given } in t)) (sym (append_assoc first.messages next.messages b.messages))
     (goes_on m (runs_join r q))
 
 -- runs of bare moves, and those of which the first one may have a part
-abbrev pub Calm : CoreState → Turn → Type 0
-Calm core turn = (run : Runs core turn) × IsBare run
+abbrev pub Calm : CoreState → StepOutcome → Type 0
+Calm core outcome = (run : Runs core outcome) × IsBare run
 
-abbrev pub First : Part → CoreState → Turn → Type 0
-First part core turn = (run : Runs core turn) × BeginsWith part run
+abbrev pub First : Part → CoreState → StepOutcome → Type 0
+First part core outcome = (run : Runs core outcome) × BeginsWith part run
 
-calm_then : {core : CoreState} {a b : Turn} (run : Runs core a) → IsBare run → Calm a.core b → Calm core (and_then a b)
+calm_then : {core : CoreState} {a b : StepOutcome} (run : Runs core a) → IsBare run → Calm a.core b → Calm core (and_then a b)
 calm_then rests calm r = r
 calm_then {b = b} (goes_on {core = core} {first = first} {next = next} m run) calm r =
     let rest = calm_then run calm.1 r in
-    subst (λ (given : Given). Calm core (let t : Turn = record { core = b.core; messages = given } in t)) (sym (append_assoc first.messages next.messages b.messages))
+    subst (λ (given : Given). Calm core (let t : StepOutcome = record { core = b.core; messages = given } in t)) (sym (append_assoc first.messages next.messages b.messages))
     (goes_on m rest.0, (calm.0, rest.1))
 
-calm_join : {core : CoreState} {a b : Turn} → Calm core a → Calm a.core b → Calm core (and_then a b)
+calm_join : {core : CoreState} {a b : StepOutcome} → Calm core a → Calm a.core b → Calm core (and_then a b)
 calm_join q r = calm_then q.0 q.1 r
 
-calm_move : {core : CoreState} {t : Turn} (m : Moves core t) → IsBareMove m → Calm core t
+calm_move : {core : CoreState} {t : StepOutcome} (m : Moves core t) → IsBareMove m → Calm core t
 calm_move {core = core} {t = t} m calm =
-    subst (λ (given : Given). Calm core (let u : Turn = record { core = t.core; messages = given } in u)) (append-nil t.messages) (goes_on m rests, (calm, tt))
+    subst (λ (given : Given). Calm core (let u : StepOutcome = record { core = t.core; messages = given } in u)) (append-nil t.messages) (goes_on m rests, (calm, tt))
 
-calm_first : {core : CoreState} {a : Turn} (run : Runs core a) → IsBare run → First Part.nothing core a
+calm_first : {core : CoreState} {a : StepOutcome} (run : Runs core a) → IsBare run → First Part.nothing core a
 calm_first rests calm = (rests, refl)
 calm_first (goes_on m run) calm = (goes_on m run, (calm.0.1, calm.1))
 
-first_then : (part : Part) {core : CoreState} {a b : Turn} (run : Runs core a) → BeginsWith part run → Calm a.core b → First part core (and_then a b)
+first_then : (part : Part) {core : CoreState} {a b : StepOutcome} (run : Runs core a) → BeginsWith part run → Calm a.core b → First part core (and_then a b)
 first_then part {a = a} {b = b} rests begins r = subst (λ p. First p a.core b) begins (calm_first r.0 r.1)
 first_then part {b = b} (goes_on {core = core} {first = first} {next = next} m run) begins r =
     let rest = calm_then run begins.1 r in
-    subst (λ (given : Given). First part core (let t : Turn = record { core = b.core; messages = given } in t)) (sym (append_assoc first.messages next.messages b.messages))
+    subst (λ (given : Given). First part core (let t : StepOutcome = record { core = b.core; messages = given } in t)) (sym (append_assoc first.messages next.messages b.messages))
     (goes_on m rest.0, (begins.0, rest.1))
 
-first_join : {part : Part} {core : CoreState} {a b : Turn} → First part core a → Calm a.core b → First part core (and_then a b)
+first_join : {part : Part} {core : CoreState} {a b : StepOutcome} → First part core a → Calm a.core b → First part core (and_then a b)
 first_join {part = part} q r = first_then part q.0 q.1 r
 
-first_move : {core : CoreState} {t : Turn} (m : Moves core t) → First (part_in m) core t
+first_move : {core : CoreState} {t : StepOutcome} (m : Moves core t) → First (part_in m) core t
 first_move {core = core} {t = t} m =
-    subst (λ (given : Given). First (part_in m) core (let u : Turn = record { core = t.core; messages = given } in u)) (append-nil t.messages) (goes_on m rests, (refl, tt))
+    subst (λ (given : Given). First (part_in m) core (let u : StepOutcome = record { core = t.core; messages = given } in u)) (append-nil t.messages) (goes_on m rests, (refl, tt))
 
 -- ---- what changes a connection before it is closed leaves no trace
 
@@ -202,7 +202,7 @@ next_runs now port core = read_runs now port core (open_at port core) refl
 
 -- ---- this many times
 
-repeated_runs : (next : CoreState → Turn) → ((core : CoreState) → Calm core (next core)) → (times : ℕ) (core : CoreState) → Calm core (repeated times next core)
+repeated_runs : (next : CoreState → StepOutcome) → ((core : CoreState) → Calm core (next core)) → (times : ℕ) (core : CoreState) → Calm core (repeated times next core)
 unfolding repeated
 repeated_runs next each zero core = (rests, tt)
 repeated_runs next each (suc more) core = calm_join (each core) (repeated_runs next each more (next core).core)
@@ -266,7 +266,7 @@ acted_on item core =
 
 step_runs : (item : Item) (core : CoreState) → First (part_of (takes item) core) core (node_step item core)
 step_runs item core =
-    subst (λ (given : Given). First (part_of (takes item) core) core (let t : Turn = record { core = settled (acts_on item core).core; messages = given } in t))
+    subst (λ (given : Given). First (part_of (takes item) core) core (let t : StepOutcome = record { core = settled (acts_on item core).core; messages = given } in t))
     (append-nil (acts_on item core).messages) (first_join (acted_on item core) (calm_move settles (refl, refl)))
 
 -- a call begins with its part, and the moves after it are bare

@@ -13,7 +13,7 @@ use Rattle.exactly_once.specs.broker_spec.declared.command.Output.TheVariants as
 use Rattle.exactly_once.specs.broker_spec.Connection.{ConnectionName}
 use Rattle.world_base.specs.declared.Connection.{Connection}
 use Rattle.world_base.specs.Connections.{is_open_named, max_pending, closed, failing, putting, put_out, changed}
-use Rattle.world_base.specs.Core.{CoreState, Turn, rules, serves}
+use Rattle.world_base.specs.Core.{CoreState, StepOutcome, rules, serves}
 use Rattle.world_base.specs.Turns.{without_messages, repeated, handled, moved, proposes, changes_named}
 use Rattle.node_moves.proofs.NamesInOrder.{same_le}
 use Rattle.node_moves.proofs.Views.{same_some}
@@ -91,19 +91,19 @@ pub total_proposed : (w : Connection → ℕ) → IsLight w → (command : Comma
 unfolding proposes
 total_proposed w light command core = by (serves core)
   where
-    by : (b : Bool) → total w (let t : Turn = if b then moved (proposed rules core.replica.state command) core else without_messages core in t).core.connections
+    by : (b : Bool) → total w (let t : StepOutcome = if b then moved (proposed rules core.replica.state command) core else without_messages core in t).core.connections
         ≤ total w core.connections
     by true = total_moved w light (proposed rules core.replica.state command) core
     by false = same_le (total w core.connections)
 
 -- ---- this many times
 
-module _ (next : CoreState → Turn) (Done : CoreState → Type 0) where
+module _ (next : CoreState → StepOutcome) (Done : CoreState → Type 0) where
   stays_done : (n : ℕ) (core : CoreState) → Done core → next core ≡ without_messages core → Done (repeated n next core).core
   unfolding repeated
   stays_done zero core done idle = done
   stays_done (suc n) core done idle =
-      subst (λ (t : Turn). Done (repeated n next t.core).core) (sym idle) (stays_done n core done idle)
+      subst (λ (t : StepOutcome). Done (repeated n next t.core).core) (sym idle) (stays_done n core done idle)
 
   -- it does nothing if it is done, and lowers the total elsewhere
   pub comes_to_end : (w : Connection → ℕ)

@@ -9,7 +9,7 @@ use Rattle.exactly_once.specs.lists.Lists.{IsPrefixOf}
 use Rattle.exactly_once.specs.Sends.{sends_to}
 use Rattle.world_base.specs.declared.Connection.{Connection}
 use Rattle.world_base.specs.Connections.{is_over}
-use Rattle.world_base.specs.Core.{CoreState, Turn}
+use Rattle.world_base.specs.Core.{CoreState, StepOutcome}
 use Rattle.node_moves.specs.Ends.{IsOrderly, open_named}
 use Rattle.node_moves.specs.Moves.{Moves}
 use Rattle.node_moves.specs.Moves.Moves.{refuses}
@@ -20,15 +20,16 @@ abbrev pub listed_named : ConnectionName → CoreState → Option Connection
 listed_named x core = find (λ c. same_connection c.name x) core.connections
 
 -- the answer to a CONNECT that the node refuses itself in a move without losses (MQTT 3.2.2.3)
-abbrev pub exact_refusal : ConnectionName → {core : CoreState} {turn : Turn} → Moves core turn →
+abbrev pub exact_refusal : ConnectionName → {core : CoreState} {outcome : StepOutcome} →
+    Moves core outcome →
     List Packet
 exact_refusal x (refuses port c code at first is) =
     if same_connection c.name x then packets.Connack (connacks.Refused code) ∷ [] else []
 exact_refusal x _ = []
 
 -- how a connection that is closed after a move without losses was closed
-pub data IsExactlyClosedBy (x : ConnectionName) {core : CoreState} {turn : Turn}
-    (m : Moves core turn) (d : Connection) : Type 0 where
+pub data IsExactlyClosedBy (x : ConnectionName) {core : CoreState} {outcome : StepOutcome}
+    (m : Moves core outcome) (d : Connection) : Type 0 where
   -- it was closed before, with the same bytes to hand over
   was_closed : (c : Connection) → listed_named x core ≡ Some c → is_over c.stage ≡ true →
       d.pending ≡ c.pending → IsExactlyClosedBy x m d
@@ -41,6 +42,6 @@ pub data IsExactlyClosedBy (x : ConnectionName) {core : CoreState} {turn : Turn}
 -- each connection that is closed after a move was closed in one of the ways of `IsExactlyClosedBy`
 abbrev pub NothingOnClosed : Type 0
 NothingOnClosed =
-    (core : CoreState) (turn : Turn) (m : Moves core turn) → IsOrderly core →
+    (core : CoreState) (outcome : StepOutcome) (m : Moves core outcome) → IsOrderly core →
     (x : ConnectionName) (d : Connection) →
-    listed_named x turn.core ≡ Some d → is_over d.stage ≡ true → IsExactlyClosedBy x m d
+    listed_named x outcome.core ≡ Some d → is_over d.stage ≡ true → IsExactlyClosedBy x m d

@@ -11,7 +11,7 @@ use Rattle.world_base.specs.cutter.Pipe.{IsPiped}
 use Rattle.exactly_once.specs.StoryCommands.{command_of, is_packet_of}
 use Rattle.world_base.specs.declared.Connection.{Connection}
 use Rattle.world_base.specs.Connections.{is_first, is_open_named}
-use Rattle.world_base.specs.Core.{CoreState, Turn}
+use Rattle.world_base.specs.Core.{CoreState, StepOutcome}
 use Rattle.world_base.specs.Reading.{open_at}
 use Rattle.node_moves.specs.Moves.Moves.{hears, opens_one, holds, reads_first, reads_later, closes, refuses, loses_one, loses_next, expels_one, cuts_log, crashes, settles, hands}
 use Rattle.node_moves.specs.Moves.{Moves}
@@ -46,7 +46,8 @@ pub record IsOrderly (core : CoreState) : Type 0 where
 -- ---- what a move does to one connection
 
 -- the command that it proposes
-abbrev pub proposal_of : {core : CoreState} {turn : Turn} → Moves core turn → List Command
+abbrev pub proposal_of : {core : CoreState} {outcome : StepOutcome} → Moves core outcome →
+    List Command
 proposal_of (hears input is) = []
 proposal_of (opens_one port) = []
 proposal_of (holds port piece) = []
@@ -70,7 +71,8 @@ piece_on x piece None = []
 piece_on x piece (Some c) = if same_connection c.name x then piece else []
 
 -- the bytes that come on the connection of a name in a move
-abbrev pub came_on : ConnectionName → {core : CoreState} {turn : Turn} → Moves core turn → List ℕ
+abbrev pub came_on : ConnectionName → {core : CoreState} {outcome : StepOutcome} →
+    Moves core outcome → List ℕ
 came_on x {core = core} (holds port piece) = piece_on x piece (open_at port core)
 came_on x _ = []
 
@@ -103,17 +105,18 @@ commands_of x n [] = []
 commands_of x n (p ∷ more) = command_of x n p ∷ commands_of x (suc n) more
 
 -- In a move the next written packets are read. Each is proposed under the name, and nothing else.
-pub record ReadsOn (x : ConnectionName) {core : CoreState} {turn : Turn} (m : Moves core turn)
-    (written read : List Packet) (later : List ℕ) : Type 0 where
+pub record ReadsOn (x : ConnectionName) {core : CoreState} {outcome : StepOutcome}
+    (m : Moves core outcome) (written read : List Packet) (later : List ℕ) : Type 0 where
   pub more : List Packet
-  pub end : IsEnd x turn.core written (read ++ more) later
+  pub end : IsEnd x outcome.core written (read ++ more) later
   pub proposed : filter (λ command. is_packet_of command x) (proposal_of m)
       ≡ commands_of x (length read) more
 
 -- in each move a node reads on in order on each connection, and its connections stay in order
 abbrev pub NodesReadInOrder : Type 0
 NodesReadInOrder =
-    (core : CoreState) (turn : Turn) (m : Moves core turn) → IsOrderly core → IsOrderly turn.core
+    (core : CoreState) (outcome : StepOutcome) (m : Moves core outcome) → IsOrderly core →
+    IsOrderly outcome.core
     × ((x : ConnectionName) (written read : List Packet) (in_transit later : List ℕ) →
     IsEnd x core written read in_transit →
     in_transit ≡ came_on x m ++ later → ReadsOn x m written read later)

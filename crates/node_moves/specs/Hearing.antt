@@ -1,17 +1,17 @@
 -- What a replica receives in a call of its node comes before everything else.
 use Rattle.std.specs.Prelude.{◌≡◌, false}
-use Rattle.world_base.specs.Core.{CoreState, Turn}
+use Rattle.world_base.specs.Core.{CoreState, StepOutcome}
 use Rattle.node_moves.specs.Keeping.{moves_replica}
 use Rattle.node_moves.specs.Moves.{NodeCall, Runs, done}
 use Rattle.node_moves.specs.Moves.Runs.{rests, goes_on}
 
 -- in no move of a run the replica receives something, or stops
-abbrev pub IsCalm : {core : CoreState} {turn : Turn} → Runs core turn → Type 0
+abbrev pub IsCalm : {core : CoreState} {outcome : StepOutcome} → Runs core outcome → Type 0
 IsCalm rests = Unit {0}
 IsCalm (goes_on m run) = (moves_replica m ≡ false) × IsCalm run
 
 -- in no move of a run except the first the replica receives something, or stops
-abbrev pub HearsAtFirst : {core : CoreState} {turn : Turn} → Runs core turn → Type 0
+abbrev pub HearsAtFirst : {core : CoreState} {outcome : StepOutcome} → Runs core outcome → Type 0
 HearsAtFirst rests = Unit {0}
 HearsAtFirst (goes_on m run) = IsCalm run
 

@@ -8,7 +8,7 @@ use Rattle.exactly_once.specs.lists.Lists.{In}
 use Rattle.exactly_once.specs.StoryCommands.{is_packet_of}
 use Rattle.world_base.specs.declared.Connection.{Connection}
 use Rattle.world_base.specs.Connections.{is_over}
-use Rattle.world_base.specs.Core.{CoreState, Turn, opening_core, serves}
+use Rattle.world_base.specs.Core.{CoreState, StepOutcome, opening_core, serves}
 use Rattle.world_base.specs.Step.{crashed, settled, with_cut}
 use Rattle.world_base.specs.Turns.{drives}
 use Rattle.node_moves.specs.Closed.{listed_named}
@@ -23,7 +23,7 @@ pub record AreOfTheBallot (core : CoreState) : Type 0 where
       (serves core ≡ true) × (x.ballot ≡ core.replica.state.joined)
 
 -- a move in which the replica receives something, cuts its log, or stops
-abbrev pub moves_replica : {core : CoreState} {turn : Turn} → Moves core turn → Bool
+abbrev pub moves_replica : {core : CoreState} {outcome : StepOutcome} → Moves core outcome → Bool
 moves_replica (hears input other) = true
 moves_replica (cuts_log can) = true
 moves_replica crashes = true
@@ -35,14 +35,15 @@ moves_replica _ = false
 -- name only in the ballot of that name.
 pub record NamesKeepTheirBallot : Type 0 where
   pub opens : (id : ℕ) (config : Config) → AreOfTheBallot (opening_core id config)
-  pub moves : (core : CoreState) (turn : Turn) (m : Moves core turn) → IsOrderly core →
-      moves_replica m ≡ false → AreOfTheBallot core → AreOfTheBallot turn.core
+  pub moves : (core : CoreState) (outcome : StepOutcome) (m : Moves core outcome) → IsOrderly core →
+      moves_replica m ≡ false → AreOfTheBallot core → AreOfTheBallot outcome.core
   pub hears : (core : CoreState) (input : Input Command) → IsOrderly core → AreOfTheBallot core →
       AreOfTheBallot (settled (drives input core).core)
   pub cuts : (core : CoreState) → IsOrderly core → AreOfTheBallot core →
       AreOfTheBallot (settled (with_cut core))
   pub stops : (core : CoreState) → IsOrderly core → AreOfTheBallot (settled (crashed core))
-  pub proposes : (core : CoreState) (turn : Turn) (m : Moves core turn) → IsOrderly core →
+  pub proposes : (core : CoreState) (outcome : StepOutcome) (m : Moves core outcome) →
+      IsOrderly core →
       AreOfTheBallot core → (x : ConnectionName) (command : Command) →
       In command (proposal_of m) → is_packet_of command x ≡ true →
       x.ballot ≡ core.replica.state.joined

@@ -11,7 +11,7 @@ use Rattle.exactly_once.specs.Sends.{sends_to}
 use Rattle.exactly_once.specs.StoryCommands.{is_packet_of}
 use Rattle.world_base.specs.declared.Connection.{Connection}
 use Rattle.world_base.specs.Connections.{is_over}
-use Rattle.world_base.specs.Core.{CoreState, Turn, opening_core, serves}
+use Rattle.world_base.specs.Core.{CoreState, StepOutcome, opening_core, serves}
 use Rattle.node_moves.specs.Closed.{listed_named}
 use Rattle.node_moves.specs.Ends.{IsEnd, IsOrderly, commands_of, open_named}
 use Rattle.node_moves.specs.RunProposals.{Proposes}
@@ -26,18 +26,18 @@ use Rattle.node_moves.specs.Puts.{outputs_of, spelled}
 
 -- what is newly read in a move: the next of the packets that were written, each of which is
 -- proposed under the name
-pub record ReadsOn (x : ConnectionName) {core : CoreState} {turn : Turn} (m : LossyMoves core turn)
-    (written read : List Packet) (later : List ℕ) : Type 0 where
+pub record ReadsOn (x : ConnectionName) {core : CoreState} {outcome : StepOutcome}
+    (m : LossyMoves core outcome) (written read : List Packet) (later : List ℕ) : Type 0 where
   pub more : List Packet
-  pub end : IsEnd x turn.core written (read ++ more) later
+  pub end : IsEnd x outcome.core written (read ++ more) later
   pub proposed : filter (λ command. is_packet_of command x) (proposal_of m)
       ≡ commands_of x (length read) more
 
 -- in each move a node reads on in order on each connection; none is skipped while it is open
 abbrev pub LossesReadInOrder : Type 0
 LossesReadInOrder =
-    (core : CoreState) (turn : Turn) (m : LossyMoves core turn) → IsOrderly core →
-    IsOrderly turn.core
+    (core : CoreState) (outcome : StepOutcome) (m : LossyMoves core outcome) → IsOrderly core →
+    IsOrderly outcome.core
     × ((x : ConnectionName) (written read : List Packet) (in_transit later : List ℕ) →
     IsEnd x core written read in_transit →
     in_transit ≡ came_on x m ++ later → ReadsOn x m written read later)
@@ -46,15 +46,17 @@ LossesReadInOrder =
 -- written
 abbrev pub LossesProposeInOrder : Type 0
 LossesProposeInOrder =
-    (id : ℕ) (config : Config) (turn : Turn) (run : LossyRuns (opening_core id config) turn)
-    (x : ConnectionName)
+    (id : ℕ) (config : Config) (outcome : StepOutcome)
+    (run : LossyRuns (opening_core id config) outcome) (x : ConnectionName)
     (written : List Packet) (later : List ℕ) → 0 < x.count →
-    Joins written (bytes_on x run ++ later) → Proposes x turn.core (proposals_of run) written later
+    Joins written (bytes_on x run ++ later) →
+    Proposes x outcome.core (proposals_of run) written later
 
 -- each packet that is read is in the log at once, after everything that was there
 abbrev pub LossesAreTaken : Type 0
-LossesAreTaken = (core : CoreState) (turn : Turn) (m : LossyMoves core turn) → is_read m ≡ true →
-    turn.core.replica.state.log
+LossesAreTaken =
+    (core : CoreState) (outcome : StepOutcome) (m : LossyMoves core outcome) → is_read m ≡ true →
+    outcome.core.replica.state.log
     ≡ record core.replica.state.log { rest = core.replica.state.log.rest ++ proposal_of m }
 
 -- ---- what is sent
@@ -63,16 +65,16 @@ LossesAreTaken = (core : CoreState) (turn : Turn) (m : LossyMoves core turn) →
 -- what was queued before
 abbrev pub LossesPutInOrder : Type 0
 LossesPutInOrder =
-    (core : CoreState) (turn : Turn) (m : LossyMoves core turn) → IsOrderly core →
+    (core : CoreState) (outcome : StepOutcome) (m : LossyMoves core outcome) → IsOrderly core →
     is_handing m ≡ false →
     (x : ConnectionName) (c d : Connection) → open_named x core ≡ Some c →
-    open_named x turn.core ≡ Some d →
+    open_named x outcome.core ≡ Some d →
     d.pending ≡ c.pending ++ spelled (sends_to x (outputs_of (given_in m)))
 
 -- a connection that is closed after a move was closed before, with the same bytes to hand over, or
 -- was open, and got a prefix of what is sent to it
-pub data IsClosedBy (x : ConnectionName) {core : CoreState} {turn : Turn} (m : LossyMoves core turn)
-    (d : Connection) : Type 0 where
+pub data IsClosedBy (x : ConnectionName) {core : CoreState} {outcome : StepOutcome}
+    (m : LossyMoves core outcome) (d : Connection) : Type 0 where
   -- it was closed before
   was_closed : (c : Connection) → listed_named x core ≡ Some c → is_over c.stage ≡ true →
       d.pending ≡ c.pending → IsClosedBy x m d
@@ -85,18 +87,18 @@ pub data IsClosedBy (x : ConnectionName) {core : CoreState} {turn : Turn} (m : L
 -- each connection that is closed after a move was closed in one of the ways of `IsClosedBy`
 abbrev pub LossesPutNothingOnClosed : Type 0
 LossesPutNothingOnClosed =
-    (core : CoreState) (turn : Turn) (m : LossyMoves core turn) → IsOrderly core →
+    (core : CoreState) (outcome : StepOutcome) (m : LossyMoves core outcome) → IsOrderly core →
     (x : ConnectionName) (d : Connection) →
-    listed_named x turn.core ≡ Some d → is_over d.stage ≡ true → IsClosedBy x m d
+    listed_named x outcome.core ≡ Some d → is_over d.stage ≡ true → IsClosedBy x m d
 
 -- ---- names
 
 -- a connection that is new after a move has the next name of the ballot that the node leads
 abbrev pub LossyNamesAreOfTheBallot : Type 0
 LossyNamesAreOfTheBallot =
-    (core : CoreState) (turn : Turn) (m : LossyMoves core turn) → IsOrderly core →
+    (core : CoreState) (outcome : StepOutcome) (m : LossyMoves core outcome) → IsOrderly core →
     (x : ConnectionName) (d : Connection) →
-    listed_named x core ≡ None → listed_named x turn.core ≡ Some d → IsNextName core x
+    listed_named x core ≡ None → listed_named x outcome.core ≡ Some d → IsNextName core x
 
 -- if a node serves, each open connection has a name of the ballot that it leads
 abbrev pub AreWhereItServes : CoreState → Type 0
@@ -106,11 +108,14 @@ AreWhereItServes core = serves core ≡ true → AreOfTheBallot core
 -- which it does, if that move began as a step does. And a node proposes under a name only in the
 -- ballot of that name.
 pub record LossyNamesKeepTheirBallot : Type 0 where
-  pub moves : (core : CoreState) (turn : Turn) (m : LossyMoves core turn) → IsOrderly core →
-      hears_in m ≡ false → AreWhereItServes core → AreWhereItServes turn.core
-  pub hears : (core : CoreState) (turn : Turn) (m : LossyMoves core turn) → IsOrderly core →
-      AreOfTheBallot core → AreWhereItServes turn.core
-  pub proposes : (core : CoreState) (turn : Turn) (m : LossyMoves core turn) → IsOrderly core →
+  pub moves : (core : CoreState) (outcome : StepOutcome) (m : LossyMoves core outcome) →
+      IsOrderly core →
+      hears_in m ≡ false → AreWhereItServes core → AreWhereItServes outcome.core
+  pub hears : (core : CoreState) (outcome : StepOutcome) (m : LossyMoves core outcome) →
+      IsOrderly core →
+      AreOfTheBallot core → AreWhereItServes outcome.core
+  pub proposes : (core : CoreState) (outcome : StepOutcome) (m : LossyMoves core outcome) →
+      IsOrderly core →
       AreWhereItServes core → serves core ≡ true → (x : ConnectionName) (command : Command) →
       In command (proposal_of m) → is_packet_of command x ≡ true →
       x.ballot ≡ core.replica.state.joined

@@ -13,7 +13,7 @@ use Rattle.exactly_once.specs.broker_spec.Connection.{ConnectionName}
 use Rattle.world_base.specs.declared.Port.{Port}
 use Rattle.world_base.specs.declared.Connection.{Connection}
 use Rattle.world_base.specs.Connections.{noted_proposed, closed, failing, is_first, left_with}
-use Rattle.world_base.specs.Core.{CoreState, Turn, rules}
+use Rattle.world_base.specs.Core.{CoreState, StepOutcome, rules}
 use Rattle.world_base.specs.Failing.{closes_failed}
 use Rattle.world_base.specs.Lossy.{Account, Drives, TakesCommand}
 use Rattle.world_base.specs.Reading.{changes, open_at}
@@ -23,8 +23,8 @@ use Rattle.node_moves.specs.Moves.{Moves, is_proposal}
 -- ---- one move
 
 -- what happened to a node, and the messages that were sent
-abbrev pub turn_of : Account → Turn
-turn_of did = record { core = did.core; messages = did.messages }
+abbrev pub outcome_in : Account → StepOutcome
+outcome_in did = record { core = did.core; messages = did.messages }
 
 -- the replica counts a loss
 abbrev pub with_loss : CoreState → CoreState
@@ -42,13 +42,13 @@ halting core =
     }
 
 -- one move of a node, exact or with losses
-pub data LossyMoves (core : CoreState) : Turn → Type 0 where
+pub data LossyMoves (core : CoreState) : StepOutcome → Type 0 where
   -- a move without losses
-  exactly : {turn : Turn} → Moves core turn → LossyMoves core turn
+  exactly : {outcome : StepOutcome} → Moves core outcome → LossyMoves core outcome
   -- the replica receives a message or a tick, perhaps with losses; some of the messages that it
   -- gives may be lost, and connections closed
   hears_losing : (input : Input Command) (did : Account) → is_proposal input ≡ false →
-      Drives input core did → LossyMoves core (turn_of did)
+      Drives input core did → LossyMoves core (outcome_in did)
   -- a CONNECT, the first packet of an open connection, is read and taken, perhaps with losses
   first_losing : (now : ℕ) (port : Port) (c : Connection) (connect : Connect) (rest : List ℕ)
       (did : Account) → open_at port core ≡ Some c →
@@ -56,19 +56,21 @@ pub data LossyMoves (core : CoreState) : Turn → Type 0 where
       TakesCommand (commands.Connect c.name connect.client connect.clean)
       (changes port (noted_proposed connect.keep_alive) (changes port (left_with now rest) core))
       did →
-      LossyMoves core (turn_of did)
+      LossyMoves core (outcome_in did)
   -- a later packet is read and taken, perhaps with losses
   later_losing : (now : ℕ) (port : Port) (c : Connection) (packet : Packet) (rest : List ℕ)
       (did : Account) → open_at port core ≡ Some c →
       is_first c.stage ≡ false → verdict c.unread ≡ Ok (packet, rest) →
       TakesCommand (commands.Packet c.name packet) (changes port (left_with now rest) core) did →
-      LossyMoves core (turn_of did)
+      LossyMoves core (outcome_in did)
   -- that a connection is lost is taken, perhaps with losses
-  tells_losing : (name : ConnectionName) (did : Account) → TakesCommand (commands.Lost name) core did →
-      LossyMoves core (turn_of did)
+  tells_losing : (name : ConnectionName) (did : Account) →
+      TakesCommand (commands.Lost name) core did →
+      LossyMoves core (outcome_in did)
   -- an Expel is taken, perhaps with losses
-  expels_losing : (client : List ℕ) (did : Account) → TakesCommand (commands.Expel client) core did →
-      LossyMoves core (turn_of did)
+  expels_losing : (client : List ℕ) (did : Account) →
+      TakesCommand (commands.Expel client) core did →
+      LossyMoves core (outcome_in did)
   -- the replica does not take what it receives, and counts that
   forgets : LossyMoves core (without_messages (with_loss core))
   -- the replica stops, and counts that

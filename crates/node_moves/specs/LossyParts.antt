@@ -8,7 +8,7 @@ use Rattle.exactly_once.specs.broker_spec.declared.command.Command.{Command}
 use Rattle.exactly_once.specs.broker_spec.declared.command.Command.TheVariants as commands
 use Rattle.exactly_once.specs.broker_spec.Connection.{ConnectionName}
 use Rattle.exactly_once.specs.broker_spec.declared.command.Output.{Output}
-use Rattle.world_base.specs.Core.{CoreState, Turn}
+use Rattle.world_base.specs.Core.{CoreState, StepOutcome}
 use Rattle.world_base.specs.Reading.{open_at}
 use Rattle.node_moves.specs.Closed.{exact_refusal}
 use Rattle.node_moves.specs.Ends.{came_on as exact_came, piece_on, proposal_of as exact_proposal}
@@ -21,7 +21,7 @@ use Rattle.node_moves.specs.LossyMoves.{LossyMoves}
 use Rattle.node_moves.specs.LossyMoves.LossyMoves.{exactly, hears_losing, first_losing, later_losing, tells_losing, expels_losing, forgets, halts, fails, unheard, drops}
 
 -- the effects of its replica in a move
-abbrev pub given_in : {core : CoreState} {turn : Turn} → LossyMoves core turn →
+abbrev pub given_in : {core : CoreState} {outcome : StepOutcome} → LossyMoves core outcome →
     List (Effect Command Output)
 given_in (exactly m) = exact_given m
 given_in (hears_losing input did other drives) = did.given
@@ -36,7 +36,8 @@ given_in unheard = []
 given_in (drops port piece) = []
 
 -- the command that it proposes
-abbrev pub proposal_of : {core : CoreState} {turn : Turn} → LossyMoves core turn → List Command
+abbrev pub proposal_of : {core : CoreState} {outcome : StepOutcome} → LossyMoves core outcome →
+    List Command
 proposal_of (exactly m) = exact_proposal m
 proposal_of (hears_losing input did other drives) = []
 proposal_of (first_losing now port c connect rest did at first is taken) =
@@ -52,44 +53,47 @@ proposal_of unheard = []
 proposal_of (drops port piece) = []
 
 -- the bytes that come on the connection of a name
-abbrev pub came_on : ConnectionName → {core : CoreState} {turn : Turn} → LossyMoves core turn →
+abbrev pub came_on : ConnectionName → {core : CoreState} {outcome : StepOutcome} →
+    LossyMoves core outcome →
     List ℕ
 came_on x (exactly m) = exact_came x m
 came_on x {core = core} (drops port piece) = piece_on x piece (open_at port core)
 came_on x _ = []
 
 -- the answer to a CONNECT that the node refuses itself
-abbrev pub refusal_in : ConnectionName → {core : CoreState} {turn : Turn} → LossyMoves core turn →
+abbrev pub refusal_in : ConnectionName → {core : CoreState} {outcome : StepOutcome} →
+    LossyMoves core outcome →
     List Packet
 refusal_in x (exactly m) = exact_refusal x m
 refusal_in x _ = []
 
 -- whether bytes are handed over in a move
-abbrev pub is_handing : {core : CoreState} {turn : Turn} → LossyMoves core turn → Bool
+abbrev pub is_handing : {core : CoreState} {outcome : StepOutcome} → LossyMoves core outcome → Bool
 is_handing (exactly m) = exact_handing m
 is_handing _ = false
 
 -- whether a packet is read in a move
-abbrev pub is_read : {core : CoreState} {turn : Turn} → LossyMoves core turn → Bool
+abbrev pub is_read : {core : CoreState} {outcome : StepOutcome} → LossyMoves core outcome → Bool
 is_read (exactly m) = exact_read m
 is_read (first_losing now port c connect rest did at first is taken) = true
 is_read (later_losing now port c packet rest did at later is taken) = true
 is_read _ = false
 
 -- what the replica receives in a move
-abbrev pub inputs_of : {core : CoreState} {turn : Turn} → Moves core turn → List (Input Command)
+abbrev pub inputs_of : {core : CoreState} {outcome : StepOutcome} → Moves core outcome →
+    List (Input Command)
 inputs_of (hears input other) = input ∷ []
 inputs_of _ = []
 
 -- what the replica receives in a move that may have losses
-abbrev pub inputs_in : {core : CoreState} {turn : Turn} → LossyMoves core turn →
+abbrev pub inputs_in : {core : CoreState} {outcome : StepOutcome} → LossyMoves core outcome →
     List (Input Command)
 inputs_in (exactly m) = inputs_of m
 inputs_in (hears_losing input did other drives) = input ∷ []
 inputs_in _ = []
 
 -- whether the replica receives something in a move, or the node crashes
-abbrev pub hears_in : {core : CoreState} {turn : Turn} → LossyMoves core turn → Bool
+abbrev pub hears_in : {core : CoreState} {outcome : StepOutcome} → LossyMoves core outcome → Bool
 hears_in (exactly m) = moves_replica m
 hears_in (hears_losing input did other drives) = true
 hears_in _ = false

@@ -8,7 +8,7 @@ use Rattle.exactly_once.specs.broker_spec.Connection.{ConnectionName}
 use Rattle.exactly_once.specs.broker_spec.declared.command.Output.{Output}
 use Rattle.world_base.specs.declared.item.Item.{Item}
 use Rattle.world_base.specs.declared.item.Item.TheVariants.{Peer, Tick, Bytes, Cut}
-use Rattle.world_base.specs.Core.{CoreState, Turn, rules}
+use Rattle.world_base.specs.Core.{CoreState, StepOutcome, rules}
 use Rattle.world_base.specs.LossyStep.{RunsOn}
 use Rattle.world_base.specs.Reading.{open_at}
 use Rattle.world_base.specs.Turns.{without_messages}
@@ -20,67 +20,73 @@ use Rattle.node_moves.specs.Moves.{Moves, and_then}
 use Rattle.node_moves.specs.Moves.Moves.{cuts_log}
 
 -- moves one after another
-pub data LossyRuns : CoreState → Turn → Type 0 where
+pub data LossyRuns : CoreState → StepOutcome → Type 0 where
   rests : {core : CoreState} → LossyRuns core (without_messages core)  -- no move
   -- one move, and others after it
-  goes_on : {core : CoreState} {first next : Turn} → LossyMoves core first →
+  goes_on : {core : CoreState} {first next : StepOutcome} → LossyMoves core first →
       LossyRuns first.core next → LossyRuns core (and_then first next)
 
 -- in no move of a run the replica receives something
-abbrev pub HearsNothing : {core : CoreState} {turn : Turn} → LossyRuns core turn → Type 0
+abbrev pub HearsNothing : {core : CoreState} {outcome : StepOutcome} → LossyRuns core outcome →
+    Type 0
 HearsNothing rests = Unit {0}
 HearsNothing (goes_on m run) = (hears_in m ≡ false) × HearsNothing run
 
 -- in no move of a run except the first the replica receives something
-abbrev pub HearsAtFirst : {core : CoreState} {turn : Turn} → LossyRuns core turn → Type 0
+abbrev pub HearsAtFirst : {core : CoreState} {outcome : StepOutcome} → LossyRuns core outcome →
+    Type 0
 HearsAtFirst rests = Unit {0}
 HearsAtFirst (goes_on m run) = HearsNothing run
 
 -- the commands that a node proposes in a run, in order
-abbrev pub proposals_of : {core : CoreState} {turn : Turn} → LossyRuns core turn → List Command
+abbrev pub proposals_of : {core : CoreState} {outcome : StepOutcome} → LossyRuns core outcome →
+    List Command
 proposals_of rests = []
 proposals_of (goes_on m run) = proposal_of m ++ proposals_of run
 
 -- the bytes that come on the connection of a name in it, in order
-abbrev pub bytes_on : ConnectionName → {core : CoreState} {turn : Turn} → LossyRuns core turn →
+abbrev pub bytes_on : ConnectionName → {core : CoreState} {outcome : StepOutcome} →
+    LossyRuns core outcome →
     List ℕ
 bytes_on x rests = []
 bytes_on x (goes_on m run) = came_on x m ++ bytes_on x run
 
 -- what the replica receives in a run, in order
-abbrev pub all_inputs : {core : CoreState} {turn : Turn} → LossyRuns core turn →
+abbrev pub all_inputs : {core : CoreState} {outcome : StepOutcome} → LossyRuns core outcome →
     List (Input Command)
 all_inputs rests = []
 all_inputs (goes_on m run) = inputs_in m ++ all_inputs run
 
 -- nothing is handed over in a run
-abbrev pub HandsNothing : {core : CoreState} {turn : Turn} → LossyRuns core turn → Type 0
+abbrev pub HandsNothing : {core : CoreState} {outcome : StepOutcome} → LossyRuns core outcome →
+    Type 0
 HandsNothing rests = Unit {0}
 HandsNothing (goes_on m run) = (is_handing m ≡ false) × HandsNothing run
 
 -- whether a log is cut in a move
-abbrev pub exactly_cuts : {core : CoreState} {turn : Turn} → Moves core turn → Bool
+abbrev pub exactly_cuts : {core : CoreState} {outcome : StepOutcome} → Moves core outcome → Bool
 exactly_cuts (cuts_log can) = true
 exactly_cuts _ = false
 
 -- whether a move that may have losses cuts the log
-abbrev pub cuts_in : {core : CoreState} {turn : Turn} → LossyMoves core turn → Bool
+abbrev pub cuts_in : {core : CoreState} {outcome : StepOutcome} → LossyMoves core outcome → Bool
 cuts_in (exactly m) = exactly_cuts m
 cuts_in _ = false
 
 -- in no move of a run a log is cut
-abbrev pub CutsNothing : {core : CoreState} {turn : Turn} → LossyRuns core turn → Type 0
+abbrev pub CutsNothing : {core : CoreState} {outcome : StepOutcome} → LossyRuns core outcome →
+    Type 0
 CutsNothing rests = Unit {0}
 CutsNothing (goes_on m run) = (cuts_in m ≡ false) × CutsNothing run
 
 -- the bytes to which a log is cut thaw to its machine
-abbrev pub Freezes : {core : CoreState} {turn : Turn} → LossyMoves core turn → Type 0
+abbrev pub Freezes : {core : CoreState} {outcome : StepOutcome} → LossyMoves core outcome → Type 0
 Freezes {core = core} (exactly (cuts_log can)) =
     rules.thawed (rules.frozen core.replica.state.machine) ≡ Some core.replica.state.machine
 Freezes _ = Unit {0}
 
 -- what is frozen in each move of a run can be read
-abbrev pub AllFreeze : {core : CoreState} {turn : Turn} → LossyRuns core turn → Type 0
+abbrev pub AllFreeze : {core : CoreState} {outcome : StepOutcome} → LossyRuns core outcome → Type 0
 AllFreeze rests = Unit {0}
 AllFreeze (goes_on m run) = Freezes m × AllFreeze run
 
@@ -103,8 +109,8 @@ is_cut _ = false
 -- Each step that takes an item with losses is a run of moves. In the first of them the replica
 -- receives what comes with the item. On each connection the bytes of the item come, and nothing is
 -- handed over. No log is cut unless the item is a cut, and what is frozen can be read.
-pub record IsRunOn (item : Item) (core : CoreState) (turn : Turn) : Type 0 where
-  pub run : LossyRuns core turn
+pub record IsRunOn (item : Item) (core : CoreState) (outcome : StepOutcome) : Type 0 where
+  pub run : LossyRuns core outcome
   pub first : HearsAtFirst run
   pub hears : all_inputs run ≡ heard_with item
   pub bytes : (x : ConnectionName) → bytes_on x run ≡ came_with x item core

@@ -16,7 +16,7 @@ use Rattle.world_base.specs.declared.Port.{Port}
 use Rattle.world_base.specs.declared.item.Item.{Item}
 use Rattle.world_base.specs.declared.Connection.{Connection}
 use Rattle.world_base.specs.Connections.{has_failed, is_first, is_proposed, noted_proposed, holding, left_with, closed}
-use Rattle.world_base.specs.Core.{CoreState, Turn}
+use Rattle.world_base.specs.Core.{CoreState, StepOutcome}
 use Rattle.world_base.specs.Failing.{closes_failed}
 use Rattle.world_base.specs.Handing.{hands_over}
 use Rattle.world_base.specs.Reading.{changes, open_at, refused}
@@ -30,7 +30,7 @@ is_proposal (Proposes command) = true
 is_proposal Ticks = false
 
 -- one move of a node, without losses
-pub data Moves (core : CoreState) : Turn → Type 0 where
+pub data Moves (core : CoreState) : StepOutcome → Type 0 where
   -- the replica receives a message or a tick, and its effects are done
   hears : (input : Input Command) → is_proposal input ≡ false → Moves core (drives input core)
   -- a connection is opened
@@ -76,16 +76,17 @@ pub data Moves (core : CoreState) : Turn → Type 0 where
   -- what was queued for a port is handed over
   hands : (port : Port) → Moves core (without_messages (hands_over port core))
 
--- a turn, and another after it
-abbrev pub and_then : Turn → Turn → Turn
+-- an outcome, and another after it
+abbrev pub and_then : StepOutcome → StepOutcome → StepOutcome
 and_then first next = record { core = next.core; messages = first.messages ++ next.messages }
 
 -- moves one after another
-pub data Runs : CoreState → Turn → Type 0 where
+pub data Runs : CoreState → StepOutcome → Type 0 where
   -- no move
   rests : {core : CoreState} → Runs core (without_messages core)
   -- one move, and others after it
-  goes_on : {core : CoreState} {first next : Turn} → Moves core first → Runs first.core next →
+  goes_on : {core : CoreState} {first next : StepOutcome} → Moves core first →
+      Runs first.core next →
       Runs core (and_then first next)
 
 -- a call of a node: it takes an item, or hands over what was queued for a port
@@ -94,12 +95,12 @@ pub data NodeCall : Type 0 where
   gives : Port → NodeCall  -- the call `outgoing`
 
 -- what a call of a node does: it takes an item, or hands over bytes
-abbrev pub done : NodeCall → CoreState → Turn
+abbrev pub done : NodeCall → CoreState → StepOutcome
 done (takes item) core = node_step item core
 done (gives port) core = without_messages (hands_over port core)
 
 -- one call after another
-abbrev pub all_done : List NodeCall → CoreState → Turn
+abbrev pub all_done : List NodeCall → CoreState → StepOutcome
 all_done [] core = without_messages core
 all_done (node_call ∷ node_calls) core =
     and_then (done node_call core) (all_done node_calls (done node_call core).core)

@@ -2,7 +2,7 @@
 use Rattle.std.specs.Prelude.{◌≡◌, ◌+◌, true, Some, None}
 use Rattle.exactly_once.specs.broker_spec.Connection.{ConnectionName}
 use Rattle.world_base.specs.declared.Connection.{Connection}
-use Rattle.world_base.specs.Core.{CoreState, Turn, serves}
+use Rattle.world_base.specs.Core.{CoreState, StepOutcome, serves}
 use Rattle.world_base.specs.Step.{accepted}
 use Rattle.node_moves.specs.Closed.{listed_named}
 use Rattle.node_moves.specs.Ends.{IsOrderly}
@@ -17,6 +17,6 @@ pub record IsNextName (core : CoreState) (x : ConnectionName) : Type 0 where
 -- each connection that is new after a move has a name of the ballot
 abbrev pub NewNamesAreOfTheBallot : Type 0
 NewNamesAreOfTheBallot =
-    (core : CoreState) (turn : Turn) (m : Moves core turn) → IsOrderly core →
+    (core : CoreState) (outcome : StepOutcome) (m : Moves core outcome) → IsOrderly core →
     (x : ConnectionName) (d : Connection) →
-    listed_named x core ≡ None → listed_named x turn.core ≡ Some d → IsNextName core x
+    listed_named x core ≡ None → listed_named x outcome.core ≡ Some d → IsNextName core x

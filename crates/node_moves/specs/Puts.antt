@@ -11,14 +11,14 @@ use Rattle.exactly_once.specs.broker_spec.declared.command.Output.{Output}
 use Rattle.exactly_once.specs.broker_spec.Connection.{ConnectionName}
 use Rattle.exactly_once.specs.Sends.{sends_to}
 use Rattle.world_base.specs.declared.Connection.{Connection}
-use Rattle.world_base.specs.Core.{CoreState, Turn, rules, serves}
+use Rattle.world_base.specs.Core.{CoreState, StepOutcome, rules, serves}
 use Rattle.world_base.specs.Turns.{heard}
 use Rattle.node_moves.specs.Moves.{Moves}
 use Rattle.node_moves.specs.Moves.Moves.{hears, reads_first, reads_later, loses_one, loses_next, expels_one, hands}
 use Rattle.node_moves.specs.Ends.{IsOrderly, open_named}
 
 -- the effects of its replica in a move
-abbrev pub given_in : {core : CoreState} {turn : Turn} → Moves core turn →
+abbrev pub given_in : {core : CoreState} {outcome : StepOutcome} → Moves core outcome →
     List (Effect Command Output)
 given_in {core = core} (hears input is) = (heard input core.replica.state).effects
 given_in {core = core} (reads_first now port c connect rest at first is room) =
@@ -46,7 +46,7 @@ spelled [] = []
 spelled (p ∷ ps) = spelling p ++ spelled ps
 
 -- whether bytes are handed over in a move
-abbrev pub is_handing : {core : CoreState} {turn : Turn} → Moves core turn → Bool
+abbrev pub is_handing : {core : CoreState} {outcome : StepOutcome} → Moves core outcome → Bool
 is_handing (hands port) = true
 is_handing _ = false
 
@@ -55,7 +55,8 @@ is_handing _ = false
 -- queued.
 abbrev pub PutsInOrder : Type 0
 PutsInOrder =
-    (core : CoreState) (turn : Turn) (m : Moves core turn) → IsOrderly core → is_handing m ≡ false →
+    (core : CoreState) (outcome : StepOutcome) (m : Moves core outcome) → IsOrderly core →
+    is_handing m ≡ false →
     (x : ConnectionName) (c d : Connection) → open_named x core ≡ Some c →
-    open_named x turn.core ≡ Some d →
+    open_named x outcome.core ≡ Some d →
     d.pending ≡ c.pending ++ spelled (sends_to x (outputs_of (given_in m)))

@@ -8,19 +8,21 @@ use Rattle.world_base.specs.ballot.Config.{Config}
 use Rattle.exactly_once.specs.lists.Lists.{IsPrefixOf}
 use Rattle.world_base.specs.cutter.Pipe.{Joins}
 use Rattle.exactly_once.specs.StoryCommands.{is_packet_of}
-use Rattle.world_base.specs.Core.{CoreState, Turn, opening_core}
+use Rattle.world_base.specs.Core.{CoreState, StepOutcome, opening_core}
 use Rattle.node_moves.specs.Moves.Moves.{reads_first, reads_later}
 use Rattle.node_moves.specs.Moves.{Moves, Runs}
 use Rattle.node_moves.specs.Moves.Runs.{rests, goes_on}
 use Rattle.node_moves.specs.Ends.{proposal_of, came_on, IsEnd, commands_of}
 
 -- the commands that it proposes in a run, in order
-abbrev pub proposals_of : {core : CoreState} {turn : Turn} → Runs core turn → List Command
+abbrev pub proposals_of : {core : CoreState} {outcome : StepOutcome} → Runs core outcome →
+    List Command
 proposals_of rests = []
 proposals_of (goes_on m run) = proposal_of m ++ proposals_of run
 
 -- the bytes that come on the connection of a name in it, in order
-abbrev pub bytes_on : ConnectionName → {core : CoreState} {turn : Turn} → Runs core turn → List ℕ
+abbrev pub bytes_on : ConnectionName → {core : CoreState} {outcome : StepOutcome} →
+    Runs core outcome → List ℕ
 bytes_on x rests = []
 bytes_on x (goes_on m run) = came_on x m ++ bytes_on x run
 
@@ -38,13 +40,14 @@ pub record Proposes (x : ConnectionName) (core : CoreState) (proposals : List Co
 -- have
 abbrev pub NodesProposeInOrder : Type 0
 NodesProposeInOrder =
-    (id : ℕ) (config : Config) (turn : Turn) (run : Runs (opening_core id config) turn)
+    (id : ℕ) (config : Config) (outcome : StepOutcome) (run : Runs (opening_core id config) outcome)
     (x : ConnectionName)
     (written : List Packet) (later : List ℕ) → 0 < x.count →
-    Joins written (bytes_on x run ++ later) → Proposes x turn.core (proposals_of run) written later
+    Joins written (bytes_on x run ++ later) →
+    Proposes x outcome.core (proposals_of run) written later
 
 -- whether a move reads a packet
-abbrev pub is_read : {core : CoreState} {turn : Turn} → Moves core turn → Bool
+abbrev pub is_read : {core : CoreState} {outcome : StepOutcome} → Moves core outcome → Bool
 is_read (reads_first now port c connect rest at first is room) = true
 is_read (reads_later now port c packet rest at later is room) = true
 is_read _ = false
@@ -52,6 +55,7 @@ is_read _ = false
 -- Each packet that is read is in the node's log at once, after everything that was there, and
 -- nothing is removed from it: so none is read after one that was not taken.
 abbrev pub ReadsAreTaken : Type 0
-ReadsAreTaken = (core : CoreState) (turn : Turn) (m : Moves core turn) → is_read m ≡ true →
-    turn.core.replica.state.log
+ReadsAreTaken =
+    (core : CoreState) (outcome : StepOutcome) (m : Moves core outcome) → is_read m ≡ true →
+    outcome.core.replica.state.log
     ≡ record core.replica.state.log { rest = core.replica.state.log.rest ++ proposal_of m }

@@ -12,7 +12,7 @@ use Rattle.node_connections.specs.declared.connection.Connection.{Connection}
 use Rattle.node_connections.specs.Connections.{changed, closed, handed, has_failed, is_at, is_listed, is_open_at}
 use Rattle.world_base.specs.declared.item.Item.{Item}
 use Rattle.world_base.specs.declared.item.Item.TheVariants.{Peer, Tick, Opened, Bytes, Ended, Expel, Cut, Crash}
-use Rattle.world_base.specs.Core.{CoreState, Turn, serves}
+use Rattle.world_base.specs.Core.{CoreState, StepOutcome, serves}
 use Rattle.world_base.specs.Failing.{loses_all_failed, loses_failed}
 use Rattle.world_base.specs.Handing.{bytes_of, hands_over, left_by, listed_at}
 use Rattle.world_base.specs.Losses.{IsHeardQuietly, IsIgnored, ReadsNone, ItemTakesNoMemory, WaitsNothing, was_proposed}
@@ -141,14 +141,14 @@ goes_calmly Crash core takes = record { next = crashed core; is = refl; fails_no
 
 acts_calmly : (item : Item) (core : CoreState) (g : GoesCalmly item core) → find has_failed core.connections ≡ None → acts_on item core ≡ without_messages g.next
 acts_calmly item core g none =
-    ap (λ (t : Turn). then_also t loses_all_failed) g.is
-    ∙ ap (λ (t : Turn). then_also (without_messages g.next) (λ _. t))
+    ap (λ (t : StepOutcome). then_also t loses_all_failed) g.is
+    ∙ ap (λ (t : StepOutcome). then_also (without_messages g.next) (λ _. t))
     (repeated_without_messages loses_failed (length g.next.connections) g.next (failed_next g.next (g.fails_none none)))
 
 pub says_nothing : (item : Item) (core : CoreState) → ItemTakesNoMemory item core → find has_failed core.connections ≡ None → (node_step item core).messages ≡ []
-says_nothing item core takes none = ap (λ (t : Turn). t.messages) (acts_calmly item core (goes_calmly item core takes) none)
+says_nothing item core takes none = ap (λ (t : StepOutcome). t.messages) (acts_calmly item core (goes_calmly item core takes) none)
 
 pub step_waits : (item : Item) (core : CoreState) → ItemTakesNoMemory item core → find has_failed core.connections ≡ None → WaitsNothing core → WaitsNothing (node_step item core).core
 step_waits item core takes none each =
     let g = goes_calmly item core takes in
-    subst (λ (t : Turn). WaitsNothing (settled t.core)) (sym (acts_calmly item core g none)) (settled_waits g.next (g.waits each))
+    subst (λ (t : StepOutcome). WaitsNothing (settled t.core)) (sym (acts_calmly item core g none)) (settled_waits g.next (g.waits each))

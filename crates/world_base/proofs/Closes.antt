@@ -11,8 +11,8 @@ use Rattle.ballot.proofs.StepRows.{proposed-full}
 use Rattle.node_connections.specs.declared.port.Port.{Port}
 use Rattle.node_connections.specs.declared.connection.Connection.{Connection}
 use Rattle.node_connections.specs.Connections.{closed, is_proposed}
-use Rattle.world_base.specs.Core.{CoreState, Turn, rules, serves}
-use Rattle.world_base.specs.Inside.{Running, DoesExactly, DoesTurn}
+use Rattle.world_base.specs.Core.{CoreState, StepOutcome, rules, serves}
+use Rattle.world_base.specs.Inside.{Running, DoesExactly, DoesOutcome}
 use Rattle.world_base.specs.Reading.{changes, ends, open_at}
 use Rattle.world_base.specs.Turns.{without_messages, then_also, proposes, has_room}
 use Rattle.world_base.proofs.Asked.{left_true}
@@ -20,26 +20,26 @@ use Rattle.world_base.proofs.TurnsJoin.{turns_idle, turns_join, turns_as, turns_
 
 -- if no connection of the port is open nothing is done
 pub ends_none : (port : Port) (r : Running) (out : List (Effect Command Output)) → open_at port r.core ≡ None →
-    DoesTurn r r out out (ends port r.core)
+    DoesOutcome r r out out (ends port r.core)
 unfolding ends
-ends_none port r out none = subst (λ (t : Turn). DoesTurn r r out out t) (rw none refl) (turns_idle r out)
+ends_none port r out none = subst (λ (t : StepOutcome). DoesOutcome r r out out t) (rw none refl) (turns_idle r out)
 
 -- the connection's CONNECT was proposed, and its loss is reported to the broker
 pub ends_proposed : (port : Port) (c : Connection) (a b r : Running) (x y : List (Effect Command Output)) →
     open_at port a.core ≡ Some c → is_proposed c.stage ≡ true → b ≡ record a { core = changes port closed a.core } →
-    DoesTurn b r x y (proposes (commands.Lost c.name) b.core) → DoesTurn a r x y (ends port a.core)
+    DoesOutcome b r x y (proposes (commands.Lost c.name) b.core) → DoesOutcome a r x y (ends port a.core)
 unfolding ends
 ends_proposed port c a b r x y found heard shut turns =
-    subst (λ (t : Turn). DoesTurn a r x y t) (rw (found, heard) refl)
+    subst (λ (t : StepOutcome). DoesOutcome a r x y t) (rw (found, heard) refl)
     (turns_after a b r x y (changes port closed a.core) (proposes (commands.Lost c.name)) shut turns)
 
 -- it did not
 pub ends_other : (port : Port) (c : Connection) (a b : Running) (x : List (Effect Command Output)) →
     open_at port a.core ≡ Some c → is_proposed c.stage ≡ false → b ≡ record a { core = changes port closed a.core } →
-    DoesTurn a b x x (ends port a.core)
+    DoesOutcome a b x x (ends port a.core)
 unfolding ends
 ends_other port c a b x found silent shut =
-    subst (λ (t : Turn). DoesTurn a b x x t) (rw (found, silent) refl)
+    subst (λ (t : StepOutcome). DoesOutcome a b x x t) (rw (found, silent) refl)
     (turns_without_messages a b x (changes port closed a.core) (λ _. shut))
 
 -- without room nothing is proposed
@@ -72,8 +72,8 @@ proposes_nothing command core e =
 -- a refused proposal closes the connection
 pub closes_refused : (port : Port) (command : Command) (a b c : Running)
     (x y : List (Effect Command Output)) → (c.out_of_memory ≡ false → false ≡ has_room a.core) →
-    DoesTurn a b x y (proposes command a.core) → DoesExactly b c (changes port closed b.core) →
-    DoesTurn a c x y (if has_room a.core then proposes command a.core else without_messages (changes port closed a.core))
+    DoesOutcome a b x y (proposes command a.core) → DoesExactly b c (changes port closed b.core) →
+    DoesOutcome a c x y (if has_room a.core then proposes command a.core else without_messages (changes port closed a.core))
 closes_refused port command a b c x y full turns shut =
     turns_as a c x y _ _ same
     (turns_join a b c x y y (proposes command a.core)

@@ -7,9 +7,9 @@ use Rattle.node_connections.specs.broker_spec.declared.command.Output.{Output}
 use Rattle.ballot.specs.Effect.{Effect}
 use Rattle.node_connections.specs.declared.connection.Connection.{Connection}
 use Rattle.node_connections.specs.Connections.{has_failed}
-use Rattle.world_base.specs.Core.{CoreState, Turn}
+use Rattle.world_base.specs.Core.{CoreState, StepOutcome}
 use Rattle.world_base.specs.Failing.{closes_failed, loses_failed}
-use Rattle.world_base.specs.Inside.{Running, DoesTurn}
+use Rattle.world_base.specs.Inside.{Running, DoesOutcome}
 use Rattle.world_base.specs.Turns.{without_messages, proposes}
 use Rattle.world_base.proofs.TurnsJoin.{turns_idle, turns_after}
 
@@ -19,17 +19,17 @@ unfolding loses_failed
 failed_next core none = rw none refl
 
 pub failed_none : (r : Running) (out : List (Effect Command Output)) → find has_failed r.core.connections ≡ None →
-    DoesTurn r r out out (loses_failed r.core)
+    DoesOutcome r r out out (loses_failed r.core)
 unfolding loses_failed
-failed_none r out none = subst (λ (t : Turn). DoesTurn r r out out t) (rw none refl) (turns_idle r out)
+failed_none r out none = subst (λ (t : StepOutcome). DoesOutcome r r out out t) (rw none refl) (turns_idle r out)
 
 -- one did
 pub failed_one : (c : Connection) (a b r : Running) (x y : List (Effect Command Output)) →
     find has_failed a.core.connections ≡ Some c → b ≡ record a { core = closes_failed a.core } →
-    DoesTurn b r x y (proposes (commands.Lost c.name) b.core) → DoesTurn a r x y (loses_failed a.core)
+    DoesOutcome b r x y (proposes (commands.Lost c.name) b.core) → DoesOutcome a r x y (loses_failed a.core)
 unfolding loses_failed
 failed_one c a b r x y found shut turns =
-    subst (λ (t : Turn). DoesTurn a r x y t) (rw found refl)
+    subst (λ (t : StepOutcome). DoesOutcome a r x y t) (rw found refl)
     (turns_after a b r x y (closes_failed a.core) (proposes (commands.Lost c.name)) shut turns)
 
 -- if none failed nothing is done, and then nothing more

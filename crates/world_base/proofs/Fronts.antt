@@ -20,10 +20,10 @@ use Rattle.node_connections.specs.declared.connection.ConnectionStage.{Connectio
 use Rattle.node_connections.specs.declared.connection.ConnectionStage.TheVariants.{Awaits, Proposed, Over, Failed}
 use Rattle.node_connections.specs.declared.connection.Connection.{Connection}
 use Rattle.node_connections.specs.Connections.{changed, closed, left_with, is_first, is_proposed, is_open_at}
-use Rattle.world_base.specs.Core.{CoreState, Turn}
+use Rattle.world_base.specs.Core.{CoreState, StepOutcome}
 use Rattle.node_connections.specs.Fronts.{IsFault}
 use Rattle.node_connections.specs.Inside.{TakesFront}
-use Rattle.world_base.specs.Inside.{Running, DoesTurn}
+use Rattle.world_base.specs.Inside.{Running, DoesOutcome}
 use Rattle.world_base.specs.Reading.{takes_first_packet, changes, loses, open_at, reads, reads_next, refused, proposes_packet}
 use Rattle.world_base.specs.Turns.{proposes, without_messages}
 use Rattle.world_base.proofs.TurnsJoin.{turns_idle, turns_without_messages, turns_after}
@@ -75,9 +75,9 @@ becomes_itself port core c new found is =
 
 -- no connection of the port is open
 pub nothing_open : (now : ℕ) (port : Port) (r : Running) (out : List (Effect Command Output)) →
-    open_at port r.core ≡ None → DoesTurn r r out out (reads_next now port r.core)
+    open_at port r.core ≡ None → DoesOutcome r r out out (reads_next now port r.core)
 unfolding reads_next
-nothing_open now port r out none = subst (λ (t : Turn). DoesTurn r r out out t) (rw none refl) (turns_idle r out)
+nothing_open now port r out none = subst (λ (t : StepOutcome). DoesOutcome r r out out t) (rw none refl) (turns_idle r out)
 
 pub nothing_next : (now : ℕ) (port : Port) (core : CoreState) → open_at port core ≡ None → reads_next now port core ≡ without_messages core
 unfolding reads_next
@@ -103,9 +103,9 @@ more_next now port c new a b found did is =
 
 pub more_there : (now : ℕ) (port : Port) (c new : Connection) (a b : Running) (out : List (Effect Command Output)) →
     open_at port a.core ≡ Some c → TakesFront now c fronts.More new →
-    b ≡ record a { core = changes port (λ _. new) a.core } → DoesTurn a b out out (reads_next now port a.core)
+    b ≡ record a { core = changes port (λ _. new) a.core } → DoesOutcome a b out out (reads_next now port a.core)
 more_there now port c new a b out found did is =
-    subst (λ (t : Turn). DoesTurn a b out out t)
+    subst (λ (t : StepOutcome). DoesOutcome a b out out t)
     (ap without_messages (becomes_itself port a.core c new found did.1) ∙ reads_by now port a.core c (Err stops.More) found did.0)
     (turns_without_messages a b out (changes port (λ _. new) a.core) (λ _. is))
 
@@ -113,11 +113,11 @@ more_there now port c new a b out found did is =
 pub packet_there : (now : ℕ) (port : Port) (c new : Connection) (packet : Packet) (a b r : Running) (x y : List (Effect Command Output)) →
     open_at port a.core ≡ Some c → TakesFront now c (fronts.Packet packet) new →
     b ≡ record a { core = changes port (λ _. new) a.core } →
-    DoesTurn b r x y (if is_first c.stage then takes_first_packet port c.name packet b.core else proposes_packet port c.name packet b.core) →
-    DoesTurn a r x y (reads_next now port a.core)
+    DoesOutcome b r x y (if is_first c.stage then takes_first_packet port c.name packet b.core else proposes_packet port c.name packet b.core) →
+    DoesOutcome a r x y (reads_next now port a.core)
 packet_there now port c new packet a b r x y found did is turns =
     let rest = did.0 in
-    subst (λ (t : Turn). DoesTurn a r x y t) (reads_by now port a.core c (Ok (packet, rest)) found did.1)
+    subst (λ (t : StepOutcome). DoesOutcome a r x y t) (reads_by now port a.core c (Ok (packet, rest)) found did.1)
     (turns_after a b r x y (changes port (left_with now rest) a.core)
     (λ core. if is_first c.stage then takes_first_packet port c.name packet core else proposes_packet port c.name packet core)
     (is ∙ ap (λ (k : CoreState). record a { core = k }) (becomes_same port a.core c new (left_with now rest) found did.3)) turns)
@@ -125,20 +125,20 @@ packet_there now port c new packet a b r x y found did is turns =
 -- a first packet that is no CONNECT
 other_turns : (port : Port) (name : ConnectionName) (packet : Packet) (a b : Running) (x : List (Effect Command Output)) →
     ((connect : Connect) → packet ≡ packets.Connect connect → ⊥) → b ≡ record a { core = changes port closed a.core } →
-    DoesTurn a b x x (takes_first_packet port name packet a.core)
+    DoesOutcome a b x x (takes_first_packet port name packet a.core)
 other_turns port name (packets.Connect connect) a b x other shut = absurd (other connect refl)
 other_turns port name _ a b x other shut = turns_without_messages a b x (changes port closed a.core) (λ _. shut)
 
 pub turns_other : (awaits : Bool) (port : Port) (name : ConnectionName) (packet : Packet) (a b : Running) (x : List (Effect Command Output)) →
     awaits ≡ true → ((connect : Connect) → packet ≡ packets.Connect connect → ⊥) → b ≡ record a { core = changes port closed a.core } →
-    DoesTurn a b x x (if awaits then takes_first_packet port name packet a.core else proposes_packet port name packet a.core)
+    DoesOutcome a b x x (if awaits then takes_first_packet port name packet a.core else proposes_packet port name packet a.core)
 turns_other awaits port name packet a b x is other shut =
-    subst (λ (f : Bool). DoesTurn a b x x (if f then takes_first_packet port name packet a.core else proposes_packet port name packet a.core)) (sym is)
+    subst (λ (f : Bool). DoesOutcome a b x x (if f then takes_first_packet port name packet a.core else proposes_packet port name packet a.core)) (sym is)
     (other_turns port name packet a b x other shut)
 
 -- a connection that is closed after a change, and its loss is reported to the broker if its CONNECT
 -- was proposed
-abbrev pub Told : Connection → CoreState → Turn
+abbrev pub Told : Connection → CoreState → StepOutcome
 Told c core = if is_proposed c.stage then proposes (commands.Lost c.name) core else without_messages core
 
 lost_there : (port : Port) (c : Connection) (core : CoreState) → Told c (changes port closed core) ≡ loses port c core
@@ -146,35 +146,35 @@ lost_there port c core = refl
 
 pub fault_there : (now : ℕ) (port : Port) (c new : Connection) (a b r : Running) (x y : List (Effect Command Output)) →
     open_at port a.core ≡ Some c → TakesFront now c fronts.Fault new →
-    b ≡ record a { core = changes port (λ _. new) a.core } → DoesTurn b r x y (Told c b.core) →
-    DoesTurn a r x y (reads_next now port a.core)
+    b ≡ record a { core = changes port (λ _. new) a.core } → DoesOutcome b r x y (Told c b.core) →
+    DoesOutcome a r x y (reads_next now port a.core)
 fault_there now port c new a b r x y found did is turns = by (verdict c.unread) refl did.0
   where
-    lost : DoesTurn a r x y (loses port c a.core)
+    lost : DoesOutcome a r x y (loses port c a.core)
     lost =
         turns_after a b r x y (changes port closed a.core) (Told c)
         (is ∙ ap (λ (k : CoreState). record a { core = k }) (becomes_same port a.core c new closed found did.1)) turns
 
-    by : (v : Result (Packet × List ℕ) Stop) → verdict c.unread ≡ v → IsFault v → DoesTurn a r x y (reads_next now port a.core)
+    by : (v : Result (Packet × List ℕ) Stop) → verdict c.unread ≡ v → IsFault v → DoesOutcome a r x y (reads_next now port a.core)
     by (Err stops.More) e fault = absurd fault
-    by (Err (stops.Malformed kind)) e fault = subst (λ (t : Turn). DoesTurn a r x y t) (reads_by now port a.core c _ found e) lost
+    by (Err (stops.Malformed kind)) e fault = subst (λ (t : StepOutcome). DoesOutcome a r x y t) (reads_by now port a.core c _ found e) lost
     by (Err (stops.Refused code)) e fault = absurd fault
     by (Ok _) e fault = absurd fault
 
 pub refused_there : (now : ℕ) (port : Port) (c new : Connection) (code : RefusalCode) (a b r : Running) (x y : List (Effect Command Output)) →
     open_at port a.core ≡ Some c → TakesFront now c (fronts.Refused code) new →
-    b ≡ record a { core = changes port (λ _. new) a.core } → DoesTurn b r x y (Told c b.core) →
-    DoesTurn a r x y (reads_next now port a.core)
+    b ≡ record a { core = changes port (λ _. new) a.core } → DoesOutcome b r x y (Told c b.core) →
+    DoesOutcome a r x y (reads_next now port a.core)
 refused_there now port c new code a b r x y found did is turns =
-    subst (λ (t : Turn). DoesTurn a r x y t) (reads_by now port a.core c _ found did.0) (by c.stage refl did.1)
+    subst (λ (t : StepOutcome). DoesOutcome a r x y t) (reads_by now port a.core c _ found did.0) (by c.stage refl did.1)
   where
-    after : (change : Connection → Connection) → new ≡ change c → DoesTurn a r x y (Told c (changes port change a.core))
+    after : (change : Connection → Connection) → new ≡ change c → DoesOutcome a r x y (Told c (changes port change a.core))
     after change e =
         turns_after a b r x y (changes port change a.core) (Told c)
         (is ∙ ap (λ (k : CoreState). record a { core = k }) (becomes_same port a.core c new change found e)) turns
 
     by : (stage : ConnectionStage) → c.stage ≡ stage → new ≡ (if is_first c.stage then refused code c else closed c) →
-        DoesTurn a r x y (if is_first c.stage then without_messages (changes port (refused code) a.core) else loses port c a.core)
+        DoesOutcome a r x y (if is_first c.stage then without_messages (changes port (refused code) a.core) else loses port c a.core)
     by Awaits e is_new =
         rw (e) (rw (e) at (after (refused code) (rw (e) at is_new)))
     by Proposed e is_new = rw (e) (rw (e) at (after closed (rw (e) at is_new)))
@@ -185,8 +185,8 @@ refused_there now port c new code a b r x y found did is turns =
 pub gone_there : (now : ℕ) (port : Port) (c new : Connection) (front : Front) (a b r : Running) (x y : List (Effect Command Output)) →
     open_at port a.core ≡ Some c → TakesFront now c front new →
     ((code : RefusalCode) × (front ≡ fronts.Refused code)) ⊎ (front ≡ fronts.Fault) →
-    b ≡ record a { core = changes port (λ _. new) a.core } → DoesTurn b r x y (Told c b.core) →
-    DoesTurn a r x y (reads_next now port a.core)
+    b ≡ record a { core = changes port (λ _. new) a.core } → DoesOutcome b r x y (Told c b.core) →
+    DoesOutcome a r x y (reads_next now port a.core)
 gone_there now port c new front a b r x y found did (inl (code, e)) is turns =
     refused_there now port c new code a b r x y found (subst (λ f. TakesFront now c f new) e did) is turns
 gone_there now port c new front a b r x y found did (inr e) is turns =

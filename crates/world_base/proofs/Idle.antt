@@ -15,9 +15,9 @@ use Rattle.world_base.specs.declared.item.Item.{Item}
 use Rattle.world_base.specs.declared.item.Item.TheVariants.{Peer, Tick, Opened, Bytes, Ended, Expel, Cut, Crash}
 use Rattle.node_connections.specs.declared.connection.Connection.{Connection}
 use Rattle.node_connections.specs.Connections.{changed, closed, has_failed, holding, is_open_at, is_proposed}
-use Rattle.world_base.specs.Core.{CoreState, Turn}
+use Rattle.world_base.specs.Core.{CoreState, StepOutcome}
 use Rattle.world_base.specs.Failing.{loses_all_failed}
-use Rattle.world_base.specs.Inside.{Ran, Running, DoesTurn, WithoutFailure}
+use Rattle.world_base.specs.Inside.{Ran, Running, DoesOutcome, WithoutFailure}
 use Rattle.world_base.specs.KeepAlive.{ends_all_silent, ends_silent}
 use Rattle.world_base.specs.Losses.{DoesNothing, IsHeardQuietly, IsIgnored, ReadsNone, ItemTakesNoMemory, was_proposed}
 use Rattle.world_base.specs.Lossy.{Account, Drives, Repeated, without_effects}
@@ -39,10 +39,10 @@ use Rattle.world_base.proofs.Silences.{silent_none}
 
 -- ---- nothing, several times
 
-pub repeated_without_messages : (next : CoreState → Turn) (n : ℕ) (core : CoreState) → next core ≡ without_messages core → repeated n next core ≡ without_messages core
+pub repeated_without_messages : (next : CoreState → StepOutcome) (n : ℕ) (core : CoreState) → next core ≡ without_messages core → repeated n next core ≡ without_messages core
 unfolding repeated
 repeated_without_messages next zero core e = refl
-repeated_without_messages next (suc n) core e = ap (λ (t : Turn). then_also t (repeated n next)) e ∙ repeated_without_messages next n core e
+repeated_without_messages next (suc n) core e = ap (λ (t : StepOutcome). then_also t (repeated n next)) e ∙ repeated_without_messages next n core e
 
 idle_repeated : (Next : CoreState → Account → Type 0) (n : ℕ) (core : CoreState) → Next core (without_effects core) →
     Repeated n Next core (without_effects core)
@@ -119,7 +119,7 @@ cuts_nothing core none = rw none refl
 pub takes_nothing : (item : Item) (core : CoreState) → DoesNothing item core → does_item item core ≡ without_messages core
 takes_nothing (Peer message) core ignored = drives_nothing (Receives message) core ignored.0
 takes_nothing (Tick now) core ignored =
-    ap (λ (t : Turn). then_also t (ends_all_silent now)) (drives_nothing Ticks core ignored.0)
+    ap (λ (t : StepOutcome). then_also t (ends_all_silent now)) (drives_nothing Ticks core ignored.0)
     ∙ repeated_without_messages (ends_silent now) _ core (silent_none now core ignored.1)
 takes_nothing (Opened port now) core none = ap without_messages (opens_nothing port core none)
 takes_nothing (Bytes port piece now) core none =
@@ -165,9 +165,9 @@ none_open_at port core (Some i) false at is =
 
 -- the reports of connections that failed, if there are any, are all that is done
 pub turns_ignored : (item : Item) (a b : Running) (x y : List (Effect Command Output)) → DoesNothing item a.core →
-    DoesTurn a b x y (loses_all_failed a.core) → DoesTurn a b x y (acts_on item a.core)
+    DoesOutcome a b x y (loses_all_failed a.core) → DoesOutcome a b x y (acts_on item a.core)
 turns_ignored item a b x y idle turns =
-    subst (λ (t : Turn). DoesTurn a b x y t) (sym (ap (λ (t : Turn). then_also t loses_all_failed) (takes_nothing item a.core idle))) turns
+    subst (λ (t : StepOutcome). DoesOutcome a b x y t) (sym (ap (λ (t : StepOutcome). then_also t loses_all_failed) (takes_nothing item a.core idle))) turns
 
 pub ran_ignored : (item : Item) (a b : CoreState) (x y : List (Effect Command Output)) → DoesNothing item a →
     Ran LosesAllFailed a b x y → Ran (ActsOn item) a b x y

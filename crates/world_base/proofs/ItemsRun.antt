@@ -12,8 +12,8 @@ use Rattle.node_connections.specs.declared.port.Port.{Port}
 use Rattle.world_base.specs.declared.item.Item.{Item}
 use Rattle.world_base.specs.declared.item.Item.TheVariants.{Opened, Cut, Crash}
 use Rattle.node_connections.specs.Connections.{has_failed}
-use Rattle.world_base.specs.Core.{CoreState, CountedCore, Turn, rules}
-use Rattle.world_base.specs.Inside.{Ran, Running, DoesTurn}
+use Rattle.world_base.specs.Core.{CoreState, CountedCore, StepOutcome, rules}
+use Rattle.world_base.specs.Inside.{Ran, Running, DoesOutcome}
 use Rattle.world_base.specs.Losses.{IsExactly, NodeStepped, NodeSteps, ItemTakesNoMemory}
 use Rattle.world_base.specs.Lossy.{without_effects}
 use Rattle.world_base.specs.LossyStep.{ActsOn, Cuts, AcceptsConnection, RunsOn, DoesItem}
@@ -43,22 +43,22 @@ ran_crashed a replica x is =
 
 -- ---- the step
 
-exactly_by : (old : CountedCore) (a b : Running) (turn : Turn) (new : CoreState) (losses : ℕ) (x y : List (Effect Command Output))
-    (turns : DoesTurn a b x y turn) → new ≡ settled b.core → b.out_of_memory ≡ false → losses ≡ old.losses →
-    IsExactly old (record { core = settled turn.core; messages = turn.messages }) (record { core = new; losses = losses }) turns.given
-exactly_by old a b turn new losses x y turns settles e counted =
+exactly_by : (old : CountedCore) (a b : Running) (outcome : StepOutcome) (new : CoreState) (losses : ℕ) (x y : List (Effect Command Output))
+    (turns : DoesOutcome a b x y outcome) → new ≡ settled b.core → b.out_of_memory ≡ false → losses ≡ old.losses →
+    IsExactly old (record { core = settled outcome.core; messages = outcome.messages }) (record { core = new; losses = losses }) turns.given
+exactly_by old a b outcome new losses x y turns settles e counted =
     let did = turns.exact e in
     (settles ∙ ap (λ (r : Running). settled r.core) did.0, did.1, counted)
 
-steps_by : (old : CountedCore) (a b : Running) (turn : Turn) (new : CoreState) (losses : ℕ) (x y : List (Effect Command Output))
-    (turns : DoesTurn a b x y turn) → new ≡ settled b.core → (out_of_memory : Bool) → b.out_of_memory ≡ out_of_memory →
+steps_by : (old : CountedCore) (a b : Running) (outcome : StepOutcome) (new : CoreState) (losses : ℕ) (x y : List (Effect Command Output))
+    (turns : DoesOutcome a b x y outcome) → new ≡ settled b.core → (out_of_memory : Bool) → b.out_of_memory ≡ out_of_memory →
     losses ≡ (if out_of_memory then one_more old.losses else old.losses) →
-    NodeSteps old (record { core = settled turn.core; messages = turn.messages }) (record { core = new; losses = losses }) turns.given
-steps_by old a b turn new losses x y turns settles true e counted = inr counted
-steps_by old a b turn new losses x y turns settles false e counted = inl (exactly_by old a b turn new losses x y turns settles e counted)
+    NodeSteps old (record { core = settled outcome.core; messages = outcome.messages }) (record { core = new; losses = losses }) turns.given
+steps_by old a b outcome new losses x y turns settles true e counted = inr counted
+steps_by old a b outcome new losses x y turns settles false e counted = inl (exactly_by old a b outcome new losses x y turns settles e counted)
 
 pub stepped_by : (old : CountedCore) (item : Item) (a b : Running) (new : CoreState) (losses : ℕ) (x y : List (Effect Command Output)) →
-    a.core ≡ old.core → DoesTurn a b x y (acts_on item a.core) → Ran (ActsOn item) a.core b.core x y → new ≡ settled b.core →
+    a.core ≡ old.core → DoesOutcome a b x y (acts_on item a.core) → Ran (ActsOn item) a.core b.core x y → new ≡ settled b.core →
     losses ≡ (if b.out_of_memory then one_more old.losses else old.losses) → a.out_of_memory ≡ false →
     (ItemTakesNoMemory item a.core → find has_failed a.core.connections ≡ None → b.out_of_memory ≡ a.out_of_memory) →
     NodeStepped old item (record { core = new; losses = losses }) x y

@@ -8,15 +8,15 @@ use Rattle.ballot.specs.Effect.{Effect}
 use Rattle.ballot.specs.Protocol.{Input}
 use Rattle.ballot.specs.Sending.{Outcome}
 use Rattle.ballot.specs.Serving.{proposed}
-use Rattle.world_base.specs.Core.{Turn, rules, serves}
-use Rattle.world_base.specs.Inside.{Running, StepsReplica, DoesTurn}
+use Rattle.world_base.specs.Core.{StepOutcome, rules, serves}
+use Rattle.world_base.specs.Inside.{Running, StepsReplica, DoesOutcome}
 use Rattle.world_base.specs.Turns.{handled_all, drives, heard, moved, proposes}
 use Rattle.world_base.proofs.TurnsJoin.{turns_idle, out_of_memory_kept}
 
 -- a step of the replica, and what it gave
 turns_moved : (a b c : Running) (outcome : Outcome State Command Output) (given before after : List (Effect Command Output)) →
-    StepsReplica a b outcome given → DoesTurn b c before after (handled_all given b.core) →
-    DoesTurn a c before after (moved outcome a.core)
+    StepsReplica a b outcome given → DoesOutcome b c before after (handled_all given b.core) →
+    DoesOutcome a c before after (moved outcome a.core)
 turns_moved a b c outcome given before after hears turns =
     record {
       given = turns.given;
@@ -40,22 +40,22 @@ turns_moved a b c outcome given before after hears turns =
 
 -- a command
 pub turns_refused : (r : Running) (command : Command) (out : List (Effect Command Output)) →
-    serves r.core ≡ false → DoesTurn r r out out (proposes command r.core)
+    serves r.core ≡ false → DoesOutcome r r out out (proposes command r.core)
 unfolding proposes
 turns_refused r command out idle =
-    subst (λ (t : Turn). DoesTurn r r out out t) (rw idle refl) (turns_idle r out)
+    subst (λ (t : StepOutcome). DoesOutcome r r out out t) (rw idle refl) (turns_idle r out)
 
 pub turns_proposed : (a b c : Running) (command : Command) (given before after : List (Effect Command Output)) →
     serves a.core ≡ true → StepsReplica a b (proposed rules a.core.replica.state command) given →
-    DoesTurn b c before after (handled_all given b.core) → DoesTurn a c before after (proposes command a.core)
+    DoesOutcome b c before after (handled_all given b.core) → DoesOutcome a c before after (proposes command a.core)
 unfolding proposes
 turns_proposed a b c command given before after serving hears turns =
-    subst (λ (t : Turn). DoesTurn a c before after t) (rw serving refl)
+    subst (λ (t : StepOutcome). DoesOutcome a c before after t) (rw serving refl)
     (turns_moved a b c (proposed rules a.core.replica.state command) given before after hears turns)
 
 -- a message or a tick
 pub turns_driven : (a b c : Running) (input : Input Command) (given before after : List (Effect Command Output)) →
-    StepsReplica a b (heard input a.core.replica.state) given → DoesTurn b c before after (handled_all given b.core) →
-    DoesTurn a c before after (drives input a.core)
+    StepsReplica a b (heard input a.core.replica.state) given → DoesOutcome b c before after (handled_all given b.core) →
+    DoesOutcome a c before after (drives input a.core)
 unfolding drives
 turns_driven a b c input = turns_moved a b c (heard input a.core.replica.state)

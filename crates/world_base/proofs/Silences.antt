@@ -5,8 +5,8 @@ use Rattle.node_connections.specs.broker_spec.declared.command.Command.{Command}
 use Rattle.node_connections.specs.broker_spec.declared.command.Output.{Output}
 use Rattle.ballot.specs.Effect.{Effect}
 use Rattle.node_connections.specs.declared.port.Port.{Port}
-use Rattle.world_base.specs.Core.{CoreState, Turn}
-use Rattle.world_base.specs.Inside.{Running, DoesTurn}
+use Rattle.world_base.specs.Core.{CoreState, StepOutcome}
+use Rattle.world_base.specs.Inside.{Running, DoesOutcome}
 use Rattle.world_base.specs.KeepAlive.{ends_silent, lowest_silent}
 use Rattle.world_base.specs.Reading.{ends}
 use Rattle.world_base.specs.Turns.{without_messages}
@@ -31,5 +31,5 @@ unfolding ends_silent
 silent_some now core port some = rw some refl
 
 pub turns_silent : (now : ℕ) (port : Port) (a b : Running) (x y : List (Effect Command Output)) →
-    lowest_silent now a.core.connections ≡ Some port → DoesTurn a b x y (ends port a.core) → DoesTurn a b x y (ends_silent now a.core)
-turns_silent now port a b x y some turns = subst (λ (t : Turn). DoesTurn a b x y t) (silent_some now a.core port some) turns
+    lowest_silent now a.core.connections ≡ Some port → DoesOutcome a b x y (ends port a.core) → DoesOutcome a b x y (ends_silent now a.core)
+turns_silent now port a b x y some turns = subst (λ (t : StepOutcome). DoesOutcome a b x y t) (silent_some now a.core port some) turns

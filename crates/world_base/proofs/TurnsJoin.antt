@@ -7,17 +7,17 @@ use Rattle.std.proofs.lemmas.List.Elements.{filter-append}
 use Rattle.node_connections.specs.broker_spec.declared.command.Command.{Command}
 use Rattle.node_connections.specs.broker_spec.declared.command.Output.{Output}
 use Rattle.ballot.specs.Effect.{Effect}
-use Rattle.world_base.specs.Core.{CoreState, Turn}
-use Rattle.world_base.specs.Inside.{Running, DoesExactly, DoesTurn}
+use Rattle.world_base.specs.Core.{CoreState, StepOutcome}
+use Rattle.world_base.specs.Inside.{Running, DoesExactly, DoesOutcome}
 use Rattle.world_base.specs.Turns.{without_messages, then_also, handled_all, handled, is_message}
 
 -- nothing was done
-pub turns_idle : (r : Running) (out : List (Effect Command Output)) → DoesTurn r r out out (without_messages r.core)
+pub turns_idle : (r : Running) (out : List (Effect Command Output)) → DoesOutcome r r out out (without_messages r.core)
 turns_idle r out = record { given = []; appended = sym (append-nil out); exact = λ _. (refl, refl) }
 
 -- something without messages
 pub turns_without_messages : (old new : Running) (out : List (Effect Command Output)) (core : CoreState) →
-    DoesExactly old new core → DoesTurn old new out out (without_messages core)
+    DoesExactly old new core → DoesOutcome old new out out (without_messages core)
 turns_without_messages old new out core does =
     record { given = []; appended = sym (append-nil out); exact = λ whole. (does whole, refl) }
 
@@ -26,8 +26,8 @@ pub out_of_memory_kept : (a b : Running) (core : CoreState) → b ≡ record a {
 out_of_memory_kept a b core e whole = sym (ap (λ (z : Running). z.out_of_memory) e) ∙ whole
 
 -- one thing and then another
-pub turns_join : (a b c : Running) (x y z : List (Effect Command Output)) (first : Turn) (next : CoreState → Turn) →
-    DoesTurn a b x y first → DoesTurn b c y z (next b.core) → DoesTurn a c x z (then_also first next)
+pub turns_join : (a b c : Running) (x y z : List (Effect Command Output)) (first : StepOutcome) (next : CoreState → StepOutcome) →
+    DoesOutcome a b x y first → DoesOutcome b c y z (next b.core) → DoesOutcome a c x z (then_also first next)
 turns_join a b c x y z first next one two =
     record {
       given = one.given ++ two.given;
@@ -50,22 +50,22 @@ turns_join a b c x y z first next one two =
 
 -- effects that were done one by one
 pub turns_push : (a b c : Running) (x y z given : List (Effect Command Output)) (e : Effect Command Output) →
-    DoesTurn a b x y (handled_all given a.core) → DoesTurn b c y z (handled_all (e ∷ []) b.core) →
-    DoesTurn a c x z (handled_all (given ++ e ∷ []) a.core)
+    DoesOutcome a b x y (handled_all given a.core) → DoesOutcome b c y z (handled_all (e ∷ []) b.core) →
+    DoesOutcome a c x z (handled_all (given ++ e ∷ []) a.core)
 turns_push a b c x y z given e one two =
-    subst (λ (t : Turn). DoesTurn a c x z t) same
+    subst (λ (t : StepOutcome). DoesOutcome a c x z t) same
     (turns_join a b c x y z (handled_all given a.core) (handled_all (e ∷ [])) one two)
   where
     same : then_also (handled_all given a.core) (handled_all (e ∷ [])) ≡ handled_all (given ++ e ∷ []) a.core
     same =
-        ap (λ (k : CoreState). let t : Turn = record { core = k; messages = filter is_message given ++ filter is_message (e ∷ []) } in t)
+        ap (λ (k : CoreState). let t : StepOutcome = record { core = k; messages = filter is_message given ++ filter is_message (e ∷ []) } in t)
         (sym (fold_push handled a.core given e))
-        ∙ ap (λ (l : List (Effect Command Output)). let t : Turn = record { core = fold handled a.core (given ++ e ∷ []); messages = l } in t)
+        ∙ ap (λ (l : List (Effect Command Output)). let t : StepOutcome = record { core = fold handled a.core (given ++ e ∷ []); messages = l } in t)
         (sym (filter-append is_message given (e ∷ [])))
 
 -- memory ran out before: nothing exact is said
-pub turns_out_of_memory : (a b c : Running) (x y : List (Effect Command Output)) (t u : Turn) → b.out_of_memory ≡ true →
-    DoesTurn b c x y t → DoesTurn a c x y u
+pub turns_out_of_memory : (a b c : Running) (x y : List (Effect Command Output)) (t u : StepOutcome) → b.out_of_memory ≡ true →
+    DoesOutcome b c x y t → DoesOutcome a c x y u
 turns_out_of_memory a b c x y t u lost turns =
     record {
       given = turns.given;
@@ -74,21 +74,21 @@ turns_out_of_memory a b c x y t u lost turns =
     }
 
 -- the same turn, if memory suffices
-pub turns_as : (a c : Running) (x y : List (Effect Command Output)) (t u : Turn) → (c.out_of_memory ≡ false → t ≡ u) →
-    DoesTurn a c x y t → DoesTurn a c x y u
+pub turns_as : (a c : Running) (x y : List (Effect Command Output)) (t u : StepOutcome) → (c.out_of_memory ≡ false → t ≡ u) →
+    DoesOutcome a c x y t → DoesOutcome a c x y u
 turns_as a c x y t u same turns =
     record {
       given = turns.given;
       appended = turns.appended;
       exact = λ whole. (
-        (turns.exact whole).0 ∙ ap (λ (z : Turn). record a { core = z.core }) (same whole),
-        (turns.exact whole).1 ∙ ap (λ (z : Turn). z.messages) (same whole),
+        (turns.exact whole).0 ∙ ap (λ (z : StepOutcome). record a { core = z.core }) (same whole),
+        (turns.exact whole).1 ∙ ap (λ (z : StepOutcome). z.messages) (same whole),
       );
     }
 
 -- something after a change without messages
-pub turns_after : (a b c : Running) (x y : List (Effect Command Output)) (core : CoreState) (next : CoreState → Turn) →
-    b ≡ record a { core = core } → DoesTurn b c x y (next b.core) → DoesTurn a c x y (next core)
+pub turns_after : (a b c : Running) (x y : List (Effect Command Output)) (core : CoreState) (next : CoreState → StepOutcome) →
+    b ≡ record a { core = core } → DoesOutcome b c x y (next b.core) → DoesOutcome a c x y (next core)
 turns_after a b c x y core next e turns =
     record {
       given = turns.given;

@@ -24,7 +24,7 @@ pub record CountedCore : Type 0 where
   pub losses : ℕ
 
 -- a node after something was done, and the messages to other nodes that were sent
-pub record Turn : Type 0 where
+pub record StepOutcome : Type 0 where
   pub core : CoreState
   pub messages : List (Effect Command Output)
 

@@ -5,7 +5,7 @@ use Rattle.std.specs.List.{find}
 use Rattle.node_connections.specs.broker_spec.declared.command.Command.TheVariants as commands
 use Rattle.node_connections.specs.declared.connection.Connection.{Connection}
 use Rattle.node_connections.specs.Connections.{has_failed, closed, changed}
-use Rattle.world_base.specs.Core.{CoreState, Turn}
+use Rattle.world_base.specs.Core.{CoreState, StepOutcome}
 use Rattle.world_base.specs.Turns.{without_messages, proposes, repeated}
 
 -- the first failed connection is closed for good
@@ -13,14 +13,14 @@ abbrev pub closes_failed : CoreState → CoreState
 closes_failed core = record core { connections = changed has_failed closed core.connections }
 
 -- a failed connection, if there is one, is closed for good, and its loss is proposed
-abbrev pub loses_if : Option Connection → CoreState → Turn
+abbrev pub loses_if : Option Connection → CoreState → StepOutcome
 loses_if None core = without_messages core
 loses_if (Some c) core = proposes (commands.Lost c.name) (closes_failed core)
 
 -- the loss of the first failed connection is reported to the broker
-unfoldable pub loses_failed : CoreState → Turn
+unfoldable pub loses_failed : CoreState → StepOutcome
 loses_failed core = loses_if (find has_failed core.connections) core
 
 -- the loss of all failed connections is reported; what is then sent may close others, reported too
-abbrev pub loses_all_failed : CoreState → Turn
+abbrev pub loses_all_failed : CoreState → StepOutcome
 loses_all_failed core = repeated (length core.connections) loses_failed core

@@ -57,7 +57,8 @@ abbrev pub EachGoesOn : List (Effect Command Output) → List Connection → Lis
 EachGoesOn given [] [] = Unit {0}
 EachGoesOn given [] (d ∷ ds) = ⊥
 EachGoesOn given (c ∷ cs) [] = ⊥
-EachGoesOn given (c ∷ cs) (d ∷ ds) = ConnectionGoesOn (bytes_for given c.name) c d × EachGoesOn given cs ds
+EachGoesOn given (c ∷ cs) (d ∷ ds) =
+    ConnectionGoesOn (bytes_for given c.name) c d × EachGoesOn given cs ds
 
 -- no two have the same name
 abbrev pub AreNamedApart : List Connection → Type 0

@@ -12,7 +12,7 @@ use Rattle.ballot.specs.Replica.{CountedReplica}
 use Rattle.ballot.specs.Sending.{Outcome}
 use Rattle.ballot.specs.Serving.{added}
 use Rattle.node_connections.specs.packet.declared.packet.Packet.{Packet}
-use Rattle.world_base.specs.Core.{CoreState, Turn, rules}
+use Rattle.world_base.specs.Core.{CoreState, StepOutcome, rules}
 use Rattle.node_connections.specs.declared.port.Port.{Port}
 use Rattle.node_connections.specs.Connections.{has_failed}
 use Rattle.world_base.specs.LossyReading.{TakesFirstPacket, ProposesPacket}
@@ -36,12 +36,12 @@ abbrev pub DoesExactly : Running → Running → CoreState → Type 0
 DoesExactly old new core = new.out_of_memory ≡ false → new ≡ record old { core = core }
 
 -- this is what was done, unless memory ran out; its messages were appended to what was there
-pub record DoesTurn (old new : Running) (before after : List (Effect Command Output)) (turn : Turn)
-    : Type 0 where
+pub record DoesOutcome (old new : Running) (before after : List (Effect Command Output))
+    (done : StepOutcome) : Type 0 where
   pub given : List (Effect Command Output)
   pub appended : after ≡ before ++ given
   pub exact : new.out_of_memory ≡ false →
-      (new ≡ record old { core = turn.core }) × (given ≡ turn.messages)
+      (new ≡ record old { core = done.core }) × (given ≡ done.messages)
 
 -- a step of the replica only
 abbrev pub StepsReplica : Running → Running →

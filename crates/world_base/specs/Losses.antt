@@ -16,7 +16,7 @@ use Rattle.node_connections.specs.declared.connection.Connection.{Connection}
 use Rattle.node_connections.specs.Connections.{has_failed, is_proposed}
 use Rattle.ballot.specs.Message.{Message}
 use Rattle.ballot.specs.Unread.{is_unread}
-use Rattle.world_base.specs.Core.{CoreState, CountedCore, Turn, rules}
+use Rattle.world_base.specs.Core.{CoreState, CountedCore, StepOutcome, rules}
 use Rattle.world_base.specs.KeepAlive.{lowest_silent}
 use Rattle.world_base.specs.LossyStep.{RunsOn}
 use Rattle.world_base.specs.Reading.{open_at}
@@ -77,13 +77,16 @@ WaitsNothing core = Each (λ (c : Connection). c.pending ≡ []) core.connection
 -- ---- what is counted
 
 -- the state, the messages and the count of losses are those of the step
-abbrev pub IsExactly : CountedCore → Turn → CountedCore → List (Effect Command Output) → Type 0
-IsExactly old turn new given =
-    (new.core ≡ turn.core) × (given ≡ turn.messages) × (new.losses ≡ old.losses)
+abbrev pub IsExactly : CountedCore → StepOutcome → CountedCore → List (Effect Command Output) →
+    Type 0
+IsExactly old outcome new given =
+    (new.core ≡ outcome.core) × (given ≡ outcome.messages) × (new.losses ≡ old.losses)
 
 -- exactly the step, or one in which memory ran out and which was counted
-abbrev pub NodeSteps : CountedCore → Turn → CountedCore → List (Effect Command Output) → Type 0
-NodeSteps old turn new given = IsExactly old turn new given ⊎ (new.losses ≡ one_more old.losses)
+abbrev pub NodeSteps : CountedCore → StepOutcome → CountedCore → List (Effect Command Output) →
+    Type 0
+NodeSteps old outcome new given =
+    IsExactly old outcome new given ⊎ (new.losses ≡ one_more old.losses)
 
 -- The messages of a step were appended to what was there. It is exactly the step, or counted. A
 -- step on an item that takes no memory is never counted, as long as there is no failed connection

@@ -31,7 +31,8 @@ pub data EndsConnection (port : Port) (core : CoreState) (did : Account) : Type 
       did ≡ without_effects (changes port closed core) → EndsConnection port core did
   -- its Connect was proposed, so its loss is proposed too
   proposed : (c : Connection) → open_at port core ≡ Some c → is_proposed c.stage ≡ true →
-      ProposesCommand (commands.Lost c.name) (changes port closed core) did → EndsConnection port core did
+      ProposesCommand (commands.Lost c.name) (changes port closed core) did →
+      EndsConnection port core did
 
 -- the silent connection with the lowest port ends
 pub data EndsSilent (now : ℕ) (core : CoreState) (did : Account) : Type 0 where
@@ -53,7 +54,8 @@ pub data LosesFailed (core : CoreState) (did : Account) : Type 0 where
 
 -- a command is taken, or otherwise this is done
 abbrev pub TakesOr : Command → (CoreState → Account → Type 0) → CoreState → Account → Type 0
-TakesOr command Otherwise core did = TakesCommand command core did ⊎ Then Declines Otherwise core did
+TakesOr command Otherwise core did =
+    TakesCommand command core did ⊎ Then Declines Otherwise core did
 
 -- a connection is closed
 abbrev pub ClosesConnection : Port → CoreState → Account → Type 0
@@ -61,7 +63,8 @@ ClosesConnection port core did = did ≡ without_effects (changes port closed co
 
 -- a connection is closed, or closed as lost, and the loss is still to be reported to the broker
 abbrev pub Shuts : Port → CoreState → Account → Type 0
-Shuts port core did = ClosesConnection port core did ⊎ (did ≡ without_effects (changes port failing core))
+Shuts port core did =
+    ClosesConnection port core did ⊎ (did ≡ without_effects (changes port failing core))
 
 -- a CONNECT is proposed; if it is not taken, the connection is closed
 abbrev pub ProposesConnect : Port → ConnectionName → Connect → CoreState → Account → Type 0

@@ -28,7 +28,8 @@ HoldsBytes port piece core did =
 
 -- a connection is accepted, or, if there is no memory for it, not
 abbrev pub AcceptsConnection : Port → CoreState → Account → Type 0
-AcceptsConnection port core did = (did ≡ without_effects (opens port core)) ⊎ (did ≡ without_effects core)
+AcceptsConnection port core did =
+    (did ≡ without_effects (opens port core)) ⊎ (did ≡ without_effects core)
 
 -- the replica cuts its log, and its frozen bytes thaw to its machine; or, if there is no memory for
 -- that, it counts a loss
@@ -55,14 +56,16 @@ LosesAllFailed core did = Repeated (length core.connections) LosesFailed core di
 
 -- the packets of a port are read, one after another, at most as many as it has bytes
 abbrev pub ReadsPackets : ℕ → Port → CoreState → Account → Type 0
-ReadsPackets now port core did = Repeated (unread_of (open_at port core)) (ReadsNext now port) core did
+ReadsPackets now port core did =
+    Repeated (unread_of (open_at port core)) (ReadsNext now port) core did
 
 -- what an item asks for, without the reports of connections that failed in the step
 abbrev pub DoesItem : Item → CoreState → Account → Type 0
 DoesItem (Peer message) core did = Drives (Receives message) core did
 DoesItem (Tick now) core did = Then (Drives Ticks) (EndsAllSilent now) core did
 DoesItem (Opened port now) core did = AcceptsConnection port core did
-DoesItem (Bytes port piece now) core did = Then (HoldsBytes port piece) (ReadsPackets now port) core did
+DoesItem (Bytes port piece now) core did =
+    Then (HoldsBytes port piece) (ReadsPackets now port) core did
 DoesItem (Ended port) core did = EndsConnection port core did
 DoesItem (Expel client) core did = ProposesCommand (commands.Expel client) core did
 DoesItem Cut core did = Cuts core did

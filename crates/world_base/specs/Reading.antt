@@ -12,7 +12,7 @@ use Rattle.node_connections.specs.broker_spec.declared.command.Command.TheVarian
 use Rattle.node_connections.specs.declared.port.Port.{Port}
 use Rattle.node_connections.specs.declared.connection.Connection.{Connection}
 use Rattle.node_connections.specs.Connections.{is_open_at, is_first, is_proposed, noted_proposed, left_with, closed, changed}
-use Rattle.world_base.specs.Core.{CoreState, Turn}
+use Rattle.world_base.specs.Core.{CoreState, StepOutcome}
 use Rattle.world_base.specs.Turns.{without_messages, repeated, proposes, has_room}
 pub use Rattle.node_connections.specs.Refusing.{refused}
 
@@ -26,44 +26,44 @@ changes port change core =
     record core { connections = changed (is_open_at port) change core.connections }
 
 -- a connection is closed as lost: it is reported to the broker if its Connect was proposed
-abbrev pub loses : Port → Connection → CoreState → Turn
+abbrev pub loses : Port → Connection → CoreState → StepOutcome
 loses port c core =
     if is_proposed c.stage
     then proposes (commands.Lost c.name) (changes port closed core)
     else without_messages (changes port closed core)
 
 -- a connection, if there is one, is closed as lost; nothing happens otherwise
-abbrev pub loses_open : Port → CoreState → Option Connection → Turn
+abbrev pub loses_open : Port → CoreState → Option Connection → StepOutcome
 loses_open port core None = without_messages core
 loses_open port core (Some c) = loses port c core
 
 -- the open connection of a port is closed as lost, if there is one
-unfoldable pub ends : Port → CoreState → Turn
+unfoldable pub ends : Port → CoreState → StepOutcome
 ends port core = loses_open port core (open_at port core)
 
 -- a CONNECT is proposed; a refused proposal closes the connection
-abbrev pub connects : Port → ConnectionName → Connect → CoreState → Turn
+abbrev pub connects : Port → ConnectionName → Connect → CoreState → StepOutcome
 connects port name connect core =
     if has_room core
     then proposes (commands.Connect name connect.client connect.clean) core
     else without_messages (changes port closed core)
 
 -- a later packet, a CONNECT too, is proposed; a refused proposal closes the connection
-abbrev pub proposes_packet : Port → ConnectionName → Packet → CoreState → Turn
+abbrev pub proposes_packet : Port → ConnectionName → Packet → CoreState → StepOutcome
 proposes_packet port name packet core =
     if has_room core
     then proposes (commands.Packet name packet) core
     else without_messages (changes port closed core)
 
 -- the first packet of a connection must be a CONNECT (MQTT-3.1.0-1)
-abbrev pub takes_first_packet : Port → ConnectionName → Packet → CoreState → Turn
+abbrev pub takes_first_packet : Port → ConnectionName → Packet → CoreState → StepOutcome
 takes_first_packet port name (packets.Connect connect) core =
     connects port name connect (changes port (noted_proposed connect.keep_alive) core)
 takes_first_packet port name _ core = without_messages (changes port closed core)
 
 -- what the front of a connection's bytes does to the node at this time: a later CONNECT that is
 -- refused with a code is a malformed packet
-abbrev pub reads : ℕ → Port → Connection → CoreState → Result (Packet × List ℕ) Stop → Turn
+abbrev pub reads : ℕ → Port → Connection → CoreState → Result (Packet × List ℕ) Stop → StepOutcome
 reads now port c core (Err stops.More) = without_messages core
 reads now port c core (Err (stops.Malformed kind)) = loses port c core
 reads now port c core (Err (stops.Refused code)) =
@@ -75,12 +75,12 @@ reads now port c core (Ok (packet, rest)) =
     else proposes_packet port c.name packet (changes port (left_with now rest) core)
 
 -- the packet at the front of its bytes is read, if there is a connection
-abbrev pub reads_of : ℕ → Port → CoreState → Option Connection → Turn
+abbrev pub reads_of : ℕ → Port → CoreState → Option Connection → StepOutcome
 reads_of now port core None = without_messages core
 reads_of now port core (Some c) = reads now port c core (verdict c.unread)
 
 -- the next packet of a port
-unfoldable pub reads_next : ℕ → Port → CoreState → Turn
+unfoldable pub reads_next : ℕ → Port → CoreState → StepOutcome
 reads_next now port core = reads_of now port core (open_at port core)
 
 -- how many bytes of a connection wait to be read: 0 if there is none
@@ -90,5 +90,5 @@ unread_of (Some c) = length c.unread
 
 -- all whole packets of a port, each with its effects before the next: they are at most as many as
 -- the bytes
-abbrev pub reads_all : ℕ → Port → CoreState → Turn
+abbrev pub reads_all : ℕ → Port → CoreState → StepOutcome
 reads_all now port core = repeated (unread_of (open_at port core)) (reads_next now port) core

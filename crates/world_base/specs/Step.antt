@@ -10,7 +10,7 @@ use Rattle.node_connections.specs.declared.port.Port.{Port}
 use Rattle.world_base.specs.declared.item.Item.{Item}
 use Rattle.world_base.specs.declared.item.Item.TheVariants.{Peer, Tick, Opened, Bytes, Ended, Expel, Cut, Crash}
 use Rattle.node_connections.specs.Connections.{is_at, is_listed, fresh, holding, closed}
-use Rattle.world_base.specs.Core.{CoreState, Turn, rules, serves}
+use Rattle.world_base.specs.Core.{CoreState, StepOutcome, rules, serves}
 use Rattle.world_base.specs.Failing.{loses_all_failed}
 use Rattle.world_base.specs.KeepAlive.{ends_all_silent}
 use Rattle.world_base.specs.Reading.{changes, ends, reads_all}
@@ -66,7 +66,7 @@ crashed core =
     record core { replica = record core.replica { state = halted rules core.replica.state } }
 
 -- what an item asks for, without the reports of connections that failed in the step
-abbrev pub does_item : Item → CoreState → Turn
+abbrev pub does_item : Item → CoreState → StepOutcome
 does_item (Peer message) core = drives (Receives message) core
 does_item (Tick now) core = then_also (drives Ticks core) (ends_all_silent now)
 does_item (Opened port now) core = without_messages (opens port core)
@@ -78,11 +78,11 @@ does_item Cut core = without_messages (cuts core)
 does_item Crash core = without_messages (crashed core)
 
 -- what an item asks for, and then the reports of connections that failed in the step
-abbrev pub acts_on : Item → CoreState → Turn
+abbrev pub acts_on : Item → CoreState → StepOutcome
 acts_on item core = then_also (does_item item core) loses_all_failed
 
 -- the step of a node on an item, after which connections are settled
-abbrev pub node_step : Item → CoreState → Turn
+abbrev pub node_step : Item → CoreState → StepOutcome
 node_step item core =
-    let turn = acts_on item core in
-    record { core = settled turn.core; messages = turn.messages }
+    let outcome = acts_on item core in
+    record { core = settled outcome.core; messages = outcome.messages }

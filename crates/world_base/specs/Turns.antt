@@ -15,15 +15,15 @@ use Rattle.ballot.specs.Sending.{Outcome, nothing_done}
 use Rattle.ballot.specs.Serving.{proposed, max_places}
 use Rattle.node_connections.specs.declared.connection.Connection.{Connection}
 use Rattle.node_connections.specs.Connections.{is_open_named, closed, put_out, changed}
-use Rattle.world_base.specs.Core.{CoreState, Turn, rules, serves}
+use Rattle.world_base.specs.Core.{CoreState, StepOutcome, rules, serves}
 use Rattle.node_connections.specs.packet.Spelling.{spelling}
 
 -- the node as it is, and no message is sent
-abbrev pub without_messages : CoreState → Turn
+abbrev pub without_messages : CoreState → StepOutcome
 without_messages core = record { core = core; messages = [] }
 
 -- one thing, and then another
-abbrev pub then_also : Turn → (CoreState → Turn) → Turn
+abbrev pub then_also : StepOutcome → (CoreState → StepOutcome) → StepOutcome
 then_also first next =
     record {
       core = (next first.core).core;
@@ -31,7 +31,7 @@ then_also first next =
     }
 
 -- one thing this many times, each after the one before
-unfoldable pub repeated : ℕ → (CoreState → Turn) → CoreState → Turn
+unfoldable pub repeated : ℕ → (CoreState → StepOutcome) → CoreState → StepOutcome
 repeated zero next core = without_messages core
 repeated (suc more) next core = then_also (next core) (repeated more next)
 
@@ -60,12 +60,12 @@ is_message (To receiver message) = true
 
 -- the effects of a replica's step are handled at once, in order: outputs are done, messages are
 -- sent
-abbrev pub handled_all : List (Effect Command Output) → CoreState → Turn
+abbrev pub handled_all : List (Effect Command Output) → CoreState → StepOutcome
 handled_all effects core =
     record { core = fold handled core effects; messages = filter is_message effects }
 
 -- a node after a step of its replica: it has the new state, and the effects are handled
-abbrev pub moved : Outcome State Command Output → CoreState → Turn
+abbrev pub moved : Outcome State Command Output → CoreState → StepOutcome
 moved outcome core =
     handled_all outcome.effects
     (record core { replica = record core.replica { state = outcome.state } })
@@ -73,7 +73,7 @@ moved outcome core =
 -- ---- what is given to the replica
 
 -- a command of a client is proposed to it while the node serves clients
-unfoldable pub proposes : Command → CoreState → Turn
+unfoldable pub proposes : Command → CoreState → StepOutcome
 proposes command core =
     if serves core then moved (proposed rules core.replica.state command) core
     else without_messages core
@@ -83,7 +83,7 @@ abbrev pub heard : Input Command → ReplicaState State Command → Outcome Stat
 heard input r = if r.stopped then nothing_done Output r else replica_step rules r input
 
 -- the replica receives an input, and its effects are done
-unfoldable pub drives : Input Command → CoreState → Turn
+unfoldable pub drives : Input Command → CoreState → StepOutcome
 drives input core = moved (heard input core.replica.state) core
 
 -- whether a proposal is taken: by an active primary whose log has room

@@ -5,7 +5,7 @@ ghost use Rattle.ballot.specs.Losses.{greatest_count};
 ghost use Rattle.ballot.specs.Protocol.Input.{Receives, Ticks};
 ghost use Rattle.ballot.specs.Serving.{proposed};
 ghost use Rattle.world_base.specs.Core.{rules, serves};
-ghost use Rattle.world_base.specs.Inside.{StepsReplicaOrLoses, Answered, HandledAll, DoesExactly, DoesTurn, StepsReplica, ProposedBy, Ran, WithoutFailure};
+ghost use Rattle.world_base.specs.Inside.{StepsReplicaOrLoses, Answered, HandledAll, DoesExactly, DoesOutcome, StepsReplica, ProposedBy, Ran, WithoutFailure};
 ghost use Rattle.world_base.specs.Losses.{IsHeardQuietly, ReadsNone};
 ghost use Rattle.world_base.specs.Lossy.{Drives, Performs, without_effects};
 ghost use Rattle.world_base.specs.LossyStep.{Cuts};
@@ -19,7 +19,7 @@ use broker_spec::{Command, Output};
 impl SteppingNode {
     /// Proposes a command and does its effects at once. Returns whether it was taken.
     pub fn propose(&mut self, command: Command, effects: &mut Vec<Effect<Command, Output>>) -> bool
-        ensures exact { DoesTurn self.old self.new effects.old.items effects.new.items
+        ensures exact { DoesOutcome self.old self.new effects.old.items effects.new.items
             (proposes command self.old.core) }
         ensures lossy { Ran (ProposedBy result command) self.old.core self.new.core
             effects.old.items effects.new.items }
@@ -55,7 +55,7 @@ impl SteppingNode {
 
     /// Takes a message of another node and does its effects at once.
     pub fn receive(&mut self, message: Message<Command>, effects: &mut Vec<Effect<Command, Output>>)
-        ensures exact { DoesTurn self.old self.new effects.old.items effects.new.items
+        ensures exact { DoesOutcome self.old self.new effects.old.items effects.new.items
             (drives (Receives message) self.old.core) }
         ensures lossy { Ran (Drives (Receives message)) self.old.core self.new.core
             effects.old.items effects.new.items }
@@ -85,7 +85,7 @@ impl SteppingNode {
 
     /// Lets the replica repeat what others may have missed.
     pub fn tick(&mut self, effects: &mut Vec<Effect<Command, Output>>)
-        ensures exact { DoesTurn self.old self.new effects.old.items effects.new.items
+        ensures exact { DoesOutcome self.old self.new effects.old.items effects.new.items
             (drives Ticks self.old.core) }
         ensures lossy { Ran
             (Drives Ticks) self.old.core self.new.core effects.old.items effects.new.items }
@@ -140,7 +140,7 @@ impl SteppingNode {
         given: Vec<Effect<Command, Output>>,
         effects: &mut Vec<Effect<Command, Output>>,
     )
-        ensures exact { DoesTurn self.old self.new effects.old.items effects.new.items
+        ensures exact { DoesOutcome self.old self.new effects.old.items effects.new.items
             (handled_all given.items self.old.core) }
         ensures lossy { HandledAll given.items self.old.core self.new.core
             effects.old.items effects.new.items }
@@ -157,7 +157,7 @@ impl SteppingNode {
         effect: Effect<Command, Output>,
         effects: &mut Vec<Effect<Command, Output>>,
     )
-        ensures exact { DoesTurn self.old self.new effects.old.items effects.new.items
+        ensures exact { DoesOutcome self.old self.new effects.old.items effects.new.items
             (handled_all (effect ∷ []) self.old.core) }
         ensures lossy { HandledAll (effect ∷ []) self.old.core self.new.core
             effects.old.items effects.new.items }

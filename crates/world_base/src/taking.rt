@@ -5,7 +5,7 @@ ghost use Rattle.std.specs.List.{find};
 ghost use Rattle.node_connections.specs.broker_spec.declared.command.Command.TheVariants as commands;
 ghost use Rattle.node_connections.specs.broker_spec.Sized.{IsSized};
 ghost use Rattle.node_connections.specs.Connections.{closed, has_failed, holding, is_first, is_proposed};
-ghost use Rattle.world_base.specs.Inside.{TakesPacket, DoesTurn, Ran, ReportsLost, WithoutFailure};
+ghost use Rattle.world_base.specs.Inside.{TakesPacket, DoesOutcome, Ran, ReportsLost, WithoutFailure};
 ghost use Rattle.world_base.specs.declared.item.Item.TheVariants as items;
 ghost use Rattle.world_base.specs.Losses.{DoesNothing, IsHeardQuietly, ReadsNone, ItemTakesNoMemory, was_proposed};
 ghost use Rattle.world_base.specs.Lossy.{without_effects};
@@ -29,7 +29,7 @@ impl SteppingNode {
     /// Takes an item, and reports each connection that fails in it to the broker. After it
     /// `is_out_of_memory` says whether memory ran out.
     pub fn act_on(&mut self, item: Item, effects: &mut Vec<Effect<Command, Output>>)
-        ensures exact { DoesTurn self.old self.new effects.old.items effects.new.items
+        ensures exact { DoesOutcome self.old self.new effects.old.items effects.new.items
             (acts_on item self.old.core) }
         ensures lossy { Ran
             (ActsOn item) self.old.core self.new.core effects.old.items effects.new.items }
@@ -51,7 +51,7 @@ impl SteppingNode {
         effects: &mut Vec<Effect<Command, Output>>,
     )
         requires { DoesNothing (items.Peer message.now) self.old.core }
-        ensures exact { DoesTurn self.old self.new effects.old.items effects.new.items
+        ensures exact { DoesOutcome self.old self.new effects.old.items effects.new.items
             (acts_on (items.Peer message.now) self.old.core) }
         ensures lossy { Ran (ActsOn (items.Peer message.now)) self.old.core self.new.core
             effects.old.items effects.new.items }
@@ -63,7 +63,7 @@ impl SteppingNode {
 
     // Does what the item says, and reports no connection that fails in the step.
     fn do_item(&mut self, item: Item, effects: &mut Vec<Effect<Command, Output>>)
-        ensures exact { DoesTurn self.old self.new effects.old.items effects.new.items
+        ensures exact { DoesOutcome self.old self.new effects.old.items effects.new.items
             (does_item item self.old.core) }
         ensures lossy { Ran
             (DoesItem item) self.old.core self.new.core effects.old.items effects.new.items }
@@ -94,7 +94,7 @@ impl SteppingNode {
 
     // Proposes to end a client's session. If the proposal is refused, nothing is done.
     fn expel(&mut self, client: ClientId, effects: &mut Vec<Effect<Command, Output>>)
-        ensures exact { DoesTurn self.old self.new effects.old.items effects.new.items
+        ensures exact { DoesOutcome self.old self.new effects.old.items effects.new.items
             (proposes (commands.Expel client) self.old.core) }
         ensures lossy { Ran (ProposesCommand (commands.Expel client)) self.old.core self.new.core
             effects.old.items effects.new.items }
@@ -104,7 +104,7 @@ impl SteppingNode {
 
     // Closes the silent connections as lost, in rising order of ports.
     fn end_silent(&mut self, now: u64, effects: &mut Vec<Effect<Command, Output>>)
-        ensures exact { DoesTurn self.old self.new effects.old.items effects.new.items
+        ensures exact { DoesOutcome self.old self.new effects.old.items effects.new.items
             (ends_all_silent now self.old.core) }
         ensures lossy { Ran
             (EndsAllSilent now) self.old.core self.new.core effects.old.items effects.new.items }
@@ -119,10 +119,11 @@ impl SteppingNode {
 
     // Holds bytes that arrived on a port. A connection without memory for them is lost.
     fn hold(&mut self, port: Port, piece: Piece, effects: &mut Vec<Effect<Command, Output>>)
-        ensures exact { DoesTurn self.old self.new effects.old.items effects.new.items
+        ensures exact { DoesOutcome self.old self.new effects.old.items effects.new.items
             (without_messages (changes port (holding piece) self.old.core)) }
         ensures lossy { Ran
-            (HoldsBytes port piece) self.old.core self.new.core effects.old.items effects.new.items }
+            (HoldsBytes port piece) self.old.core self.new.core
+            effects.old.items effects.new.items }
     {
         if !self.hold_at(port, &piece) {
             self.out_of_memory = true;
@@ -132,10 +133,11 @@ impl SteppingNode {
 
     // Takes all packets of a port, one after another, that are whole at this time.
     fn read(&mut self, port: Port, now: u64, effects: &mut Vec<Effect<Command, Output>>)
-        ensures exact { DoesTurn self.old self.new effects.old.items effects.new.items
+        ensures exact { DoesOutcome self.old self.new effects.old.items effects.new.items
             (reads_all now port self.old.core) }
         ensures lossy { Ran
-            (ReadsPackets now port) self.old.core self.new.core effects.old.items effects.new.items }
+            (ReadsPackets now port) self.old.core self.new.core
+            effects.old.items effects.new.items }
     {
         for _packet in 0..self.unread_len(port) {
             if !self.read_next(port, now, effects) {
@@ -151,7 +153,7 @@ impl SteppingNode {
         now: u64,
         effects: &mut Vec<Effect<Command, Output>>,
     ) -> bool
-        ensures exact { DoesTurn self.old self.new effects.old.items effects.new.items
+        ensures exact { DoesOutcome self.old self.new effects.old.items effects.new.items
             (reads_next now port self.old.core) }
         ensures lossy { Ran
             (ReadsNext now port) self.old.core self.new.core effects.old.items effects.new.items }
@@ -188,7 +190,7 @@ impl SteppingNode {
         effects: &mut Vec<Effect<Command, Output>>,
     )
         requires sized { IsSized packet }
-        ensures exact { DoesTurn self.old self.new effects.old.items effects.new.items
+        ensures exact { DoesOutcome self.old self.new effects.old.items effects.new.items
             (if is_first stage
             then takes_first_packet port name packet self.old.core
             else proposes_packet port name packet self.old.core) }
@@ -215,7 +217,7 @@ impl SteppingNode {
         connect: Connect,
         effects: &mut Vec<Effect<Command, Output>>,
     )
-        ensures exact { DoesTurn self.old self.new effects.old.items effects.new.items
+        ensures exact { DoesOutcome self.old self.new effects.old.items effects.new.items
             (connects port name connect self.old.core) }
         ensures lossy { Ran (ProposesConnect port name connect)
             self.old.core self.new.core effects.old.items effects.new.items }
@@ -235,7 +237,7 @@ impl SteppingNode {
         effects: &mut Vec<Effect<Command, Output>>,
     )
         requires sized { IsSized packet }
-        ensures exact { DoesTurn self.old self.new effects.old.items effects.new.items
+        ensures exact { DoesOutcome self.old self.new effects.old.items effects.new.items
             (proposes_packet port name packet self.old.core) }
         ensures lossy { Ran (ProposesPacket port name packet)
             self.old.core self.new.core effects.old.items effects.new.items }
@@ -255,7 +257,7 @@ impl SteppingNode {
         stage: ConnectionStage,
         effects: &mut Vec<Effect<Command, Output>>,
     )
-        ensures exact { DoesTurn self.old self.new effects.old.items effects.new.items
+        ensures exact { DoesOutcome self.old self.new effects.old.items effects.new.items
             (if is_proposed stage
             then proposes (commands.Lost name) self.old.core
             else without_messages self.old.core) }
@@ -269,7 +271,7 @@ impl SteppingNode {
 
     // Closes the connection of a port as lost.
     fn end(&mut self, port: Port, effects: &mut Vec<Effect<Command, Output>>)
-        ensures exact { DoesTurn self.old self.new effects.old.items effects.new.items
+        ensures exact { DoesOutcome self.old self.new effects.old.items effects.new.items
             (ends port self.old.core) }
         ensures lossy { Ran
             (EndsConnection port) self.old.core self.new.core effects.old.items effects.new.items }
@@ -291,7 +293,7 @@ impl SteppingNode {
     // Reports each connection that failed to the broker. What is then sent may close others, which
     // are reported too.
     fn report_failed(&mut self, effects: &mut Vec<Effect<Command, Output>>)
-        ensures exact { DoesTurn self.old self.new effects.old.items effects.new.items
+        ensures exact { DoesOutcome self.old self.new effects.old.items effects.new.items
             (loses_all_failed self.old.core) }
         ensures lossy { Ran LosesAllFailed
             self.old.core self.new.core effects.old.items effects.new.items }
@@ -306,7 +308,7 @@ impl SteppingNode {
 
     // Reports the first connection that failed to the broker. Returns whether there was one.
     fn report_one_failed(&mut self, effects: &mut Vec<Effect<Command, Output>>) -> bool
-        ensures exact { DoesTurn self.old self.new effects.old.items effects.new.items
+        ensures exact { DoesOutcome self.old self.new effects.old.items effects.new.items
             (loses_failed self.old.core) }
         ensures lossy { Ran LosesFailed
             self.old.core self.new.core effects.old.items effects.new.items }

@@ -7,11 +7,11 @@ use Rattle.master.specs.snapshots.World.{messages}
 use Rattle.byte_world.specs.broker_spec.declared.command.Command.{Command}
 use Rattle.byte_world.specs.world_base.declared.item.Item.{Item}
 use Rattle.byte_world.specs.world_base.declared.item.Item.TheVariants.{Peer, Tick, Opened, Bytes, Ended, Expel, Cut, Crash}
-use Rattle.byte_world.specs.world_base.Core.{CoreState, CountedCore, Turn}
+use Rattle.byte_world.specs.world_base.Core.{CoreState, CountedCore, StepOutcome}
 use Rattle.byte_world.specs.node_moves.LossyRuns.{IsRunOn, heard_with, is_cut}
 use Rattle.byte_world.specs.node_moves.Moves.NodeCall.{takes}
 use Rattle.byte_world.proofs.of_node_moves.LossesAreMoves.{losses_are_moves}
-use Rattle.byte_world.specs.node_group.Group.{Group, after_turn, with_record}
+use Rattle.byte_world.specs.node_group.Group.{Group, after_outcome, with_record}
 use Rattle.byte_world.specs.node_group.Steps.{keeping}
 use Rattle.byte_world.specs.node_group.Steps.GroupStep.{node_loses}
 use Rattle.byte_world.specs.node_group.Losing.{WereSent, all_given, recorded_in}
@@ -26,7 +26,7 @@ use Rattle.world_nodes.proofs.Acts.{after_turn_of, after_turn_with, core_in, nod
 
 -- ---- any item
 
-abbrev turn_of : {core new : CountedCore} {item : Item} {sent more : List (ℕ × Message Command)} {whole : Bool} → TookItem core item new sent more whole → Turn
+abbrev turn_of : {core new : CountedCore} {item : Item} {sent more : List (ℕ × Message Command)} {whole : Bool} → TookItem core item new sent more whole → StepOutcome
 turn_of {new = new} t = record { core = new.core; messages = t.wanted }
 
 abbrev run_of : {core new : CountedCore} {item : Item} {sent more : List (ℕ × Message Command)} {whole : Bool} → (t : TookItem core item new sent more whole) → IsRunOn item core.core (turn_of t)
@@ -41,7 +41,7 @@ loses_so old at core new item more archive whole losses there t sent records g s
     let found : slice_get g.nodes at ≡ Some core.core = ap (λ (l : List CoreState). slice_get l at) s.nodes ∙ get_mapped core_in old.nodes at core there in
     record {
       does = record {
-        after = after_turn (with_record g (recorded_in g.archive by.run)) at (keeping t.kept (turn_of t)) (all_given by.run);
+        after = after_outcome (with_record g (recorded_in g.archive by.run)) at (keeping t.kept (turn_of t)) (all_given by.run);
         step = node_loses at core.core item (turn_of t) t.kept by found t.runs (sent g s) t.thinned;
         is = refl;
         faithful = tt;

@@ -1,5 +1,5 @@
 use Rattle.std.proofs.Common.{◌≡◌, ◌≤◌, ℕ, suc, ◌+◌, length, sym, subst, ◌∙◌, arith}
-use Rattle.world_base.specs.Inside.{Ran, DoesTurn}
+use Rattle.world_base.specs.Inside.{Ran, DoesOutcome}
 use Rattle.world_base.specs.KeepAlive.{ends_silent}
 use Rattle.world_base.specs.Lossy.{Repeated}
 use Rattle.world_base.specs.LossyStep.{EndsAllSilent}
@@ -42,7 +42,7 @@ pub loop-connection-preserved : goal.loop-connection-preserved
 loop-connection-preserved c =
     let one_more : suc c.loop-connection._connection ≡ c.loop-connection._connection + 1 = omega arith in
     record {
-      exact = subst (λ (k : ℕ). DoesTurn c.args.self.now c.end.new.self c.args.effects.now.items c.end.new.effects.items
+      exact = subst (λ (k : ℕ). DoesOutcome c.args.self.now c.end.new.self c.args.effects.now.items c.end.new.effects.items
           (repeated k (ends_silent c.args.now) c.args.self.now.core)) one_more
           (repeats_more (ends_silent c.args.now) c.loop-connection._connection c.args.self.now c.loop-connection.self c.end.new.self
           c.args.effects.now.items c.loop-connection.effects.items c.end.new.effects.items c.loop-connection.invariant.exact

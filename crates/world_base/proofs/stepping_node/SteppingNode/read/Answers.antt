@@ -1,5 +1,5 @@
 use Rattle.std.proofs.Common.{◌≡◌, ◌≤◌, ℕ, suc, ◌+◌, subst, arith}
-use Rattle.world_base.specs.Inside.{Ran, DoesTurn}
+use Rattle.world_base.specs.Inside.{Ran, DoesOutcome}
 use Rattle.world_base.specs.Lossy.{Repeated}
 use Rattle.world_base.specs.LossyStep.{ReadsPackets}
 use Rattle.world_base.specs.LossyReading.{ReadsNext}
@@ -44,7 +44,7 @@ pub loop-packet-preserved : goal.loop-packet-preserved
 loop-packet-preserved c =
     let one_more : suc c.loop-packet._packet ≡ c.loop-packet._packet + 1 = omega arith in
     record {
-      exact = subst (λ (k : ℕ). DoesTurn c.args.self.now c.read_next.new.self c.args.effects.now.items c.read_next.new.effects.items
+      exact = subst (λ (k : ℕ). DoesOutcome c.args.self.now c.read_next.new.self c.args.effects.now.items c.read_next.new.effects.items
           (repeated k (reads_next c.args.now c.args.port) c.args.self.now.core)) one_more
           (repeats_more (reads_next c.args.now c.args.port) c.loop-packet._packet c.args.self.now c.loop-packet.self c.read_next.new.self
           c.args.effects.now.items c.loop-packet.effects.items c.read_next.new.effects.items

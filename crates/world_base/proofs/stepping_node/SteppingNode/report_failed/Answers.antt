@@ -1,6 +1,6 @@
 use Rattle.std.proofs.Common.{◌≡◌, ◌≤◌, ℕ, suc, ◌+◌, length, refl, subst, arith}
 use Rattle.world_base.specs.Failing.{loses_failed}
-use Rattle.world_base.specs.Inside.{Ran, DoesTurn}
+use Rattle.world_base.specs.Inside.{Ran, DoesOutcome}
 use Rattle.world_base.specs.Lossy.{Repeated}
 use Rattle.world_base.specs.LossyStep.{LosesAllFailed}
 use Rattle.world_base.specs.LossyReading.{LosesFailed}
@@ -46,7 +46,7 @@ pub loop-connection-preserved : goal.loop-connection-preserved
 loop-connection-preserved c =
     let one_more : suc c.loop-connection._connection ≡ c.loop-connection._connection + 1 = omega arith in
     record {
-      exact = subst (λ (k : ℕ). DoesTurn c.args.self.now c.report_one_failed.new.self c.args.effects.now.items c.report_one_failed.new.effects.items
+      exact = subst (λ (k : ℕ). DoesOutcome c.args.self.now c.report_one_failed.new.self c.args.effects.now.items c.report_one_failed.new.effects.items
           (repeated k loses_failed c.args.self.now.core)) one_more
           (repeats_more loses_failed c.loop-connection._connection c.args.self.now c.loop-connection.self c.report_one_failed.new.self
           c.args.effects.now.items c.loop-connection.effects.items c.report_one_failed.new.effects.items
