@@ -15,7 +15,7 @@ use Rattle.node_group.specs.snapshots.Moments.{Moment, Moments}
 use Rattle.node_group.proofs.of_snapshots.PastsAgree.{one_primary_a_ballot}
 use Rattle.node_group.specs.world_base.declared.Connection.{Connection}
 use Rattle.node_group.specs.world_base.Core.{CoreState, StepOutcome, rules}
-use Rattle.node_group.specs.world_base.Turns.{without_messages}
+use Rattle.node_group.specs.world_base.Effects.{without_messages}
 use Rattle.node_group.specs.node_moves.Closed.{listed_named}
 use Rattle.node_group.specs.node_moves.Ends.{IsOrderly}
 use Rattle.node_group.specs.node_moves.LossyMoves.{LossyMoves}

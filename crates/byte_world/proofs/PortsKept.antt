@@ -32,7 +32,7 @@ use Rattle.node_group.specs.world_base.Handing.{hands_over, left_by, listed_at}
 use Rattle.node_group.specs.world_base.KeepAlive.{ends_if, ends_silent, lowest_silent}
 use Rattle.node_group.specs.world_base.Reading.{takes_first_packet, changes, ends, loses, loses_open, open_at, reads, reads_next, reads_of, refused, proposes_packet, unread_of}
 use Rattle.node_group.specs.world_base.Step.{acts_on, next_name, opens, does_item, cuts, with_cut}
-use Rattle.node_group.specs.world_base.Turns.{changes_named, drives, has_room, heard, proposes, without_messages, repeated, handled}
+use Rattle.node_group.specs.world_base.Effects.{changes_named, drives, has_room, heard, proposes, without_messages, repeated, handled}
 use Rattle.node_group.specs.node_moves.Moves.{NodeCall, done}
 use Rattle.node_group.specs.node_moves.Moves.NodeCall.{takes, gives}
 use Rattle.node_group.proofs.of_node_moves.EachKept.{IsKept, each_proposed, each_repeated, each_settled}

@@ -32,7 +32,7 @@ use Rattle.node_moves.specs.world_base.Core.{CoreState, StepOutcome, rules, serv
 use Rattle.node_moves.specs.world_base.Handing.{listed_at}
 use Rattle.node_moves.specs.world_base.Reading.{takes_first_packet, changes, loses, open_at, reads, reads_all, reads_next, reads_of, refused, proposes_packet, unread_of}
 use Rattle.node_moves.specs.world_base.Step.{node_step}
-use Rattle.node_moves.specs.world_base.Turns.{has_room, moved, proposes, without_messages, repeated, handled}
+use Rattle.node_moves.specs.world_base.Effects.{has_room, moved, proposes, without_messages, repeated, handled}
 use Rattle.node_moves.proofs.Views.{found_passes}
 use Rattle.escaping.specs.Answering.{AnswerAloneIsPutOut, PutsOutFirst}
 use Rattle.escaping.specs.Asking.{asked_now, proposal_at}

@@ -24,7 +24,7 @@ use Rattle.node_moves.specs.world_base.Core.{CoreState, StepOutcome, rules, serv
 use Rattle.node_moves.specs.world_base.Failing.{closes_failed, loses_all_failed, loses_failed, loses_if}
 use Rattle.node_moves.specs.world_base.Handing.{listed_at}
 use Rattle.node_moves.specs.world_base.Step.{node_step, settled}
-use Rattle.node_moves.specs.world_base.Turns.{changes_named, drives, moved, proposes, without_messages, repeated, handled, performed_by}
+use Rattle.node_moves.specs.world_base.Effects.{changes_named, drives, moved, proposes, without_messages, repeated, handled, performed_by}
 use Rattle.node_moves.proofs.Views.{found_passes}
 use Rattle.escaping.specs.Answering.{AnswerIsPutOut, PutsOutFirst}
 use Rattle.escaping.specs.Delivery.{heard_by}

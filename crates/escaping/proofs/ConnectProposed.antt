@@ -29,7 +29,7 @@ use Rattle.node_moves.specs.world_base.Core.{CoreState, StepOutcome, rules, serv
 use Rattle.node_moves.specs.world_base.Failing.{loses_all_failed}
 use Rattle.node_moves.specs.world_base.Reading.{changes, open_at, reads, reads_all, reads_next, reads_of, unread_of}
 use Rattle.node_moves.specs.world_base.Step.{node_step, settled}
-use Rattle.node_moves.specs.world_base.Turns.{has_room, is_message, proposes, without_messages, repeated, handled, then_also}
+use Rattle.node_moves.specs.world_base.Effects.{has_room, is_message, proposes, without_messages, repeated, handled, then_also}
 use Rattle.node_moves.proofs.Views.{each_kept}
 use Rattle.escaping.specs.Asking.{ConnectIsProposed, asked_now, proposal_at, with_asked}
 use Rattle.escaping.specs.Delivery.{ReportsItsLosses}

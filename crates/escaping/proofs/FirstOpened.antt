@@ -12,7 +12,7 @@ use Rattle.node_moves.specs.world_base.Connections.{closed, fresh, has_failed, i
 use Rattle.node_moves.specs.world_base.Core.{CoreState, StepOutcome, serves}
 use Rattle.node_moves.specs.world_base.Failing.{loses_all_failed}
 use Rattle.node_moves.specs.world_base.Step.{next_name, opens, settled}
-use Rattle.node_moves.specs.world_base.Turns.{without_messages}
+use Rattle.node_moves.specs.world_base.Effects.{without_messages}
 use Rattle.escaping.specs.Opening.{FirstIsOpened, first_name, with_first}
 use Rattle.escaping.proofs.OneDelivery.{calm_finds, none_lost}
 

@@ -20,7 +20,7 @@ use Rattle.node_moves.specs.world_base.Connections.{has_failed}
 use Rattle.node_moves.specs.world_base.Core.{CoreState, StepOutcome, serves}
 use Rattle.node_moves.specs.world_base.Failing.{closes_failed, loses_all_failed, loses_failed, loses_if}
 use Rattle.node_moves.specs.world_base.Step.{node_step, settled}
-use Rattle.node_moves.specs.world_base.Turns.{drives, is_message, moved, proposes, without_messages, repeated, handled, then_also}
+use Rattle.node_moves.specs.world_base.Effects.{drives, is_message, moved, proposes, without_messages, repeated, handled, then_also}
 use Rattle.node_moves.proofs.LossesReported.{each_loss_is_reported}
 use Rattle.escaping.specs.Delivery.{AStepIsADelivery, ReportsItsLosses, heard_by}
 

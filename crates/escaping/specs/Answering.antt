@@ -24,7 +24,7 @@ use Rattle.node_moves.specs.world_base.Core.{CoreState}
 use Rattle.node_moves.specs.world_base.Handing.{listed_at}
 use Rattle.node_moves.specs.world_base.Reading.{open_at}
 use Rattle.node_moves.specs.world_base.Step.{node_step}
-use Rattle.node_moves.specs.world_base.Turns.{has_room}
+use Rattle.node_moves.specs.world_base.Effects.{has_room}
 use Rattle.escaping.specs.Asking.{proposal_at}
 use Rattle.escaping.specs.Delivery.{heard_by}
 

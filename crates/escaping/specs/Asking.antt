@@ -18,7 +18,7 @@ use Rattle.node_moves.specs.world_base.Connections.{changed, is_first, is_listed
 use Rattle.node_moves.specs.world_base.Core.{CoreState, rules}
 use Rattle.node_moves.specs.world_base.Reading.{open_at}
 use Rattle.node_moves.specs.world_base.Step.{node_step}
-use Rattle.node_moves.specs.world_base.Turns.{has_room}
+use Rattle.node_moves.specs.world_base.Effects.{has_room}
 use Rattle.escaping.specs.Delivery.{ReportsItsLosses}
 
 -- the connection whose CONNECT became whole at this time

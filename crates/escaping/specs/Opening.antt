@@ -7,7 +7,7 @@ use Rattle.node_moves.specs.world_base.declared.Port.{Port}
 use Rattle.node_moves.specs.world_base.Connections.{fresh, is_at, is_listed}
 use Rattle.node_moves.specs.world_base.Core.{CoreState, serves}
 use Rattle.node_moves.specs.world_base.Step.{node_step}
-use Rattle.node_moves.specs.world_base.Turns.{without_messages}
+use Rattle.node_moves.specs.world_base.Effects.{without_messages}
 use Rattle.escaping.specs.Delivery.{ReportsItsLosses}
 
 -- the first name of the ballot that the node joined

@@ -39,7 +39,7 @@ use Rattle.escaping.specs.world_base.Connections.{is_open_named, max_pending}
 use Rattle.escaping.specs.world_base.Core.{CoreState, CountedCore, StepOutcome, rules, serves}
 use Rattle.escaping.specs.world_base.Handing.{hands_over}
 use Rattle.escaping.specs.world_base.Step.{node_step}
-use Rattle.escaping.specs.world_base.Turns.{has_room}
+use Rattle.escaping.specs.world_base.Effects.{has_room}
 use Rattle.escaping.proofs.of_node_moves.LossesReported.{each_loss_is_reported}
 use Rattle.ways_out.proofs.of_snapshots.Fronts.{whole_long}
 use Rattle.ways_out.proofs.of_snapshots.PastsKept.{StandsFor, past_stands}

@@ -24,7 +24,7 @@ use Rattle.escaping.specs.world_base.Connections.{is_open_named}
 use Rattle.escaping.specs.world_base.Core.{CoreState, CountedCore, StepOutcome, serves}
 use Rattle.escaping.specs.world_base.Handing.{hands_over}
 use Rattle.escaping.specs.world_base.Step.{node_step}
-use Rattle.escaping.specs.world_base.Turns.{without_messages}
+use Rattle.escaping.specs.world_base.Effects.{without_messages}
 use Rattle.escaping.proofs.of_node_moves.LossesReported.{each_loss_is_reported}
 use Rattle.escaping.proofs.AnswerAwaited.{first_awaits_connect, handing_keeps_the_connect}
 use Rattle.escaping.proofs.FirstOpened.{first_is_opened}

@@ -31,7 +31,7 @@ use Rattle.byte_world.specs.world_base.Failing.{loses_failed}
 use Rattle.byte_world.specs.world_base.Handing.{hands_over}
 use Rattle.byte_world.specs.world_base.Reading.{changes, reads_next}
 use Rattle.byte_world.specs.world_base.Step.{opens, settled}
-use Rattle.byte_world.specs.world_base.Turns.{changes_named, proposes, repeated}
+use Rattle.byte_world.specs.world_base.Effects.{changes_named, proposes, repeated}
 use Rattle.byte_world.specs.node_moves.Moves.{done}
 use Rattle.byte_world.specs.node_moves.Moves.NodeCall.{takes, gives}
 use Rattle.byte_world.specs.exactly_once.Rows.{asks_for_news, first_name, news, writer}

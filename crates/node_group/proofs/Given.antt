@@ -12,7 +12,7 @@ use Rattle.node_moves.specs.world_base.Failing.{closes_failed}
 use Rattle.node_moves.specs.world_base.Lossy.{Account, TakesCommand}
 use Rattle.node_moves.specs.world_base.Reading.{changes}
 use Rattle.node_moves.specs.world_base.Step.{next_name, opens}
-use Rattle.node_moves.specs.world_base.Turns.{proposes}
+use Rattle.node_moves.specs.world_base.Effects.{proposes}
 use Rattle.node_moves.specs.Ends.{IsGiven, IsOrderly}
 use Rattle.node_moves.specs.LossyMoves.{LossyMoves}
 use Rattle.node_moves.specs.LossyMoves.LossyMoves.{exactly, hears_losing, first_losing, later_losing, tells_losing, expels_losing, forgets, halts, fails, unheard, drops}

@@ -20,7 +20,7 @@ use Rattle.node_moves.specs.world_base.Connections.{noted_proposed, closed, fail
 use Rattle.node_moves.specs.world_base.Core.{CoreState, StepOutcome, rules, serves}
 use Rattle.node_moves.specs.world_base.Lossy.{Account, Drives, TakesCommand}
 use Rattle.node_moves.specs.world_base.Reading.{changes}
-use Rattle.node_moves.specs.world_base.Turns.{has_room, heard}
+use Rattle.node_moves.specs.world_base.Effects.{has_room, heard}
 use Rattle.node_moves.specs.LossyMoves.{LossyMoves, outcome_in}
 use Rattle.node_moves.specs.LossyParts.{given_in, inputs_in}
 use Rattle.node_moves.specs.LossyRuns.{Freezes}

@@ -18,7 +18,7 @@ use Rattle.node_moves.specs.world_base.Core.{CoreState, serves}
 use Rattle.node_moves.specs.world_base.Handing.{hands_over, left_by, listed_at}
 use Rattle.node_moves.specs.world_base.Reading.{changes}
 use Rattle.node_moves.specs.world_base.Step.{opens, settled}
-use Rattle.node_moves.specs.world_base.Turns.{changes_named, moved, handled}
+use Rattle.node_moves.specs.world_base.Effects.{changes_named, moved, handled}
 use Rattle.node_group.specs.Group.{replica_of}
 
 -- ---- moves that leave it as it is

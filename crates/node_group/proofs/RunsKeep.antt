@@ -17,7 +17,7 @@ use Rattle.packet_world.specs.snapshots.Proposals.{proposals_of, taken_of}
 use Rattle.packet_world.proofs.of_snapshots.PastsAgree.{has_agreed}
 use Rattle.node_moves.specs.world_base.Connections.{is_over}
 use Rattle.node_moves.specs.world_base.Core.{CoreState, StepOutcome, rules}
-use Rattle.node_moves.specs.world_base.Turns.{without_messages}
+use Rattle.node_moves.specs.world_base.Effects.{without_messages}
 use Rattle.node_moves.specs.Ends.{IsOrderly}
 use Rattle.node_moves.specs.Keeping.{AreOfTheBallot}
 use Rattle.node_moves.specs.LossyMoves.{LossyMoves}

@@ -14,7 +14,7 @@ use Rattle.packet_world.specs.snapshots.World.{messages, outputs}
 use Rattle.node_moves.specs.world_base.Core.{CoreState, rules}
 use Rattle.node_moves.specs.world_base.Lossy.{HandlesAll}
 use Rattle.node_moves.specs.world_base.Lossy.HandlesAll.{nothing, does, sends, loses as loses_one}
-use Rattle.node_moves.specs.world_base.Turns.{is_message}
+use Rattle.node_moves.specs.world_base.Effects.{is_message}
 
 abbrev pub Given : Type 0
 Given = List (Effect Command Output)

@@ -19,7 +19,7 @@ use Rattle.world_base.specs.Connections.{has_failed, is_listed, is_open_named, c
 use Rattle.world_base.specs.Core.{CoreState, StepOutcome, rules, serves}
 use Rattle.world_base.specs.Failing.{closes_failed, loses_failed, loses_if}
 use Rattle.world_base.specs.Step.{settled}
-use Rattle.world_base.specs.Turns.{without_messages, repeated, handled, moved, proposes, changes_named}
+use Rattle.world_base.specs.Effects.{without_messages, repeated, handled, moved, proposes, changes_named}
 use Rattle.node_moves.proofs.Views.{each_kept, each_mapped, each_filtered}
 
 pub record IsKept (P : Connection → Type 0) : Type 0 where

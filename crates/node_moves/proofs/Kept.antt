@@ -24,7 +24,7 @@ use Rattle.world_base.specs.Failing.{closes_failed}
 use Rattle.world_base.specs.Handing.{hands_over, left_by, listed_at}
 use Rattle.world_base.specs.Reading.{changes}
 use Rattle.world_base.specs.Step.{settled, crashed, with_cut}
-use Rattle.world_base.specs.Turns.{without_messages, moved, handled, proposes, drives, heard, changes_named}
+use Rattle.world_base.specs.Effects.{without_messages, moved, handled, proposes, drives, heard, changes_named}
 use Rattle.node_moves.specs.Ends.{AtMostOne, IsGiven, IsOrderly, open_named}
 use Rattle.node_moves.proofs.JoinedGrows.{Up, up_if, up_nothing, up_proposed, joined_grows}
 use Rattle.node_moves.proofs.NamesInOrder.{same_le}

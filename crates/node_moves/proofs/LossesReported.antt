@@ -11,7 +11,7 @@ use Rattle.world_base.specs.Connections.{is_proposed, is_failed, has_failed, clo
 use Rattle.world_base.specs.Core.{CoreState}
 use Rattle.world_base.specs.Failing.{closes_failed, loses_failed, loses_if}
 use Rattle.world_base.specs.Step.{acts_on, does_item}
-use Rattle.world_base.specs.Turns.{without_messages, proposes}
+use Rattle.world_base.specs.Effects.{without_messages, proposes}
 use Rattle.node_moves.specs.Settled.{EachLossIsReported}
 use Rattle.node_moves.proofs.EachKept.{each_settled}
 use Rattle.node_moves.proofs.NamesInOrder.{same_le}

@@ -19,7 +19,7 @@ use Rattle.world_base.specs.Core.{CoreState, StepOutcome, rules, serves}
 use Rattle.world_base.specs.Lossy.{Account, Drives, TakesCommand}
 use Rattle.world_base.specs.Reading.{changes}
 use Rattle.world_base.specs.Step.{crashed}
-use Rattle.world_base.specs.Turns.{drives, heard}
+use Rattle.world_base.specs.Effects.{drives, heard}
 use Rattle.node_moves.specs.Closed.{listed_named}
 use Rattle.node_moves.specs.Ends.{IsOrderly}
 use Rattle.node_moves.specs.Keeping.{AreOfTheBallot, moves_replica}

@@ -16,7 +16,7 @@ use Rattle.world_base.specs.Connections.{changed, closed, failing, is_open_named
 use Rattle.world_base.specs.Core.{CoreState}
 use Rattle.world_base.specs.Lossy.{HandlesAll, Performs}
 use Rattle.world_base.specs.Lossy.HandlesAll.{nothing, does, sends, loses}
-use Rattle.world_base.specs.Turns.{changes_named}
+use Rattle.world_base.specs.Effects.{changes_named}
 use Rattle.node_moves.specs.Closed.{listed_named}
 use Rattle.node_moves.specs.Ends.{AtMostOne, IsOrderly}
 use Rattle.node_moves.specs.Puts.{spelled}

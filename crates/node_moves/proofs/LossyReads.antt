@@ -20,7 +20,7 @@ use Rattle.world_base.specs.Connections.{noted_proposed, closed, failing, is_at,
 use Rattle.world_base.specs.Core.{CoreState, StepOutcome, rules}
 use Rattle.world_base.specs.Lossy.{Account, Drives, TakesCommand}
 use Rattle.world_base.specs.Reading.{changes, open_at}
-use Rattle.world_base.specs.Turns.{heard}
+use Rattle.world_base.specs.Effects.{heard}
 use Rattle.node_moves.specs.Ends.{IsEnd, IsGiven, IsOrderly, commands_of, is_nothing, open_named, piece_on}
 use Rattle.node_moves.specs.Ends.IsEnd.{is_over}
 use Rattle.node_moves.specs.LossyLaws.{LossesReadInOrder, ReadsOn}

@@ -11,7 +11,7 @@ use Rattle.world_base.specs.Connections.{noted_proposed, closed, failing, has_fa
 use Rattle.world_base.specs.Core.{CoreState, StepOutcome}
 use Rattle.world_base.specs.Lossy.{Account, Drives, TakesCommand}
 use Rattle.world_base.specs.Reading.{changes}
-use Rattle.world_base.specs.Turns.{heard}
+use Rattle.world_base.specs.Effects.{heard}
 use Rattle.node_moves.specs.Closed.{listed_named}
 use Rattle.node_moves.specs.Ends.{IsOrderly, open_named}
 use Rattle.node_moves.specs.LossyLaws.{LossesPutInOrder}

@@ -20,7 +20,7 @@ use Rattle.world_base.specs.Failing.{closes_failed}
 use Rattle.world_base.specs.Handing.{hands_over, left_by}
 use Rattle.world_base.specs.Reading.{changes}
 use Rattle.world_base.specs.Step.{next_name, opens, settled}
-use Rattle.world_base.specs.Turns.{changes_named, moved, proposes, without_messages, handled}
+use Rattle.world_base.specs.Effects.{changes_named, moved, proposes, without_messages, handled}
 use Rattle.node_moves.specs.Keeping.{moves_replica}
 use Rattle.node_moves.specs.Moves.{Moves}
 use Rattle.node_moves.specs.Moves.Moves.{hears, opens_one, holds, reads_first, reads_later, closes, refuses, loses_one, loses_next, expels_one, cuts_log, crashes, settles, hands}

@@ -19,7 +19,7 @@ use Rattle.world_base.specs.Connections.{is_at, is_open_at, is_over}
 use Rattle.world_base.specs.Core.{CoreState, StepOutcome, rules, serves}
 use Rattle.world_base.specs.Reading.{open_at}
 use Rattle.world_base.specs.Step.{crashed, settled, with_cut}
-use Rattle.world_base.specs.Turns.{drives, heard}
+use Rattle.world_base.specs.Effects.{drives, heard}
 use Rattle.node_moves.specs.Closed.{listed_named}
 use Rattle.node_moves.specs.Ends.{IsOrderly, proposal_of}
 use Rattle.node_moves.specs.Keeping.{AreOfTheBallot, NamesKeepTheirBallot}

@@ -37,7 +37,7 @@ use Rattle.world_base.specs.LossyReading.ReadsNext.{waits, first, later, refuses
 use Rattle.world_base.specs.Reading.{changes, open_at, refused, unread_of}
 use Rattle.world_base.specs.Step.{crashed, next_name, opens, settled, with_cut}
 use Rattle.world_base.specs.LossyStep.Cuts.{nothing_to_cut, cuts_log, forgets_cut}
-use Rattle.world_base.specs.Turns.{changes_named}
+use Rattle.world_base.specs.Effects.{changes_named}
 use Rattle.node_moves.specs.Apart.{KeepsNames, NamesStayApart}
 use Rattle.node_moves.specs.Closed.{listed_named}
 use Rattle.node_moves.specs.Ends.{IsGiven, IsOrderly, Precedes}

@@ -25,7 +25,7 @@ use Rattle.world_base.specs.Connections.{noted_proposed, holding, left_with, is_
 use Rattle.world_base.specs.Core.{CoreState, StepOutcome, rules, serves}
 use Rattle.world_base.specs.Failing.{closes_failed}
 use Rattle.world_base.specs.Reading.{changes, refused}
-use Rattle.world_base.specs.Turns.{without_messages, moved, handled, proposes, changes_named, drives, heard, has_room}
+use Rattle.world_base.specs.Effects.{without_messages, moved, handled, proposes, changes_named, drives, heard, has_room}
 use Rattle.node_moves.specs.Ends.{AtMostOne, IsOrderly, open_named}
 use Rattle.node_moves.specs.Moves.{Moves}
 use Rattle.node_moves.specs.Moves.Moves.{hears, opens_one, holds, reads_first, reads_later, closes, refuses, loses_one, loses_next, expels_one, cuts_log, crashes, settles, hands}

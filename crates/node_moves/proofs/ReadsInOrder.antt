@@ -19,7 +19,7 @@ use Rattle.world_base.specs.Core.{CoreState, StepOutcome}
 use Rattle.world_base.specs.Reading.{changes, open_at, refused}
 use Rattle.world_base.specs.Failing.{closes_failed}
 use Rattle.world_base.specs.Step.{opens}
-use Rattle.world_base.specs.Turns.{without_messages, proposes, has_room}
+use Rattle.world_base.specs.Effects.{without_messages, proposes, has_room}
 use Rattle.node_moves.specs.Moves.{Moves}
 use Rattle.node_moves.specs.Moves.Moves.{hears, opens_one, holds, reads_first, reads_later, closes, refuses, loses_one, loses_next, expels_one, cuts_log, crashes, settles, hands}
 use Rattle.node_moves.specs.Ends.{Precedes, IsGiven, IsOrderly, IsEnd, ReadsOn, NodesReadInOrder, open_named, proposal_of, came_on, piece_on, stream_of, is_nothing, commands_of}

@@ -18,7 +18,7 @@ use Rattle.world_base.specs.declared.Connection.{Connection}
 use Rattle.world_base.specs.Connections.{noted_proposed, holding, is_at, is_open_at, left_with}
 use Rattle.world_base.specs.Core.{CoreState, rules, serves}
 use Rattle.world_base.specs.Reading.{changes, open_at, refused}
-use Rattle.world_base.specs.Turns.{has_room, proposes}
+use Rattle.world_base.specs.Effects.{has_room, proposes}
 use Rattle.node_moves.specs.Closed.{listed_named}
 use Rattle.node_moves.specs.Ends.{IsOrderly}
 use Rattle.node_moves.specs.Puts.{spelled}

@@ -20,7 +20,7 @@ use Rattle.exactly_once.specs.Sends.{sends_to}
 use Rattle.world_base.specs.declared.Connection.{Connection}
 use Rattle.world_base.specs.Connections.{is_open_named, closed, put_out, changed}
 use Rattle.world_base.specs.Core.{CoreState, StepOutcome, rules, serves}
-use Rattle.world_base.specs.Turns.{without_messages, moved, handled, proposes, changes_named, drives, heard}
+use Rattle.world_base.specs.Effects.{without_messages, moved, handled, proposes, changes_named, drives, heard}
 use Rattle.node_moves.specs.Closed.{listed_named}
 use Rattle.node_moves.specs.Ends.{AtMostOne, IsOrderly}
 use Rattle.node_moves.specs.Puts.{outputs_of, spelled}

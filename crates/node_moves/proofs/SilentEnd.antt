@@ -13,7 +13,7 @@ use Rattle.world_base.specs.Core.{CoreState, StepOutcome}
 use Rattle.world_base.specs.KeepAlive.{lower, lower_silent, lowest_silent, ends_if, ends_silent}
 use Rattle.world_base.specs.Reading.{changes, ends, loses, loses_open, open_at}
 use Rattle.world_base.specs.Step.{acts_on, does_item}
-use Rattle.world_base.specs.Turns.{without_messages, drives, proposes}
+use Rattle.world_base.specs.Effects.{without_messages, drives, proposes}
 use Rattle.node_moves.specs.Settled.{NoneIsSilent}
 use Rattle.node_moves.proofs.EachKept.{IsKept, each_repeated, each_settled}
 use Rattle.node_moves.proofs.Kept.{live, left_true, failing_over}

@@ -25,7 +25,7 @@ use Rattle.world_base.specs.ballot.Cutting.{can_cut}
 use Rattle.world_base.specs.Step.{node_step, acts_on, cuts, settled, does_item, with_cut}
 use Rattle.world_base.specs.Failing.{loses_failed, loses_if}
 use Rattle.world_base.specs.KeepAlive.{ends_if, ends_silent, lowest_silent}
-use Rattle.world_base.specs.Turns.{without_messages, proposes, drives, has_room, repeated}
+use Rattle.world_base.specs.Effects.{without_messages, proposes, drives, has_room, repeated}
 use Rattle.node_moves.specs.Hearing.{NodeCallsHearAtFirst}
 use Rattle.node_moves.specs.Moves.{Moves, Runs, NodeCall, and_then, done, NodeCallsAreMoves}
 use Rattle.node_moves.specs.Moves.NodeCall.{takes, gives}

@@ -19,7 +19,7 @@ use Rattle.world_base.specs.declared.Connection.{Connection}
 use Rattle.world_base.specs.Connections.{noted_proposed, left_with, closed, put_out}
 use Rattle.world_base.specs.Core.{CoreState, rules, serves}
 use Rattle.world_base.specs.Reading.{changes}
-use Rattle.world_base.specs.Turns.{moved, handled, proposes, has_room, changes_named}
+use Rattle.world_base.specs.Effects.{moved, handled, proposes, has_room, changes_named}
 use Rattle.node_moves.specs.Moves.Moves.{hears, opens_one, holds, reads_first, reads_later, closes, refuses, loses_one, loses_next, expels_one, cuts_log, crashes, settles, hands}
 use Rattle.node_moves.specs.RunProposals.{ReadsAreTaken}
 use Rattle.node_moves.proofs.Kept.{left_true}

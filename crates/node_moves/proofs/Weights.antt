@@ -14,7 +14,7 @@ use Rattle.exactly_once.specs.broker_spec.Connection.{ConnectionName}
 use Rattle.world_base.specs.declared.Connection.{Connection}
 use Rattle.world_base.specs.Connections.{is_open_named, max_pending, closed, failing, putting, put_out, changed}
 use Rattle.world_base.specs.Core.{CoreState, StepOutcome, rules, serves}
-use Rattle.world_base.specs.Turns.{without_messages, repeated, handled, moved, proposes, changes_named}
+use Rattle.world_base.specs.Effects.{without_messages, repeated, handled, moved, proposes, changes_named}
 use Rattle.node_moves.proofs.NamesInOrder.{same_le}
 use Rattle.node_moves.proofs.Views.{same_some}
 

@@ -10,7 +10,7 @@ use Rattle.world_base.specs.declared.Connection.{Connection}
 use Rattle.world_base.specs.Connections.{is_over}
 use Rattle.world_base.specs.Core.{CoreState, StepOutcome, opening_core, serves}
 use Rattle.world_base.specs.Step.{crashed, settled, with_cut}
-use Rattle.world_base.specs.Turns.{drives}
+use Rattle.world_base.specs.Effects.{drives}
 use Rattle.node_moves.specs.Closed.{listed_named}
 use Rattle.node_moves.specs.Ends.{IsOrderly, proposal_of}
 use Rattle.node_moves.specs.Moves.{Moves}

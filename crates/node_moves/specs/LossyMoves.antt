@@ -17,7 +17,7 @@ use Rattle.world_base.specs.Core.{CoreState, StepOutcome, rules}
 use Rattle.world_base.specs.Failing.{closes_failed}
 use Rattle.world_base.specs.Lossy.{Account, Drives, TakesCommand}
 use Rattle.world_base.specs.Reading.{changes, open_at}
-use Rattle.world_base.specs.Turns.{without_messages}
+use Rattle.world_base.specs.Effects.{without_messages}
 use Rattle.node_moves.specs.Moves.{Moves, is_proposal}
 
 -- ---- one move

@@ -11,7 +11,7 @@ use Rattle.world_base.specs.declared.item.Item.TheVariants.{Peer, Tick, Bytes, C
 use Rattle.world_base.specs.Core.{CoreState, StepOutcome, rules}
 use Rattle.world_base.specs.LossyStep.{RunsOn}
 use Rattle.world_base.specs.Reading.{open_at}
-use Rattle.world_base.specs.Turns.{without_messages}
+use Rattle.world_base.specs.Effects.{without_messages}
 use Rattle.node_moves.specs.Ends.{piece_on}
 use Rattle.node_moves.specs.LossyMoves.{LossyMoves}
 use Rattle.node_moves.specs.LossyParts.{came_on, hears_in, inputs_in, is_handing, proposal_of}

@@ -21,7 +21,7 @@ use Rattle.world_base.specs.Failing.{closes_failed}
 use Rattle.world_base.specs.Handing.{hands_over}
 use Rattle.world_base.specs.Reading.{changes, open_at, refused}
 use Rattle.world_base.specs.Step.{node_step, opens, settled, crashed, with_cut}
-use Rattle.world_base.specs.Turns.{without_messages, proposes, drives, has_room}
+use Rattle.world_base.specs.Effects.{without_messages, proposes, drives, has_room}
 
 -- whether an input of a replica is a proposal
 abbrev pub is_proposal : Input Command → Bool

@@ -12,7 +12,7 @@ use Rattle.exactly_once.specs.broker_spec.Connection.{ConnectionName}
 use Rattle.exactly_once.specs.Sends.{sends_to}
 use Rattle.world_base.specs.declared.Connection.{Connection}
 use Rattle.world_base.specs.Core.{CoreState, StepOutcome, rules, serves}
-use Rattle.world_base.specs.Turns.{heard}
+use Rattle.world_base.specs.Effects.{heard}
 use Rattle.node_moves.specs.Moves.{Moves}
 use Rattle.node_moves.specs.Moves.Moves.{hears, reads_first, reads_later, loses_one, loses_next, expels_one, hands}
 use Rattle.node_moves.specs.Ends.{IsOrderly, open_named}

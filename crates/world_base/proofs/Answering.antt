@@ -20,7 +20,7 @@ use Rattle.world_base.specs.Inside.{StepsReplicaOrLoses, Answered, HandledAll, P
 use Rattle.world_base.specs.Lossy.{Account, HandlesAll, Drives, without_effects}
 use Rattle.world_base.specs.LossyProposals.{ProposesCommand}
 use Rattle.world_base.specs.LossyProposals.Declines.{no_room, forgets, stops}
-use Rattle.world_base.specs.Turns.{has_room, heard}
+use Rattle.world_base.specs.Effects.{has_room, heard}
 use Rattle.world_base.proofs.Asked.{left_true, right_false, has_room_by, proposed-stopped}
 use Rattle.world_base.proofs.Accounts.{ran_without_effects}
 use Rattle.world_base.proofs.Delivering.{delivers_nothing}

@@ -15,7 +15,7 @@ use Rattle.ballot.specs.Sending.{Outcome}
 use Rattle.ballot.specs.Serving.{max_places, proposed}
 use Rattle.ballot.proofs.StepRows.{proposed-adds, proposed-full, added-stopped}
 use Rattle.world_base.specs.Core.{CoreState, rules, serves}
-use Rattle.world_base.specs.Turns.{has_room}
+use Rattle.world_base.specs.Effects.{has_room}
 
 -- both parts of a test
 pub left_true : (a b : Bool) → (a && b) ≡ true → a ≡ true

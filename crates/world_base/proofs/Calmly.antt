@@ -18,7 +18,7 @@ use Rattle.world_base.specs.Handing.{bytes_of, hands_over, left_by, listed_at}
 use Rattle.world_base.specs.Losses.{IsHeardQuietly, IsIgnored, ReadsNone, ItemTakesNoMemory, WaitsNothing, was_proposed}
 use Rattle.world_base.specs.Reading.{changes, ends, loses_open, open_at}
 use Rattle.world_base.specs.Step.{acts_on, crashed, node_step, settled, does_item}
-use Rattle.world_base.specs.Turns.{handled_all, drives, heard, without_messages, then_also}
+use Rattle.world_base.specs.Effects.{handled_all, drives, heard, without_messages, then_also}
 use Rattle.world_base.proofs.Failures.{failed_next}
 use Rattle.world_base.proofs.Idle.{closing_fails_none, repeated_without_messages, takes_nothing}
 

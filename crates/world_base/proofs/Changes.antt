@@ -10,7 +10,7 @@ use Rattle.node_connections.specs.Connections.{changed, is_open_at, is_open_name
 use Rattle.world_base.specs.Core.{CoreState}
 use Rattle.world_base.specs.Inside.{Running}
 use Rattle.world_base.specs.Reading.{changes}
-use Rattle.world_base.specs.Turns.{changes_named}
+use Rattle.world_base.specs.Effects.{changes_named}
 use Rattle.world_base.proofs.Indices.{none_changed, index_changed}
 
 pub there : (test : Connection → Bool) (change : Connection → Connection) (r : Running) (index : Option ℕ) (i : ℕ)

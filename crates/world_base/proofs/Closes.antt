@@ -14,9 +14,9 @@ use Rattle.node_connections.specs.Connections.{closed, is_proposed}
 use Rattle.world_base.specs.Core.{CoreState, StepOutcome, rules, serves}
 use Rattle.world_base.specs.Inside.{Running, DoesExactly, DoesOutcome}
 use Rattle.world_base.specs.Reading.{changes, ends, open_at}
-use Rattle.world_base.specs.Turns.{without_messages, then_also, proposes, has_room}
+use Rattle.world_base.specs.Effects.{without_messages, then_also, proposes, has_room}
 use Rattle.world_base.proofs.Asked.{left_true}
-use Rattle.world_base.proofs.TurnsJoin.{turns_idle, turns_join, turns_as, turns_after, turns_without_messages}
+use Rattle.world_base.proofs.StepsJoin.{turns_idle, turns_join, turns_as, turns_after, turns_without_messages}
 
 -- if no connection of the port is open nothing is done
 pub ends_none : (port : Port) (r : Running) (out : List (Effect Command Output)) → open_at port r.core ≡ None →

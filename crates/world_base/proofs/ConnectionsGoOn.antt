@@ -23,7 +23,7 @@ use Rattle.world_base.specs.Going.{AreNamedApart, EachGoesOn, ConnectionGoesOn, 
 use Rattle.world_base.specs.Lossy.{HandlesAll, Performs}
 use Rattle.world_base.specs.Lossy.HandlesAll.{nothing, does, sends, loses}
 use Rattle.world_base.specs.Reading.{refused}
-use Rattle.world_base.specs.Turns.{changes_named}
+use Rattle.world_base.specs.Effects.{changes_named}
 
 -- ---- one connection
 

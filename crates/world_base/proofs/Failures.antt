@@ -10,8 +10,8 @@ use Rattle.node_connections.specs.Connections.{has_failed}
 use Rattle.world_base.specs.Core.{CoreState, StepOutcome}
 use Rattle.world_base.specs.Failing.{closes_failed, loses_failed}
 use Rattle.world_base.specs.Inside.{Running, DoesOutcome}
-use Rattle.world_base.specs.Turns.{without_messages, proposes}
-use Rattle.world_base.proofs.TurnsJoin.{turns_idle, turns_after}
+use Rattle.world_base.specs.Effects.{without_messages, proposes}
+use Rattle.world_base.proofs.StepsJoin.{turns_idle, turns_after}
 
 -- none failed
 pub failed_next : (core : CoreState) → find has_failed core.connections ≡ None → loses_failed core ≡ without_messages core

@@ -25,8 +25,8 @@ use Rattle.node_connections.specs.Fronts.{IsFault}
 use Rattle.node_connections.specs.Inside.{TakesFront}
 use Rattle.world_base.specs.Inside.{Running, DoesOutcome}
 use Rattle.world_base.specs.Reading.{takes_first_packet, changes, loses, open_at, reads, reads_next, refused, proposes_packet}
-use Rattle.world_base.specs.Turns.{proposes, without_messages}
-use Rattle.world_base.proofs.TurnsJoin.{turns_idle, turns_without_messages, turns_after}
+use Rattle.world_base.specs.Effects.{proposes, without_messages}
+use Rattle.world_base.proofs.StepsJoin.{turns_idle, turns_without_messages, turns_after}
 
 -- ---- changes of the connection that is found
 

@@ -31,7 +31,7 @@ use Rattle.world_base.specs.LossyReading.EndsConnection.{none_open}
 use Rattle.world_base.specs.LossyReading.EndsSilent.{none_silent}
 use Rattle.world_base.specs.Reading.{changes, ends, open_at, reads_all, reads_next, unread_of}
 use Rattle.world_base.specs.Step.{accepts, acts_on, cuts, opens, does_item}
-use Rattle.world_base.specs.Turns.{drives, moved, without_messages, repeated, then_also}
+use Rattle.world_base.specs.Effects.{drives, moved, without_messages, repeated, then_also}
 use Rattle.world_base.proofs.Accounts.{ran_without_effects, ran_then}
 use Rattle.world_base.proofs.Closes.{proposes_nothing}
 use Rattle.world_base.proofs.Indices.{none_found, none_indexed}

@@ -24,6 +24,6 @@ mod ProposalsAreSteps
 mod Proposes
 mod Settles
 mod Silences
-mod TurnsJoin
+mod StepsJoin
 mod Repeats
 pub use Rattle.ballot.proofs as of_ballot

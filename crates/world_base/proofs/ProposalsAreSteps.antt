@@ -17,7 +17,7 @@ use Rattle.world_base.specs.Lossy.{Account, ReplicaSteps}
 use Rattle.world_base.specs.LossyProposals.{ProposalsAreSteps}
 use Rattle.world_base.specs.LossyProposals.Declines.{no_room, forgets, stops}
 use Rattle.world_base.specs.Lossy.HandlesAll.{nothing}
-use Rattle.world_base.specs.Turns.{has_room}
+use Rattle.world_base.specs.Effects.{has_room}
 use Rattle.world_base.proofs.Asked.{left_true}
 
 done_steps : (old new : CountedReplica State Command) (outcome : Outcome State Command Output) (given : List (Effect Command Output)) →

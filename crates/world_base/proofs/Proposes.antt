@@ -10,8 +10,8 @@ use Rattle.ballot.specs.Sending.{Outcome}
 use Rattle.ballot.specs.Serving.{proposed}
 use Rattle.world_base.specs.Core.{StepOutcome, rules, serves}
 use Rattle.world_base.specs.Inside.{Running, StepsReplica, DoesOutcome}
-use Rattle.world_base.specs.Turns.{handled_all, drives, heard, moved, proposes}
-use Rattle.world_base.proofs.TurnsJoin.{turns_idle, out_of_memory_kept}
+use Rattle.world_base.specs.Effects.{handled_all, drives, heard, moved, proposes}
+use Rattle.world_base.proofs.StepsJoin.{turns_idle, out_of_memory_kept}
 
 -- a step of the replica, and what it gave
 turns_moved : (a b c : Running) (outcome : Outcome State Command Output) (given before after : List (Effect Command Output)) →

@@ -6,8 +6,8 @@ use Rattle.node_connections.specs.broker_spec.declared.command.Output.{Output}
 use Rattle.ballot.specs.Effect.{Effect}
 use Rattle.world_base.specs.Core.{CoreState, StepOutcome}
 use Rattle.world_base.specs.Inside.{Running, DoesOutcome}
-use Rattle.world_base.specs.Turns.{without_messages, repeated, then_also}
-use Rattle.world_base.proofs.TurnsJoin.{turns_as, turns_idle, turns_join}
+use Rattle.world_base.specs.Effects.{without_messages, repeated, then_also}
+use Rattle.world_base.proofs.StepsJoin.{turns_as, turns_idle, turns_join}
 
 -- a turn with these messages
 abbrev given_by : CoreState → List (Effect Command Output) → StepOutcome

@@ -9,7 +9,7 @@ use Rattle.world_base.specs.Core.{CoreState, StepOutcome}
 use Rattle.world_base.specs.Inside.{Running, DoesOutcome}
 use Rattle.world_base.specs.KeepAlive.{ends_silent, lowest_silent}
 use Rattle.world_base.specs.Reading.{ends}
-use Rattle.world_base.specs.Turns.{without_messages}
+use Rattle.world_base.specs.Effects.{without_messages}
 
 -- more time went by than is allowed
 pub gone_by : (now last allowed : ℕ) → nat_lt allowed (now - last) ≡ nat_lt (last + allowed) now

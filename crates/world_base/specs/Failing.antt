@@ -6,7 +6,7 @@ use Rattle.node_connections.specs.broker_spec.declared.command.Command.TheVarian
 use Rattle.node_connections.specs.declared.connection.Connection.{Connection}
 use Rattle.node_connections.specs.Connections.{has_failed, closed, changed}
 use Rattle.world_base.specs.Core.{CoreState, StepOutcome}
-use Rattle.world_base.specs.Turns.{without_messages, proposes, repeated}
+use Rattle.world_base.specs.Effects.{without_messages, proposes, repeated}
 
 -- the first failed connection is closed for good
 abbrev pub closes_failed : CoreState → CoreState

@@ -18,7 +18,7 @@ use Rattle.node_connections.specs.Connections.{has_failed}
 use Rattle.world_base.specs.LossyReading.{TakesFirstPacket, ProposesPacket}
 use Rattle.world_base.specs.Lossy.{Account, HandlesAll, TakesCommand, without_effects}
 use Rattle.world_base.specs.LossyProposals.{Declines, ProposesCommand}
-use Rattle.world_base.specs.Turns.{has_room}
+use Rattle.world_base.specs.Effects.{has_room}
 
 -- a node during a step, and whether memory ran out in it
 pub record Running : Type 0 where

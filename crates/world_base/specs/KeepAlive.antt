@@ -4,7 +4,7 @@ use Rattle.std.specs.Prelude.{ℕ, length, Option, Some, None}
 use Rattle.node_connections.specs.declared.port.Port.{Port}
 use Rattle.world_base.specs.Core.{CoreState, StepOutcome}
 use Rattle.world_base.specs.Reading.{ends}
-use Rattle.world_base.specs.Turns.{without_messages, repeated}
+use Rattle.world_base.specs.Effects.{without_messages, repeated}
 pub use Rattle.node_connections.specs.Silent.{lower, lower_silent, lowest_silent}
 
 -- the silent connection with the lowest port is closed as if its stream had ended

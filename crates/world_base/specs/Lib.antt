@@ -11,7 +11,7 @@ pub mod LossyReading
 pub mod LossyStep
 pub mod Reading
 pub mod Step
-pub mod Turns
+pub mod Effects
 pub use Rattle.node_connections.specs.Connections
 pub use Rattle.node_connections.specs.Stands
 pub use Rattle.ballot.specs.LawfulConfig

@@ -21,7 +21,7 @@ use Rattle.world_base.specs.KeepAlive.{lowest_silent}
 use Rattle.world_base.specs.LossyStep.{RunsOn}
 use Rattle.world_base.specs.Reading.{open_at}
 use Rattle.world_base.specs.Step.{accepts, node_step}
-use Rattle.world_base.specs.Turns.{has_room, heard}
+use Rattle.world_base.specs.Effects.{has_room, heard}
 
 -- ---- what does nothing
 

@@ -14,7 +14,7 @@ use Rattle.ballot.specs.Sending.{Outcome}
 use Rattle.ballot.specs.Serving.{added}
 use Rattle.node_connections.specs.Connections.{failing}
 use Rattle.world_base.specs.Core.{CoreState, rules}
-use Rattle.world_base.specs.Turns.{changes_named, has_room, heard, performed_by}
+use Rattle.world_base.specs.Effects.{changes_named, has_room, heard, performed_by}
 
 -- ---- what was done
 

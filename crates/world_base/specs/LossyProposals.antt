@@ -4,7 +4,7 @@ use Rattle.node_connections.specs.broker_spec.declared.command.Command.{Command}
 use Rattle.ballot.specs.Losses.{halted, one_more}
 use Rattle.ballot.specs.Serving.{proposed}
 use Rattle.world_base.specs.Core.{CoreState, rules, serves}
-use Rattle.world_base.specs.Turns.{has_room}
+use Rattle.world_base.specs.Effects.{has_room}
 use Rattle.world_base.specs.Lossy.{Account, without_effects, ReplicaSteps, TakesCommand}
 
 -- a command that it does not take, because it does not serve clients or its log is full, or because

@@ -13,7 +13,7 @@ use Rattle.node_connections.specs.declared.port.Port.{Port}
 use Rattle.node_connections.specs.declared.connection.Connection.{Connection}
 use Rattle.node_connections.specs.Connections.{is_open_at, is_first, is_proposed, noted_proposed, left_with, closed, changed}
 use Rattle.world_base.specs.Core.{CoreState, StepOutcome}
-use Rattle.world_base.specs.Turns.{without_messages, repeated, proposes, has_room}
+use Rattle.world_base.specs.Effects.{without_messages, repeated, proposes, has_room}
 pub use Rattle.node_connections.specs.Refusing.{refused}
 
 -- the open connection of a port, if there is one

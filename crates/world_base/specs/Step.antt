@@ -14,7 +14,7 @@ use Rattle.world_base.specs.Core.{CoreState, StepOutcome, rules, serves}
 use Rattle.world_base.specs.Failing.{loses_all_failed}
 use Rattle.world_base.specs.KeepAlive.{ends_all_silent}
 use Rattle.world_base.specs.Reading.{changes, ends, reads_all}
-use Rattle.world_base.specs.Turns.{without_messages, then_also, drives, proposes}
+use Rattle.world_base.specs.Effects.{without_messages, then_also, drives, proposes}
 
 -- how many connections it accepted in the ballot that it joined
 abbrev pub accepted : CoreState → ℕ

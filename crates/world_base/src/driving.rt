@@ -10,7 +10,7 @@ ghost use Rattle.world_base.specs.Losses.{IsHeardQuietly, ReadsNone};
 ghost use Rattle.world_base.specs.Lossy.{Drives, Performs, without_effects};
 ghost use Rattle.world_base.specs.LossyStep.{Cuts};
 ghost use Rattle.world_base.specs.Step.{cuts};
-ghost use Rattle.world_base.specs.Turns.{handled_all, drives, has_room, heard, proposes, performed_by};
+ghost use Rattle.world_base.specs.Effects.{handled_all, drives, has_room, heard, proposes, performed_by};
 
 use crate::stepping_node::SteppingNode;
 use ballot::{Effect, Message};

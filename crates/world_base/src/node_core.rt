@@ -13,7 +13,7 @@ ghost use Rattle.world_base.specs.Step.{next_name};
 ghost use Rattle.ballot.specs.lists.Lists.{IsPrefixOf};
 ghost use Rattle.world_base.specs.Handing.{answer_of, bytes_of, hands_over, idle_ports, listed_at};
 ghost use Rattle.node_connections.specs.Stands.{standing_of};
-ghost use Rattle.world_base.specs.Turns.{has_room};
+ghost use Rattle.world_base.specs.Effects.{has_room};
 ghost use Rattle.world_base.specs.Losses.{DoesNothing, NodeStepped};
 
 use crate::item::Item;

@@ -14,7 +14,7 @@ ghost use Rattle.world_base.specs.KeepAlive.{lowest_silent};
 ghost use Rattle.node_connections.specs.packet.Spelling.{spelling};
 ghost use Rattle.world_base.specs.Reading.{changes, open_at, refused, unread_of};
 ghost use Rattle.world_base.specs.Step.{accepted, accepts, next_name, opens, settled};
-ghost use Rattle.world_base.specs.Turns.{changes_named, has_room};
+ghost use Rattle.world_base.specs.Effects.{changes_named, has_room};
 
 use ballot::{Config, MAX_NODE, MAX_PLACES, OpeningError, Replica, Status};
 use broker::BrokerMachine;

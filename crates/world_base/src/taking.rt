@@ -16,7 +16,7 @@ ghost use Rattle.world_base.specs.Failing.{loses_all_failed, loses_failed};
 ghost use Rattle.world_base.specs.KeepAlive.{ends_all_silent};
 ghost use Rattle.world_base.specs.Reading.{connects, takes_first_packet, changes, ends, open_at, reads_all, reads_next, proposes_packet};
 ghost use Rattle.world_base.specs.Step.{acts_on, does_item};
-ghost use Rattle.world_base.specs.Turns.{proposes, without_messages};
+ghost use Rattle.world_base.specs.Effects.{proposes, without_messages};
 
 use crate::item::Item;
 use crate::stepping_node::SteppingNode;

@@ -2,7 +2,7 @@
 use Rattle.std.specs.Prelude.{ℕ, zero, suc, Bool, false, not, if◌then◌else◌, List, Option, Some, None, slice_get}
 use Rattle.master.specs.ballot.Cutting.{can_cut}
 use Rattle.byte_world.specs.world_base.Core.{CountedCore}
-use Rattle.byte_world.specs.world_base.Turns.{has_room}
+use Rattle.byte_world.specs.world_base.Effects.{has_room}
 
 -- the node, if it has not stopped
 abbrev pub unless_stopped : Option CountedCore → Option CountedCore

@@ -4,7 +4,7 @@ use Rattle.world_base.specs.KeepAlive.{ends_silent}
 use Rattle.world_base.specs.Lossy.{Repeated}
 use Rattle.world_base.specs.LossyStep.{EndsAllSilent}
 use Rattle.world_base.specs.LossyReading.{EndsSilent}
-use Rattle.world_base.specs.Turns.{repeated}
+use Rattle.world_base.specs.Effects.{repeated}
 use Rattle.world_base.proofs.Accounts.{ran_as, ran_enough, ran_more, ran_none}
 use Rattle.world_base.proofs.EndsRun.{idle_silent, ran_silent}
 use Rattle.world_base.proofs.Repeats.{repeats_none, repeats_more, repeats_enough}

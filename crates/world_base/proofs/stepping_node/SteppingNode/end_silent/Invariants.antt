@@ -2,7 +2,7 @@ use Rattle.world_base.specs.Inside.{Ran, DoesOutcome}
 use Rattle.world_base.specs.KeepAlive.{ends_silent}
 use Rattle.world_base.specs.Lossy.{Repeated}
 use Rattle.world_base.specs.LossyReading.{EndsSilent}
-use Rattle.world_base.specs.Turns.{repeated}
+use Rattle.world_base.specs.Effects.{repeated}
 use Rattle.world_base.proofs.stepping_node.SteppingNode.end_silent.Given as goal
 
 abbrev pub invariant-loop-connection : goal.invariant-loop-connection

@@ -1,7 +1,7 @@
 use Rattle.std.proofs.Common.{refl}
 use Rattle.world_base.proofs.Delivering.{delivered_none, delivered_push}
 use Rattle.world_base.proofs.Hearing.{ends_some}
-use Rattle.world_base.proofs.TurnsJoin.{turns_idle, turns_push}
+use Rattle.world_base.proofs.StepsJoin.{turns_idle, turns_push}
 use Rattle.world_base.proofs.stepping_node.SteppingNode.handle_all.Goals as goal
 
 pub loop-effect-init : goal.loop-effect-init

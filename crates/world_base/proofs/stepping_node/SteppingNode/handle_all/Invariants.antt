@@ -1,6 +1,6 @@
 use Rattle.std.proofs.Common.{◌≡◌, []}
 use Rattle.world_base.specs.Inside.{HandledAll, DoesOutcome}
-use Rattle.world_base.specs.Turns.{handled_all}
+use Rattle.world_base.specs.Effects.{handled_all}
 use Rattle.world_base.proofs.stepping_node.SteppingNode.handle_all.Given as goal
 
 abbrev pub invariant-loop-effect : goal.invariant-loop-effect

@@ -4,7 +4,7 @@ use Rattle.world_base.specs.Lossy.{Repeated}
 use Rattle.world_base.specs.LossyStep.{ReadsPackets}
 use Rattle.world_base.specs.LossyReading.{ReadsNext}
 use Rattle.world_base.specs.Reading.{open_at, reads_next, unread_of}
-use Rattle.world_base.specs.Turns.{repeated}
+use Rattle.world_base.specs.Effects.{repeated}
 use Rattle.world_base.proofs.Accounts.{ran_as, ran_enough, ran_more, ran_none}
 use Rattle.world_base.proofs.Repeats.{repeats_none, repeats_more, repeats_enough}
 use Rattle.world_base.proofs.stepping_node.SteppingNode.read.Goals as goal

@@ -2,7 +2,7 @@ use Rattle.world_base.specs.Inside.{Ran, DoesOutcome}
 use Rattle.world_base.specs.Reading.{reads_next}
 use Rattle.world_base.specs.Lossy.{Repeated}
 use Rattle.world_base.specs.LossyReading.{ReadsNext}
-use Rattle.world_base.specs.Turns.{repeated}
+use Rattle.world_base.specs.Effects.{repeated}
 use Rattle.world_base.proofs.stepping_node.SteppingNode.read.Given as goal
 
 abbrev pub invariant-loop-packet : goal.invariant-loop-packet

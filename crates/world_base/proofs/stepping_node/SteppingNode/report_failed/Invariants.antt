@@ -5,7 +5,7 @@ use Rattle.world_base.specs.Failing.{loses_failed}
 use Rattle.world_base.specs.Inside.{Ran, DoesOutcome}
 use Rattle.world_base.specs.Lossy.{Repeated}
 use Rattle.world_base.specs.LossyReading.{LosesFailed}
-use Rattle.world_base.specs.Turns.{repeated}
+use Rattle.world_base.specs.Effects.{repeated}
 use Rattle.world_base.proofs.stepping_node.SteppingNode.report_failed.Given as goal
 
 abbrev pub invariant-loop-connection : goal.invariant-loop-connection

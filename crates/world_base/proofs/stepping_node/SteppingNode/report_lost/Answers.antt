@@ -1,6 +1,6 @@
 use Rattle.std.proofs.Common.{sym, ◌∙◌}
 use Rattle.world_base.proofs.EndsRun.{ran_tells, ran_tells_not}
-use Rattle.world_base.proofs.TurnsJoin.{turns_idle}
+use Rattle.world_base.proofs.StepsJoin.{turns_idle}
 use Rattle.world_base.proofs.stepping_node.SteppingNode.report_lost.Goals as goal
 
 pub returns-then-is_proposed-clause-exact : goal.returns-then-is_proposed-clause-exact

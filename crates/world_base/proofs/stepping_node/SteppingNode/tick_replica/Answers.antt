@@ -1,7 +1,7 @@
 use Rattle.std.proofs.Common.{subst}
 use Rattle.ballot.specs.Protocol.Input.{Ticks}
 use Rattle.world_base.specs.Inside.{StepsReplicaOrLoses, Running}
-use Rattle.world_base.specs.Turns.{heard}
+use Rattle.world_base.specs.Effects.{heard}
 use Rattle.world_base.proofs.Answering.{acts_kept}
 use Rattle.world_base.proofs.stepping_node.SteppingNode.tick_replica.Goals as goal
 

@@ -1,4 +1,4 @@
--- TurnsJoin.antt: two things that a node does, one after another, are done as one.
+-- StepsJoin.antt: two things that a node does, one after another, are done as one.
 use Rattle.std.proofs.Common.{◌≡◌, true, false, List, [], ◌∷◌, ◌++◌, append_assoc, refl, sym, ap, subst, ◌∙◌}
 use Rattle.std.specs.List.{fold, filter}
 use Rattle.std.proofs.lemmas.List.{append-nil}
@@ -9,7 +9,7 @@ use Rattle.node_connections.specs.broker_spec.declared.command.Output.{Output}
 use Rattle.ballot.specs.Effect.{Effect}
 use Rattle.world_base.specs.Core.{CoreState, StepOutcome}
 use Rattle.world_base.specs.Inside.{Running, DoesExactly, DoesOutcome}
-use Rattle.world_base.specs.Turns.{without_messages, then_also, handled_all, handled, is_message}
+use Rattle.world_base.specs.Effects.{without_messages, then_also, handled_all, handled, is_message}
 
 -- nothing was done
 pub turns_idle : (r : Running) (out : List (Effect Command Output)) → DoesOutcome r r out out (without_messages r.core)
