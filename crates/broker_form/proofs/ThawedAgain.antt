@@ -13,7 +13,8 @@ use Rattle.packet_base.proofs.FieldsFound.{Splits, Splits-then, Splits-all, byte
 use Rattle.packet.specs.ClientId.{is_client}
 use Rattle.broker_spec.specs.retained.declared.retained_publication.RetainedPublication.{RetainedPublication}
 use Rattle.session_base.specs.Counted.{counted, counted_at}
-use Rattle.session_base.specs.Form.{long_number, long_number_at, flag_at, qos_at, state_bytes, state_at}
+use Rattle.session_base.specs.Form.{long_number, long_number_at, flag_at, qos_at, state_bytes}
+use Rattle.session_base.specs.SessionForm.{state_at}
 use Rattle.session_base.proofs.Found.{weaker}
 use Rattle.session_base.proofs.Spelled.{IsSpelled, flag_byte, qos_byte, flag_spelled, qos_spelled, long_spelled, payload_spelled, number_spelled, counted_spelled, state_spelled}
 use Rattle.broker_spec.specs.Connection.{ConnectionName, is_connection_name}

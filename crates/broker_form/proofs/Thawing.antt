@@ -16,7 +16,8 @@ use Rattle.packet.specs.Spelling.{max_body}
 use Rattle.broker_spec.specs.retained.declared.retained_publication.RetainedPublication.{RetainedPublication}
 use Rattle.broker_spec.specs.retained.Retained.{RetainedTopics}
 use Rattle.session_base.specs.Counted.{counted, counted_at}
-use Rattle.session_base.specs.Form.{flag_at, qos_at, long_number_at, body_length, state_at}
+use Rattle.session_base.specs.Form.{flag_at, qos_at, long_number_at, body_length}
+use Rattle.session_base.specs.SessionForm.{state_at}
 use Rattle.session_base.specs.FormLaws.{HasForm, FitsIn}
 use Rattle.session_base.proofs.Counted.{AllFollow, IsReadAgain, counted_again}
 use Rattle.session_base.proofs.Found.{IsFound, AreRead, counted_found}

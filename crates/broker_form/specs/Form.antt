@@ -10,7 +10,8 @@ use Rattle.packet.specs.Spelling.{max_body}
 use Rattle.broker_spec.specs.retained.declared.retained_publication.RetainedPublication.{RetainedPublication}
 use Rattle.broker_spec.specs.retained.Retained.{max_topics}
 use Rattle.session_base.specs.Counted.{check_form, counted_at}
-use Rattle.session_base.specs.Form.{long_number_at, flag_at, qos_at, body_length, state_at}
+use Rattle.session_base.specs.Form.{long_number_at, flag_at, qos_at, body_length}
+use Rattle.session_base.specs.SessionForm.{state_at}
 use Rattle.broker_spec.specs.Connection.{ConnectionName, is_connection_name}
 use Rattle.broker_spec.specs.Place.{Client}
 use Rattle.broker_spec.specs.Commands.{max_sessions}

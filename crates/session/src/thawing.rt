@@ -7,7 +7,8 @@ ghost use Rattle.session_base.specs.packet_base.Outcome.{Gives, Reads};
 ghost use Rattle.session_base.specs.packet_base.Reading.{byte_at, number_at, id_at};
 ghost use Rattle.session_base.specs.Counted.{counted_at, items_after, last_of, AddsItem};
 ghost use Rattle.session_base.specs.Form.{is_new_filter, granted_filter_at, is_above, may_follow, flight_at};
-ghost use Rattle.session_base.specs.Form.{anything, was_released, waiting_at, state_at};
+ghost use Rattle.session_base.specs.Form.{anything, was_released, waiting_at};
+ghost use Rattle.session_base.specs.SessionForm.{state_at};
 ghost use Rattle.session_base.specs.Identifiers.{max_id};
 ghost use Rattle.session_base.specs.lists.Lists.{has_id};
 ghost use Rattle.session_base.specs.Queue.{ids_of};
@@ -120,7 +121,7 @@ impl Session {
     /// the reading. This is a filter or an identifier that occurs twice, a part out of its range, a
     /// 65th subscription, more in flight than the window, or a 4,097th entry. `Memory` if memory
     /// runs out.
-    #[tactic(auto, unfolding(session_base::specs::Form::state_at))]
+    #[tactic(auto, unfolding(session_base::specs::SessionForm::state_at))]
     pub fn read(alloc: Global, window: usize, reader: &mut Reader) -> Result<Session, Stop>
         requires { window ≤ MAX_ENTRIES }
         ensures { Reads (λ x. x) result reader.new (state_at window reader.old) }

@@ -11,7 +11,8 @@ use Rattle.packet_base.specs.Reading.{byte_at, number_at, id_at}
 use Rattle.packet_base.proofs.FieldsAgain.{number_again, id_again}
 use Rattle.session_base.specs.InRange.{IsGrantedFilter, IsInFlight, IsWaiting}
 use Rattle.session_base.specs.Counted.{counted}
-use Rattle.session_base.specs.Form.{one_byte, granted_filter_bytes, flight_bytes, publication_bytes, granted_filter_at, flight_at, waiting_at, is_new_filter, is_above, may_follow, anything, state_at}
+use Rattle.session_base.specs.Form.{one_byte, granted_filter_bytes, flight_bytes, publication_bytes, granted_filter_at, flight_at, waiting_at, is_new_filter, is_above, may_follow, anything}
+use Rattle.session_base.specs.SessionForm.{state_at}
 use Rattle.session_base.specs.FormLaws.{FrozenIsRead}
 use Rattle.session_base.proofs.Counted.{IsReadAgain, counted_again}
 use Rattle.session_base.proofs.Fields.{held_again, flight_again, waiting_again}

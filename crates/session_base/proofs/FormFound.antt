@@ -6,7 +6,8 @@ use Rattle.packet_base.proofs.Steps.{then_if}
 use Rattle.session_base.specs.Session.{SessionState}
 use Rattle.session_base.specs.InRange.{IsGrantedFilter, IsInFlight, IsWaiting}
 use Rattle.session_base.specs.Counted.{counted_at}
-use Rattle.session_base.specs.Form.{granted_filter_at, flight_at, waiting_at, is_new_filter, is_above, may_follow, anything, state_at}
+use Rattle.session_base.specs.Form.{granted_filter_at, flight_at, waiting_at, is_new_filter, is_above, may_follow, anything}
+use Rattle.session_base.specs.SessionForm.{state_at}
 use Rattle.session_base.specs.FormLaws.{HasForm, FitsIn, ReadHasForm}
 use Rattle.session_base.proofs.Found.{AreRead, counted_found}
 use Rattle.session_base.proofs.FieldsFound.{a_byte, a_number, an_id, a_held_one, a_flight, a_waiting_one}

@@ -20,7 +20,8 @@ use Rattle.session_base.specs.declared.awaits.Awaits.TheVariants as waits_for
 use Rattle.session_base.specs.Publication.{is_answered, is_acknowledged}
 use Rattle.session_base.specs.Session.{SessionState}
 use Rattle.session_base.specs.Counted.{counted, counted_at, items_after}
-use Rattle.session_base.specs.Form.{long_number, one_byte, publication_bytes, granted_filter_bytes, awaits_bytes, flight_bytes, state_bytes, flag_at, long_number_at, qos_at, body_length, sized, publication_at, granted_filter_at, waiting_at, sent_at, awaits_at, flight_at, is_new_filter, is_above, may_follow, anything, state_at}
+use Rattle.session_base.specs.Form.{long_number, one_byte, publication_bytes, granted_filter_bytes, awaits_bytes, flight_bytes, state_bytes, flag_at, long_number_at, qos_at, body_length, sized, publication_at, granted_filter_at, waiting_at, sent_at, awaits_at, flight_at, is_new_filter, is_above, may_follow, anything}
+use Rattle.session_base.specs.SessionForm.{state_at}
 use Rattle.session_base.specs.FormLaws.{ReadIsFrozen}
 use Rattle.session_base.proofs.Found.{weaker}
 

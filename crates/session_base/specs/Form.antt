@@ -1,10 +1,10 @@
 -- The session that is read from bytes. It is the same in both forms, except the window: how many
 -- entries are in flight at most.
-use Rattle.std.specs.Prelude.{ℕ, ◌+◌, ◌-◌, Bool, not, ◌==◌, nat_lt, nat_le, if◌then◌else◌, List}
+use Rattle.std.specs.Prelude.{ℕ, ◌+◌, Bool, not, ◌==◌, nat_lt, nat_le, if◌then◌else◌, List}
 use Rattle.std.specs.Prelude.{length, Result, Ok}
 use Rattle.std.specs.Int.{w32, from_be_bytes}
 use Rattle.packet_base.specs.declared.stop.Stop.{Stop}
-use Rattle.packet_base.specs.Reading.{◌>>=◌, ◌>>◌, byte_at, front_at, number_at, id_at}
+use Rattle.packet_base.specs.Reading.{◌>>=◌, ◌>>◌, byte_at, front_at, id_at}
 use Rattle.packet_base.specs.TopicFields.{topic_at, filter_at}
 use Rattle.packet.specs.QoS.{qos_of}
 use Rattle.packet.specs.declared.qos.QoS.{QoS}
@@ -14,10 +14,8 @@ use Rattle.session_base.specs.declared.awaits.Awaits.{Awaits}
 use Rattle.session_base.specs.declared.awaits.Awaits.TheVariants as waits_for
 use Rattle.session_base.specs.Publication.{is_answered, is_acknowledged}
 use Rattle.session_base.specs.Subscriptions.{GrantedFilter}
-use Rattle.session_base.specs.Identifiers.{max_id}
 use Rattle.session_base.specs.Queue.{Flight}
-use Rattle.session_base.specs.Session.{SessionState, max_entries, max_subscriptions}
-use Rattle.session_base.specs.Counted.{check_form, counted_at}
+use Rattle.session_base.specs.Counted.{check_form}
 pub use Rattle.session_base.specs.Writing.{long_number, one_byte, publication_bytes, granted_filter_bytes}
 pub use Rattle.session_base.specs.Writing.{awaits_bytes, flight_bytes, state_bytes, HasLength, IsWritable}
 pub use Rattle.session_base.specs.Follows.{is_new_filter, is_over, is_above, was_released}
@@ -99,22 +97,3 @@ flight_at bytes = do
   id ← id_at bytes
   awaits ← awaits_at id.1
   Ok ((id.0, awaits.0), awaits.1)
-
--- ---- a session
-
--- at most 64 subscriptions, no more entries in flight than this window, and 4,096 entries in flight
--- and waiting
-unfoldable pub state_at : ℕ → List ℕ → Result (SessionState × List ℕ) Stop
-state_at window bytes = do
-  subscriptions ← counted_at byte_at is_new_filter granted_filter_at max_subscriptions bytes
-  received ← counted_at number_at is_above id_at max_id subscriptions.1
-  in_flight ← counted_at number_at may_follow flight_at window received.1
-  waiting ← counted_at number_at anything waiting_at (max_entries - length in_flight.0) in_flight.1
-  Ok (
-    record {
-      subscriptions = subscriptions.0;
-      received = received.0;
-      queue = record { in_flight = in_flight.0; waiting = waiting.0 };
-    },
-    waiting.1,
-  )

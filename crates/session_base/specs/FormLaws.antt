@@ -11,7 +11,8 @@ use Rattle.session_base.specs.OrderLaws.{IsReleasedFirst}
 use Rattle.session_base.specs.Queue.{ids_of}
 use Rattle.session_base.specs.Session.{SessionState, max_entries, max_subscriptions}
 use Rattle.session_base.specs.InRange.{IsGrantedFilter, IsQueue}
-use Rattle.session_base.specs.Form.{state_bytes, state_at}
+use Rattle.session_base.specs.Form.{state_bytes}
+use Rattle.session_base.specs.SessionForm.{state_at}
 
 -- a session that has a form: each filter once, received identifiers rising, those in flight
 -- distinct, the released entries first, no more of each than it may hold, and each in its range

@@ -13,6 +13,7 @@ pub mod Counted
 pub mod Writing
 pub mod Follows
 pub mod Form
+pub mod SessionForm
 pub mod FormLaws
 pub mod FormRows
 pub use Rattle.lists.specs as lists
