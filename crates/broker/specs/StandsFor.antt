@@ -1,7 +1,7 @@
 -- What a command does to a broker, and which list of commands its state corresponds to.
 use Rattle.std.specs.Prelude.{◌≡◌, ℕ, List, [], ◌∷◌, ◌++◌, Some}
 use Rattle.broker_tables.specs.machine.Machine.{Rules}
-use Rattle.broker_tables.specs.broker_spec.Answers.{answers_of}
+use Rattle.broker_tables.specs.broker_spec.AnswersInOrder.{answers_of}
 use Rattle.broker_tables.specs.broker_spec.Commands.{past_of, limits_from, usual_limits}
 use Rattle.broker_tables.specs.broker_spec.Window.{narrow_window, wide_window}
 use Rattle.broker_tables.specs.broker_spec.declared.command.Command.{Command}

@@ -5,7 +5,8 @@ use Rattle.broker_spec.specs.Connection.{ConnectionName}
 use Rattle.broker_spec.specs.Place.{Client, Mark, Place, Past, Limits, only_if}
 use Rattle.broker_spec.specs.Past.{session_of, is_beginning, begins_session}
 use Rattle.broker_spec.specs.Times.{window_at}
-use Rattle.broker_spec.specs.Answers.{closed, welcome, connect_answers, answers_by, answers_at}
+use Rattle.broker_spec.specs.Answers.{closed, welcome, connect_answers, answers_by}
+use Rattle.broker_spec.specs.AnswersInOrder.{answers_at}
 use Rattle.broker_base.specs.ClientSession.{ClientSession, client_session}
 use Rattle.broker_base.specs.State.{state_of}
 use Rattle.broker_base.specs.Step.{IsWindow}

@@ -8,7 +8,7 @@ use Rattle.broker_spec.specs.Received.{received_of}
 use Rattle.broker_spec.specs.Retained.{retained_publications}
 use Rattle.broker_spec.specs.Times.{window_at, entries_of}
 use Rattle.broker_spec.specs.Commands.{place_of, past_from, is_start, limits_from, usual_limits}
-use Rattle.broker_spec.specs.Answers.{answers_at, answers_of, answers_from}
+use Rattle.broker_spec.specs.AnswersInOrder.{answers_at, answers_of, answers_from}
 use Rattle.broker_base.specs.ClientSession.{ClientSession, client_session}
 use Rattle.broker_base.specs.SessionStep.{kept_after}
 use Rattle.broker_base.specs.State.{State, empty_state, state_of}

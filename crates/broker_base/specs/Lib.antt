@@ -9,6 +9,7 @@ pub mod ClientSession
 pub mod SessionStep
 pub use Rattle.broker_spec.specs.AnswerLaws
 pub use Rattle.broker_spec.specs.Answers
+pub use Rattle.broker_spec.specs.AnswersInOrder
 pub use Rattle.broker_spec.specs.Commands
 pub use Rattle.broker_spec.specs.Connection
 pub use Rattle.broker_spec.specs.EndingLaws
@@ -21,6 +22,7 @@ pub use Rattle.broker_spec.specs.RoomRows
 pub use Rattle.broker_spec.specs.Logged
 pub use Rattle.broker_spec.specs.Marks
 pub use Rattle.broker_spec.specs.MoreRows
+pub use Rattle.broker_spec.specs.WindowRows
 pub use Rattle.broker_spec.specs.OriginLaws
 pub use Rattle.broker_spec.specs.Owner
 pub use Rattle.broker_spec.specs.Past

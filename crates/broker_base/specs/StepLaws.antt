@@ -8,7 +8,7 @@ use Rattle.broker_spec.specs.Times.{window_at}
 use Rattle.broker_spec.specs.Marks.{mark_of}
 use Rattle.broker_spec.specs.Commands.{place_of, past_of, limits_from, usual_limits}
 use Rattle.broker_spec.specs.Window.{wide_window}
-use Rattle.broker_spec.specs.Answers.{answers_of, answers_from}
+use Rattle.broker_spec.specs.AnswersInOrder.{answers_of, answers_from}
 use Rattle.broker_base.specs.ClientSession.{ClientSession, client_session}
 use Rattle.broker_base.specs.SessionStep.{kept_after}
 use Rattle.broker_base.specs.State.{empty_state, state_of, session_in}

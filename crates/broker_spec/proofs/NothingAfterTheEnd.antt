@@ -7,7 +7,7 @@ use Rattle.broker_spec.specs.Connection.{ConnectionName}
 use Rattle.broker_spec.specs.Place.{Client, Mark, Place, Past, Limits, only_if, same_client}
 use Rattle.broker_spec.specs.Past.{accepts, ends, expels, ends_any, any_connection, newest_session, is_beginning, current_connection, session_of, session_start}
 use Rattle.broker_spec.specs.Commands.{place_of}
-use Rattle.broker_spec.specs.Answers.{answers_at}
+use Rattle.broker_spec.specs.AnswersInOrder.{answers_at}
 use Rattle.broker_spec.specs.Laws.{KeepsConnection}
 use Rattle.broker_spec.specs.EndingLaws.{connects_of, EndsWithTheSession, NothingAfterTheEnd}
 use Rattle.broker_spec.specs.declared.command.Command.{Command}

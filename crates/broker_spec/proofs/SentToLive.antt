@@ -14,7 +14,8 @@ use Rattle.broker_spec.specs.Marks.{mark_of, packet_mark_of}
 use Rattle.broker_spec.specs.Times.{entries_of}
 use Rattle.broker_spec.specs.Commands.{place_of}
 use Rattle.broker_spec.specs.Sends.{resent}
-use Rattle.broker_spec.specs.Answers.{closed, welcome, packet_answers, connect_answers, answers_of}
+use Rattle.broker_spec.specs.Answers.{closed, welcome, packet_answers, connect_answers}
+use Rattle.broker_spec.specs.AnswersInOrder.{answers_of}
 use Rattle.broker_spec.specs.AnswerLaws.{IsAddressed}
 use Rattle.broker_spec.specs.declared.command.Command.{Command}
 use Rattle.broker_spec.specs.declared.command.Command.TheVariants as commands

@@ -19,7 +19,6 @@ use Rattle.retained.specs.lists.Lists.{has_id}
 use Rattle.broker_spec.specs.Readings.{released_below}
 use Rattle.broker_spec.specs.Times.{entries_of}
 use Rattle.broker_spec.specs.Sends.{all_started, resent, deliveries_to}
-use Rattle.broker_spec.specs.Commands.{place_of}
 use Rattle.broker_spec.specs.declared.command.Command.{Command}
 use Rattle.broker_spec.specs.declared.command.Command.TheVariants as commands
 use Rattle.broker_spec.specs.declared.command.Output.{Output}
@@ -103,18 +102,3 @@ answers_by limits place past (commands.Connect x c clean) mark =
 answers_by limits place past (commands.Lost x) mark = []
 answers_by limits place past (commands.Start ballot) mark = []
 answers_by limits place past (commands.Expel c) mark = closed (current_connection past c)
-
--- the answers at a place
-abbrev pub answers_at : Limits → Place → Past → List Output
-answers_at limits place past = answers_by limits place past place.command place.mark
-
--- the answers to a command after these places
-abbrev pub answers_of : Limits → Past → Command → List Output
-answers_of limits past command = answers_at limits (place_of limits past command) past
-
--- the answers to more commands, oldest first, place by place
-unfoldable pub answers_from : Limits → Past → List Command → List (List Output)
-answers_from limits past (command ∷ commands) =
-    answers_of limits past command
-    ∷ answers_from limits (place_of limits past command ∷ past) commands
-answers_from limits past [] = []

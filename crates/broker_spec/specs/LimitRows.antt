@@ -11,7 +11,7 @@ use Rattle.broker_spec.specs.Place.{Past}
 use Rattle.broker_spec.specs.Commands.{limits_with, usual_limits}
 use Rattle.broker_spec.specs.Connection.{is_connection_name}
 use Rattle.broker_spec.specs.RowWords.{AreAnswered, a, b, nth, connect, gets, sends, connack, small}
-use Rattle.broker_spec.specs.RowWords.{publish_on, asks, asked_at, published_on}
+use Rattle.broker_spec.specs.TopicRowWords.{publish_on, asks, asked_at, published_on}
 use Rattle.broker_spec.specs.declared.command.Command.{Command}
 use Rattle.broker_spec.specs.declared.command.Command.TheVariants as commands
 use Rattle.broker_spec.specs.declared.command.Output.TheVariants.{Close}

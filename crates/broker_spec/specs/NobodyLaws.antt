@@ -10,7 +10,7 @@ use Rattle.broker_spec.specs.Received.{received_of}
 use Rattle.broker_spec.specs.Retained.{retained_publications}
 use Rattle.broker_spec.specs.Times.{entries_of, window_at}
 use Rattle.broker_spec.specs.Commands.{place_of, is_start, usual_limits, limits_from}
-use Rattle.broker_spec.specs.Answers.{answers_of}
+use Rattle.broker_spec.specs.AnswersInOrder.{answers_of}
 use Rattle.broker_spec.specs.declared.command.Command.TheVariants as commands
 
 -- the window changes only at a new ballot

@@ -1,15 +1,14 @@
 -- Worked examples: at which QoS a publication is delivered and retained, with which identifier, and
 -- with which DUP flag (MQTT 3.3.1, 3.3.5, 3.8.4, 4.3, 4.4).
-use Rattle.std.specs.Prelude.{ℕ, Bool, true, false, List, [], ◌∷◌, ◌++◌, codes}
+use Rattle.std.specs.Prelude.{true, false, List, [], ◌∷◌, ◌++◌, codes}
 use Rattle.retained.specs.packet.declared.qos.QoS.{QoS}
 use Rattle.retained.specs.packet.declared.qos.QoS.TheVariants as qualities
 use Rattle.retained.specs.packet.declared.delivery.Delivery.{Delivery}
 use Rattle.retained.specs.packet.declared.delivery.Delivery.TheVariants as deliveries
 use Rattle.retained.specs.packet.declared.packet.Packet.TheVariants as packets
 use Rattle.broker_spec.specs.Commands.{usual_limits}
-use Rattle.broker_spec.specs.RowWords.{AreAnswered, a, b, nth, connect, gets, sends, connack, publish}
-use Rattle.broker_spec.specs.RowWords.{subscribe, suback, subscribed_at}
-use Rattle.broker_spec.specs.declared.command.Command.{Command}
+use Rattle.broker_spec.specs.RowWords.{AreAnswered, b, nth, connect, gets, sends, connack, publish}
+use Rattle.broker_spec.specs.RowWords.{subscribe, subscribed_at}
 use Rattle.broker_spec.specs.declared.command.Output.{Output}
 use Rattle.broker_spec.specs.declared.command.Output.TheVariants.{Close}
 
@@ -44,50 +43,6 @@ LowerQosIsDelivered =
     (sends 2 (packets.Puback 7) ∷ to_b (deliveries.AtLeastOnce false 1) ∷ [])
     × IsDeliveredAs qualities.ExactlyOnce (deliveries.ExactlyOnce false 8)
     (sends 2 (packets.Pubrec 8) ∷ to_b (deliveries.ExactlyOnce false 1) ∷ [])
-
--- ---- what is retained (MQTT 3.3.1.3)
-
--- a sends these; then b subscribes to t/# at this QoS, and is sent this after SUBACK
-abbrev pub Retains : List Command → QoS → List Output → Type 0
-Retains sent asked answers =
-    AreAnswered usual_limits (connect 2 a ∷ sent ++ connect 1 b ∷ [])
-    (gets 1 (subscribe 3 asked) ∷ [])
-    ((sends 1 (suback 3 asked) ∷ answers) ∷ [])
-
--- a sends a payload on connection 2
-abbrev pub sent_by_a : Delivery → Bool → List ℕ → Command
-sent_by_a delivery retain payload = gets 2 (publish delivery retain payload)
-
--- to b, with RETAIN 1
-abbrev pub retained_to_b : Delivery → List ℕ → List Output
-retained_to_b delivery payload = sends 1 (publish delivery true payload) ∷ []
-
--- a retained publication keeps its own QoS, 0 included, and is sent at the lower of that and the
--- QoS that is asked for
-abbrev pub RetainedAtTheLowerQos : Type 0
-RetainedAtTheLowerQos =
-    Retains (sent_by_a (deliveries.ExactlyOnce false 1) true (codes "x") ∷ []) qualities.AtLeastOnce
-    (retained_to_b (deliveries.AtLeastOnce false 1) (codes "x"))
-    × Retains (sent_by_a (deliveries.AtLeastOnce false 1) true (codes "x") ∷ [])
-    qualities.ExactlyOnce (retained_to_b (deliveries.AtLeastOnce false 1) (codes "x"))
-    × Retains (sent_by_a deliveries.AtMostOnce true (codes "x") ∷ []) qualities.ExactlyOnce
-    (retained_to_b deliveries.AtMostOnce (codes "x"))
-    × Retains (sent_by_a (deliveries.ExactlyOnce false 1) true (codes "x") ∷ [])
-    qualities.AtMostOnce (retained_to_b deliveries.AtMostOnce (codes "x"))
-
--- the last publication with RETAIN 1 is retained, none with RETAIN 0; an empty payload removes it
-abbrev pub LastIsRetained : Type 0
-LastIsRetained =
-    Retains (sent_by_a deliveries.AtMostOnce false (codes "x") ∷ []) qualities.AtMostOnce []
-    × Retains (sent_by_a deliveries.AtMostOnce true (codes "x")
-    ∷ sent_by_a deliveries.AtMostOnce false (codes "y") ∷ [])
-    qualities.AtMostOnce (retained_to_b deliveries.AtMostOnce (codes "x"))
-    × Retains (sent_by_a deliveries.AtMostOnce true (codes "x")
-    ∷ sent_by_a deliveries.AtMostOnce true (codes "y") ∷ [])
-    qualities.AtMostOnce (retained_to_b deliveries.AtMostOnce (codes "y"))
-    × Retains (sent_by_a deliveries.AtMostOnce true (codes "x")
-    ∷ sent_by_a deliveries.AtMostOnce true [] ∷ [])
-    qualities.AtMostOnce []
 
 -- ---- resending (MQTT 3.3.1.1, 4.4)
 

@@ -4,8 +4,9 @@ use Rattle.retained.specs.packet.declared.qos.QoS.TheVariants as qualities
 use Rattle.retained.specs.packet.declared.delivery.Delivery.TheVariants as deliveries
 use Rattle.retained.specs.packet.declared.suback.SubackCode.TheVariants as return_codes
 use Rattle.retained.specs.packet.declared.packet.Packet.TheVariants as packets
-use Rattle.broker_spec.specs.RowWords.{AreAnswered, a, b, connect, gets, sends, small, publish_on, asks}
-use Rattle.broker_spec.specs.RowWords.{asked_at, published_on}
+use Rattle.broker_spec.specs.RowWords.{AreAnswered, a, b, connect, gets, sends, small}
+use Rattle.broker_spec.specs.TopicRowWords.{publish_on, asks}
+use Rattle.broker_spec.specs.TopicRowWords.{asked_at, published_on}
 
 -- t/1 needs one entry and t/# two, so t/2 finds no room left; at QoS 0 it needs none
 abbrev pub RoomIsLessWhatEarlierFiltersNeed : Type 0

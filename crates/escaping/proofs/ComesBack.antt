@@ -4,7 +4,8 @@ use Rattle.std.specs.Prelude.{◌==◌, flat_map, is_some, nat_lt}
 use Rattle.packet_world.specs.lists.Lists.{Each}
 use Rattle.packet_world.proofs.of_lists.OfEach.{each_append}
 use Rattle.packet_world.specs.packet.declared.packet.Packet.TheVariants as packets
-use Rattle.packet_world.specs.broker_spec.Answers.{answers_of, closed, connect_answers, welcome}
+use Rattle.packet_world.specs.broker_spec.Answers.{closed, connect_answers, welcome}
+use Rattle.packet_world.specs.broker_spec.AnswersInOrder.{answers_of}
 use Rattle.node_moves.specs.ballot.Machine.{replay}
 use Rattle.packet_world.specs.broker_spec.declared.command.Command.{Command}
 use Rattle.packet_world.specs.broker_spec.declared.command.Command.TheVariants as commands

@@ -1,7 +1,8 @@
 -- Who is welcomed back after the start of a ballot has a session that was kept.
 use Rattle.std.proofs.Common.{◌≡◌, ℕ, Bool, true, false, ◌||◌, if◌then◌else◌, not, List, ◌∷◌, ◌++◌, length, Option, Some, None, refl, sym, ap, ◌∙◌}
 use Rattle.std.specs.Prelude.{is_some, nat_lt}
-use Rattle.escaping.specs.broker_spec.Answers.{answers_of, closed, connect_answers, welcome}
+use Rattle.escaping.specs.broker_spec.Answers.{closed, connect_answers, welcome}
+use Rattle.escaping.specs.broker_spec.AnswersInOrder.{answers_of}
 use Rattle.escaping.specs.broker_spec.declared.command.Command.TheVariants as commands
 use Rattle.escaping.specs.broker_spec.Commands.{past_of, place_of, usual_limits}
 use Rattle.escaping.specs.broker_spec.Connection.{ConnectionName}

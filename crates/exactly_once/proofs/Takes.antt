@@ -15,7 +15,8 @@ use Rattle.broker_base.specs.broker_spec.Past.{current_connection, session_of}
 use Rattle.broker_base.specs.broker_spec.Owner.{clients}
 use Rattle.broker_base.specs.broker_spec.Received.{receives, received_of, is_exactly_once}
 use Rattle.broker_base.specs.broker_spec.Sends.{deliveries_to}
-use Rattle.broker_base.specs.broker_spec.Answers.{acknowledged, answers_at}
+use Rattle.broker_base.specs.broker_spec.Answers.{acknowledged}
+use Rattle.broker_base.specs.broker_spec.AnswersInOrder.{answers_at}
 use Rattle.broker_base.proofs.ClientsInOrder.{same_self}
 use Rattle.exactly_once.specs.Handshake.{Forward, Backward, Transit, Handshake, answer, taking, accepting}
 use Rattle.exactly_once.specs.Handshake.Advances.{takes}

@@ -13,7 +13,7 @@ use Rattle.broker_base.specs.broker_spec.Marks.{is_queued_at}
 use Rattle.broker_base.specs.broker_spec.Entries.{Entry}
 use Rattle.broker_base.specs.broker_spec.Readings.{publication_in}
 use Rattle.broker_base.specs.broker_spec.Times.{entries_of}
-use Rattle.broker_base.specs.broker_spec.Answers.{answers_at}
+use Rattle.broker_base.specs.broker_spec.AnswersInOrder.{answers_at}
 use Rattle.broker_base.specs.broker_spec.OriginLaws.{is_from_publish}
 use Rattle.broker_base.specs.broker_spec.EndingLaws.{StandsAt}
 use Rattle.broker_base.specs.broker_spec.TakenLaws.{queued_at}

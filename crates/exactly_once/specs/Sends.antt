@@ -3,7 +3,7 @@ use Rattle.std.specs.Prelude.{if◌then◌else◌, List, [], ◌∷◌, ◌++◌
 use Rattle.client_base.specs.packet.declared.packet.Packet.{Packet}
 use Rattle.broker_base.specs.broker_spec.Connection.{ConnectionName, same_connection}
 use Rattle.broker_base.specs.broker_spec.Place.{Past, Limits}
-use Rattle.broker_base.specs.broker_spec.Answers.{answers_at}
+use Rattle.broker_base.specs.broker_spec.AnswersInOrder.{answers_at}
 use Rattle.broker_base.specs.broker_spec.declared.command.Output.{Output}
 use Rattle.broker_base.specs.broker_spec.declared.command.Output.TheVariants.{Send, Close}
 

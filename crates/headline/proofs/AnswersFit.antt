@@ -4,7 +4,8 @@ use Rattle.std.specs.List.{AllByRecursion}
 use Rattle.byte_world.specs.lists.Lists.{Each}
 use Rattle.byte_world.proofs.of_lists.OfEach.{each_append}
 use Rattle.byte_world.specs.packet.Spelling.{IsPacket}
-use Rattle.byte_world.specs.broker_spec.Answers.{answers_from, answers_of, closed}
+use Rattle.byte_world.specs.broker_spec.Answers.{closed}
+use Rattle.byte_world.specs.broker_spec.AnswersInOrder.{answers_from, answers_of}
 use Rattle.byte_world.specs.broker_spec.declared.command.Command.{Command}
 use Rattle.byte_world.specs.broker_spec.declared.command.Command.TheVariants as commands
 use Rattle.byte_world.specs.broker_spec.Commands.{past_from, past_of, place_of, usual_limits}

@@ -8,7 +8,7 @@ use Rattle.byte_world.specs.packet.declared.packet.Packet.TheVariants as packets
 use Rattle.byte_world.specs.packet.declared.publish.Publish.{Publish}
 use Rattle.byte_world.specs.session_base.Publication.{publication_of}
 use Rattle.byte_world.specs.session_base.declared.publication.Publication.{Publication}
-use Rattle.byte_world.specs.broker_spec.Answers.{answers_at}
+use Rattle.byte_world.specs.broker_spec.AnswersInOrder.{answers_at}
 use Rattle.byte_world.specs.broker_spec.declared.command.Command.{Command}
 use Rattle.byte_world.specs.broker_spec.declared.command.Command.TheVariants as commands
 use Rattle.byte_world.specs.broker_spec.Commands.{usual_limits}

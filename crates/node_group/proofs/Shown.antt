@@ -6,7 +6,7 @@ use Rattle.packet_world.specs.packet.Spelling.{spelling}
 use Rattle.node_moves.specs.ballot.Effect.{Effect}
 use Rattle.node_moves.specs.ballot.Effect.TheVariants.{To, Out}
 use Rattle.node_moves.specs.ballot.Replica.{ReplicaState, is_active}
-use Rattle.packet_world.specs.broker_spec.Answers.{answers_of}
+use Rattle.packet_world.specs.broker_spec.AnswersInOrder.{answers_of}
 use Rattle.packet_world.specs.broker_spec.declared.command.Command.{Command}
 use Rattle.packet_world.specs.broker_spec.Commands.{past_of, usual_limits}
 use Rattle.packet_world.specs.broker_spec.Connection.{ConnectionName}

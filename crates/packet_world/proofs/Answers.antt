@@ -5,7 +5,7 @@ use Rattle.exactly_once.specs.packet.declared.packet.Packet.{Packet}
 use Rattle.exactly_once.specs.broker_spec.Connection.{ConnectionName, same_connection}
 use Rattle.exactly_once.specs.broker_spec.Place.{Past, Limits}
 use Rattle.exactly_once.specs.broker_spec.Commands.{place_of, past_from, past_of}
-use Rattle.exactly_once.specs.broker_spec.Answers.{answers_of}
+use Rattle.exactly_once.specs.broker_spec.AnswersInOrder.{answers_of}
 use Rattle.exactly_once.specs.broker_spec.declared.command.Command.{Command}
 use Rattle.exactly_once.specs.broker_spec.declared.command.Output.{Output}
 use Rattle.exactly_once.specs.broker_spec.declared.command.Output.TheVariants.{Send, Close}

@@ -2,7 +2,7 @@
 use Rattle.std.proofs.Common.{◌≡◌, ℕ, Bool, true, false, if◌then◌else◌, List, [], ◌∷◌, refl, ap, ◌∙◌}
 use Rattle.snapshots.specs.machine.Machine.{replay, replay_from}
 use Rattle.exactly_once.specs.broker_spec.Commands.{is_start, past_of, usual_limits}
-use Rattle.exactly_once.specs.broker_spec.Answers.{answers_of}
+use Rattle.exactly_once.specs.broker_spec.AnswersInOrder.{answers_of}
 use Rattle.exactly_once.specs.broker_spec.declared.command.Command.{Command}
 use Rattle.exactly_once.specs.broker_spec.declared.command.Output.{Output}
 use Rattle.exactly_once.specs.broker_base.State.{State, empty_state}

@@ -10,7 +10,7 @@ use Rattle.snapshots.specs.agreement.World.{outputs}
 use Rattle.snapshots.proofs.of_agreement.Given.Places.{between_joins, none_between}
 use Rattle.exactly_once.specs.broker_spec.Connection.{ConnectionName}
 use Rattle.exactly_once.specs.broker_spec.Commands.{past_of, usual_limits}
-use Rattle.exactly_once.specs.broker_spec.Answers.{answers_of}
+use Rattle.exactly_once.specs.broker_spec.AnswersInOrder.{answers_of}
 use Rattle.exactly_once.specs.broker_spec.declared.command.Command.{Command}
 use Rattle.exactly_once.specs.broker_spec.declared.command.Output.{Output}
 use Rattle.exactly_once.specs.broker_base.Step.{step}

@@ -16,7 +16,8 @@ use Rattle.broker_base.specs.broker_spec.Received.{is_new, is_exactly_once, is_r
 use Rattle.broker_base.specs.broker_spec.Owner.{clients}
 use Rattle.broker_base.specs.broker_spec.Marks.{is_refused, packet_mark_of}
 use Rattle.broker_base.specs.broker_spec.Sends.{deliveries_to}
-use Rattle.broker_base.specs.broker_spec.Answers.{acknowledged, answers_at}
+use Rattle.broker_base.specs.broker_spec.Answers.{acknowledged}
+use Rattle.broker_base.specs.broker_spec.AnswersInOrder.{answers_at}
 use Rattle.broker_base.specs.broker_spec.AnswerLaws.{is_unasked}
 use Rattle.broker_base.specs.broker_spec.EndingLaws.{StandsAt}
 use Rattle.broker_base.specs.broker_spec.declared.command.Command.{Command}

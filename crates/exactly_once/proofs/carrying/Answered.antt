@@ -11,7 +11,7 @@ use Rattle.broker_base.specs.broker_spec.Connection.{ConnectionName}
 use Rattle.broker_base.specs.broker_spec.Place.{Client, Mark, Place, Past, Limits}
 use Rattle.broker_base.specs.broker_spec.Received.{is_new, is_exactly_once}
 use Rattle.broker_base.specs.broker_spec.Marks.{mark_of}
-use Rattle.broker_base.specs.broker_spec.Answers.{answers_at}
+use Rattle.broker_base.specs.broker_spec.AnswersInOrder.{answers_at}
 use Rattle.broker_base.specs.broker_spec.AnswerLaws.{is_unasked}
 use Rattle.broker_base.specs.broker_spec.EndingLaws.{StandsAt}
 use Rattle.broker_base.specs.broker_spec.declared.command.Command.{Command}

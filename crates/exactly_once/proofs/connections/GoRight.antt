@@ -10,7 +10,8 @@ use Rattle.broker_base.specs.broker_spec.Past.{current_connection, begins}
 use Rattle.broker_base.specs.broker_spec.Owner.{clients}
 use Rattle.broker_base.specs.broker_spec.Times.{entries_of}
 use Rattle.broker_base.specs.broker_spec.Sends.{resent, deliveries_to}
-use Rattle.broker_base.specs.broker_spec.Answers.{closed, welcome, acknowledged, codes_of, packet_answers, connect_answers, answers_by, answers_at}
+use Rattle.broker_base.specs.broker_spec.Answers.{closed, welcome, acknowledged, codes_of, packet_answers, connect_answers, answers_by}
+use Rattle.broker_base.specs.broker_spec.AnswersInOrder.{answers_at}
 use Rattle.broker_base.specs.broker_spec.declared.command.Command.{Command}
 use Rattle.broker_base.specs.broker_spec.declared.command.Command.TheVariants as commands
 use Rattle.broker_base.specs.broker_spec.declared.command.Output.{Output}

@@ -9,7 +9,8 @@ use Rattle.broker_base.specs.broker_spec.Past.{current_connection, begins, sessi
 use Rattle.broker_base.specs.broker_spec.Owner.{clients, owner_of}
 use Rattle.broker_base.specs.broker_spec.Times.{entries_of}
 use Rattle.broker_base.specs.broker_spec.Sends.{resent}
-use Rattle.broker_base.specs.broker_spec.Answers.{closed, welcome, turned_away, answers_at}
+use Rattle.broker_base.specs.broker_spec.Answers.{closed, welcome, turned_away}
+use Rattle.broker_base.specs.broker_spec.AnswersInOrder.{answers_at}
 use Rattle.broker_base.specs.broker_spec.Marks.{connect_mark}
 use Rattle.broker_base.specs.broker_spec.Commands.{place_of}
 use Rattle.broker_base.specs.broker_spec.declared.command.Command.TheVariants as commands

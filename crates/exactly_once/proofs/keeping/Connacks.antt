@@ -11,7 +11,8 @@ use Rattle.broker_base.specs.broker_spec.Past.{current_connection, begins}
 use Rattle.broker_base.specs.broker_spec.Marks.{mark_of}
 use Rattle.broker_base.specs.broker_spec.Times.{entries_of}
 use Rattle.broker_base.specs.broker_spec.Sends.{resent}
-use Rattle.broker_base.specs.broker_spec.Answers.{closed, welcome, answers_at}
+use Rattle.broker_base.specs.broker_spec.Answers.{closed, welcome}
+use Rattle.broker_base.specs.broker_spec.AnswersInOrder.{answers_at}
 use Rattle.broker_base.specs.broker_spec.Commands.{place_of}
 use Rattle.broker_base.specs.broker_spec.declared.command.Command.{Command}
 use Rattle.broker_base.specs.broker_spec.declared.command.Command.TheVariants as commands

@@ -7,7 +7,7 @@ use Rattle.broker_base.specs.broker_spec.Place.{Place, Past, Limits}
 use Rattle.broker_base.specs.broker_spec.Past.{current_connection}
 use Rattle.broker_base.specs.broker_spec.Connection.{ConnectionName}
 use Rattle.broker_base.specs.broker_spec.Received.{is_new, received_of}
-use Rattle.broker_base.specs.broker_spec.Answers.{answers_at}
+use Rattle.broker_base.specs.broker_spec.AnswersInOrder.{answers_at}
 use Rattle.exactly_once.specs.Handshake.{Forward, Backward, Transit, Handshake}
 use Rattle.exactly_once.specs.Sends.{sends_to, put_to}
 use Rattle.exactly_once.specs.Sides.{ClientConnection}

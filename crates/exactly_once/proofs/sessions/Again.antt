@@ -9,7 +9,8 @@ use Rattle.broker_base.specs.broker_spec.Place.{Client, Mark, Place, Past, Limit
 use Rattle.broker_base.specs.broker_spec.Past.{begins, is_beginning, current_connection, session_of}
 use Rattle.broker_base.specs.broker_spec.Marks.{mark_of}
 use Rattle.broker_base.specs.broker_spec.Commands.{place_of, past_of}
-use Rattle.broker_base.specs.broker_spec.Answers.{welcome, answers_at}
+use Rattle.broker_base.specs.broker_spec.Answers.{welcome}
+use Rattle.broker_base.specs.broker_spec.AnswersInOrder.{answers_at}
 use Rattle.broker_base.specs.broker_spec.Sends.{resent}
 use Rattle.broker_base.specs.broker_spec.Times.{entries_of}
 use Rattle.broker_base.specs.broker_spec.declared.command.Command.{Command}

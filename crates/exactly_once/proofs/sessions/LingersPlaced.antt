@@ -9,7 +9,7 @@ use Rattle.client_base.proofs.of_lists.Tests.{or_none}
 use Rattle.broker_base.specs.broker_spec.Connection.{ConnectionName, same_connection}
 use Rattle.broker_base.specs.broker_spec.Place.{Client, Mark, Place, Past, Limits}
 use Rattle.broker_base.specs.broker_spec.Past.{accepts, session_of, current_connection}
-use Rattle.broker_base.specs.broker_spec.Answers.{answers_at}
+use Rattle.broker_base.specs.broker_spec.AnswersInOrder.{answers_at}
 use Rattle.broker_base.specs.broker_spec.Marks.{mark_of}
 use Rattle.broker_base.specs.broker_spec.Commands.{place_of}
 use Rattle.broker_base.specs.broker_spec.declared.command.Command.{Command}

@@ -11,7 +11,7 @@ use Rattle.client_base.specs.session_base.declared.publication.Publication.{Publ
 use Rattle.client_base.specs.session_base.Publication.{publication_of}
 use Rattle.client_base.specs.lists.Lists.{has_id, Each}
 use Rattle.broker_base.specs.broker_spec.Place.{Place, Past, Limits}
-use Rattle.broker_base.specs.broker_spec.Answers.{answers_at}
+use Rattle.broker_base.specs.broker_spec.AnswersInOrder.{answers_at}
 use Rattle.client_base.proofs.of_lists.OfEach.{each_then}
 use Rattle.exactly_once.specs.Sends.{sends_to, put_to}
 use Rattle.client_base.specs.Keeper.{Written}

@@ -13,7 +13,7 @@ use Rattle.broker_base.specs.broker_spec.Marks.{is_refused, packet_mark}
 use Rattle.broker_base.specs.broker_spec.Entries.{copies_at}
 use Rattle.broker_base.specs.broker_spec.Times.{answered_by, entries_of}
 use Rattle.broker_base.specs.broker_spec.Sends.{deliveries_to}
-use Rattle.broker_base.specs.broker_spec.Answers.{answers_at}
+use Rattle.broker_base.specs.broker_spec.AnswersInOrder.{answers_at}
 use Rattle.broker_base.specs.broker_spec.NobodyLaws.{IsSteady}
 use Rattle.broker_base.specs.broker_spec.declared.command.Command.TheVariants as commands
 use Rattle.exactly_once.specs.Handshake.{Backward}

@@ -6,7 +6,7 @@ use Rattle.broker_base.specs.broker_spec.Connection.{ConnectionName, same_connec
 use Rattle.broker_base.specs.broker_spec.Place.{Client, Place, Past, Limits}
 use Rattle.broker_base.specs.broker_spec.Past.{current_connection}
 use Rattle.broker_base.specs.broker_spec.Times.{entries_of}
-use Rattle.broker_base.specs.broker_spec.Answers.{answers_at}
+use Rattle.broker_base.specs.broker_spec.AnswersInOrder.{answers_at}
 use Rattle.client_base.specs.lists.Lists.{Each}
 use Rattle.exactly_once.specs.Handshake.{Backward, Transit, Handshake, with_items}
 use Rattle.exactly_once.specs.Handshake.Advances.{sender_leaves, parts}

@@ -6,7 +6,7 @@ use Rattle.broker_spec.specs.Received.{received_of}
 use Rattle.broker_spec.specs.Retained.{retained_publications}
 use Rattle.broker_spec.specs.Times.{entries_of}
 use Rattle.broker_spec.specs.Commands.{past_from}
-use Rattle.broker_spec.specs.Answers.{answers_from}
+use Rattle.broker_spec.specs.AnswersInOrder.{answers_from}
 use Rattle.broker_spec.proofs.rows.an_expelled_session_is_gone.Goals as goal
 
 pub returns : goal.returns

@@ -7,7 +7,7 @@ use Rattle.std.proofs.lemmas.List.{length-append}
 use Rattle.client_base.specs.packet.declared.packet.Packet.TheVariants as packets
 use Rattle.broker_base.specs.broker_spec.Connection.{ConnectionName}
 use Rattle.broker_base.specs.broker_spec.Place.{Place, Past, Limits}
-use Rattle.broker_base.specs.broker_spec.Answers.{answers_at}
+use Rattle.broker_base.specs.broker_spec.AnswersInOrder.{answers_at}
 use Rattle.client_base.specs.lists.Lists.{Each}
 use Rattle.client_base.proofs.of_lists.OfEach.{each_append, each_then}
 use Rattle.exactly_once.specs.Sends.{sends_to, put_to}

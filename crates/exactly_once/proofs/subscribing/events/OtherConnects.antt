@@ -11,7 +11,8 @@ use Rattle.broker_base.specs.broker_spec.Entries.{Entry}
 use Rattle.broker_base.specs.broker_spec.Readings.{released_below}
 use Rattle.broker_base.specs.broker_spec.Times.{entries_of}
 use Rattle.broker_base.specs.broker_spec.Sends.{publish, sent_again, all_started, resent}
-use Rattle.broker_base.specs.broker_spec.Answers.{closed, welcome, answers_at}
+use Rattle.broker_base.specs.broker_spec.Answers.{closed, welcome}
+use Rattle.broker_base.specs.broker_spec.AnswersInOrder.{answers_at}
 use Rattle.broker_base.specs.broker_spec.NobodyLaws.{IsSteady}
 use Rattle.broker_base.specs.broker_spec.declared.command.Command.TheVariants as commands
 use Rattle.broker_base.specs.broker_spec.declared.command.Output.{Output}

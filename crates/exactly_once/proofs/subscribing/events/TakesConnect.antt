@@ -9,7 +9,7 @@ use Rattle.broker_base.specs.broker_spec.Place.{Client, Mark, Place, Past, Limit
 use Rattle.broker_base.specs.broker_spec.Past.{ends_any, current_connection, session_of}
 use Rattle.broker_base.specs.broker_spec.Owner.{clients, owner_of}
 use Rattle.broker_base.specs.broker_spec.Marks.{connect_mark}
-use Rattle.broker_base.specs.broker_spec.Answers.{answers_at}
+use Rattle.broker_base.specs.broker_spec.AnswersInOrder.{answers_at}
 use Rattle.broker_base.specs.broker_spec.declared.command.Output.TheVariants.{Close}
 use Rattle.broker_base.proofs.QuietPasts.{no_connection, entries_none}
 use Rattle.exactly_once.specs.Handshake.{Transit, with_items}

@@ -12,7 +12,8 @@ use Rattle.broker_base.specs.broker_spec.Entries.{Entry}
 use Rattle.broker_base.specs.broker_spec.Readings.{released_below}
 use Rattle.broker_base.specs.broker_spec.Times.{start_all, started, window_at, entries_of}
 use Rattle.broker_base.specs.broker_spec.Sends.{resent}
-use Rattle.broker_base.specs.broker_spec.Answers.{welcome, answers_at}
+use Rattle.broker_base.specs.broker_spec.Answers.{welcome}
+use Rattle.broker_base.specs.broker_spec.AnswersInOrder.{answers_at}
 use Rattle.broker_base.specs.broker_spec.declared.command.Command.{Command}
 use Rattle.broker_base.specs.broker_spec.declared.command.Command.TheVariants as commands
 use Rattle.broker_base.proofs.ClientsInOrder.{same_self}

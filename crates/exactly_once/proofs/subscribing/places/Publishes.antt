@@ -17,7 +17,8 @@ use Rattle.broker_base.specs.broker_spec.Entries.{copies_at}
 use Rattle.broker_base.specs.broker_spec.Readings.{made_at}
 use Rattle.broker_base.specs.broker_spec.Times.{entries_of}
 use Rattle.broker_base.specs.broker_spec.Sends.{handed_to, deliveries_to}
-use Rattle.broker_base.specs.broker_spec.Answers.{acknowledged, codes_of, answers_at}
+use Rattle.broker_base.specs.broker_spec.Answers.{acknowledged, codes_of}
+use Rattle.broker_base.specs.broker_spec.AnswersInOrder.{answers_at}
 use Rattle.broker_base.specs.broker_spec.declared.command.Output.{Output}
 use Rattle.broker_base.specs.broker_spec.declared.command.Output.TheVariants.{Send}
 use Rattle.broker_base.proofs.ClientsInOrder.{same_self, same_is}

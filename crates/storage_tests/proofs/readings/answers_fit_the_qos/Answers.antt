@@ -6,7 +6,7 @@ use Rattle.broker_form.specs.broker_spec.Received.{received_of}
 use Rattle.broker_form.specs.broker_spec.Retained.{retained_publications}
 use Rattle.broker_form.specs.broker_spec.Times.{entries_of}
 use Rattle.broker_form.specs.broker_spec.Commands.{past_from}
-use Rattle.broker_form.specs.broker_spec.Answers.{answers_from}
+use Rattle.broker_form.specs.broker_spec.AnswersInOrder.{answers_from}
 use Rattle.storage_tests.proofs.QoSOfEntries.{entries_fit_their_qos}
 use Rattle.storage_tests.proofs.readings.answers_fit_the_qos.Goals as goal
 
