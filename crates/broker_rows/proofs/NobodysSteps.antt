@@ -8,7 +8,7 @@ use Rattle.broker_base.specs.StepAnswers.{answers_by_state}
 use Rattle.broker_base.specs.Decisions.{packet_mark_in, mark_in}
 use Rattle.broker_base.specs.Command.TheVariants as commands
 use Rattle.broker_rows.specs.Touched.{is_taken, is_accepted}
-use Rattle.broker_rows.specs.PacketLaws.{NobodysPacketStep}
+use Rattle.broker_rows.specs.IdlePacketLaws.{NobodysPacketStep}
 use Rattle.broker_rows.specs.LeavingLaws.{NobodysLossStep}
 use Rattle.broker_rows.proofs.CommandOfNobody.{nobody_stays}
 use Rattle.broker_rows.proofs.ServedStep.{retained_same}

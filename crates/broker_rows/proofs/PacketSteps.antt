@@ -20,7 +20,8 @@ use Rattle.broker_base.specs.Output.{Output}
 use Rattle.broker_base.specs.Output.TheVariants.{Send}
 use Rattle.broker_base.proofs.ClientsInOrder.{same_self}
 use Rattle.broker_rows.specs.Served.{IsServed, with_session, holding}
-use Rattle.broker_rows.specs.PacketLaws.{handled_state, HandledStep, subscribed_to, subscribe_answers, SubscribeStep, PingreqStep, RepeatStep}
+use Rattle.broker_rows.specs.PacketLaws.{handled_state, HandledStep, subscribed_to, subscribe_answers, SubscribeStep}
+use Rattle.broker_rows.specs.IdlePacketLaws.{PingreqStep, RepeatStep}
 use Rattle.broker_rows.proofs.ServedStep.{served_on, served_found, written_same, served_step}
 use Rattle.broker_rows.proofs.ServedGoesOn.{packet_at, handled_is, subscribe_is, repeat_is}
 

@@ -5,6 +5,7 @@ pub mod Published
 pub mod Served
 pub mod CommandLaws
 pub mod PacketLaws
+pub mod IdlePacketLaws
 pub mod LeavingLaws
 pub mod ExpelLaws
 pub mod ConnectLaws

@@ -1,9 +1,8 @@
 -- What a packet of a served client does if its connection stays open: one session is written, and
 -- only its client is answered (MQTT 3.8.4, 3.10.4, 3.12.4, 4.3, 4.6).
-use Rattle.std.specs.Prelude.{◌≡◌, ℕ, Bool, true, List, [], ◌∷◌, map, Some, None}
+use Rattle.std.specs.Prelude.{◌≡◌, ℕ, Bool, List, ◌∷◌, map, Some}
 use Rattle.subs_base.specs.packet.declared.subscribe.Subscription.{Subscription}
 use Rattle.subs_base.specs.packet.declared.subscribe.Subscribe.{Subscribe}
-use Rattle.subs_base.specs.packet.declared.publish.Publish.{Publish}
 use Rattle.subs_base.specs.packet.declared.packet.Packet.{Packet}
 use Rattle.subs_base.specs.packet.declared.packet.Packet.TheVariants as packets
 use Rattle.broker_spec.specs.retained.Retained.{RetainedTopics}
@@ -18,10 +17,10 @@ use Rattle.broker_base.specs.Place.{Client, Mark, Limits}
 use Rattle.broker_base.specs.Subscriptions.{as_granted, granted_of}
 use Rattle.broker_base.specs.Entries.{copies_for_all}
 use Rattle.broker_base.specs.Marks.{grants}
-use Rattle.broker_base.specs.Answers.{acknowledged, codes_of}
+use Rattle.broker_base.specs.Answers.{codes_of}
 use Rattle.broker_base.specs.ClientSession.{ClientSession}
-use Rattle.broker_base.specs.State.{State, owner_in}
-use Rattle.broker_base.specs.Decisions.{repeats, owned_mark}
+use Rattle.broker_base.specs.State.{State}
+use Rattle.broker_base.specs.Decisions.{owned_mark}
 use Rattle.broker_base.specs.StepAnswers.{handled_in}
 use Rattle.broker_base.specs.Step.{step}
 use Rattle.broker_base.specs.Command.TheVariants as commands
@@ -92,29 +91,3 @@ SubscribeStep =
           state,
       map (Send x) (subscribe_answers state.window state.retained s which kept.state),
     )
-
--- ---- what changes nothing
-
--- PINGREQ is answered by PINGRESP (MQTT 3.12.4)
-abbrev pub PingreqStep : Type 0
-PingreqStep =
-    (limits : Limits) → (later : ℕ) → (state : State) → (x : ConnectionName) → (c : Client) →
-    (kept : ClientSession) → IsServed state x c kept →
-    step limits later state (commands.Packet x packets.Pingreq)
-    ≡ (state, Send x packets.Pingresp ∷ [])
-
--- a repeat of a PUBLISH that was taken is answered once more (MQTT 4.3.3)
-abbrev pub RepeatStep : Type 0
-RepeatStep =
-    (limits : Limits) → (later : ℕ) → (state : State) → (x : ConnectionName) → (c : Client) →
-    (kept : ClientSession) → IsServed state x c kept → (p : Publish) →
-    repeats kept p.delivery ≡ true →
-    step limits later state (commands.Packet x (packets.Publish p))
-    ≡ (state, acknowledged x p.delivery)
-
--- a packet on a connection that is no client's current one changes nothing, and has no answer
-abbrev pub NobodysPacketStep : Type 0
-NobodysPacketStep =
-    (limits : Limits) → (later : ℕ) → (state : State) → (x : ConnectionName) → (packet : Packet) →
-    owner_in x state.sessions ≡ None →
-    step limits later state (commands.Packet x packet) ≡ (state, [])

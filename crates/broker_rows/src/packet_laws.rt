@@ -1,8 +1,9 @@
 // Laws of a packet on a client's current connection, and of the end of one: the whole step, by the
 // one session that it writes. The calls do nothing; their contracts are the laws.
 
-ghost use Rattle.broker_rows.specs.PacketLaws.{HandledStep, SubscribeStep, PingreqStep};
-ghost use Rattle.broker_rows.specs.PacketLaws.{RepeatStep, NobodysPacketStep};
+ghost use Rattle.broker_rows.specs.PacketLaws.{HandledStep, SubscribeStep};
+ghost use Rattle.broker_rows.specs.IdlePacketLaws.{PingreqStep};
+ghost use Rattle.broker_rows.specs.IdlePacketLaws.{RepeatStep, NobodysPacketStep};
 ghost use Rattle.broker_rows.specs.LeavingLaws.{LeavingStep, FurtherConnectStep};
 ghost use Rattle.broker_rows.specs.LeavingLaws.{LostStep, NobodysLossStep};
 ghost use Rattle.broker_rows.specs.Served.{IsOnItsConnection};
