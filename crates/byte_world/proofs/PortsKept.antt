@@ -26,7 +26,8 @@ use Rattle.node_group.specs.world_base.declared.item.Item.{Item}
 use Rattle.node_group.specs.ballot.Cutting.{can_cut}
 use Rattle.node_group.specs.world_base.declared.item.Item.TheVariants.{Peer, Tick, Opened, Bytes, Ended, Expel, Cut, Crash}
 use Rattle.node_group.specs.world_base.declared.Port.{Port}
-use Rattle.node_group.specs.world_base.Connections.{noted_proposed, changed, closed, failing, fresh, handed, holding, is_at, is_first, is_listed, is_open_at, is_open_named, is_proposed, left_with, max_pending, put_out, putting}
+use Rattle.node_group.specs.world_base.Connections.{fresh, is_at, is_first, is_listed, is_open_at, is_open_named, is_proposed}
+use Rattle.node_group.specs.world_base.ConnectionChanges.{noted_proposed, changed, closed, failing, handed, holding, left_with, max_pending, put_out, putting}
 use Rattle.node_group.specs.world_base.Core.{CoreState, StepOutcome, serves}
 use Rattle.node_group.specs.world_base.Handing.{hands_over, left_by, listed_at}
 use Rattle.node_group.specs.world_base.KeepAlive.{ends_if, ends_silent, lowest_silent}

@@ -19,7 +19,8 @@ use Rattle.node_group.specs.world_base.declared.item.Item.{Item}
 use Rattle.node_group.specs.world_base.LossyStep.Cuts.{nothing_to_cut, cuts_log, forgets_cut}
 use Rattle.node_group.specs.world_base.declared.item.Item.TheVariants.{Peer, Tick, Opened, Bytes, Ended, Expel, Cut, Crash}
 use Rattle.node_group.specs.world_base.declared.Port.{Port}
-use Rattle.node_group.specs.world_base.Connections.{noted_proposed, closed, failing, has_failed, holding, is_at, left_with, put_out}
+use Rattle.node_group.specs.world_base.Connections.{has_failed, is_at}
+use Rattle.node_group.specs.world_base.ConnectionChanges.{noted_proposed, closed, failing, holding, left_with, put_out}
 use Rattle.node_group.specs.world_base.Core.{CoreState}
 use Rattle.node_group.specs.world_base.Failing.{closes_failed}
 use Rattle.node_group.specs.world_base.Lossy.{Account, HandlesAll, Drives, Repeated, Performs, TakesCommand, Then, without_effects}

@@ -27,7 +27,8 @@ use Rattle.packet_world.specs.broker_spec.declared.command.Output.TheVariants as
 use Rattle.node_moves.specs.world_base.declared.Connection.{Connection}
 use Rattle.node_moves.specs.world_base.declared.item.Item.TheVariants.{Bytes}
 use Rattle.node_moves.specs.world_base.declared.Port.{Port}
-use Rattle.node_moves.specs.world_base.Connections.{noted_proposed, changed, closed, holding, is_at, is_first, is_open_at, is_open_named, is_over, is_proposed, left_with, max_pending}
+use Rattle.node_moves.specs.world_base.Connections.{is_at, is_first, is_open_at, is_open_named, is_over, is_proposed}
+use Rattle.node_moves.specs.world_base.ConnectionChanges.{noted_proposed, changed, closed, holding, left_with, max_pending}
 use Rattle.node_moves.specs.world_base.Core.{CoreState, StepOutcome, rules, serves}
 use Rattle.node_moves.specs.world_base.Handing.{listed_at}
 use Rattle.node_moves.specs.world_base.Reading.{takes_first_packet, changes, loses, open_at, reads, reads_all, reads_next, reads_of, refused, proposes_packet, unread_of}

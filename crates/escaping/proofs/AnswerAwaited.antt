@@ -8,7 +8,8 @@ use Rattle.packet_world.specs.broker_spec.Connection.{ConnectionName, same_conne
 use Rattle.node_moves.specs.world_base.declared.Connection.{Connection}
 use Rattle.node_moves.specs.world_base.declared.item.Item.TheVariants.{Peer}
 use Rattle.node_moves.specs.world_base.declared.Port.{Port}
-use Rattle.node_moves.specs.world_base.Connections.{changed, closed, fresh, handed, is_at, is_listed, is_open_at, is_open_named, is_over}
+use Rattle.node_moves.specs.world_base.Connections.{fresh, is_at, is_listed, is_open_at, is_open_named, is_over}
+use Rattle.node_moves.specs.world_base.ConnectionChanges.{changed, closed, handed}
 use Rattle.node_moves.specs.world_base.Core.{CoreState, StepOutcome, serves}
 use Rattle.node_moves.specs.world_base.Failing.{loses_all_failed}
 use Rattle.node_moves.specs.world_base.Handing.{hands_over, left_by, listed_at}

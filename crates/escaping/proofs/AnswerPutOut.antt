@@ -19,7 +19,8 @@ use Rattle.packet_world.specs.broker_spec.declared.command.Output.TheVariants as
 use Rattle.node_moves.specs.world_base.declared.Connection.{Connection}
 use Rattle.node_moves.specs.world_base.declared.item.Item.TheVariants.{Peer}
 use Rattle.node_moves.specs.world_base.declared.Port.{Port}
-use Rattle.node_moves.specs.world_base.Connections.{changed, closed, failing, has_failed, is_at, is_listed, is_open_named, is_over, max_pending, put_out, putting}
+use Rattle.node_moves.specs.world_base.Connections.{has_failed, is_at, is_listed, is_open_named, is_over}
+use Rattle.node_moves.specs.world_base.ConnectionChanges.{changed, closed, failing, max_pending, put_out, putting}
 use Rattle.node_moves.specs.world_base.Core.{CoreState, StepOutcome, rules, serves}
 use Rattle.node_moves.specs.world_base.Failing.{closes_failed, loses_all_failed, loses_failed, loses_if}
 use Rattle.node_moves.specs.world_base.Handing.{listed_at}

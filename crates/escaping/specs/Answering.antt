@@ -19,7 +19,8 @@ use Rattle.packet_world.specs.broker_spec.declared.command.Output.TheVariants.{S
 use Rattle.node_moves.specs.world_base.declared.Connection.{Connection}
 use Rattle.node_moves.specs.world_base.declared.item.Item.TheVariants.{Bytes, Peer}
 use Rattle.node_moves.specs.world_base.declared.Port.{Port}
-use Rattle.node_moves.specs.world_base.Connections.{is_first, is_open_named, max_pending}
+use Rattle.node_moves.specs.world_base.Connections.{is_first, is_open_named}
+use Rattle.node_moves.specs.world_base.ConnectionChanges.{max_pending}
 use Rattle.node_moves.specs.world_base.Core.{CoreState}
 use Rattle.node_moves.specs.world_base.Handing.{listed_at}
 use Rattle.node_moves.specs.world_base.Reading.{open_at}

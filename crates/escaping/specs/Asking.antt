@@ -14,7 +14,8 @@ use Rattle.node_moves.specs.world_base.declared.Connection.{Connection}
 use Rattle.node_moves.specs.world_base.declared.ConnectionStage.TheVariants.{Proposed}
 use Rattle.node_moves.specs.world_base.declared.item.Item.TheVariants.{Bytes}
 use Rattle.node_moves.specs.world_base.declared.Port.{Port}
-use Rattle.node_moves.specs.world_base.Connections.{changed, is_first, is_listed, is_open_at}
+use Rattle.node_moves.specs.world_base.Connections.{is_first, is_listed, is_open_at}
+use Rattle.node_moves.specs.world_base.ConnectionChanges.{changed}
 use Rattle.node_moves.specs.world_base.Core.{CoreState, rules}
 use Rattle.node_moves.specs.world_base.Reading.{open_at}
 use Rattle.node_moves.specs.world_base.Step.{node_step}

@@ -35,7 +35,8 @@ use Rattle.ways_out.specs.snapshots.World.{messages, outputs}
 use Rattle.escaping.specs.world_base.declared.Connection.{Connection}
 use Rattle.escaping.specs.world_base.declared.item.Item.TheVariants.{Bytes, Peer}
 use Rattle.escaping.specs.world_base.declared.Port.{Port}
-use Rattle.escaping.specs.world_base.Connections.{is_open_named, max_pending}
+use Rattle.escaping.specs.world_base.Connections.{is_open_named}
+use Rattle.escaping.specs.world_base.ConnectionChanges.{max_pending}
 use Rattle.escaping.specs.world_base.Core.{CoreState, CountedCore, StepOutcome, rules, serves}
 use Rattle.escaping.specs.world_base.Handing.{hands_over}
 use Rattle.escaping.specs.world_base.Step.{node_step}

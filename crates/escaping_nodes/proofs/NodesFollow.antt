@@ -25,7 +25,8 @@ use Rattle.ways_out.specs.snapshots.World.{messages, outputs}
 use Rattle.escaping.specs.world_base.declared.Connection.{Connection}
 use Rattle.escaping.specs.world_base.declared.item.Item.TheVariants.{Peer}
 use Rattle.escaping.specs.world_base.declared.Port.{Port}
-use Rattle.escaping.specs.world_base.Connections.{changed, handed, has_failed, is_at, is_listed}
+use Rattle.escaping.specs.world_base.Connections.{has_failed, is_at, is_listed}
+use Rattle.escaping.specs.world_base.ConnectionChanges.{changed, handed}
 use Rattle.escaping.specs.world_base.Core.{CoreState, CountedCore, rules}
 use Rattle.escaping.specs.world_base.Handing.{hands_over, left_by, listed_at}
 use Rattle.escaping.specs.world_base.Step.{node_step}

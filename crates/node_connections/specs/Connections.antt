@@ -1,6 +1,6 @@
 -- The connections of a node, in the order in which they were opened, and what happens to one (MQTT
 -- 3.1.2.10, 3.2.2.3).
-use Rattle.std.specs.Prelude.{ℕ, ◌+◌, ◌*◌, Bool, true, false, not, ◌&&◌, ◌||◌, ◌==◌, nat_lt, nat_le, if◌then◌else◌, List, [], ◌∷◌, ◌++◌, length}
+use Rattle.std.specs.Prelude.{ℕ, ◌+◌, ◌*◌, Bool, true, false, not, ◌&&◌, ◌||◌, ◌==◌, nat_lt, [], length}
 use Rattle.broker_spec.specs.Connection.{ConnectionName, same_connection}
 use Rattle.node_connections.specs.declared.port.Port.{Port}
 use Rattle.node_connections.specs.declared.connection.ConnectionStage.{ConnectionStage}
@@ -74,47 +74,3 @@ fresh port name =
       unread = [];
       pending = [];
     }
-
--- bytes that came are held until they are read
-abbrev pub holding : List ℕ → Connection → Connection
-holding piece c = record c { unread = c.unread ++ piece }
-
--- a packet was read, which was whole at this time; these bytes came after it
-abbrev pub left_with : ℕ → List ℕ → Connection → Connection
-left_with now rest c = record c { unread = rest; last_packet = now }
-
--- a connection's CONNECT, with this keep alive, is proposed
-abbrev pub noted_proposed : ℕ → Connection → Connection
-noted_proposed keep_alive c = record c { stage = Proposed; keep_alive = keep_alive }
-
--- closed: nothing more is read or waited for, and what was queued before is still handed over
-abbrev pub closed : Connection → Connection
-closed c = record c { stage = Over; keep_alive = 0; last_packet = 0; unread = [] }
-
--- bytes are queued
-abbrev pub putting : List ℕ → Connection → Connection
-putting bytes c = record c { pending = c.pending ++ bytes }
-
--- how many bytes may wait to be handed over on one connection
-abbrev pub max_pending : ℕ
-max_pending = 134217728
-
--- closed as lost: the loss is to be reported to the broker, if its CONNECT was proposed
-abbrev pub failing : Connection → Connection
-failing c = record (closed c) { stage = if is_proposed c.stage then Failed else Over }
-
--- bytes are queued if there is room for them; otherwise the connection is closed as lost
-abbrev pub put_out : List ℕ → Connection → Connection
-put_out bytes c =
-    if nat_le (length c.pending + length bytes) max_pending then putting bytes c else failing c
-
--- what was queued is handed over
-abbrev pub handed : Connection → Connection
-handed c = record c { pending = [] }
-
--- the list after a change of that connection
-abbrev pub changed : (Connection → Bool) → (Connection → Connection) → List Connection →
-    List Connection
-changed test change [] = []
-changed test change (c ∷ others) =
-    if test c then change c ∷ others else c ∷ changed test change others

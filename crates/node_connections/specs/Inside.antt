@@ -6,7 +6,8 @@ use Rattle.broker_spec.specs.Sized.{IsSized}
 use Rattle.node_connections.specs.declared.connection.Connection.{Connection}
 use Rattle.node_connections.specs.declared.front.Front.{Front}
 use Rattle.node_connections.specs.declared.front.Front.TheVariants as fronts
-use Rattle.node_connections.specs.Connections.{is_first, left_with, closed}
+use Rattle.node_connections.specs.Connections.{is_first}
+use Rattle.node_connections.specs.ConnectionChanges.{left_with, closed}
 use Rattle.node_connections.specs.Fronts.{IsFault, FrontNeedsMemory}
 use Rattle.node_connections.specs.Refusing.{refused}
 

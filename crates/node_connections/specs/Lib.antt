@@ -1,4 +1,5 @@
 pub mod Connections
+pub mod ConnectionChanges
 pub mod Fronts
 pub mod Inside
 pub mod Pending

@@ -4,7 +4,7 @@ use Rattle.cutter.specs.packet.declared.packet.Packet.TheVariants as packets
 use Rattle.cutter.specs.packet.declared.connack.Connack.TheVariants as connacks
 use Rattle.cutter.specs.packet.Spelling.{spelling}
 use Rattle.node_connections.specs.declared.connection.Connection.{Connection}
-use Rattle.node_connections.specs.Connections.{closed, putting}
+use Rattle.node_connections.specs.ConnectionChanges.{closed, putting}
 
 -- a CONNECT that is refused with a code is answered, and then closed (MQTT 3.2.2.3)
 abbrev pub refused : RefusalCode → Connection → Connection

@@ -2,7 +2,8 @@
 
 ghost use Rattle.std.specs.Prelude.{◌≡◌, false, true, [], ◌∷◌, ◌++◌, map, filter, OnErr, OnOk};
 ghost use Rattle.std.specs.List.{list_any};
-ghost use Rattle.node_connections.specs.Connections.{closed, is_at, is_listed};
+ghost use Rattle.node_connections.specs.Connections.{is_at, is_listed};
+ghost use Rattle.node_connections.specs.ConnectionChanges.{closed};
 ghost use Rattle.broker_spec.specs.lists.Lists.{IsPrefixOf};
 ghost use Rattle.node_connections.specs.Pending.{is_idle};
 ghost use Rattle.node_connections.specs.declared.connection.Connection.{Connection};

@@ -16,7 +16,7 @@ use Rattle.packet_world.specs.broker_spec.declared.command.Command.TheVariants a
 use Rattle.packet_world.specs.broker_spec.declared.command.Output.{Output}
 use Rattle.packet_world.specs.snapshots.Moments.{Moment, Moments}
 use Rattle.packet_world.specs.snapshots.World.{messages, outputs}
-use Rattle.node_moves.specs.world_base.Connections.{noted_proposed, closed, failing, left_with}
+use Rattle.node_moves.specs.world_base.ConnectionChanges.{noted_proposed, closed, failing, left_with}
 use Rattle.node_moves.specs.world_base.Core.{CoreState, StepOutcome, rules, serves}
 use Rattle.node_moves.specs.world_base.Lossy.{Account, Drives, TakesCommand}
 use Rattle.node_moves.specs.world_base.Reading.{changes}

@@ -50,7 +50,7 @@ use Rattle.node_moves.specs.world_base.Core.{CoreState, StepOutcome, rules, serv
 use Rattle.node_moves.specs.world_base.Failing.{closes_failed}
 use Rattle.node_moves.specs.world_base.Reading.{changes}
 use Rattle.node_moves.specs.world_base.Effects.{drives, has_room, heard, moved, proposes, without_messages}
-use Rattle.node_moves.specs.world_base.Connections.{noted_proposed, closed, holding, left_with}
+use Rattle.node_moves.specs.world_base.ConnectionChanges.{noted_proposed, closed, holding, left_with}
 use Rattle.node_moves.specs.world_base.Handing.{hands_over}
 use Rattle.node_moves.specs.world_base.Reading.{refused}
 use Rattle.node_moves.specs.world_base.Step.{opens, settled, with_cut}

@@ -8,7 +8,8 @@ use Rattle.node_moves.specs.ballot.Config.{Config}
 use Rattle.packet_world.specs.agreement.MasterState.{AssignRefusal, master_after, refusal}
 use Rattle.packet_world.specs.broker_spec.Connection.{ConnectionName}
 use Rattle.node_moves.specs.world_base.declared.Connection.{Connection}
-use Rattle.node_moves.specs.world_base.Connections.{closed, is_listed, is_over}
+use Rattle.node_moves.specs.world_base.Connections.{is_listed, is_over}
+use Rattle.node_moves.specs.world_base.ConnectionChanges.{closed}
 use Rattle.node_moves.specs.world_base.declared.item.Item.{Item}
 use Rattle.node_moves.specs.world_base.Core.{CoreState, StepOutcome, opening_core, serves}
 use Rattle.node_moves.specs.world_base.LossyStep.{RunsOn}

@@ -13,7 +13,7 @@ use Rattle.packet_world.specs.broker_spec.declared.command.Output.TheVariants as
 use Rattle.packet_world.specs.broker_spec.Connection.{ConnectionName}
 use Rattle.node_moves.specs.world_base.declared.Port.{Port}
 use Rattle.node_moves.specs.world_base.declared.Connection.{Connection}
-use Rattle.node_moves.specs.world_base.Connections.{closed, put_out}
+use Rattle.node_moves.specs.world_base.ConnectionChanges.{closed, put_out}
 use Rattle.node_moves.specs.world_base.Core.{CoreState, serves}
 use Rattle.node_moves.specs.world_base.Handing.{hands_over, left_by, listed_at}
 use Rattle.node_moves.specs.world_base.Reading.{changes}

@@ -7,7 +7,7 @@ use Rattle.world_base.specs.ballot.Replica.{CountedReplica}
 use Rattle.exactly_once.specs.broker_base.State.{State}
 use Rattle.exactly_once.specs.broker_spec.declared.command.Command.{Command}
 use Rattle.exactly_once.specs.broker_spec.declared.command.Command.TheVariants as commands
-use Rattle.world_base.specs.Connections.{noted_proposed, closed, failing, left_with}
+use Rattle.world_base.specs.ConnectionChanges.{noted_proposed, closed, failing, left_with}
 use Rattle.world_base.specs.Core.{CoreState, StepOutcome}
 use Rattle.world_base.specs.Reading.{changes}
 use Rattle.world_base.specs.Step.{node_step}

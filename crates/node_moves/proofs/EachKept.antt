@@ -15,7 +15,8 @@ use Rattle.exactly_once.specs.broker_spec.declared.command.Output.TheVariants as
 use Rattle.exactly_once.specs.broker_spec.Connection.{ConnectionName}
 use Rattle.exactly_once.specs.lists.Lists.{Each}
 use Rattle.world_base.specs.declared.Connection.{Connection}
-use Rattle.world_base.specs.Connections.{has_failed, is_listed, is_open_named, closed, put_out}
+use Rattle.world_base.specs.Connections.{has_failed, is_listed, is_open_named}
+use Rattle.world_base.specs.ConnectionChanges.{closed, put_out}
 use Rattle.world_base.specs.Core.{CoreState, StepOutcome, rules, serves}
 use Rattle.world_base.specs.Failing.{closes_failed, loses_failed, loses_if}
 use Rattle.world_base.specs.Step.{settled}

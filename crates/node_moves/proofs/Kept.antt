@@ -18,7 +18,8 @@ use Rattle.world_base.specs.declared.Port.{Port}
 use Rattle.world_base.specs.declared.Connection.{Connection}
 use Rattle.world_base.specs.declared.ConnectionStage.{ConnectionStage}
 use Rattle.world_base.specs.declared.ConnectionStage.TheVariants.{Awaits, Proposed, Over, Failed}
-use Rattle.world_base.specs.Connections.{is_over, is_proposed, is_failed, has_failed, is_at, is_open_at, is_open_named, is_listed, max_pending, closed, failing, put_out, putting, handed, changed}
+use Rattle.world_base.specs.Connections.{is_over, is_proposed, is_failed, has_failed, is_at, is_open_at, is_open_named, is_listed}
+use Rattle.world_base.specs.ConnectionChanges.{max_pending, closed, failing, put_out, putting, handed, changed}
 use Rattle.world_base.specs.Core.{CoreState, StepOutcome, rules, serves}
 use Rattle.world_base.specs.Failing.{closes_failed}
 use Rattle.world_base.specs.Handing.{hands_over, left_by, listed_at}

@@ -12,7 +12,8 @@ use Rattle.exactly_once.specs.broker_spec.declared.command.Output.TheVariants as
 use Rattle.exactly_once.specs.broker_spec.Connection.{ConnectionName, same_connection}
 use Rattle.exactly_once.proofs.of_broker_spec.ConnectionNames.{same_itself, same_name}
 use Rattle.world_base.specs.declared.Connection.{Connection}
-use Rattle.world_base.specs.Connections.{changed, closed, failing, is_open_named, put_out}
+use Rattle.world_base.specs.Connections.{is_open_named}
+use Rattle.world_base.specs.ConnectionChanges.{changed, closed, failing, put_out}
 use Rattle.world_base.specs.Core.{CoreState}
 use Rattle.world_base.specs.Lossy.{HandlesAll, Performs}
 use Rattle.world_base.specs.Lossy.HandlesAll.{nothing, does, sends, loses}

@@ -10,7 +10,7 @@ use Rattle.exactly_once.specs.broker_base.State.{State}
 use Rattle.exactly_once.specs.broker_spec.declared.command.Command.{Command}
 use Rattle.exactly_once.specs.broker_spec.Connection.{ConnectionName}
 use Rattle.exactly_once.specs.StoryCommands.{is_packet_of}
-use Rattle.world_base.specs.Connections.{noted_proposed, left_with}
+use Rattle.world_base.specs.ConnectionChanges.{noted_proposed, left_with}
 use Rattle.world_base.specs.Core.{CoreState, StepOutcome, rules}
 use Rattle.world_base.specs.Lossy.{Account, TakesCommand}
 use Rattle.world_base.specs.Reading.{changes}

@@ -7,7 +7,8 @@ use Rattle.exactly_once.specs.broker_spec.declared.command.Command.TheVariants a
 use Rattle.exactly_once.specs.broker_spec.Connection.{ConnectionName}
 use Rattle.exactly_once.specs.Sends.{sends_to}
 use Rattle.world_base.specs.declared.Connection.{Connection}
-use Rattle.world_base.specs.Connections.{noted_proposed, closed, failing, has_failed, is_open_named, left_with}
+use Rattle.world_base.specs.Connections.{has_failed, is_open_named}
+use Rattle.world_base.specs.ConnectionChanges.{noted_proposed, closed, failing, left_with}
 use Rattle.world_base.specs.Core.{CoreState, StepOutcome}
 use Rattle.world_base.specs.Lossy.{Account, Drives, TakesCommand}
 use Rattle.world_base.specs.Reading.{changes}

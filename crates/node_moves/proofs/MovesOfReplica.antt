@@ -14,7 +14,8 @@ use Rattle.exactly_once.specs.broker_spec.declared.command.Output.{Output}
 use Rattle.exactly_once.specs.broker_spec.declared.command.Output.TheVariants as outputs
 use Rattle.world_base.specs.declared.Port.{Port}
 use Rattle.world_base.specs.declared.Connection.{Connection}
-use Rattle.world_base.specs.Connections.{noted_proposed, closed, fresh, is_at, left_with, put_out}
+use Rattle.world_base.specs.Connections.{fresh, is_at}
+use Rattle.world_base.specs.ConnectionChanges.{noted_proposed, closed, left_with, put_out}
 use Rattle.world_base.specs.Core.{CoreState, StepOutcome, rules, serves}
 use Rattle.world_base.specs.Failing.{closes_failed}
 use Rattle.world_base.specs.Handing.{hands_over, left_by}

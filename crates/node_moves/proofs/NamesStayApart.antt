@@ -20,7 +20,8 @@ use Rattle.world_base.specs.declared.Port.{Port}
 use Rattle.world_base.specs.declared.item.Item.{Item}
 use Rattle.world_base.specs.declared.item.Item.TheVariants.{Peer, Tick, Opened, Bytes, Ended, Expel, Cut, Crash}
 use Rattle.world_base.specs.declared.Connection.{Connection}
-use Rattle.world_base.specs.Connections.{noted_proposed, closed, failing, fresh, has_failed, holding, is_at, is_open_at, is_open_named, left_with, put_out, changed}
+use Rattle.world_base.specs.Connections.{fresh, has_failed, is_at, is_open_at, is_open_named}
+use Rattle.world_base.specs.ConnectionChanges.{noted_proposed, closed, failing, holding, left_with, put_out, changed}
 use Rattle.world_base.specs.Core.{CoreState, rules, serves}
 use Rattle.world_base.specs.Failing.{closes_failed}
 use Rattle.world_base.specs.Handing.{hands_over}

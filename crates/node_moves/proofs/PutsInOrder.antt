@@ -21,7 +21,8 @@ use Rattle.world_base.specs.declared.Connection.{Connection}
 use Rattle.world_base.specs.ballot.Protocol.{Input}
 use Rattle.world_base.specs.ballot.Replica.{CountedReplica, ReplicaState}
 use Rattle.world_base.specs.Step.{settled, opens}
-use Rattle.world_base.specs.Connections.{noted_proposed, holding, left_with, is_listed, is_at, is_open_at, is_open_named, max_pending, closed, failing, put_out, putting, changed}
+use Rattle.world_base.specs.Connections.{is_listed, is_at, is_open_at, is_open_named}
+use Rattle.world_base.specs.ConnectionChanges.{noted_proposed, holding, left_with, max_pending, closed, failing, put_out, putting, changed}
 use Rattle.world_base.specs.Core.{CoreState, StepOutcome, rules, serves}
 use Rattle.world_base.specs.Failing.{closes_failed}
 use Rattle.world_base.specs.Reading.{changes, refused}

@@ -14,7 +14,8 @@ use Rattle.world_base.specs.cutter.Pipe.{Joins, IsPiped}
 use Rattle.exactly_once.specs.StoryCommands.{is_packet_of}
 use Rattle.world_base.specs.declared.Port.{Port}
 use Rattle.world_base.specs.declared.Connection.{Connection}
-use Rattle.world_base.specs.Connections.{is_first, is_at, is_open_at, noted_proposed, holding, left_with, closed, changed}
+use Rattle.world_base.specs.Connections.{is_first, is_at, is_open_at}
+use Rattle.world_base.specs.ConnectionChanges.{noted_proposed, holding, left_with, closed, changed}
 use Rattle.world_base.specs.Core.{CoreState, StepOutcome}
 use Rattle.world_base.specs.Reading.{changes, open_at, refused}
 use Rattle.world_base.specs.Failing.{closes_failed}

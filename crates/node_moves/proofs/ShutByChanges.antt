@@ -15,7 +15,8 @@ use Rattle.exactly_once.specs.broker_spec.declared.command.Output.{Output}
 use Rattle.exactly_once.specs.broker_spec.Connection.{ConnectionName, same_connection}
 use Rattle.world_base.specs.declared.Port.{Port}
 use Rattle.world_base.specs.declared.Connection.{Connection}
-use Rattle.world_base.specs.Connections.{noted_proposed, holding, is_at, is_open_at, left_with}
+use Rattle.world_base.specs.Connections.{is_at, is_open_at}
+use Rattle.world_base.specs.ConnectionChanges.{noted_proposed, holding, left_with}
 use Rattle.world_base.specs.Core.{CoreState, rules, serves}
 use Rattle.world_base.specs.Reading.{changes, open_at, refused}
 use Rattle.world_base.specs.Effects.{has_room, proposes}

@@ -18,7 +18,8 @@ use Rattle.exactly_once.specs.broker_spec.Connection.{ConnectionName, same_conne
 use Rattle.exactly_once.proofs.of_broker_spec.ConnectionNames.{same_name, same_itself}
 use Rattle.exactly_once.specs.Sends.{sends_to}
 use Rattle.world_base.specs.declared.Connection.{Connection}
-use Rattle.world_base.specs.Connections.{is_open_named, closed, put_out, changed}
+use Rattle.world_base.specs.Connections.{is_open_named}
+use Rattle.world_base.specs.ConnectionChanges.{closed, put_out, changed}
 use Rattle.world_base.specs.Core.{CoreState, StepOutcome, rules, serves}
 use Rattle.world_base.specs.Effects.{without_messages, moved, handled, proposes, changes_named, drives, heard}
 use Rattle.node_moves.specs.Closed.{listed_named}

@@ -8,7 +8,8 @@ use Rattle.exactly_once.specs.lists.Lists.{Each}
 use Rattle.world_base.specs.declared.Port.{Port}
 use Rattle.world_base.specs.declared.item.Item.TheVariants.{Tick}
 use Rattle.world_base.specs.declared.Connection.{Connection}
-use Rattle.world_base.specs.Connections.{is_over, is_proposed, is_silent, is_at, is_open_at, closed, failing}
+use Rattle.world_base.specs.Connections.{is_over, is_proposed, is_silent, is_at, is_open_at}
+use Rattle.world_base.specs.ConnectionChanges.{closed, failing}
 use Rattle.world_base.specs.Core.{CoreState, StepOutcome}
 use Rattle.world_base.specs.KeepAlive.{lower, lower_silent, lowest_silent, ends_if, ends_silent}
 use Rattle.world_base.specs.Reading.{changes, ends, loses, loses_open, open_at}

@@ -18,7 +18,8 @@ use Rattle.world_base.specs.declared.Port.{Port}
 use Rattle.world_base.specs.declared.item.Item.{Item}
 use Rattle.world_base.specs.declared.item.Item.TheVariants.{Peer, Tick, Opened, Bytes, Ended, Expel, Cut, Crash}
 use Rattle.world_base.specs.declared.Connection.{Connection}
-use Rattle.world_base.specs.Connections.{is_over, is_first, is_proposed, has_failed, is_at, is_open_at, noted_proposed, holding, left_with, closed, changed}
+use Rattle.world_base.specs.Connections.{is_over, is_first, is_proposed, has_failed, is_at, is_open_at}
+use Rattle.world_base.specs.ConnectionChanges.{noted_proposed, holding, left_with, closed, changed}
 use Rattle.world_base.specs.Core.{CoreState, StepOutcome}
 use Rattle.world_base.specs.Reading.{changes, open_at, loses, loses_open, ends, connects, proposes_packet, takes_first_packet, reads, reads_of, reads_next, refused, unread_of}
 use Rattle.world_base.specs.ballot.Cutting.{can_cut}

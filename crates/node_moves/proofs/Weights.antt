@@ -12,7 +12,8 @@ use Rattle.exactly_once.specs.broker_spec.declared.command.Output.{Output}
 use Rattle.exactly_once.specs.broker_spec.declared.command.Output.TheVariants as outputs
 use Rattle.exactly_once.specs.broker_spec.Connection.{ConnectionName}
 use Rattle.world_base.specs.declared.Connection.{Connection}
-use Rattle.world_base.specs.Connections.{is_open_named, max_pending, closed, failing, putting, put_out, changed}
+use Rattle.world_base.specs.Connections.{is_open_named}
+use Rattle.world_base.specs.ConnectionChanges.{max_pending, closed, failing, putting, put_out, changed}
 use Rattle.world_base.specs.Core.{CoreState, StepOutcome, rules, serves}
 use Rattle.world_base.specs.Effects.{without_messages, repeated, handled, moved, proposes, changes_named}
 use Rattle.node_moves.proofs.NamesInOrder.{same_le}

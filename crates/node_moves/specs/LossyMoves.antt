@@ -12,7 +12,8 @@ use Rattle.exactly_once.specs.broker_spec.declared.command.Command.TheVariants a
 use Rattle.exactly_once.specs.broker_spec.Connection.{ConnectionName}
 use Rattle.world_base.specs.declared.Port.{Port}
 use Rattle.world_base.specs.declared.Connection.{Connection}
-use Rattle.world_base.specs.Connections.{noted_proposed, closed, failing, is_first, left_with}
+use Rattle.world_base.specs.Connections.{is_first}
+use Rattle.world_base.specs.ConnectionChanges.{noted_proposed, closed, failing, left_with}
 use Rattle.world_base.specs.Core.{CoreState, StepOutcome, rules}
 use Rattle.world_base.specs.Failing.{closes_failed}
 use Rattle.world_base.specs.Lossy.{Account, Drives, TakesCommand}

@@ -15,7 +15,8 @@ use Rattle.exactly_once.specs.broker_spec.declared.command.Command.TheVariants a
 use Rattle.world_base.specs.declared.Port.{Port}
 use Rattle.world_base.specs.declared.item.Item.{Item}
 use Rattle.world_base.specs.declared.Connection.{Connection}
-use Rattle.world_base.specs.Connections.{has_failed, is_first, is_proposed, noted_proposed, holding, left_with, closed}
+use Rattle.world_base.specs.Connections.{has_failed, is_first, is_proposed}
+use Rattle.world_base.specs.ConnectionChanges.{noted_proposed, holding, left_with, closed}
 use Rattle.world_base.specs.Core.{CoreState, StepOutcome}
 use Rattle.world_base.specs.Failing.{closes_failed}
 use Rattle.world_base.specs.Handing.{hands_over}

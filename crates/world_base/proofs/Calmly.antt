@@ -9,7 +9,8 @@ use Rattle.ballot.specs.Message.{Message}
 use Rattle.ballot.specs.Protocol.Input.{Receives}
 use Rattle.node_connections.specs.declared.port.Port.{Port}
 use Rattle.node_connections.specs.declared.connection.Connection.{Connection}
-use Rattle.node_connections.specs.Connections.{changed, closed, handed, has_failed, is_at, is_listed, is_open_at}
+use Rattle.node_connections.specs.Connections.{has_failed, is_at, is_listed, is_open_at}
+use Rattle.node_connections.specs.ConnectionChanges.{changed, closed, handed}
 use Rattle.world_base.specs.declared.item.Item.{Item}
 use Rattle.world_base.specs.declared.item.Item.TheVariants.{Peer, Tick, Opened, Bytes, Ended, Expel, Cut, Crash}
 use Rattle.world_base.specs.Core.{CoreState, StepOutcome, serves}

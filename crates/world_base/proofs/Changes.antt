@@ -6,7 +6,8 @@ use Rattle.std.specs.Result.{is_ok, OnOk}
 use Rattle.node_connections.specs.broker_spec.Connection.{ConnectionName}
 use Rattle.node_connections.specs.declared.port.Port.{Port}
 use Rattle.node_connections.specs.declared.connection.Connection.{Connection}
-use Rattle.node_connections.specs.Connections.{changed, is_open_at, is_open_named}
+use Rattle.node_connections.specs.Connections.{is_open_at, is_open_named}
+use Rattle.node_connections.specs.ConnectionChanges.{changed}
 use Rattle.world_base.specs.Core.{CoreState}
 use Rattle.world_base.specs.Inside.{Running}
 use Rattle.world_base.specs.Reading.{changes}

@@ -10,7 +10,8 @@ use Rattle.ballot.specs.Serving.{max_places}
 use Rattle.ballot.proofs.StepRows.{proposed-full}
 use Rattle.node_connections.specs.declared.port.Port.{Port}
 use Rattle.node_connections.specs.declared.connection.Connection.{Connection}
-use Rattle.node_connections.specs.Connections.{closed, is_proposed}
+use Rattle.node_connections.specs.Connections.{is_proposed}
+use Rattle.node_connections.specs.ConnectionChanges.{closed}
 use Rattle.world_base.specs.Core.{CoreState, StepOutcome, rules, serves}
 use Rattle.world_base.specs.Inside.{Running, DoesExactly, DoesOutcome}
 use Rattle.world_base.specs.Reading.{changes, ends, open_at}

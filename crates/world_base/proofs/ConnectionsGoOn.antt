@@ -17,7 +17,8 @@ use Rattle.ballot.specs.Effect.TheVariants.{To, Out}
 use Rattle.ballot.specs.Message.{Message}
 use Rattle.node_connections.specs.declared.connection.Connection.{Connection}
 use Rattle.node_connections.specs.declared.connection.ConnectionStage.TheVariants.{Over, Failed}
-use Rattle.node_connections.specs.Connections.{changed, closed, failing, is_open_named, is_over, is_proposed, max_pending, put_out, putting}
+use Rattle.node_connections.specs.Connections.{is_open_named, is_over, is_proposed}
+use Rattle.node_connections.specs.ConnectionChanges.{changed, closed, failing, max_pending, put_out, putting}
 use Rattle.world_base.specs.Core.{CoreState}
 use Rattle.world_base.specs.Going.{AreNamedApart, EachGoesOn, ConnectionGoesOn, bytes_by, bytes_for}
 use Rattle.world_base.specs.Lossy.{HandlesAll, Performs}

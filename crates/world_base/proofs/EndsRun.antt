@@ -8,7 +8,8 @@ use Rattle.node_connections.specs.broker_spec.declared.command.Output.{Output}
 use Rattle.ballot.specs.Effect.{Effect}
 use Rattle.node_connections.specs.declared.port.Port.{Port}
 use Rattle.node_connections.specs.declared.connection.Connection.{Connection}
-use Rattle.node_connections.specs.Connections.{closed, failing, has_failed, holding, is_proposed}
+use Rattle.node_connections.specs.Connections.{has_failed, is_proposed}
+use Rattle.node_connections.specs.ConnectionChanges.{closed, failing, holding}
 use Rattle.world_base.specs.Core.{CoreState}
 use Rattle.world_base.specs.Failing.{closes_failed}
 use Rattle.world_base.specs.Inside.{ProposedBy, Ran, ReportsLost, Running}

@@ -19,7 +19,8 @@ use Rattle.node_connections.specs.declared.front.Front.TheVariants as fronts
 use Rattle.node_connections.specs.declared.connection.ConnectionStage.{ConnectionStage}
 use Rattle.node_connections.specs.declared.connection.ConnectionStage.TheVariants.{Awaits, Proposed, Over, Failed}
 use Rattle.node_connections.specs.declared.connection.Connection.{Connection}
-use Rattle.node_connections.specs.Connections.{changed, closed, left_with, is_first, is_proposed, is_open_at}
+use Rattle.node_connections.specs.Connections.{is_first, is_proposed, is_open_at}
+use Rattle.node_connections.specs.ConnectionChanges.{changed, closed, left_with}
 use Rattle.world_base.specs.Core.{CoreState, StepOutcome}
 use Rattle.node_connections.specs.Fronts.{IsFault}
 use Rattle.node_connections.specs.Inside.{TakesFront}

@@ -15,7 +15,8 @@ use Rattle.node_connections.specs.declared.front.Front.TheVariants as fronts
 use Rattle.node_connections.specs.declared.connection.ConnectionStage.{ConnectionStage}
 use Rattle.node_connections.specs.declared.connection.ConnectionStage.TheVariants.{Awaits, Proposed, Over, Failed}
 use Rattle.node_connections.specs.declared.connection.Connection.{Connection}
-use Rattle.node_connections.specs.Connections.{noted_proposed, closed, is_first, is_proposed, left_with}
+use Rattle.node_connections.specs.Connections.{is_first, is_proposed}
+use Rattle.node_connections.specs.ConnectionChanges.{noted_proposed, closed, left_with}
 use Rattle.world_base.specs.Core.{CoreState}
 use Rattle.node_connections.specs.Fronts.{FrontNeedsMemory, HasNoPacket}
 use Rattle.node_connections.specs.Inside.{TakesFront}

@@ -17,7 +17,8 @@ use Rattle.node_connections.specs.declared.port.Port.{Port}
 use Rattle.world_base.specs.declared.item.Item.{Item}
 use Rattle.world_base.specs.declared.item.Item.TheVariants.{Peer, Tick, Opened, Bytes, Ended, Expel, Cut, Crash}
 use Rattle.node_connections.specs.declared.connection.Connection.{Connection}
-use Rattle.node_connections.specs.Connections.{noted_proposed, closed, failing, fresh, has_failed, holding, is_at, is_open_at, is_over, left_with}
+use Rattle.node_connections.specs.Connections.{fresh, has_failed, is_at, is_open_at, is_over}
+use Rattle.node_connections.specs.ConnectionChanges.{noted_proposed, closed, failing, holding, left_with}
 use Rattle.world_base.specs.Core.{CoreState, serves}
 use Rattle.world_base.specs.Failing.{closes_failed}
 use Rattle.world_base.specs.Going.{AGapIsClosed, AreNamedApart, EachGoesOn, GoOn, ConnectionGoesOn, OpensAtMostOne}

@@ -3,7 +3,8 @@ use Rattle.std.proofs.Common.{◌≡◌, ℕ, Option, Some, None, List, get_or, 
 use Rattle.std.specs.List.{position, filter}
 use Rattle.node_connections.specs.declared.port.Port.{Port}
 use Rattle.node_connections.specs.declared.connection.Connection.{Connection}
-use Rattle.node_connections.specs.Connections.{handed, is_at, is_listed}
+use Rattle.node_connections.specs.Connections.{is_at, is_listed}
+use Rattle.node_connections.specs.ConnectionChanges.{handed}
 use Rattle.world_base.specs.Handing.{hands_over, listed_at}
 use Rattle.world_base.specs.Inside.{Running}
 use Rattle.world_base.proofs.Indices.{index_changed}

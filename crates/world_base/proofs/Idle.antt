@@ -14,7 +14,8 @@ use Rattle.node_connections.specs.declared.port.Port.{Port}
 use Rattle.world_base.specs.declared.item.Item.{Item}
 use Rattle.world_base.specs.declared.item.Item.TheVariants.{Peer, Tick, Opened, Bytes, Ended, Expel, Cut, Crash}
 use Rattle.node_connections.specs.declared.connection.Connection.{Connection}
-use Rattle.node_connections.specs.Connections.{changed, closed, has_failed, holding, is_open_at, is_proposed}
+use Rattle.node_connections.specs.Connections.{has_failed, is_open_at, is_proposed}
+use Rattle.node_connections.specs.ConnectionChanges.{changed, closed, holding}
 use Rattle.world_base.specs.Core.{CoreState, StepOutcome}
 use Rattle.world_base.specs.Failing.{loses_all_failed}
 use Rattle.world_base.specs.Inside.{Ran, Running, DoesOutcome, WithoutFailure}

@@ -6,7 +6,7 @@ use Rattle.std.proofs.lemmas.List.Quantifiers.{position-Some}
 use Rattle.std.proofs.lemmas.List.Sums.{fails_before_first}
 use Rattle.std.proofs.lemmas.Bool.Decides.{nat_tests}
 use Rattle.node_connections.specs.declared.connection.Connection.{Connection}
-use Rattle.node_connections.specs.Connections.{changed}
+use Rattle.node_connections.specs.ConnectionChanges.{changed}
 
 -- if no connection passes, none is found and none is changed
 fails_found : (test : Connection → Bool) (cs : List Connection) →

@@ -2,7 +2,8 @@
 use Rattle.std.proofs.Common.{◌≡◌, true, false, List, map, ap, ◌∙◌}
 use Rattle.std.specs.List.{filter}
 use Rattle.node_connections.specs.declared.connection.Connection.{Connection}
-use Rattle.node_connections.specs.Connections.{closed, is_listed}
+use Rattle.node_connections.specs.Connections.{is_listed}
+use Rattle.node_connections.specs.ConnectionChanges.{closed}
 use Rattle.world_base.specs.Core.{serves}
 use Rattle.world_base.specs.Inside.{Running}
 use Rattle.world_base.specs.Step.{settled}

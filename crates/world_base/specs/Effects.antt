@@ -14,7 +14,8 @@ use Rattle.ballot.specs.Replica.{ReplicaState}
 use Rattle.ballot.specs.Sending.{Outcome, nothing_done}
 use Rattle.ballot.specs.Serving.{proposed, max_places}
 use Rattle.node_connections.specs.declared.connection.Connection.{Connection}
-use Rattle.node_connections.specs.Connections.{is_open_named, closed, put_out, changed}
+use Rattle.node_connections.specs.Connections.{is_open_named}
+use Rattle.node_connections.specs.ConnectionChanges.{closed, put_out, changed}
 use Rattle.world_base.specs.Core.{CoreState, StepOutcome, rules, serves}
 use Rattle.node_connections.specs.packet.Spelling.{spelling}
 

@@ -4,7 +4,8 @@ use Rattle.std.specs.Prelude.{length, Option, Some, None}
 use Rattle.std.specs.List.{find}
 use Rattle.node_connections.specs.broker_spec.declared.command.Command.TheVariants as commands
 use Rattle.node_connections.specs.declared.connection.Connection.{Connection}
-use Rattle.node_connections.specs.Connections.{has_failed, closed, changed}
+use Rattle.node_connections.specs.Connections.{has_failed}
+use Rattle.node_connections.specs.ConnectionChanges.{closed, changed}
 use Rattle.world_base.specs.Core.{CoreState, StepOutcome}
 use Rattle.world_base.specs.Effects.{without_messages, proposes, repeated}
 

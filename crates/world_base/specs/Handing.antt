@@ -3,7 +3,8 @@ use Rattle.std.specs.Prelude.{List, map, Option, Some, None}
 use Rattle.std.specs.List.{find, filter}
 use Rattle.node_connections.specs.declared.port.Port.{Port}
 use Rattle.node_connections.specs.declared.connection.Connection.{Connection}
-use Rattle.node_connections.specs.Connections.{is_at, is_listed, handed, changed}
+use Rattle.node_connections.specs.Connections.{is_at, is_listed}
+use Rattle.node_connections.specs.ConnectionChanges.{handed, changed}
 use Rattle.world_base.specs.Core.{CoreState}
 pub use Rattle.node_connections.specs.Pending.{answer_of, bytes_of, is_idle}
 

@@ -13,6 +13,7 @@ pub mod Reading
 pub mod Step
 pub mod Effects
 pub use Rattle.node_connections.specs.Connections
+pub use Rattle.node_connections.specs.ConnectionChanges
 pub use Rattle.node_connections.specs.Stands
 pub use Rattle.ballot.specs.LawfulConfig
 pub use Rattle.ballot.specs.Replica

@@ -12,7 +12,7 @@ use Rattle.ballot.specs.Protocol.{Input}
 use Rattle.ballot.specs.Replica.{CountedReplica}
 use Rattle.ballot.specs.Sending.{Outcome}
 use Rattle.ballot.specs.Serving.{added}
-use Rattle.node_connections.specs.Connections.{failing}
+use Rattle.node_connections.specs.ConnectionChanges.{failing}
 use Rattle.world_base.specs.Core.{CoreState, rules}
 use Rattle.world_base.specs.Effects.{changes_named, has_room, heard, performed_by}
 

@@ -12,7 +12,8 @@ use Rattle.node_connections.specs.broker_spec.declared.command.Command.{Command}
 use Rattle.node_connections.specs.broker_spec.declared.command.Command.TheVariants as commands
 use Rattle.node_connections.specs.declared.port.Port.{Port}
 use Rattle.node_connections.specs.declared.connection.Connection.{Connection}
-use Rattle.node_connections.specs.Connections.{noted_proposed, closed, failing, has_failed, is_first, is_proposed, left_with}
+use Rattle.node_connections.specs.Connections.{has_failed, is_first, is_proposed}
+use Rattle.node_connections.specs.ConnectionChanges.{noted_proposed, closed, failing, left_with}
 use Rattle.node_connections.specs.Fronts.{FrontNeedsMemory, HasNoPacket}
 use Rattle.world_base.specs.Core.{CoreState}
 use Rattle.world_base.specs.Failing.{closes_failed}

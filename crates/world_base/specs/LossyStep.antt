@@ -9,7 +9,7 @@ use Rattle.ballot.specs.Protocol.Input.{Receives, Ticks}
 use Rattle.node_connections.specs.declared.port.Port.{Port}
 use Rattle.world_base.specs.declared.item.Item.{Item}
 use Rattle.world_base.specs.declared.item.Item.TheVariants.{Peer, Tick, Opened, Bytes, Ended, Expel, Cut, Crash}
-use Rattle.node_connections.specs.Connections.{holding}
+use Rattle.node_connections.specs.ConnectionChanges.{holding}
 use Rattle.ballot.specs.Cutting.{can_cut}
 use Rattle.ballot.specs.Losses.{one_more}
 use Rattle.world_base.specs.Core.{CoreState, rules}

@@ -11,7 +11,8 @@ use Rattle.node_connections.specs.broker_spec.Connection.{ConnectionName}
 use Rattle.node_connections.specs.broker_spec.declared.command.Command.TheVariants as commands
 use Rattle.node_connections.specs.declared.port.Port.{Port}
 use Rattle.node_connections.specs.declared.connection.Connection.{Connection}
-use Rattle.node_connections.specs.Connections.{is_open_at, is_first, is_proposed, noted_proposed, left_with, closed, changed}
+use Rattle.node_connections.specs.Connections.{is_open_at, is_first, is_proposed}
+use Rattle.node_connections.specs.ConnectionChanges.{noted_proposed, left_with, closed, changed}
 use Rattle.world_base.specs.Core.{CoreState, StepOutcome}
 use Rattle.world_base.specs.Effects.{without_messages, repeated, proposes, has_room}
 pub use Rattle.node_connections.specs.Refusing.{refused}

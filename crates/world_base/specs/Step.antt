@@ -9,7 +9,8 @@ use Rattle.ballot.specs.Protocol.Input.{Receives, Ticks}
 use Rattle.node_connections.specs.declared.port.Port.{Port}
 use Rattle.world_base.specs.declared.item.Item.{Item}
 use Rattle.world_base.specs.declared.item.Item.TheVariants.{Peer, Tick, Opened, Bytes, Ended, Expel, Cut, Crash}
-use Rattle.node_connections.specs.Connections.{is_at, is_listed, fresh, holding, closed}
+use Rattle.node_connections.specs.Connections.{is_at, is_listed, fresh}
+use Rattle.node_connections.specs.ConnectionChanges.{holding, closed}
 use Rattle.world_base.specs.Core.{CoreState, StepOutcome, rules, serves}
 use Rattle.world_base.specs.Failing.{loses_all_failed}
 use Rattle.world_base.specs.KeepAlive.{ends_all_silent}

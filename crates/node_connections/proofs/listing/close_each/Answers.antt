@@ -1,6 +1,6 @@
 use Rattle.std.proofs.Common.{ap, ◌∙◌, set, arith}
 use Rattle.std.proofs.lemmas.List.Edits.{map_over_more}
-use Rattle.node_connections.specs.Connections.{closed}
+use Rattle.node_connections.specs.ConnectionChanges.{closed}
 use Rattle.node_connections.proofs.listing.close_each.Goals as goal
 
 pub loop-index-preserved : goal.loop-index-preserved

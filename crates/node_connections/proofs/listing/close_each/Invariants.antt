@@ -1,5 +1,5 @@
 use Rattle.std.proofs.Common.{◌≡◌, ◌++◌, map, take, drop}
-use Rattle.node_connections.specs.Connections.{closed}
+use Rattle.node_connections.specs.ConnectionChanges.{closed}
 use Rattle.node_connections.proofs.listing.close_each.Given as goal
 
 abbrev pub invariant-loop-index : goal.invariant-loop-index

@@ -1,4 +1,4 @@
-use Rattle.node_connections.specs.Connections.{closed}
+use Rattle.node_connections.specs.ConnectionChanges.{closed}
 use Rattle.world_base.proofs.Changes.{named_there, named_nowhere}
 use Rattle.world_base.proofs.stepping_node.SteppingNode.close_named.Goals as goal
 

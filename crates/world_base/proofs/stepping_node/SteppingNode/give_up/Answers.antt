@@ -1,5 +1,5 @@
 use Rattle.std.proofs.Common.{inl, inr}
-use Rattle.node_connections.specs.Connections.{closed, failing}
+use Rattle.node_connections.specs.ConnectionChanges.{closed, failing}
 use Rattle.world_base.proofs.Changes.{core_changed, core_unchanged}
 use Rattle.world_base.proofs.stepping_node.SteppingNode.give_up.Goals as goal
 

@@ -1,5 +1,5 @@
 use Rattle.std.proofs.Common.{sym, ◌∙◌}
-use Rattle.node_connections.specs.Connections.{holding}
+use Rattle.node_connections.specs.ConnectionChanges.{holding}
 use Rattle.world_base.proofs.Changes.{ok_holds, changed_there, changed_nowhere}
 use Rattle.world_base.proofs.stepping_node.SteppingNode.hold_at.Goals as goal
 

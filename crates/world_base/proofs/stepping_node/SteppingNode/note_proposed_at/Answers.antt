@@ -1,4 +1,4 @@
-use Rattle.node_connections.specs.Connections.{noted_proposed}
+use Rattle.node_connections.specs.ConnectionChanges.{noted_proposed}
 use Rattle.world_base.proofs.Changes.{changed_there, changed_nowhere}
 use Rattle.world_base.proofs.stepping_node.SteppingNode.note_proposed_at.Goals as goal
 

@@ -1,5 +1,6 @@
 use Rattle.std.proofs.Common.{sym, ◌∙◌}
-use Rattle.node_connections.specs.Connections.{closed, has_failed}
+use Rattle.node_connections.specs.Connections.{has_failed}
+use Rattle.node_connections.specs.ConnectionChanges.{closed}
 use Rattle.world_base.proofs.Changes.{there, core_there}
 use Rattle.world_base.proofs.EndsRun.{idle_failed, ran_failed, ran_none_failed}
 use Rattle.world_base.proofs.Failures.{failed_none, failed_next, failed_one, none_some}
