@@ -2,7 +2,7 @@
 use Rattle.std.proofs.Common.{◌≡◌, ℕ, List, [], ◌∷◌, ◌++◌, map, refl, sym, ap, ◌∙◌, subst}
 use Rattle.node_group.specs.ballot.Config.{Config}
 use Rattle.node_group.specs.broker_spec.Place.{Client}
-use Rattle.node_group.specs.client_base.Called.{opens}
+use Rattle.node_group.specs.client_base.Connected.{opens}
 use Rattle.node_group.specs.client_base.Keeper.{Written}
 use Rattle.node_group.specs.client_base.Written.{writes_first}
 use Rattle.node_group.specs.lists.Lists.{Each}

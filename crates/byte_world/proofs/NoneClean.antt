@@ -5,7 +5,7 @@ use Rattle.node_group.specs.broker_spec.declared.command.Command.{Command}
 use Rattle.node_group.specs.broker_spec.declared.command.Command.TheVariants as commands
 use Rattle.node_group.specs.broker_spec.Connection.{ConnectionName}
 use Rattle.node_group.specs.broker_spec.Place.{Client}
-use Rattle.node_group.specs.client_base.Called.{opens}
+use Rattle.node_group.specs.client_base.Connected.{opens}
 use Rattle.node_group.specs.client_base.Keeper.{Written}
 use Rattle.node_group.specs.lists.Lists.{Each, In, IsPrefixOf}
 use Rattle.node_group.specs.lists.Lists.In.{here, there}

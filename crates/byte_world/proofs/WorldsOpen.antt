@@ -7,7 +7,7 @@ use Rattle.node_group.specs.packet.Spelling.{IsPacket}
 use Rattle.node_group.specs.packet.declared.packet.Packet.TheVariants as packets
 use Rattle.node_group.specs.ballot.Config.{Config}
 use Rattle.node_group.specs.broker_spec.Connection.{ConnectionName, same_connection}
-use Rattle.node_group.specs.client_base.Called.{new_connection}
+use Rattle.node_group.specs.client_base.Connected.{new_connection}
 use Rattle.node_group.specs.lists.Lists.{In}
 use Rattle.node_group.specs.lists.Lists.In.{here, there}
 use Rattle.node_group.proofs.of_lists.Places.{get_set, get_set_other}

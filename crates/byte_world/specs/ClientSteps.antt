@@ -3,7 +3,7 @@ use Rattle.std.specs.Prelude.{ℕ, true, false, List, [], ◌∷◌}
 use Rattle.node_group.specs.packet.Spelling.{IsPacket}
 use Rattle.node_group.specs.cutter.Stream.{Stream}
 use Rattle.node_group.specs.broker_spec.Connection.{ConnectionName}
-use Rattle.node_group.specs.client_base.Called.{new_connection}
+use Rattle.node_group.specs.client_base.Connected.{new_connection}
 use Rattle.node_group.specs.client_base.Handled.{lost}
 use Rattle.node_group.specs.lists.Lists.{Each}
 use Rattle.node_group.specs.exactly_once.Sides.{ClientConnection, Side}

@@ -18,6 +18,7 @@ pub use Rattle.client_base.specs.Written
 pub use Rattle.client_base.specs.Handled
 pub use Rattle.client_base.specs.Handshakes
 pub use Rattle.client_base.specs.Called
+pub use Rattle.client_base.specs.Connected
 pub use Rattle.client_base.specs.History
 pub use Rattle.client_base.specs as client_base
 pub use Rattle.cutter.specs as cutter

@@ -18,7 +18,7 @@ use Rattle.client_base.specs.Calls.{opened}
 use Rattle.client_base.specs.Publishing.{next_id, published, publish_refusal}
 use Rattle.client_base.specs.Steps.{Call, unless_refused, request_refusal, asked, disconnected}
 use Rattle.client_base.specs.Called.{asks, keeper_goes}
-use Rattle.client_base.specs.Called as called
+use Rattle.client_base.specs.Connected as connected
 use Rattle.client_base.specs.HistoryLaws.{CallsFollow}
 use Rattle.client_base.specs.Written.{plain, writes}
 use Rattle.client_base.specs.Keeper.{Side, ids_in_use}
@@ -92,7 +92,7 @@ publishes_follow p law side state None e s taken =
 -- ---- every call
 
 opens_follow : (fresh : ℕ) (side : Side ℕ) (state : ClientState) → state.keep_alive ≡ 0 → KeeperStandsFor side.keeper state
-    → KeeperStandsFor (called.opened 0 fresh side.keeper).keeper (opened state).state
+    → KeeperStandsFor (connected.opened 0 fresh side.keeper).keeper (opened state).state
 opens_follow fresh side state e s =
     let t : KeeperStandsFor (handling.lost side.keeper) (lost state) = lost_stands side.keeper state s in
     record {

@@ -1,5 +1,5 @@
 -- What a call does to a client with its history (MQTT 3.1, 3.3, 3.8, 3.10, 3.14).
-use Rattle.std.specs.Prelude.{ℕ, true, false, if◌then◌else◌, List, [], ◌∷◌, ◌++◌}
+use Rattle.std.specs.Prelude.{ℕ, false, if◌then◌else◌, List, [], ◌∷◌, ◌++◌}
 use Rattle.session_base.specs.packet.declared.qos.QoS.{QoS}
 use Rattle.session_base.specs.packet.declared.packet.Packet.{Packet}
 use Rattle.session_base.specs.packet.declared.packet.Packet.TheVariants as packets
@@ -8,48 +8,12 @@ use Rattle.session_base.specs.Publication.{is_answered}
 use Rattle.session_base.specs.Identifiers.{least_free}
 use Rattle.client_base.specs.declared.request.Request.{Request}
 use Rattle.client_base.specs.declared.request.Request.TheVariants as requests
-use Rattle.client_base.specs.Keeper.{Own, Written, ClientConnection, Keeper, Side}
+use Rattle.client_base.specs.Keeper.{Own, Written, Keeper, Side}
 use Rattle.client_base.specs.Keeper.{ids_in_use, next_number}
 use Rattle.client_base.specs.Written.{plain, publishes, writes}
 use Rattle.client_base.specs.Handled.{lost, handled}
 use Rattle.client_base.specs.Steps.{Call}
-
--- ---- a connection
-
--- CONNECT with CleanSession 0 and this keep alive
-abbrev pub connects : ℕ → List ℕ → Written
-connects keep_alive c =
-    plain (packets.Connect (record { client = c; clean = false; keep_alive = keep_alive }))
-
--- with keep alive 0, as the clients of the headline theorem have it
-abbrev pub opens : List ℕ → Written
-opens = connects 0
-
--- a connection of a client, on which nothing but a CONNECT was written
-abbrev pub new_connection : {Name : Type 0} → List ℕ → Name → ClientConnection Name
-new_connection c x =
-    record {
-      name = x;
-      written = opens c ∷ [];
-      taken = 0;
-      handled = 0;
-      confirmed = false;
-      accepted = [];
-    }
-
--- a client that opens a connection with a keep alive: what it kept stays, requests are given up
-abbrev pub opened : {Name : Type 0} → ℕ → Name → Keeper → Side Name
-opened keep_alive x keeper =
-    record {
-      keeper = record (lost keeper) { is_open = true };
-      connection =
-          record (new_connection keeper.client x)
-          { written = connects keep_alive keeper.client ∷ [] };
-    }
-
--- what a disconnecting client writes: DISCONNECT if it is online
-abbrev pub disconnects : Keeper → List Written
-disconnects keeper = if keeper.is_online then plain packets.Disconnect ∷ [] else []
+use Rattle.client_base.specs.Connected.{opened, disconnects}
 
 -- ---- publishing and asking
 

@@ -9,6 +9,7 @@ pub mod Laws
 pub mod Keeper
 pub mod Written
 pub mod Handled
+pub mod Connected
 pub mod Called
 pub mod History
 pub mod HistoryLaws

@@ -18,7 +18,8 @@ use Rattle.client_base.specs.declared.request.Request.TheVariants as requests
 use Rattle.exactly_once.specs.Sides.{ClientConnection, Side}
 use Rattle.client_base.specs.Written.{plain}
 use Rattle.client_base.specs.Handled.{handled, lost}
-use Rattle.client_base.specs.Called.{new_connection, adds_own, written_for}
+use Rattle.client_base.specs.Called.{adds_own, written_for}
+use Rattle.client_base.specs.Connected.{new_connection}
 use Rattle.client_base.specs.Written.{writes_first}
 use Rattle.exactly_once.specs.StoryCommands.{command_of, counted_at, names_client, is_packet_of, count_of, any_named}
 

@@ -5,7 +5,7 @@ use lib.Utf8.{encode}
 use Rattle.std.proofs.Common.{◌≡◌, ◌<◌, ◌≤◌, ℕ, true, [], ◌∷◌, refl, sym, arith}
 use Rattle.std.proofs.lemmas.List.{append-nil}
 use Rattle.byte_world.specs.packet.Spelling.{IsPacket, spelling}
-use Rattle.byte_world.specs.client_base.Called.{new_connection}
+use Rattle.byte_world.specs.client_base.Connected.{new_connection}
 use Rattle.byte_world.specs.client_base.Handled.{lost}
 use Rattle.byte_world.specs.client_base.Keeper.{Keeper, new_keeper}
 use Rattle.byte_world.specs.exactly_once.Rows.{first_name, writer}

@@ -7,7 +7,7 @@ use Rattle.byte_world.specs.broker_spec.declared.command.Command.{Command}
 use Rattle.byte_world.specs.broker_spec.Commands.{past_of, usual_limits}
 use Rattle.byte_world.specs.broker_spec.Connection.{ConnectionName, same_connection}
 use Rattle.byte_world.specs.broker_spec.Place.{Client}
-use Rattle.byte_world.specs.client_base.Called.{new_connection}
+use Rattle.byte_world.specs.client_base.Connected.{new_connection}
 use Rattle.byte_world.specs.client_base.Handled.{handled, lost}
 use Rattle.byte_world.specs.client_base.Keeper.{Keeper, Written}
 use Rattle.byte_world.specs.client_base.Written.{writes, writes_first}

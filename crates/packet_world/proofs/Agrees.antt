@@ -12,7 +12,7 @@ use Rattle.exactly_once.specs.broker_spec.declared.command.Command.TheVariants a
 use Rattle.exactly_once.proofs.of_broker_base.ConnectionNames.{same_name}
 use Rattle.exactly_once.proofs.of_broker_base.PacketOfNobody.{window_is_steady}
 use Rattle.exactly_once.specs.client_base.Keeper.{Written}
-use Rattle.exactly_once.specs.client_base.Called.{opens}
+use Rattle.exactly_once.specs.client_base.Connected.{opens}
 use Rattle.exactly_once.specs.Sides.{ClientConnection}
 use Rattle.exactly_once.specs.Story.{Story}
 use Rattle.exactly_once.specs.StoryCommands.{any_named, is_packet_of, counted_at, command_of, names_client}

@@ -8,7 +8,7 @@ use Rattle.exactly_once.specs.broker_spec.Place.{Client}
 use Rattle.exactly_once.specs.broker_spec.Commands.{past_of, usual_limits}
 use Rattle.snapshots.specs.lists.Lists.{IsPrefixOf}
 use Rattle.snapshots.proofs.of_lists.Prefixes.{prefix_get, prefix_take}
-use Rattle.exactly_once.specs.client_base.Called.{new_connection}
+use Rattle.exactly_once.specs.client_base.Connected.{new_connection}
 use Rattle.exactly_once.specs.client_base.Handled.{handled}
 use Rattle.exactly_once.specs.Sends.{put_to}
 use Rattle.exactly_once.specs.Sides.{ClientConnection}

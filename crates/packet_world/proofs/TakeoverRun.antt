@@ -17,7 +17,7 @@ use Rattle.exactly_once.specs.broker_spec.declared.command.Command.{Command}
 use Rattle.exactly_once.specs.broker_spec.declared.command.Command.TheVariants as commands
 use Rattle.exactly_once.specs.client_base.Keeper.{Own, Keeper}
 use Rattle.exactly_once.specs.client_base.Written.{plain, publishes}
-use Rattle.exactly_once.specs.client_base.Called.{opens}
+use Rattle.exactly_once.specs.client_base.Connected.{opens}
 use Rattle.exactly_once.specs.Sides.{ClientConnection}
 use Rattle.exactly_once.specs.Story.StoryStep.{subscribes, publishes_one, loses}
 use Rattle.exactly_once.specs.Rows.{writer, first_name, second_name, news, asks_for_news}

@@ -8,7 +8,7 @@ use Rattle.exactly_once.specs.broker_spec.AnswersInOrder.{answers_of}
 use Rattle.exactly_once.specs.broker_spec.declared.command.Command.{Command}
 use Rattle.exactly_once.specs.broker_spec.declared.command.Command.TheVariants as commands
 use Rattle.exactly_once.specs.client_base.Keeper.{Written}
-use Rattle.exactly_once.specs.client_base.Called.{new_connection}
+use Rattle.exactly_once.specs.client_base.Connected.{new_connection}
 use Rattle.exactly_once.specs.client_base.Handled.{handled, lost}
 use Rattle.exactly_once.specs.Sends.{sends_to}
 use Rattle.exactly_once.specs.Sides.{ClientConnection, Side}

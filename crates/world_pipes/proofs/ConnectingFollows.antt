@@ -9,7 +9,7 @@ use Rattle.client.specs.packet.declared.packet.Packet.TheVariants as packets
 use Rattle.byte_world.specs.broker_spec.Connection.{ConnectionName}
 use Rattle.client.specs.client_base.declared.error.ClientError.{ClientError}
 use Rattle.client.specs.client_base.State.{ClientState, is_open}
-use Rattle.client.specs.client_base.Called as called
+use Rattle.client.specs.client_base.Connected as opens_history
 use Rattle.client.specs.client_base.Handled as handling
 use Rattle.client.specs.client_base.History as history
 use Rattle.client.specs.client_base.Keeper.{Keeper}
@@ -107,7 +107,7 @@ connected node port old core m x s opens =
       ways = with_newest old.ways way m.pipes _
           (record { node = refl; port = refl; up = record { rest = []; is = sym out ∙ sym (append-nil core.out) }; down = refl }) s.ways;
       held = λ up. record {
-        connection = called.new_connection m.keeper.client x;
+        connection = opens_history.new_connection m.keeper.client x;
         others = m.connections;
         connections = refl;
         pipe = record {

@@ -14,6 +14,7 @@ use Rattle.client.specs.client_base.declared.stage.Stage.TheVariants as stages
 use Rattle.client.specs.client_base.State.{ClientState, is_online, is_open}
 use Rattle.client.specs.client_base.Answered.{ClientOutcome}
 use Rattle.client.specs.client_base.Called as called
+use Rattle.client.specs.client_base.Connected as connected
 use Rattle.client.specs.client_base.Publishing.{has_free_id, publish_refusal, published}
 use Rattle.client.specs.client_base.Handled as handling
 use Rattle.client.specs.client_base.History as history
@@ -133,7 +134,7 @@ leaves_too m state s zero taken =
       call = StoryStep.disconnects;
       is_one = refl;
       stands = f.0;
-      more = called.disconnects m.keeper;
+      more = connected.disconnects m.keeper;
       on_first = written_where m.keeper.is_online m.connections;
       writes = ap packets_of f.1.1 ∙ f.1.2;
     }

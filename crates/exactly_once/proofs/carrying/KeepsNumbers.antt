@@ -5,7 +5,8 @@ use Rattle.broker_base.specs.broker_spec.Place.{Past, Limits}
 use Rattle.client_base.specs.lists.Lists.{Each}
 use Rattle.client_base.specs.Keeper.{Written}
 use Rattle.client_base.specs.Written.{plain, writes, writes_first}
-use Rattle.client_base.specs.Called.{new_connection, written_for}
+use Rattle.client_base.specs.Called.{written_for}
+use Rattle.client_base.specs.Connected.{new_connection}
 use Rattle.client_base.specs.Handled.{handled}
 use Rattle.exactly_once.specs.Sides.{ClientConnection}
 use Rattle.exactly_once.specs.Story.{Story, StoryStep}

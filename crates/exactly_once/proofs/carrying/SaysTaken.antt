@@ -23,7 +23,7 @@ use Rattle.exactly_once.specs.Exact.{next_of}
 use Rattle.exactly_once.specs.HandshakeInvariant.{IsGood}
 use Rattle.exactly_once.proofs.Repeats.{good_repeat}
 use Rattle.client_base.specs.Keeper.{Written, Keeper}
-use Rattle.client_base.specs.Called.{opens}
+use Rattle.client_base.specs.Connected.{opens}
 use Rattle.exactly_once.specs.Sides.{ClientConnection}
 use Rattle.exactly_once.specs.StoryCommands.{counted_at, count_of, command_of}
 use Rattle.exactly_once.specs.Carried.{connection_named, number_at, new_numbers}

@@ -19,7 +19,7 @@ use Rattle.client_base.specs.State.{id_of_request}
 use Rattle.client_base.specs.Written.{sent_all, sent_first, resent}
 use Rattle.client_base.specs.Handled.{discarded, confirmed}
 use Rattle.exactly_once.specs.Story.{with_side}
-use Rattle.client_base.specs.Called.{opens}
+use Rattle.client_base.specs.Connected.{opens}
 use Rattle.exactly_once.specs.Inside.Projections.{items_of_own, forward_of_own, backward_of_own, is_current, as_publisher, GoesTo}
 use Rattle.exactly_once.specs.Inside.Shape.{OwnInShape}
 use Rattle.exactly_once.specs.Inside.ConnectionShape.{ConnectionInShape}

@@ -10,7 +10,7 @@ use Rattle.broker_base.specs.broker_spec.Past.{session_of}
 use Rattle.broker_base.specs.broker_spec.Commands.{past_of}
 use Rattle.broker_base.specs.broker_spec.declared.command.Command.{Command}
 use Rattle.client_base.specs.Keeper.{Own, Keeper, ids_in_use, all_own}
-use Rattle.client_base.specs.Called.{new_connection}
+use Rattle.client_base.specs.Connected.{new_connection}
 use Rattle.client_base.specs.Handled.{handled}
 use Rattle.exactly_once.specs.Sides.{ClientConnection, Side}
 use Rattle.exactly_once.specs.Sends.{put_to}

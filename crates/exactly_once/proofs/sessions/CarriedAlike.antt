@@ -18,7 +18,8 @@ use Rattle.broker_base.specs.broker_spec.declared.command.Command.TheVariants as
 use Rattle.client_base.specs.session_base.declared.publication.Publication.{Publication}
 use Rattle.client_base.specs.session_base.Publication.{publication_of}
 use Rattle.client_base.specs.Keeper.{Written}
-use Rattle.client_base.specs.Called.{new_connection, written_for}
+use Rattle.client_base.specs.Called.{written_for}
+use Rattle.client_base.specs.Connected.{new_connection}
 use Rattle.client_base.specs.Written.{plain, writes_first}
 use Rattle.client_base.specs.Handled.{handled}
 use Rattle.exactly_once.specs.Sides.{ClientConnection}

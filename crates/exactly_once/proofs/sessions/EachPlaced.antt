@@ -13,7 +13,7 @@ use Rattle.broker_base.specs.broker_spec.Commands.{place_of}
 use Rattle.broker_base.specs.broker_spec.declared.command.Command.{Command}
 use Rattle.broker_base.specs.broker_spec.declared.command.Command.TheVariants as commands
 use Rattle.client_base.specs.Keeper.{Written}
-use Rattle.client_base.specs.Called.{opens}
+use Rattle.client_base.specs.Connected.{opens}
 use Rattle.exactly_once.specs.Sides.{ClientConnection}
 use Rattle.exactly_once.specs.StoryCommands.{any_named, counted_at, command_of, count_of, is_packet_of}
 use Rattle.broker_base.proofs.ConnectionNames.{same_itself}

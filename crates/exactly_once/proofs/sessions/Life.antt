@@ -14,7 +14,7 @@ use Rattle.exactly_once.specs.Sends.{put_to}
 use Rattle.exactly_once.specs.Story.{Story}
 use Rattle.exactly_once.specs.StoryCommands.{count_of}
 use Rattle.exactly_once.specs.StoryTrace.{AreUnsent, unserved}
-use Rattle.client_base.specs.Called.{opens}
+use Rattle.client_base.specs.Connected.{opens}
 use Rattle.client_base.proofs.NumbersStay.{AreAllNumbered}
 use Rattle.exactly_once.specs.InStep.{has_begun, opened_in}
 use Rattle.exactly_once.specs.Inside.Shape.{NamesApart}

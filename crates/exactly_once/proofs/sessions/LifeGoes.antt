@@ -5,7 +5,8 @@ use Rattle.client_base.specs.packet.declared.packet.Packet.TheVariants as packet
 use Rattle.client_base.specs.session_base.Identifiers.{least_free}
 use Rattle.broker_base.specs.broker_spec.Place.{Client, Limits}
 use Rattle.client_base.specs.Keeper.{Keeper, ids_in_use, next_number}
-use Rattle.client_base.specs.Called.{new_connection, adds_own, written_for, opens}
+use Rattle.client_base.specs.Called.{adds_own, written_for}
+use Rattle.client_base.specs.Connected.{new_connection, opens}
 use Rattle.client_base.specs.Written.{plain, publishes}
 use Rattle.exactly_once.specs.Story.{Story, StoryStep}
 use Rattle.exactly_once.specs.StoryCommands.{names_client}

@@ -23,7 +23,7 @@ use Rattle.exactly_once.proofs.sessions.Anew.{IsUntouched}
 use Rattle.exactly_once.proofs.sessions.EachPlaced.{each_other, IsOwnCommand, own_command, own_untouched, own_shut, own_counted, counted_other}
 use Rattle.exactly_once.proofs.sessions.Placed.{untouched_other, shut_other}
 use Rattle.exactly_once.proofs.sessions.Life.{IsShutUnopened, IsHeld, HasConnections, HasKeeper, IsLife, IsCounted}
-use Rattle.client_base.specs.Called.{opens}
+use Rattle.client_base.specs.Connected.{opens}
 use Rattle.client_base.specs.lists.Lists.{Each}
 
 -- ---- the list

@@ -12,7 +12,7 @@ use Rattle.exactly_once.proofs.publishing.kept.KeepsNobody.{nobody_named, writte
 use Rattle.exactly_once.proofs.sessions.Anew.{AreUntouched}
 use Rattle.exactly_once.proofs.sessions.KeepsKeeper.{unserved_lost}
 use Rattle.exactly_once.proofs.sessions.Life.{AreShutUnopened, IsHeld, HasConnections, HasKeeper, IsCounted, IsUnserved}
-use Rattle.client_base.specs.Called.{opens}
+use Rattle.client_base.specs.Connected.{opens}
 use Rattle.client_base.specs.lists.Lists.{Each}
 
 -- while it is online

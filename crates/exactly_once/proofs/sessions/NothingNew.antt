@@ -9,7 +9,7 @@ use Rattle.broker_base.specs.broker_spec.Past.{session_of, begins}
 use Rattle.broker_base.specs.broker_spec.Received.{is_new}
 use Rattle.broker_base.specs.broker_spec.declared.command.Command.{Command}
 use Rattle.broker_base.specs.broker_spec.declared.command.Command.TheVariants as commands
-use Rattle.client_base.specs.Called.{opens}
+use Rattle.client_base.specs.Connected.{opens}
 use Rattle.exactly_once.specs.Sides.{ClientConnection}
 use Rattle.exactly_once.specs.StoryCommands.{any_named, count_of, is_packet_of}
 use Rattle.exactly_once.specs.Carried.{carries, connection_named, number_of, number_at, more_by, new_numbers}

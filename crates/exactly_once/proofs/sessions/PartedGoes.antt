@@ -11,7 +11,8 @@ use Rattle.broker_base.specs.broker_spec.Commands.{place_of, past_of}
 use Rattle.broker_base.specs.broker_spec.declared.command.Command.{Command}
 use Rattle.broker_base.specs.broker_spec.declared.command.Command.TheVariants as commands
 use Rattle.client_base.specs.Keeper.{Written, Keeper}
-use Rattle.client_base.specs.Called.{new_connection, written_for}
+use Rattle.client_base.specs.Called.{written_for}
+use Rattle.client_base.specs.Connected.{new_connection}
 use Rattle.client_base.specs.Handled.{handled}
 use Rattle.client_base.specs.Written.{plain, writes_first}
 use Rattle.exactly_once.specs.Sides.{ClientConnection, Side}

@@ -20,7 +20,8 @@ use Rattle.client_base.specs.Written.{plain}
 use Rattle.client_base.specs.Handled.{handled}
 use Rattle.exactly_once.specs.Story.{Story, StoryStep}
 use Rattle.exactly_once.specs.StoryCommands.{names_client, command_of, count_of, counted_at}
-use Rattle.client_base.specs.Called.{new_connection, written_for}
+use Rattle.client_base.specs.Called.{written_for}
+use Rattle.client_base.specs.Connected.{new_connection}
 use Rattle.client_base.specs.Written.{writes_first}
 use Rattle.exactly_once.specs.Story.StoryStep.{takes, others_take, receives, opens_anew, loses, disconnects, publishes_one, subscribes, unsubscribes}
 use Rattle.exactly_once.specs.Inside.Shape.{NewestIsServed, HasShape}

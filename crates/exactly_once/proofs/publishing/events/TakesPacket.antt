@@ -16,7 +16,7 @@ use Rattle.exactly_once.specs.Handshake.{Forward}
 use Rattle.client_base.specs.Keeper.{Written, Keeper}
 use Rattle.exactly_once.specs.Sides.{ClientConnection}
 use Rattle.exactly_once.specs.StoryCommands.{counted_at}
-use Rattle.client_base.specs.Called.{opens}
+use Rattle.client_base.specs.Connected.{opens}
 use Rattle.exactly_once.specs.Inside.Projections.{forward_of_one, last_confirmed, as_publisher, GoesTo}
 use Rattle.exactly_once.specs.Inside.Shape.{HasShape, LastIsCurrent}
 use Rattle.exactly_once.specs.Inside.ConnectionShape.{ConnectionInShape, is_two_unnumbered}

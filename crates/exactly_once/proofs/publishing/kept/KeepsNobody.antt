@@ -17,7 +17,8 @@ use Rattle.exactly_once.specs.Sides.{ClientConnection}
 use Rattle.client_base.specs.Written.{plain}
 use Rattle.exactly_once.specs.Story.{Story, StoryStep}
 use Rattle.exactly_once.specs.StoryCommands.{any_named, is_packet_of, count_of, counted_at, command_of}
-use Rattle.client_base.specs.Called.{opens, written_for, new_connection}
+use Rattle.client_base.specs.Called.{written_for}
+use Rattle.client_base.specs.Connected.{opens, new_connection}
 use Rattle.client_base.specs.Written.{writes_first}
 use Rattle.exactly_once.specs.Story.StoryStep.{takes, others_take, receives, opens_anew, loses, disconnects, publishes_one, subscribes, unsubscribes}
 use Rattle.exactly_once.specs.Inside.Shape.{IsSoundStory}

@@ -15,7 +15,7 @@ use Rattle.client_base.specs.Written.{plain}
 use Rattle.client_base.specs.Handled.{lost}
 use Rattle.exactly_once.specs.Story.{Story}
 use Rattle.exactly_once.specs.StoryCommands.{any_named}
-use Rattle.client_base.specs.Called.{new_connection}
+use Rattle.client_base.specs.Connected.{new_connection}
 use Rattle.client_base.specs.Written.{writes_first}
 use Rattle.exactly_once.specs.Acceptance.{accepted_on}
 use Rattle.exactly_once.specs.Inside.Projections.{to_be_taken, GoesTo}

@@ -14,7 +14,7 @@ use Rattle.exactly_once.specs.Sends.{sends_to, put_to}
 use Rattle.client_base.specs.Keeper.{Written, Keeper}
 use Rattle.exactly_once.specs.Sides.{ClientConnection}
 use Rattle.exactly_once.specs.StoryCommands.{any_named, counted_at}
-use Rattle.client_base.specs.Called.{opens}
+use Rattle.client_base.specs.Connected.{opens}
 use Rattle.exactly_once.specs.Inside.Projections.{to_come, is_current}
 use Rattle.exactly_once.specs.Inside.AsSubscriber.{forward_of, backward_of, left_behind}
 use Rattle.exactly_once.specs.Inside.Shape.{NamesApart}

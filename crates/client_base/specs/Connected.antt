@@ -1,0 +1,41 @@
+-- How a client with its history opens and leaves a connection.
+use Rattle.std.specs.Prelude.{ℕ, true, false, if◌then◌else◌, List, [], ◌∷◌}
+use Rattle.session_base.specs.packet.declared.packet.Packet.TheVariants as packets
+use Rattle.client_base.specs.Keeper.{Written, ClientConnection, Keeper, Side}
+use Rattle.client_base.specs.Written.{plain}
+use Rattle.client_base.specs.Handled.{lost, handled}
+
+-- CONNECT with CleanSession 0 and this keep alive
+abbrev pub connects : ℕ → List ℕ → Written
+connects keep_alive c =
+    plain (packets.Connect (record { client = c; clean = false; keep_alive = keep_alive }))
+
+-- with keep alive 0, as the clients of the headline theorem have it
+abbrev pub opens : List ℕ → Written
+opens = connects 0
+
+-- a connection of a client, on which nothing but a CONNECT was written
+abbrev pub new_connection : {Name : Type 0} → List ℕ → Name → ClientConnection Name
+new_connection c x =
+    record {
+      name = x;
+      written = opens c ∷ [];
+      taken = 0;
+      handled = 0;
+      confirmed = false;
+      accepted = [];
+    }
+
+-- a client that opens a connection with a keep alive: what it kept stays, requests are given up
+abbrev pub opened : {Name : Type 0} → ℕ → Name → Keeper → Side Name
+opened keep_alive x keeper =
+    record {
+      keeper = record (lost keeper) { is_open = true };
+      connection =
+          record (new_connection keeper.client x)
+          { written = connects keep_alive keeper.client ∷ [] };
+    }
+
+-- what a disconnecting client writes: DISCONNECT if it is online
+abbrev pub disconnects : Keeper → List Written
+disconnects keeper = if keeper.is_online then plain packets.Disconnect ∷ [] else []
