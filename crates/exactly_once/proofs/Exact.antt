@@ -3,10 +3,11 @@ use Rattle.std.proofs.Common.{◌≡◌, ℕ, Bool, true, false, List, [], ◌�
 use Rattle.std.proofs.lemmas.List.{append-nil}
 use Rattle.client_base.specs.lists.Lists.{Each}
 use Rattle.exactly_once.specs.Items.{SenderItem, sent, releasing, finishing, start_first}
-use Rattle.exactly_once.specs.Handshake.{Forward, Backward, Transit, Handshake, answer, reply, heard, taking, accepting, with_items, Advances, Run, opening}
+use Rattle.exactly_once.specs.Handshake.{Forward, Backward, Transit, Handshake, answer, reply, heard, taking, accepting, with_items}
+use Rattle.exactly_once.specs.HandshakeSteps.{Advances, Run, opening}
 use Rattle.exactly_once.specs.Exact.{is_over, IsExact}
-use Rattle.exactly_once.specs.Handshake.Advances.{adds, starts, takes, takes_alone, hears, hears_alone, sender_leaves, receiver_leaves, parts, parts_ahead, restarts}
-use Rattle.exactly_once.specs.Handshake.Run.{stays, goes_on}
+use Rattle.exactly_once.specs.HandshakeSteps.Advances.{adds, starts, takes, takes_alone, hears, hears_alone, sender_leaves, receiver_leaves, parts, parts_ahead, restarts}
+use Rattle.exactly_once.specs.HandshakeSteps.Run.{stays, goes_on}
 use Rattle.exactly_once.specs.HandshakeInvariant.{IsNew, IsAhead, FitsTransit, IsGood}
 use Rattle.exactly_once.proofs.SidesStart.{sides_add, sides_start, sent_waits, free_of}
 use Rattle.exactly_once.proofs.SidesHear.{sides_release, sides_finish}

@@ -5,7 +5,8 @@ use Rattle.std.proofs.lemmas.List.{append-nil}
 use Rattle.client_base.specs.lists.Lists.{In, Each}
 use Rattle.client_base.specs.lists.Lists.In.{here, there}
 use Rattle.exactly_once.specs.Items.{SenderItem, value_of, sent}
-use Rattle.exactly_once.specs.Handshake.{Forward, Transit, Handshake, opening}
+use Rattle.exactly_once.specs.Handshake.{Forward, Transit, Handshake}
+use Rattle.exactly_once.specs.HandshakeSteps.{opening}
 use Rattle.exactly_once.specs.HandshakeInvariant.{IsNew, IsSent, FitsTransit, IsGood, ComesToReceiver, publishes}
 use Rattle.exactly_once.specs.Exact.{next_of, RepeatsWereAccepted}
 use Rattle.exactly_once.proofs.Exact.{good_run, good_opening}

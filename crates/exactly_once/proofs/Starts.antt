@@ -9,9 +9,10 @@ use Rattle.broker_base.specs.broker_spec.Times.{start_all}
 use Rattle.broker_base.specs.broker_spec.IdentifierLaws.{WaitsLast, IsWaiting}
 use Rattle.broker_base.proofs.LeastFree.{least-is-free}
 use Rattle.exactly_once.specs.Items.{SenderItem, busy, start_first, first_waiting}
-use Rattle.exactly_once.specs.Handshake.{sending, with_items, Forward, Transit, Handshake, Run}
-use Rattle.exactly_once.specs.Handshake.Advances.{starts}
-use Rattle.exactly_once.specs.Handshake.Run.{stays, goes_on}
+use Rattle.exactly_once.specs.Handshake.{sending, with_items, Forward, Transit, Handshake}
+use Rattle.exactly_once.specs.HandshakeSteps.{Run}
+use Rattle.exactly_once.specs.HandshakeSteps.Advances.{starts}
+use Rattle.exactly_once.specs.HandshakeSteps.Run.{stays, goes_on}
 use Rattle.client_base.proofs.of_lists.Identifiers.{has_append}
 use Rattle.client_base.proofs.of_lists.Tests.{or_none, none_or}
 use Rattle.exactly_once.proofs.BusyIdentifiers.{busy_append}

@@ -2,7 +2,8 @@
 use Rattle.std.specs.Prelude.{◌≡◌, ℕ, Bool, true, false, List, ◌∷◌, ◌++◌, map, Option, Some, None}
 use Rattle.client_base.specs.lists.Lists.{In, Each}
 use Rattle.exactly_once.specs.Items.{SenderItem, value_of}
-use Rattle.exactly_once.specs.Handshake.{Forward, Transit, Handshake, Run, opening}
+use Rattle.exactly_once.specs.Handshake.{Forward, Transit, Handshake}
+use Rattle.exactly_once.specs.HandshakeSteps.{Run, opening}
 
 -- ---- what holds after every run
 

@@ -1,7 +1,6 @@
 -- The handshake of QoS 2 between two sides, over connections that come and go (MQTT 4.3.3, 4.4).
-use Rattle.std.specs.Prelude.{◌≡◌, ℕ, Bool, true, false, not, ◌&&◌, ◌||◌, ◌==◌, List, [], ◌∷◌, ◌++◌, map, Some}
-use Rattle.client_base.specs.lists.Lists.{has_id, IsDistinct, Each}
-use Rattle.exactly_once.specs.Items.{SenderItem, busy, sent, has_released, releasing, finishing, start_first, first_waiting}
+use Rattle.std.specs.Prelude.{ℕ, Bool, true, false, not, ◌&&◌, ◌||◌, ◌==◌, List, [], ◌∷◌, ◌++◌, map}
+use Rattle.exactly_once.specs.Items.{SenderItem, sent, releasing, finishing}
 
 -- a packet from the sender to the receiver
 pub data Forward (V : Type 0) : Type 0 where
@@ -82,39 +81,3 @@ publishing row = Forward.Publish row.0 row.1
 -- what the sender sends on a new connection: PUBRELs, and each PUBLISH again (MQTT 4.4)
 abbrev pub resend : {V : Type 0} → List ℕ → List (SenderItem V) → List (Forward V)
 resend releases items = map (λ id. Forward.Pubrel id) releases ++ map publishing (sent items)
-
--- one step of a handshake; Packet Identifiers are those of the sender
-pub data Advances {V : Type 0} (h : Handshake V) : Handshake V → Type 0 where
-  adds : (v : V) → Advances h (with_items (h.items ++ SenderItem.Waits v ∷ []) h.transit h)
-  -- the first that waits starts with a free identifier: its PUBLISH is sent (MQTT 4.3.3)
-  starts : (id : ℕ) (v : V) → has_id id (busy h.items) ≡ false → first_waiting h.items ≡ Some v →
-      Advances h (with_items (start_first id h.items) (sending (Forward.Publish id v) h.transit) h)
-  takes : (m : Forward V) (f : List (Forward V)) (b : List Backward) →
-      h.transit ≡ Transit.Joined (m ∷ f) b →
-      Advances h (taking m h (Transit.Joined f (b ++ answer m ∷ [])))  -- it is taken and answered
-  takes_alone : (m : Forward V) (f : List (Forward V)) → h.transit ≡ Transit.Ahead (m ∷ f) →
-      Advances h (taking m h (Transit.Ahead f))  -- the sender left: the answer goes to nobody
-  hears : (m : Backward) (f : List (Forward V)) (b : List Backward) →
-      h.transit ≡ Transit.Joined f (m ∷ b) →  -- the sender gets an answer: PUBREL follows PUBREC
-      Advances h (with_items (heard m h.items) (Transit.Joined (f ++ reply m) b) h)
-  hears_alone : (m : Backward) (b : List Backward) → h.transit ≡ Transit.Behind (m ∷ b) →
-      Advances h (with_items (heard m h.items) (Transit.Behind b) h)  -- receiver left: no PUBREL
-  sender_leaves : (f : List (Forward V)) (b : List Backward) → h.transit ≡ Transit.Joined f b →
-      Advances h (with_items h.items (Transit.Ahead f) h)  -- the sender leaves: no answer comes
-  receiver_leaves : (f : List (Forward V)) (b : List Backward) → h.transit ≡ Transit.Joined f b →
-      Advances h (with_items h.items (Transit.Behind b) h)  -- the receiver leaves: it takes no more
-  parts : Advances h (with_items h.items (Transit.Behind []) h)  -- what is in transit is lost
-  parts_ahead : Advances h (with_items h.items (Transit.Ahead []) h)  -- the same, the sender left
-  -- on a new connection PUBRELs are sent again, and each PUBLISH without PUBREC (MQTT 4.4)
-  restarts : (releases : List ℕ) → IsDistinct releases →
-      Each (λ id. has_released id h.items ≡ true) releases →
-      Advances h (with_items h.items (Transit.Joined (resend releases h.items) []) h)
-
--- steps one after another
-pub data Run {V : Type 0} (h : Handshake V) : Handshake V → Type 0 where
-  stays : Run h h  -- nothing happened
-  goes_on : {k l : Handshake V} → Run h k → Advances k l → Run h l  -- one more step
-
--- nothing was sent yet, and there is no connection
-abbrev pub opening : (V : Type 0) → Handshake V
-opening V = record { items = []; accepted = []; received = λ i. false; transit = Transit.Behind [] }

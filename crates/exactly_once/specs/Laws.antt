@@ -16,7 +16,7 @@ use Rattle.broker_base.specs.broker_spec.Times.{entries_of}
 use Rattle.broker_base.specs.broker_spec.NobodyLaws.{IsSteady}
 use Rattle.exactly_once.specs.Headline.{PublishedOnce, StoriesAreExact}
 use Rattle.exactly_once.specs.Acceptance.{AcceptedInOrder}
-use Rattle.exactly_once.specs.Lives.{AcceptsInEachSession, LivesAreExact}
+use Rattle.exactly_once.specs.LivesAreExact.{AcceptsInEachSession, LivesAreExact}
 use Rattle.exactly_once.specs.Story.{Story}
 use Rattle.exactly_once.specs.StoryTrace.{StoryTrace}
 

@@ -11,9 +11,11 @@ pub mod Inside
 pub mod Rows
 pub mod InStep
 pub mod Lives
+pub mod LivesAreExact
 pub mod Unexpelled
 pub mod Items
 pub mod Handshake
+pub mod HandshakeSteps
 pub mod Exact
 pub mod HandshakeInvariant
 pub use Rattle.broker_base.specs as broker_base

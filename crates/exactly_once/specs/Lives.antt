@@ -1,6 +1,5 @@
 -- A client's life: its story over several sessions, which an Expel ends.
 use Rattle.std.specs.Prelude.{◌≡◌, ◌≤◌, ◌<◌, ℕ, false, if◌then◌else◌, List, [], ◌∷◌, ◌++◌, length, map, filter, Some, slice_get}
-use Rattle.std.specs.List.{flat_map}
 use Rattle.client_base.specs.packet.declared.publish.Publish.{Publish}
 use Rattle.client_base.specs.packet.declared.packet.Packet.TheVariants as packets
 use Rattle.client_base.specs.session_base.Publication.{publication_of}
@@ -21,8 +20,8 @@ use Rattle.client_base.specs.Keeper.{all_own}
 use Rattle.exactly_once.specs.Story.{Story, StoryStep, no_story}
 use Rattle.exactly_once.specs.Carried.{carries, new_numbers, publications_of, published}
 use Rattle.exactly_once.specs.Headline.{IsAnsweredBy, made_by, IsTakenAt}
-use Rattle.exactly_once.specs.Acceptance.{accepted_on, two_entries, is_released}
-use Rattle.exactly_once.specs.InStep.{IsInStep, sessions_begun, starts_of, entries_in, accepted_in}
+use Rattle.exactly_once.specs.Acceptance.{two_entries, is_released}
+use Rattle.exactly_once.specs.InStep.{sessions_begun, entries_in, accepted_in}
 
 -- what may happen in a story of one session, and an Expel of the client at any time
 pub data Lived (limits : Limits) (c : Client) : Story → Type 0 where
@@ -96,25 +95,3 @@ pub record PublishedOverSessions (limits : Limits) (s : Story) : Type 0 where
       carries s.connections place.command below ≡ Some k →
       IsAnsweredBy limits place below x (packets.Puback id) →
       IsTakenAt s k place below
-
--- ---- the whole
-
--- what a client with several sessions is promised: as publisher, and in each session as subscriber
-pub record ExactlyOnceOverSessions (limits : Limits) (s : Story) : Type 0 where
-  pub publishers : PublishedOverSessions limits s
-  pub subscribers : (start : ℕ) → AcceptedInSession limits s start
-  -- all that it accepted, it accepted in its sessions, one after another
-  pub in_turn : accepted_on s.connections
-      ≡ flat_map (λ start. accepted_in s.past s.keeper.client start s.connections)
-      (starts_of s.past s.keeper.client)
-
--- as long as a client is in step, it publishes and accepts exactly once over its sessions
-abbrev pub LivesAreExact : Limits → Type 0
-LivesAreExact limits =
-    (c : Client) (s : Story) → Lived limits c s → IsInStep s → ExactlyOnceOverSessions limits s
-
--- as long as a client is in step, it accepts in order in each of its sessions
-abbrev pub AcceptsInEachSession : Limits → Type 0
-AcceptsInEachSession limits =
-    (c : Client) (s : Story) → Lived limits c s → IsInStep s → (start : ℕ) →
-    AcceptedInSession limits s start

@@ -15,7 +15,8 @@ use Rattle.byte_world.specs.exactly_once.Carried.{carries, connection_named, mor
 use Rattle.byte_world.specs.exactly_once.Headline.{IsTakenAt, made_by}
 use Rattle.byte_world.specs.exactly_once.Acceptance.{accepted_on}
 use Rattle.byte_world.specs.exactly_once.InStep.{AreWelcome, IsFirstSession, IsInStep, WasWelcome, accepted_in, opened_in, starts_of}
-use Rattle.byte_world.specs.exactly_once.Lives.{AcceptedInSession, ExactlyOnceOverSessions, IsRising, PublishedOverSessions}
+use Rattle.byte_world.specs.exactly_once.Lives.{AcceptedInSession, IsRising, PublishedOverSessions}
+use Rattle.byte_world.specs.exactly_once.LivesAreExact.{ExactlyOnceOverSessions}
 use Rattle.byte_world.specs.exactly_once.Unexpelled.{HasOneSession}
 use Rattle.byte_world.specs.exactly_once.Sides.{ClientConnection}
 use Rattle.byte_world.specs.exactly_once.Story.{Story}

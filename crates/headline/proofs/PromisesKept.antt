@@ -31,7 +31,8 @@ use Rattle.byte_world.specs.client_base.Keeper.{all_own}
 use Rattle.byte_world.specs.client_base.State.{ClientState}
 use Rattle.byte_world.specs.exactly_once.Carried.{carries, more_by, new_numbers, publications_of}
 use Rattle.byte_world.specs.exactly_once.InStep.{IsInStep, accepted_in, starts_of}
-use Rattle.byte_world.specs.exactly_once.Lives.{ExactlyOnceOverSessions, Lived}
+use Rattle.byte_world.specs.exactly_once.Lives.{Lived}
+use Rattle.byte_world.specs.exactly_once.LivesAreExact.{ExactlyOnceOverSessions}
 use Rattle.byte_world.specs.exactly_once.Acceptance.{accepted_on}
 use Rattle.byte_world.specs.exactly_once.Sides.{ClientConnection}
 use Rattle.byte_world.specs.exactly_once.Story.{Story}

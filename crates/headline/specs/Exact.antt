@@ -12,7 +12,7 @@ use Rattle.byte_world.specs.client_base.History as history
 use Rattle.byte_world.specs.client_base.State.{ClientState}
 use Rattle.byte_world.specs.exactly_once.Acceptance.{accepted_on}
 use Rattle.byte_world.specs.exactly_once.InStep.{IsInStep}
-use Rattle.byte_world.specs.exactly_once.Lives.{ExactlyOnceOverSessions}
+use Rattle.byte_world.specs.exactly_once.LivesAreExact.{ExactlyOnceOverSessions}
 use Rattle.byte_world.specs.exactly_once.Unexpelled.{HasOneSession, IsUnexpelled}
 use Rattle.byte_world.specs.exactly_once.Sides.{ClientConnection}
 use Rattle.byte_world.specs.exactly_once.Story.{Story}

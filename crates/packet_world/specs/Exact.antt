@@ -11,7 +11,7 @@ use Rattle.exactly_once.specs.Sends.{put_to}
 use Rattle.exactly_once.specs.Sides.{ClientConnection}
 use Rattle.exactly_once.specs.StoryCommands.{command_of, is_packet_of}
 use Rattle.exactly_once.specs.InStep.{IsInStep}
-use Rattle.exactly_once.specs.Lives.{ExactlyOnceOverSessions}
+use Rattle.exactly_once.specs.LivesAreExact.{ExactlyOnceOverSessions}
 use Rattle.packet_world.specs.World.{End, ClientEnds, World, story_of, AreApart}
 use Rattle.packet_world.specs.Steps.{Reached}
 

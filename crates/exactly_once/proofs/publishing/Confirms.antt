@@ -9,7 +9,7 @@ use Rattle.broker_base.specs.broker_spec.Place.{Past, Limits}
 use Rattle.broker_base.specs.broker_spec.Past.{current_connection}
 use Rattle.exactly_once.specs.Items.{SenderItem, has_released}
 use Rattle.exactly_once.specs.Handshake.{Forward, Transit, Handshake, resend}
-use Rattle.exactly_once.specs.Handshake.Advances.{parts, restarts}
+use Rattle.exactly_once.specs.HandshakeSteps.Advances.{parts, restarts}
 use Rattle.client_base.proofs.of_lists.Tests.{eq_same, or_left, or_right}
 use Rattle.client_base.proofs.of_lists.Identifiers.{distinct_front}
 use Rattle.exactly_once.specs.Sends.{put_to}

@@ -3,9 +3,10 @@ use Rattle.std.proofs.Common.{◌≡◌, ℕ, Bool, true, false, if◌then◌els
 use Rattle.broker_base.specs.broker_spec.Connection.{ConnectionName}
 use Rattle.broker_base.specs.broker_spec.Place.{Past, Limits}
 use Rattle.exactly_once.specs.Items.{SenderItem}
-use Rattle.exactly_once.specs.Handshake.{Forward, Backward, Transit, Handshake, Run, Advances, with_items, heard, reply}
-use Rattle.exactly_once.specs.Handshake.Advances.{hears, hears_alone, sender_leaves, receiver_leaves, parts}
-use Rattle.exactly_once.specs.Handshake.Run.{stays, goes_on}
+use Rattle.exactly_once.specs.Handshake.{Forward, Backward, Transit, Handshake, with_items, heard, reply}
+use Rattle.exactly_once.specs.HandshakeSteps.{Run, Advances}
+use Rattle.exactly_once.specs.HandshakeSteps.Advances.{hears, hears_alone, sender_leaves, receiver_leaves, parts}
+use Rattle.exactly_once.specs.HandshakeSteps.Run.{stays, goes_on}
 use Rattle.exactly_once.proofs.Exact.{run_then}
 use Rattle.exactly_once.specs.Sides.{ClientConnection}
 use Rattle.exactly_once.specs.Inside.Projections.{forward_of_own, backward_of_own, to_come, to_be_taken, is_current, transit_of_own, GoesTo}

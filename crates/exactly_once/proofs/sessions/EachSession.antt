@@ -10,7 +10,8 @@ use Rattle.exactly_once.specs.Story.{Story, StoryStep, no_story}
 use Rattle.exactly_once.specs.StoryTrace.StoryTrace.{begins}
 use Rattle.exactly_once.specs.InStep.{IsInStep, entries_in, accepted_in}
 use Rattle.exactly_once.specs.Acceptance.{two_entries}
-use Rattle.exactly_once.specs.Lives.{Lived, AcceptsInEachSession}
+use Rattle.exactly_once.specs.Lives.{Lived}
+use Rattle.exactly_once.specs.LivesAreExact.{AcceptsInEachSession}
 use Rattle.exactly_once.specs.Lives.Lived.{opens, goes_on, is_expelled}
 use Rattle.exactly_once.proofs.sessions.StepsBefore.{in_step_before, in_step_expelled}
 use Rattle.exactly_once.proofs.sessions.AcceptedShares.{Accepts}

@@ -15,7 +15,8 @@ use Rattle.exactly_once.specs.StoryTrace.{StoryTrace}
 use Rattle.exactly_once.specs.StoryTrace.StoryTrace.{begins}
 use Rattle.exactly_once.specs.Carried.{publications_of, new_numbers}
 use Rattle.exactly_once.specs.InStep.{IsInStep, AreWelcome, IsFirstSession, has_begun, sessions_begun}
-use Rattle.exactly_once.specs.Lives.{Lived, PublishedOverSessions, LivesAreExact}
+use Rattle.exactly_once.specs.Lives.{Lived, PublishedOverSessions}
+use Rattle.exactly_once.specs.LivesAreExact.{LivesAreExact}
 use Rattle.exactly_once.specs.Lives.Lived.{opens, goes_on, is_expelled}
 use Rattle.exactly_once.proofs.Entering.{entering, entering_as}
 use Rattle.exactly_once.proofs.publishing.Last.{each_there}

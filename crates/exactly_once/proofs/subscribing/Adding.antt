@@ -10,9 +10,10 @@ use Rattle.broker_base.specs.broker_spec.IdentifierLaws.{WaitsLast, IsWaiting}
 use Rattle.broker_base.proofs.SoundEntries.{AllWait, InOrder, Sound}
 use Rattle.broker_base.proofs.SoundStarts.{sound_new}
 use Rattle.exactly_once.specs.Items.{SenderItem}
-use Rattle.exactly_once.specs.Handshake.{Handshake, Run, with_items}
-use Rattle.exactly_once.specs.Handshake.Advances.{adds}
-use Rattle.exactly_once.specs.Handshake.Run.{stays, goes_on}
+use Rattle.exactly_once.specs.Handshake.{Handshake, with_items}
+use Rattle.exactly_once.specs.HandshakeSteps.{Run}
+use Rattle.exactly_once.specs.HandshakeSteps.Advances.{adds}
+use Rattle.exactly_once.specs.HandshakeSteps.Run.{stays, goes_on}
 use Rattle.exactly_once.proofs.Exact.{run_then}
 use Rattle.exactly_once.specs.Carried.{is_two}
 use Rattle.exactly_once.specs.Inside.Projections.{GoesTo}

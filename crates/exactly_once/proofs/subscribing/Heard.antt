@@ -3,9 +3,10 @@ use Rattle.std.proofs.Common.{◌≡◌, ℕ, true, false, ◌==◌, List, [], �
 use Rattle.std.proofs.lemmas.Bool.{both_ways}
 use Rattle.client_base.specs.session_base.declared.publication.Publication.{Publication}
 use Rattle.exactly_once.specs.Items.{SenderItem, has_sent}
-use Rattle.exactly_once.specs.Handshake.{Forward, Backward, Transit, Handshake, Run, heard, reply, with_items}
-use Rattle.exactly_once.specs.Handshake.Advances.{hears, hears_alone}
-use Rattle.exactly_once.specs.Handshake.Run.{stays, goes_on}
+use Rattle.exactly_once.specs.Handshake.{Forward, Backward, Transit, Handshake, heard, reply, with_items}
+use Rattle.exactly_once.specs.HandshakeSteps.{Run}
+use Rattle.exactly_once.specs.HandshakeSteps.Advances.{hears, hears_alone}
+use Rattle.exactly_once.specs.HandshakeSteps.Run.{stays, goes_on}
 use Rattle.exactly_once.specs.HandshakeInvariant.{IsGood, FitsTransit, IsJoined, IsBehind}
 use Rattle.client_base.proofs.of_lists.Tests.{or_then}
 use Rattle.exactly_once.proofs.subscribing.Standing.{Stands}

@@ -8,7 +8,8 @@ use Rattle.broker_base.specs.broker_spec.Past.{current_connection}
 use Rattle.broker_base.specs.broker_spec.Entries.{Entry}
 use Rattle.broker_base.specs.broker_spec.Times.{started, window_at, entries_of}
 use Rattle.broker_base.proofs.SoundEntries.{Sound}
-use Rattle.exactly_once.specs.Handshake.{Forward, Backward, Handshake, Run, publishing}
+use Rattle.exactly_once.specs.Handshake.{Forward, Backward, Handshake, publishing}
+use Rattle.exactly_once.specs.HandshakeSteps.{Run}
 use Rattle.exactly_once.specs.Sides.{ClientConnection}
 use Rattle.exactly_once.specs.Story.{Story}
 use Rattle.exactly_once.specs.Acceptance.{accepted_on}

@@ -11,7 +11,8 @@ use Rattle.broker_base.specs.broker_spec.Place.{Past, Limits}
 use Rattle.broker_base.specs.broker_spec.Past.{current_connection}
 use Rattle.broker_base.specs.broker_spec.Received.{received_of}
 use Rattle.exactly_once.specs.Items.{SenderItem}
-use Rattle.exactly_once.specs.Handshake.{Forward, Backward, Transit, Handshake, Run}
+use Rattle.exactly_once.specs.Handshake.{Forward, Backward, Transit, Handshake}
+use Rattle.exactly_once.specs.HandshakeSteps.{Run}
 use Rattle.exactly_once.specs.Sends.{put_to}
 use Rattle.client_base.specs.Keeper.{Own, Written}
 use Rattle.exactly_once.specs.Sides.{ClientConnection}

@@ -12,7 +12,7 @@ use Rattle.broker_base.specs.broker_spec.Past.{current_connection}
 use Rattle.client_base.specs.lists.Lists.{Each}
 use Rattle.exactly_once.specs.Items.{SenderItem}
 use Rattle.exactly_once.specs.Handshake.{Forward, Backward, Handshake}
-use Rattle.exactly_once.specs.Handshake.Advances.{adds}
+use Rattle.exactly_once.specs.HandshakeSteps.Advances.{adds}
 use Rattle.client_base.specs.Keeper.{Own, Keeper, ids_in_use, next_number}
 use Rattle.exactly_once.specs.Sides.{ClientConnection}
 use Rattle.client_base.specs.Written.{publishes}

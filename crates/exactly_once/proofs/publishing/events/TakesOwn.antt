@@ -9,9 +9,10 @@ use Rattle.broker_base.specs.broker_spec.Past.{any_connection, current_connectio
 use Rattle.broker_base.specs.broker_spec.Received.{is_new, received_by, received_of}
 use Rattle.broker_base.specs.broker_spec.Answers.{packet_answers}
 use Rattle.broker_base.specs.broker_spec.declared.command.Command.TheVariants as commands
-use Rattle.exactly_once.specs.Handshake.{Forward, Backward, Transit, Handshake, Run, answer, taking, accepting}
-use Rattle.exactly_once.specs.Handshake.Advances.{takes, takes_alone}
-use Rattle.exactly_once.specs.Handshake.Run.{stays, goes_on}
+use Rattle.exactly_once.specs.Handshake.{Forward, Backward, Transit, Handshake, answer, taking, accepting}
+use Rattle.exactly_once.specs.HandshakeSteps.{Run}
+use Rattle.exactly_once.specs.HandshakeSteps.Advances.{takes, takes_alone}
+use Rattle.exactly_once.specs.HandshakeSteps.Run.{stays, goes_on}
 use Rattle.exactly_once.specs.Sends.{sends_to, put_to}
 use Rattle.client_base.specs.Keeper.{Written, Keeper}
 use Rattle.exactly_once.specs.Sides.{ClientConnection}

@@ -12,9 +12,10 @@ use Rattle.broker_base.specs.broker_spec.Times.{started, window_at, entries_of}
 use Rattle.broker_base.specs.broker_spec.NobodyLaws.{IsSteady}
 use Rattle.broker_base.proofs.AnswersStaySound.{sound_more}
 use Rattle.broker_base.proofs.QueueAfter.{sound_entries}
-use Rattle.exactly_once.specs.Handshake.{Backward, Transit, Handshake, Run, publishing, resend, with_items}
-use Rattle.exactly_once.specs.Handshake.Advances.{sender_leaves, parts, restarts}
-use Rattle.exactly_once.specs.Handshake.Run.{stays, goes_on}
+use Rattle.exactly_once.specs.Handshake.{Backward, Transit, Handshake, publishing, resend, with_items}
+use Rattle.exactly_once.specs.HandshakeSteps.{Run}
+use Rattle.exactly_once.specs.HandshakeSteps.Advances.{sender_leaves, parts, restarts}
+use Rattle.exactly_once.specs.HandshakeSteps.Run.{stays, goes_on}
 use Rattle.client_base.specs.Keeper.{Written}
 use Rattle.exactly_once.specs.Sides.{ClientConnection}
 use Rattle.exactly_once.specs.Story.{Story}

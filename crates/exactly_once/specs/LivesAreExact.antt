@@ -1,0 +1,28 @@
+-- What a client is promised over all its sessions.
+use Rattle.std.specs.Prelude.{◌≡◌, ℕ}
+use Rattle.std.specs.List.{flat_map}
+use Rattle.broker_base.specs.broker_spec.Place.{Client, Limits}
+use Rattle.exactly_once.specs.Story.{Story}
+use Rattle.exactly_once.specs.Acceptance.{accepted_on}
+use Rattle.exactly_once.specs.InStep.{IsInStep, starts_of, accepted_in}
+use Rattle.exactly_once.specs.Lives.{Lived, AcceptedInSession, PublishedOverSessions}
+
+-- what a client with several sessions is promised: as publisher, and in each session as subscriber
+pub record ExactlyOnceOverSessions (limits : Limits) (s : Story) : Type 0 where
+  pub publishers : PublishedOverSessions limits s
+  pub subscribers : (start : ℕ) → AcceptedInSession limits s start
+  -- all that it accepted, it accepted in its sessions, one after another
+  pub in_turn : accepted_on s.connections
+      ≡ flat_map (λ start. accepted_in s.past s.keeper.client start s.connections)
+      (starts_of s.past s.keeper.client)
+
+-- as long as a client is in step, it publishes and accepts exactly once over its sessions
+abbrev pub LivesAreExact : Limits → Type 0
+LivesAreExact limits =
+    (c : Client) (s : Story) → Lived limits c s → IsInStep s → ExactlyOnceOverSessions limits s
+
+-- as long as a client is in step, it accepts in order in each of its sessions
+abbrev pub AcceptsInEachSession : Limits → Type 0
+AcceptsInEachSession limits =
+    (c : Client) (s : Story) → Lived limits c s → IsInStep s → (start : ℕ) →
+    AcceptedInSession limits s start
