@@ -21,7 +21,8 @@ use Rattle.node_group.specs.world_base.Step.{next_name}
 use Rattle.node_group.specs.node_moves.Ends.{IsGiven, IsOrderly}
 use Rattle.node_group.specs.node_moves.Moves.{NodeCall, Runs, done}
 use Rattle.node_group.specs.node_moves.Moves.NodeCall.{takes, gives}
-use Rattle.node_group.specs.node_moves.LossyRuns.{IsRunOn, LossyRuns, came_with}
+use Rattle.node_group.specs.node_moves.LossyRuns.{LossyRuns}
+use Rattle.node_group.specs.node_moves.ItemRuns.{IsRunOn, came_with}
 use Rattle.node_group.specs.node_moves.LossyRuns.LossyRuns.{rests, goes_on}
 use Rattle.node_group.proofs.of_node_moves.LossyReads.{losses_read_in_order}
 use Rattle.node_group.specs.Group.{Group}

@@ -22,7 +22,7 @@ use Rattle.packet_world.proofs.of_snapshots.PastsAgree.{has_agreed}
 use Rattle.node_moves.specs.world_base.Core.{CoreState, opening_core, rules}
 use Rattle.node_moves.specs.Ends.{commands_of}
 use Rattle.node_moves.specs.RunProposals.{bytes_on}
-use Rattle.node_moves.specs.LossyRuns.{came_with}
+use Rattle.node_moves.specs.ItemRuns.{came_with}
 use Rattle.node_moves.specs.LossyRuns.{bytes_on as bytes_losing}
 use Rattle.node_moves.proofs.Kept.{named}
 use Rattle.node_moves.proofs.ProposesInOrder.{commands_join, front_of}

@@ -17,7 +17,7 @@ use Rattle.node_moves.specs.world_base.Step.{acts_on, settled}
 use Rattle.node_moves.specs.Closed.{listed_named}
 use Rattle.node_moves.specs.Ends.{IsOrderly}
 use Rattle.node_moves.specs.Keeping.{AreOfTheBallot}
-use Rattle.node_moves.specs.LossyLaws.{AreWhereItServes}
+use Rattle.node_moves.specs.LossyNames.{AreWhereItServes}
 use Rattle.node_moves.specs.Moves.{NodeCall, done}
 use Rattle.node_moves.specs.Moves.NodeCall.{takes, gives}
 use Rattle.node_moves.specs.Moves.Moves.{hands}

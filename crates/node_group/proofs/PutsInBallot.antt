@@ -17,7 +17,7 @@ use Rattle.node_moves.specs.world_base.Lossy.{Account, TakesCommand}
 use Rattle.node_moves.specs.world_base.Reading.{changes}
 use Rattle.node_moves.specs.Ends.{IsOrderly}
 use Rattle.node_moves.specs.Keeping.{AreOfTheBallot}
-use Rattle.node_moves.specs.LossyLaws.{AreWhereItServes}
+use Rattle.node_moves.specs.LossyNames.{AreWhereItServes}
 use Rattle.node_moves.specs.LossyMoves.{LossyMoves}
 use Rattle.node_moves.specs.LossyParts.{proposal_of}
 use Rattle.node_moves.specs.LossyRuns.{HearsAtFirst, HearsNothing, LossyRuns}

@@ -14,7 +14,7 @@ use Rattle.node_moves.specs.world_base.Core.{CoreState, StepOutcome}
 use Rattle.node_moves.specs.world_base.declared.item.Item.{Item}
 use Rattle.node_moves.specs.world_base.LossyStep.{RunsOn}
 use Rattle.node_moves.specs.Hearing.{HearsAtFirst}
-use Rattle.node_moves.specs.LossyRuns.{IsRunOn, heard_with}
+use Rattle.node_moves.specs.ItemRuns.{IsRunOn, heard_with}
 use Rattle.node_moves.specs.Moves.{NodeCall, Runs, done}
 use Rattle.node_group.specs.Group.{Group, after_outcome, opening_group, told_by_master, with_master, with_record}
 use Rattle.node_group.specs.Losing.{WereSent}

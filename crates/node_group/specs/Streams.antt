@@ -7,7 +7,7 @@ use Rattle.node_moves.specs.world_base.declared.Connection.{Connection}
 use Rattle.node_moves.specs.world_base.Core.{CoreState, StepOutcome}
 use Rattle.node_moves.specs.world_base.Handing.{listed_at}
 use Rattle.node_moves.specs.RunProposals.{bytes_on}
-use Rattle.node_moves.specs.LossyRuns.{came_with}
+use Rattle.node_moves.specs.ItemRuns.{came_with}
 use Rattle.node_moves.specs.Moves.{Moves, Runs}
 use Rattle.node_moves.specs.Moves.Moves.{hands}
 use Rattle.node_moves.specs.Moves.Runs.{rests, goes_on}

@@ -19,7 +19,7 @@ use Rattle.world_base.specs.Reading.{changes, open_at, unread_of}
 use Rattle.world_base.specs.Step.{crashed, opens, settled, with_cut}
 use Rattle.node_moves.specs.Ends.{piece_on}
 use Rattle.node_moves.specs.LossyMoves.{with_loss, outcome_in}
-use Rattle.node_moves.specs.LossyRuns.{IsRunOn, LossesAreMoves, came_with, heard_with, is_cut}
+use Rattle.node_moves.specs.ItemRuns.{IsRunOn, LossesAreMoves, came_with, heard_with, is_cut}
 use Rattle.node_moves.specs.LossyMoves.LossyMoves.{exactly, hears_losing, forgets, drops}
 use Rattle.node_moves.specs.Moves.{and_then}
 use Rattle.node_moves.specs.Moves.Moves.{holds, opens_one, cuts_log, crashes, settles}

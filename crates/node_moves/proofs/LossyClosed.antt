@@ -10,7 +10,8 @@ use Rattle.node_moves.specs.Closed.{listed_named}
 use Rattle.node_moves.specs.Closed.{IsExactlyClosedBy}
 use Rattle.node_moves.specs.Closed.IsExactlyClosedBy.{was_closed as exact_was, closes_now as exact_now}
 use Rattle.node_moves.specs.Ends.{IsOrderly}
-use Rattle.node_moves.specs.LossyLaws.{IsClosedBy, LossesPutNothingOnClosed, LossyNamesAreOfTheBallot}
+use Rattle.node_moves.specs.LossyLaws.{IsClosedBy, LossesPutNothingOnClosed}
+use Rattle.node_moves.specs.LossyNames.{LossyNamesAreOfTheBallot}
 use Rattle.node_moves.specs.LossyLaws.IsClosedBy.{was_closed, closes_now}
 use Rattle.node_moves.specs.LossyMoves.{LossyMoves}
 use Rattle.node_moves.specs.LossyMoves.LossyMoves.{exactly, hears_losing, first_losing, later_losing, tells_losing, expels_losing, forgets, halts, fails, unheard, drops}

@@ -24,7 +24,7 @@ use Rattle.world_base.specs.Effects.{drives, heard}
 use Rattle.node_moves.specs.Closed.{listed_named}
 use Rattle.node_moves.specs.Ends.{IsOrderly}
 use Rattle.node_moves.specs.Keeping.{AreOfTheBallot, moves_replica}
-use Rattle.node_moves.specs.LossyLaws.{AreWhereItServes, LossyNamesKeepTheirBallot}
+use Rattle.node_moves.specs.LossyNames.{AreWhereItServes, LossyNamesKeepTheirBallot}
 use Rattle.node_moves.specs.LossyMoves.{LossyMoves, halting}
 use Rattle.node_moves.specs.LossyParts.{hears_in, proposal_of}
 use Rattle.node_moves.specs.LossyMoves.LossyMoves.{exactly, hears_losing, first_losing, later_losing, tells_losing, expels_losing, forgets, halts, fails, unheard, drops}

@@ -13,7 +13,8 @@ use Rattle.exactly_once.specs.StoryCommands.{is_packet_of, command_of}
 use Rattle.world_base.specs.Core.{CoreState, StepOutcome, opening_core}
 use Rattle.node_moves.specs.Moves.{Moves, Runs}
 use Rattle.node_moves.specs.Moves.Runs.{rests, goes_on}
-use Rattle.node_moves.specs.Ends.{Precedes, IsOrderly, IsEnd, ReadsOn, proposal_of, came_on, commands_of}
+use Rattle.node_moves.specs.Ends.{Precedes, IsOrderly, IsEnd, proposal_of, came_on, commands_of}
+use Rattle.node_moves.specs.ReadsInOrder.{ReadsOn}
 use Rattle.node_moves.specs.RunProposals.{NodesProposeInOrder, proposals_of, bytes_on}
 use Rattle.node_moves.specs.Ends.IsEnd.{not_yet, is_open, is_over}
 use Rattle.node_moves.proofs.ReadsInOrder.{nodes_read_in_order}

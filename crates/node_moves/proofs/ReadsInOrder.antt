@@ -23,7 +23,8 @@ use Rattle.world_base.specs.Step.{opens}
 use Rattle.world_base.specs.Effects.{without_messages, proposes, has_room}
 use Rattle.node_moves.specs.Moves.{Moves}
 use Rattle.node_moves.specs.Moves.Moves.{hears, opens_one, holds, reads_first, reads_later, closes, refuses, loses_one, loses_next, expels_one, cuts_log, crashes, settles, hands}
-use Rattle.node_moves.specs.Ends.{Precedes, IsGiven, IsOrderly, IsEnd, ReadsOn, NodesReadInOrder, open_named, proposal_of, came_on, piece_on, stream_of, is_nothing, commands_of}
+use Rattle.node_moves.specs.Ends.{Precedes, IsGiven, IsOrderly, IsEnd, open_named, proposal_of, came_on, piece_on, stream_of, is_nothing, commands_of}
+use Rattle.node_moves.specs.ReadsInOrder.{ReadsOn, NodesReadInOrder}
 use Rattle.node_moves.specs.Ends.IsEnd.{not_yet, is_open, is_over}
 use Rattle.node_moves.proofs.StepsMove.{twice}
 use Rattle.node_moves.proofs.Views.{view, found_each, found_passes, same_some, some_none, none_changes, view_of_others, view_of_changed}

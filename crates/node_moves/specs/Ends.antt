@@ -1,5 +1,5 @@
 -- One connection as its node has it, by its name: what is read and proposed of all that is written.
-use Rattle.std.specs.Prelude.{◌≡◌, ◌≤◌, ◌<◌, ◌⊎◌, ℕ, suc, Bool, true, false, if◌then◌else◌, List, [], ◌∷◌, ◌++◌, length, filter, Option, Some, None}
+use Rattle.std.specs.Prelude.{◌≡◌, ◌≤◌, ◌<◌, ◌⊎◌, ℕ, suc, Bool, true, false, if◌then◌else◌, List, [], ◌∷◌, Option, Some, None}
 use Rattle.std.specs.List.{find}
 use Rattle.exactly_once.specs.packet.declared.packet.Packet.{Packet}
 use Rattle.exactly_once.specs.broker_spec.Connection.{ConnectionName, same_connection}
@@ -8,7 +8,7 @@ use Rattle.exactly_once.specs.broker_spec.declared.command.Command.TheVariants a
 use Rattle.exactly_once.specs.lists.Lists.{Each, IsPrefixOf}
 use Rattle.world_base.specs.cutter.Stream.{Stream}
 use Rattle.world_base.specs.cutter.Pipe.{IsPiped}
-use Rattle.exactly_once.specs.StoryCommands.{command_of, is_packet_of}
+use Rattle.exactly_once.specs.StoryCommands.{command_of}
 use Rattle.world_base.specs.declared.Connection.{Connection}
 use Rattle.world_base.specs.Connections.{is_first, is_open_named}
 use Rattle.world_base.specs.Core.{CoreState, StepOutcome}
@@ -103,20 +103,3 @@ pub data IsEnd (x : ConnectionName) (core : CoreState) (written read : List Pack
 abbrev pub commands_of : ConnectionName → ℕ → List Packet → List Command
 commands_of x n [] = []
 commands_of x n (p ∷ more) = command_of x n p ∷ commands_of x (suc n) more
-
--- In a move the next written packets are read. Each is proposed under the name, and nothing else.
-pub record ReadsOn (x : ConnectionName) {core : CoreState} {outcome : StepOutcome}
-    (m : Moves core outcome) (written read : List Packet) (later : List ℕ) : Type 0 where
-  pub more : List Packet
-  pub end : IsEnd x outcome.core written (read ++ more) later
-  pub proposed : filter (λ command. is_packet_of command x) (proposal_of m)
-      ≡ commands_of x (length read) more
-
--- in each move a node reads on in order on each connection, and its connections stay in order
-abbrev pub NodesReadInOrder : Type 0
-NodesReadInOrder =
-    (core : CoreState) (outcome : StepOutcome) (m : Moves core outcome) → IsOrderly core →
-    IsOrderly outcome.core
-    × ((x : ConnectionName) (written read : List Packet) (in_transit later : List ℕ) →
-    IsEnd x core written read in_transit →
-    in_transit ≡ came_on x m ++ later → ReadsOn x m written read later)

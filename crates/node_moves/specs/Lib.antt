@@ -1,5 +1,6 @@
 pub mod Moves
 pub mod Ends
+pub mod ReadsInOrder
 pub mod RunProposals
 pub mod Puts
 pub mod Closed
@@ -11,7 +12,9 @@ pub mod Hearing
 pub mod LossyMoves
 pub mod LossyParts
 pub mod LossyRuns
+pub mod ItemRuns
 pub mod LossyLaws
+pub mod LossyNames
 pub use Rattle.world_base.specs.ballot as ballot
 pub use Rattle.world_base.specs.cutter as cutter
 pub use Rattle.world_base.specs as world_base

@@ -1,25 +1,22 @@
 -- What moves do to one connection of a node when memory may run out: the same as exact ones, except
 -- that it may be closed.
-use Rattle.std.specs.Prelude.{◌≡◌, ◌<◌, ℕ, true, false, List, ◌++◌, length, filter, Some, None}
+use Rattle.std.specs.Prelude.{◌≡◌, ◌<◌, ℕ, true, false, List, ◌++◌, length, filter, Some}
 use Rattle.exactly_once.specs.packet.declared.packet.Packet.{Packet}
 use Rattle.world_base.specs.ballot.Config.{Config}
-use Rattle.exactly_once.specs.broker_spec.declared.command.Command.{Command}
 use Rattle.exactly_once.specs.broker_spec.Connection.{ConnectionName}
-use Rattle.exactly_once.specs.lists.Lists.{In, IsPrefixOf}
+use Rattle.exactly_once.specs.lists.Lists.{IsPrefixOf}
 use Rattle.world_base.specs.cutter.Pipe.{Joins}
 use Rattle.exactly_once.specs.Sends.{sends_to}
 use Rattle.exactly_once.specs.StoryCommands.{is_packet_of}
 use Rattle.world_base.specs.declared.Connection.{Connection}
 use Rattle.world_base.specs.Connections.{is_over}
-use Rattle.world_base.specs.Core.{CoreState, StepOutcome, opening_core, serves}
+use Rattle.world_base.specs.Core.{CoreState, StepOutcome, opening_core}
 use Rattle.node_moves.specs.Closed.{listed_named}
 use Rattle.node_moves.specs.Ends.{IsEnd, IsOrderly, commands_of, open_named}
 use Rattle.node_moves.specs.RunProposals.{Proposes}
-use Rattle.node_moves.specs.Keeping.{AreOfTheBallot}
 use Rattle.node_moves.specs.LossyMoves.{LossyMoves}
-use Rattle.node_moves.specs.LossyParts.{came_on, given_in, hears_in, is_handing, is_read, proposal_of, refusal_in}
+use Rattle.node_moves.specs.LossyParts.{came_on, given_in, is_handing, is_read, proposal_of, refusal_in}
 use Rattle.node_moves.specs.LossyRuns.{LossyRuns, bytes_on, proposals_of}
-use Rattle.node_moves.specs.Names.{IsNextName}
 use Rattle.node_moves.specs.Puts.{outputs_of, spelled}
 
 -- ---- what is read
@@ -90,32 +87,3 @@ LossesPutNothingOnClosed =
     (core : CoreState) (outcome : StepOutcome) (m : LossyMoves core outcome) → IsOrderly core →
     (x : ConnectionName) (d : Connection) →
     listed_named x outcome.core ≡ Some d → is_over d.stage ≡ true → IsClosedBy x m d
-
--- ---- names
-
--- a connection that is new after a move has the next name of the ballot that the node leads
-abbrev pub LossyNamesAreOfTheBallot : Type 0
-LossyNamesAreOfTheBallot =
-    (core : CoreState) (outcome : StepOutcome) (m : LossyMoves core outcome) → IsOrderly core →
-    (x : ConnectionName) (d : Connection) →
-    listed_named x core ≡ None → listed_named x outcome.core ≡ Some d → IsNextName core x
-
--- if a node serves, each open connection has a name of the ballot that it leads
-abbrev pub AreWhereItServes : CoreState → Type 0
-AreWhereItServes core = serves core ≡ true → AreOfTheBallot core
-
--- `AreWhereItServes` holds after each move in which the replica receives nothing, and after one in
--- which it does, if that move began as a step does. And a node proposes under a name only in the
--- ballot of that name.
-pub record LossyNamesKeepTheirBallot : Type 0 where
-  pub moves : (core : CoreState) (outcome : StepOutcome) (m : LossyMoves core outcome) →
-      IsOrderly core →
-      hears_in m ≡ false → AreWhereItServes core → AreWhereItServes outcome.core
-  pub hears : (core : CoreState) (outcome : StepOutcome) (m : LossyMoves core outcome) →
-      IsOrderly core →
-      AreOfTheBallot core → AreWhereItServes outcome.core
-  pub proposes : (core : CoreState) (outcome : StepOutcome) (m : LossyMoves core outcome) →
-      IsOrderly core →
-      AreWhereItServes core → serves core ≡ true → (x : ConnectionName) (command : Command) →
-      In command (proposal_of m) → is_packet_of command x ≡ true →
-      x.ballot ≡ core.replica.state.joined

@@ -6,8 +6,9 @@ ghost use Rattle.node_moves.specs.Apart.{NamesStayApart};
 ghost use Rattle.node_moves.specs.Settled.{EachLossIsReported, NoneIsSilent};
 ghost use Rattle.node_moves.specs.Hearing.{NodeCallsHearAtFirst};
 ghost use Rattle.node_moves.specs.Keeping.{NamesKeepTheirBallot};
-ghost use Rattle.node_moves.specs.LossyLaws.{LossesAreTaken, LossesProposeInOrder, LossesPutInOrder, LossesPutNothingOnClosed, LossesReadInOrder, LossyNamesAreOfTheBallot, LossyNamesKeepTheirBallot};
-ghost use Rattle.node_moves.specs.LossyRuns.{LossesAreMoves};
+ghost use Rattle.node_moves.specs.LossyLaws.{LossesAreTaken, LossesProposeInOrder, LossesPutInOrder, LossesPutNothingOnClosed, LossesReadInOrder};
+ghost use Rattle.node_moves.specs.LossyNames.{LossyNamesAreOfTheBallot, LossyNamesKeepTheirBallot};
+ghost use Rattle.node_moves.specs.ItemRuns.{LossesAreMoves};
 ghost use Rattle.node_moves.specs.Moves.{NodeCallsAreMoves};
 
 /// States that everything that a node does, its steps and the handing over of bytes, is a run of a

@@ -8,7 +8,7 @@ use Rattle.byte_world.specs.broker_spec.declared.command.Command.{Command}
 use Rattle.byte_world.specs.world_base.declared.item.Item.{Item}
 use Rattle.byte_world.specs.world_base.declared.item.Item.TheVariants.{Peer, Tick, Opened, Bytes, Ended, Expel, Cut, Crash}
 use Rattle.byte_world.specs.world_base.Core.{CoreState, CountedCore, StepOutcome}
-use Rattle.byte_world.specs.node_moves.LossyRuns.{IsRunOn, heard_with, is_cut}
+use Rattle.byte_world.specs.node_moves.ItemRuns.{IsRunOn, heard_with, is_cut}
 use Rattle.byte_world.specs.node_moves.Moves.NodeCall.{takes}
 use Rattle.byte_world.proofs.of_node_moves.LossesAreMoves.{losses_are_moves}
 use Rattle.byte_world.specs.node_group.Group.{Group, after_outcome, with_record}

@@ -1,0 +1,50 @@
+-- The moves of a node on one item.
+use Rattle.std.specs.Prelude.{◌≡◌, ℕ, Bool, true, false, List, [], ◌∷◌}
+use Rattle.world_base.specs.ballot.Effect.{Effect}
+use Rattle.world_base.specs.ballot.Protocol.{Input}
+use Rattle.world_base.specs.ballot.Protocol.Input.{Receives, Ticks}
+use Rattle.exactly_once.specs.broker_spec.declared.command.Command.{Command}
+use Rattle.exactly_once.specs.broker_spec.Connection.{ConnectionName}
+use Rattle.exactly_once.specs.broker_spec.declared.command.Output.{Output}
+use Rattle.world_base.specs.declared.item.Item.{Item}
+use Rattle.world_base.specs.declared.item.Item.TheVariants.{Peer, Tick, Bytes, Cut}
+use Rattle.world_base.specs.Core.{CoreState, StepOutcome}
+use Rattle.world_base.specs.LossyStep.{RunsOn}
+use Rattle.world_base.specs.Reading.{open_at}
+use Rattle.node_moves.specs.Ends.{piece_on}
+use Rattle.node_moves.specs.LossyRuns.{LossyRuns, HearsAtFirst, bytes_on, all_inputs, HandsNothing, CutsNothing, AllFreeze}
+
+-- what the replica receives with an item
+abbrev pub heard_with : Item → List (Input Command)
+heard_with (Peer message) = Receives message ∷ []
+heard_with (Tick now) = Ticks ∷ []
+heard_with _ = []
+
+-- the bytes that come with an item on the connection of a name
+abbrev pub came_with : ConnectionName → Item → CoreState → List ℕ
+came_with x (Bytes port piece now) core = piece_on x piece (open_at port core)
+came_with x _ core = []
+
+-- whether an item is a cut
+abbrev pub is_cut : Item → Bool
+is_cut Cut = true
+is_cut _ = false
+
+-- Each step that takes an item with losses is a run of moves. In the first of them the replica
+-- receives what comes with the item. On each connection the bytes of the item come, and nothing is
+-- handed over. No log is cut unless the item is a cut, and what is frozen can be read.
+pub record IsRunOn (item : Item) (core : CoreState) (outcome : StepOutcome) : Type 0 where
+  pub run : LossyRuns core outcome
+  pub first : HearsAtFirst run
+  pub hears : all_inputs run ≡ heard_with item
+  pub bytes : (x : ConnectionName) → bytes_on x run ≡ came_with x item core
+  pub hands : HandsNothing run
+  pub cuts : is_cut item ≡ false → CutsNothing run
+  pub freezes : AllFreeze run
+
+-- each step on an item, with losses or not, is a run of moves (`IsRunOn`)
+abbrev pub LossesAreMoves : Type 0
+LossesAreMoves =
+    (item : Item) (core later : CoreState) (messages : List (Effect Command Output)) →
+    RunsOn item core later messages →
+    IsRunOn item core (record { core = later; messages = messages })

@@ -1,0 +1,41 @@
+-- That names keep their ballot if memory may run out.
+use Rattle.std.specs.Prelude.{◌≡◌, true, false, Some, None}
+use Rattle.exactly_once.specs.broker_spec.declared.command.Command.{Command}
+use Rattle.exactly_once.specs.broker_spec.Connection.{ConnectionName}
+use Rattle.exactly_once.specs.lists.Lists.{In}
+use Rattle.exactly_once.specs.StoryCommands.{is_packet_of}
+use Rattle.world_base.specs.declared.Connection.{Connection}
+use Rattle.world_base.specs.Core.{CoreState, StepOutcome, serves}
+use Rattle.node_moves.specs.Closed.{listed_named}
+use Rattle.node_moves.specs.Ends.{IsOrderly}
+use Rattle.node_moves.specs.Keeping.{AreOfTheBallot}
+use Rattle.node_moves.specs.LossyMoves.{LossyMoves}
+use Rattle.node_moves.specs.LossyParts.{hears_in, proposal_of}
+use Rattle.node_moves.specs.Names.{IsNextName}
+
+-- a connection that is new after a move has the next name of the ballot that the node leads
+abbrev pub LossyNamesAreOfTheBallot : Type 0
+LossyNamesAreOfTheBallot =
+    (core : CoreState) (outcome : StepOutcome) (m : LossyMoves core outcome) → IsOrderly core →
+    (x : ConnectionName) (d : Connection) →
+    listed_named x core ≡ None → listed_named x outcome.core ≡ Some d → IsNextName core x
+
+-- if a node serves, each open connection has a name of the ballot that it leads
+abbrev pub AreWhereItServes : CoreState → Type 0
+AreWhereItServes core = serves core ≡ true → AreOfTheBallot core
+
+-- `AreWhereItServes` holds after each move in which the replica receives nothing, and after one in
+-- which it does, if that move began as a step does. And a node proposes under a name only in the
+-- ballot of that name.
+pub record LossyNamesKeepTheirBallot : Type 0 where
+  pub moves : (core : CoreState) (outcome : StepOutcome) (m : LossyMoves core outcome) →
+      IsOrderly core →
+      hears_in m ≡ false → AreWhereItServes core → AreWhereItServes outcome.core
+  pub hears : (core : CoreState) (outcome : StepOutcome) (m : LossyMoves core outcome) →
+      IsOrderly core →
+      AreOfTheBallot core → AreWhereItServes outcome.core
+  pub proposes : (core : CoreState) (outcome : StepOutcome) (m : LossyMoves core outcome) →
+      IsOrderly core →
+      AreWhereItServes core → serves core ≡ true → (x : ConnectionName) (command : Command) →
+      In command (proposal_of m) → is_packet_of command x ≡ true →
+      x.ballot ≡ core.replica.state.joined
