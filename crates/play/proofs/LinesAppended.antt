@@ -18,7 +18,8 @@ use Rattle.world.specs.master.declared.event.Idle.{Idle}
 use Rattle.world.specs.World.{WorldState}
 use Rattle.play.specs.declared.played_world.Recipient.{Recipient}
 use Rattle.play.specs.Events.{asked_in}
-use Rattle.play.specs.Transcripts.{EventComesTo, IsAskedIn, accepted_by, accepted_in, accepted_lines, lines_after, new_lines}
+use Rattle.play.specs.Transcripts.{EventComesTo, IsAskedIn}
+use Rattle.play.specs.AcceptedLines.{accepted_by, accepted_in, accepted_lines, lines_after, new_lines}
 use Rattle.play.specs.Inside.{Appends, AreWritten, LineComesTo, Written, lines_unwritten, names_of, new_recipient, written_at}
 
 -- ---- the lines of one client

@@ -11,7 +11,8 @@ use Rattle.world.specs.World.{WorldState}
 use Rattle.world.specs.world_nodes.Agreed.{AgreeOnSoMany}
 use Rattle.play.specs.declared.played_world.Recipient.{Recipient}
 use Rattle.play.specs.Events.{asked_in, event_of}
-use Rattle.play.specs.Transcripts.{EventComesTo, IsAskedIn, IsLine, Played, ScriptStep, accepted_in, lines_after}
+use Rattle.play.specs.Transcripts.{EventComesTo, IsAskedIn, IsLine, Played, ScriptStep}
+use Rattle.play.specs.AcceptedLines.{accepted_in, lines_after}
 
 -- what a line asks of a client, whatever waits on connections
 abbrev pub IsCallOf : ScriptLine → Event → Type 0

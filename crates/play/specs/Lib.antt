@@ -1,3 +1,4 @@
+pub mod AcceptedLines
 pub mod Transcripts
 pub mod Ways
 pub mod Events

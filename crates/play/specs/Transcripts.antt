@@ -1,16 +1,13 @@
 -- The transcript of a script: the worlds that its lines lead through, and what is written for
 -- each.
-use Rattle.std.specs.Prelude.{◌≡◌, ℕ, List, [], ◌∷◌, ◌++◌, Option, Some, None, Result, Ok, Err, IsErr, drop, length}
-use Rattle.user_client.specs.client.Core.{Core}
-use Rattle.user_client.specs.client_base.declared.accepted.Accepted.{Accepted}
+use Rattle.std.specs.Prelude.{◌≡◌, ℕ, List, [], ◌∷◌, ◌++◌, Option, Some, None, Result, Ok, Err, IsErr, length}
 use Rattle.script.specs.session_base.declared.publication.Publication.{Publication}
 use Rattle.world.specs.master.declared.event.Idle.{Idle}
 use Rattle.script.specs.Scripts.{IsScript, lines_of}
 use Rattle.script.specs.declared.script_line.ScriptLine.{ScriptLine}
 use Rattle.script.specs.declared.reading.Script.{Script}
-use Rattle.play.specs.Lines.{accepted_line, done_line, end_line, idle_line}
+use Rattle.play.specs.Lines.{done_line, end_line, idle_line}
 use Rattle.world.specs.world_events.declared.event.Event.{Event}
-use Rattle.world.specs.Found.{core_named}
 use Rattle.world.specs.Trace.{AreReached, StaysReached, KeepsGroup}
 use Rattle.world.specs.Happening.{EventHappens}
 use Rattle.world.specs.Asking.{EventAsks}
@@ -18,30 +15,7 @@ use Rattle.world.specs.StandsFor.{IsReached, KeepsReached, asked_on}
 use Rattle.world.specs.World.{WorldState}
 use Rattle.world.specs.world_nodes.Agreed.{AgreeOnSoMany}
 use Rattle.play.specs.Events.{asked_in}
-
--- what a client accepted: nothing if there is none
-abbrev pub accepted_by : Option Core → List Accepted
-accepted_by None = []
-accepted_by (Some core) = core.state.accepted
-
--- what the client of this identifier shows as accepted
-abbrev pub accepted_in : List ℕ → WorldState → List Accepted
-accepted_in name w = accepted_by (core_named name w.clients)
-
--- a line for each publication that a client accepted
-abbrev pub accepted_lines : List ℕ → List Accepted → List ℕ
-accepted_lines name [] = []
-accepted_lines name (one ∷ more) = accepted_line name one ++ accepted_lines name more
-
--- a line for each that the client shows after the first `count`
-abbrev pub lines_after : ℕ → List ℕ → WorldState → List ℕ
-lines_after count name w = accepted_lines name (drop count (accepted_in name w))
-
--- a line for each that one of these clients shows and did not show before
-abbrev pub new_lines : List (List ℕ) → WorldState → WorldState → List ℕ
-new_lines [] old new = []
-new_lines (name ∷ names) old new =
-    lines_after (length (accepted_in name old)) name new ++ new_lines names old new
+use Rattle.play.specs.AcceptedLines.{new_lines}
 
 -- ---- one line of a script
 

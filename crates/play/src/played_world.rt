@@ -7,7 +7,7 @@ ghost use Rattle.world.specs.Happening.{WorldOpens};
 ghost use Rattle.world.specs.Trace.{AreReached};
 ghost use Rattle.world.specs.StandsFor.{IsReached, asked_on};
 ghost use Rattle.play.specs.Inside.{Appends, AreWritten, LineComesTo, EndsTranscript, Written, lines_unwritten, names_of, new_recipient, written_at};
-ghost use Rattle.play.specs.Transcripts.{accepted_in, accepted_lines, lines_after};
+ghost use Rattle.play.specs.AcceptedLines.{accepted_in, accepted_lines, lines_after};
 
 use crate::error::PlayError;
 use crate::events::event_of;

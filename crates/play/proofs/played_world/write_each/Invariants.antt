@@ -1,5 +1,5 @@
 use Rattle.std.proofs.Common.{◌≡◌, ◌++◌, take}
-use Rattle.play.specs.Transcripts.{accepted_lines}
+use Rattle.play.specs.AcceptedLines.{accepted_lines}
 use Rattle.play.proofs.played_world.write_each.Given as goal
 
 abbrev pub invariant-loop-one : goal.invariant-loop-one
