@@ -1,5 +1,5 @@
-//! Tests of what a broker stores, through public calls: sessions, the indexes of subscriptions,
-//! retained publications. It has only tests and a few laws.
+//! Tests of what a broker stores, through public calls: the indexes of subscriptions, retained
+//! publications. It has only tests and a few laws.
 #![tactic(auto)]
 
 #[cfg(test)]
@@ -7,8 +7,6 @@ mod indexes;
 mod readings;
 #[cfg(test)]
 mod retaining;
-#[cfg(test)]
-mod sessions;
 
 pub use readings::{
     answers_fit_the_qos, expels_of_nobody_are_nothing, live_connections_are_current,
