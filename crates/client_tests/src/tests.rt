@@ -1,11 +1,8 @@
-// Clients: one as a state that takes bytes, and two that run over servers in memory.
+// A client as a state that takes bytes.
 
 mod connections;
 mod handshakes;
 mod memory;
 mod publications;
-mod publishers;
 mod row;
-mod servers;
 mod shared;
-mod subscribers;

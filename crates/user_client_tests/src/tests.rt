@@ -1,0 +1,5 @@
+// Two clients that run over servers in memory.
+
+mod publishers;
+mod servers;
+mod subscribers;
