@@ -1,0 +1,4 @@
+// What no clause says: that words and tables which are as they should be are read.
+
+mod lines;
+mod tables;
