@@ -5,8 +5,6 @@ mod answers;
 mod crowds;
 mod cuts;
 mod expulsions;
-mod gates;
-mod lagging;
 mod nodes;
 mod refusals;
 mod row;

@@ -1,9 +1,9 @@
 // What one client is answered, and when it is closed.
 
 use super::nodes::{fault_in, missed_with};
-use super::row::{Missed, Row, Table, unless};
+use super::row::{Row, Table};
 use server::Listener;
-use server_clients::{Flood, connect, fills, join, open};
+use server_clients::{Flood, Missed, connect, fills, join, open, unless};
 use std::io::Read;
 use std::net::{Net, TcpStream};
 use std::time::{Clock, Instant};

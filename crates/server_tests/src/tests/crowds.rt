@@ -1,11 +1,11 @@
 // Many clients, at the same time and one after another.
 
 use super::nodes::missed_with;
-use super::row::{Missed, Row, unless};
+use super::row::Row;
 use server::Listener;
 use server_clients::{
-    Large, Pair, SUBSCRIBE, SUBSCRIBED, connect, is_answered, is_closed, is_open_for, join,
-    large_publish, open,
+    Large, Missed, Pair, SUBSCRIBE, SUBSCRIBED, connect, is_answered, is_closed, is_open_for, join,
+    large_publish, open, unless,
 };
 use std::alloc::Global;
 use std::io::Write;

@@ -1,9 +1,7 @@
 // Nodes that cut their logs, as their reports show.
 
-use super::nodes::listen_all;
-use super::row::{Missed, unless};
 use server::{Config, Listener, Members, NoGate, NodeReport, serve_gated};
-use server_clients::{is_answered, join, large_publish};
+use server_clients::{Missed, is_answered, join, large_publish, listen_all, unless};
 use std::io::Write;
 use std::net::{Net, TcpListener, TcpStream};
 use std::sync::Wait;

@@ -1,12 +1,12 @@
 // A client whose session an administrator ends.
 
 use super::nodes::fault_in;
-use super::row::{Missed, Row, Table, unless};
+use super::row::{Row, Table};
 use packet::ClientId;
 use server::{Cluster, Listener};
 use server_clients::{
-    Heard, Pair, SUBSCRIBE, SUBSCRIBED, is_answered, is_closed, is_delivered, is_silent, join,
-    publish,
+    Heard, Missed, Pair, SUBSCRIBE, SUBSCRIBED, is_answered, is_closed, is_delivered, is_silent,
+    join, publish, unless,
 };
 use std::net::{Net, TcpStream};
 use std::sync::Wait;

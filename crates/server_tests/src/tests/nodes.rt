@@ -1,48 +1,13 @@
 // Nodes on free ports of the loopback interface, and the rows that run with them.
 
-use super::row::{Missed, Row, Table, missed_step};
-use server::{Cluster, Config, Listener, Members, Memory, serve_while};
-use std::alloc::Global;
+use super::row::{Row, Table, missed_step};
+use server::{Cluster, Config, Listener, Members, serve_while};
+use server_clients::{Missed, listen_all, opening};
 use std::net::{Net, TcpListener, TcpStream};
 use std::sync::Wait;
 use std::thread;
 use std::thread::Threads;
 use std::time::{Clock, Duration};
-
-/// Returns ballot 1 of these members, the first of whom is the primary.
-pub(super) fn opening(alloc: Global, members: &[u8]) -> Result<Config, Memory> {
-    Ok(Config {
-        members: Members::from_slice(alloc, members)?,
-        primary: 1,
-    })
-}
-
-/// Adds a listener for each of these nodes, on a free port. False if there is no free port.
-pub(super) fn listen_all<R>(rt: &R, numbers: &[u8], listeners: &mut Vec<Listener>) -> bool
-where
-    R: AllocGlobal + Net<Listener = TcpListener, Stream = TcpStream>,
-{
-    for number in numbers {
-        if !listens(rt, *number, listeners) {
-            return false;
-        }
-    }
-    true
-}
-
-// Adds a listener for this node, on a free port. False if there is none.
-fn listens<R>(rt: &R, number: u8, listeners: &mut Vec<Listener>) -> bool
-where
-    R: AllocGlobal + Net<Listener = TcpListener, Stream = TcpStream>,
-{
-    let Ok(listener) = TcpListener::bind(rt, "127.0.0.1:0") else {
-        return false;
-    };
-    match Listener::new(rt.alloc(), number, listener) {
-        Ok(listener) => listeners.push(listener).is_ok(),
-        Err(_) => false,
-    }
-}
 
 /// Returns the name of the first of these tables whose row does not hold, each with nodes of its
 /// own, and the step of it that is not so.

@@ -1,7 +1,7 @@
 // What is refused: listeners that are not served; and how each refusal is told.
 
-use super::nodes::{listen_all, opening};
 use server::{OrderError, ServeError, serve_while};
+use server_clients::{listen_all, opening};
 use std::net::{Net, TcpListener, TcpStream};
 use std::sync::Wait;
 use std::test::Fail;

@@ -5,7 +5,7 @@ use super::crowds::{coming_and_going, deaf_one, never_reading, silent_ones, sixt
 use super::expulsions::expelling;
 use super::takeovers::{moving, taking_over};
 use server::{Cluster, Listener};
-use server_clients::visits;
+use server_clients::{Missed, unless, visits};
 use std::net::{Net, TcpStream};
 use std::sync::Wait;
 use std::time::Clock;
@@ -42,14 +42,6 @@ pub(super) struct Table {
     pub(super) name: &'static str,
     pub(super) members: &'static [u8],
     pub(super) row: Row,
-}
-
-/// The first step of a row that was not as these words say; none if all were.
-pub(super) type Missed = Option<&'static str>;
-
-/// Returns the words for what is not so.
-pub(super) fn unless(is_so: bool, words: &'static str) -> Missed {
-    if is_so { None } else { Some(words) }
 }
 
 /// Returns the first step of a row that is not so with the nodes of these listeners, in words.

@@ -1,10 +1,11 @@
 // Sessions that continue at another node.
 
 use super::nodes::{fault_in, moves_to};
-use super::row::{Missed, Row, Table, unless};
+use super::row::{Row, Table};
 use server::{Cluster, Listener};
 use server_clients::{
-    Heard, Pair, connect, fills, is_answered, is_delivered, is_silent, open, publish, visits,
+    Heard, Missed, Pair, connect, fills, is_answered, is_delivered, is_silent, open, publish,
+    unless, visits,
 };
 use std::io::Write;
 use std::net::{Net, TcpStream};

@@ -1,10 +1,10 @@
 // Nodes that are held at a gate.
 
 use super::lagging::{missed_of_bytes, missed_of_places};
-use super::nodes::{listen_all, opening};
-use super::row::{Missed, unless};
 use server::{Cluster, Gate, Listener, NodeReport, serve_gated};
-use server_clients::{Heard, Pair, is_answered, is_silent, publish, visits};
+use server_clients::{
+    Heard, Missed, Pair, is_answered, is_silent, listen_all, opening, publish, unless, visits,
+};
 use std::io::Write;
 use std::net::{Net, TcpListener, TcpStream};
 use std::sync::{Mutex, Wait};

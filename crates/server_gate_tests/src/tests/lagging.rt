@@ -1,9 +1,8 @@
 // A member that is held, while a client sends on. What the primary takes then is bounded.
 
 use super::gates::Bar;
-use super::row::{Missed, unless};
 use server::{Cluster, Listener};
-use server_clients::{Flood, join, large_publish, visits, waits_to_write};
+use server_clients::{Flood, Missed, join, large_publish, unless, visits, waits_to_write};
 use std::io::Write;
 use std::net::{Net, TcpStream};
 use std::sync::Wait;
