@@ -8,7 +8,6 @@ mod expelled;
 mod handshakes;
 mod losing;
 mod repeats;
-mod row;
 mod stale;
 mod superseded;
 mod travelling;

@@ -2,12 +2,11 @@
 
 use crate::tests::crashes::CRASHED;
 use crate::tests::expelled::EXPELLED;
-use crate::tests::row::{Action, Row, is_right, opened};
 use crate::tests::stale::STALE;
 use crate::tests::superseded::SUPERSEDED;
 use crate::tests::travelling::TRAVELLED;
 use std::alloc::Global;
-use world::World;
+use world_rows::{Action, Row, World, is_right, opened};
 
 /// The primary answers a CONNECT once its backup holds it. The numbers of `Does`, here and in the
 /// next table: messages sent, commands agreed.

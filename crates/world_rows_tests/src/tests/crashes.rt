@@ -1,6 +1,6 @@
 // A primary that crashes.
 
-use crate::tests::row::{
+use world_rows::{
     Action, CONNECT_A, CONNECT_B, NOTHING, PRESENT, PRESENT_AND_PUBLISH, PUBLISH_AGAIN, PUBREC,
     PUBREL, Row, Said, Table, fault_in,
 };

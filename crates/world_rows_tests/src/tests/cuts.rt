@@ -1,10 +1,9 @@
 // A node cuts its log after a row of a table, each after each row; all other rows hold as usual.
 
 use crate::tests::crashes::CRASHED;
-use crate::tests::row::{Row, is_right, opened};
 use crate::tests::stale::STALE;
 use std::alloc::Global;
-use world::{Event, World};
+use world_rows::{Event, Row, World, is_right, opened};
 
 // Cuts a node's log, if it has something to cut; then it has nothing more to cut.
 fn is_cut_once(world: &mut World, node: u8) -> bool {

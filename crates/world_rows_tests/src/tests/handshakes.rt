@@ -1,6 +1,6 @@
 // A publication at QoS 2 from one client to another, byte by byte.
 
-use crate::tests::row::{Action, NOTHING, PUBLISH, PUBREC, PUBREL, Row, Table, fault_in};
+use world_rows::{Action, NOTHING, PUBLISH, PUBREC, PUBREL, Row, Table, fault_in};
 
 // A subscription of `b`, a publication of `a`, and both handshakes to their ends. The numbers of
 // `Does`: messages sent (none with one node), commands agreed.

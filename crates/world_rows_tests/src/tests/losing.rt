@@ -1,6 +1,6 @@
 // Connections that are lost and ended, at one end and at the other.
 
-use crate::tests::row::{
+use world_rows::{
     ABSENT, Action, CONNECT_A, NOTHING, PRESENT, PUBLISH, PUBREC, Row, Table, fault_in,
 };
 

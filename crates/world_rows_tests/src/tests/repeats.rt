@@ -1,6 +1,6 @@
 // Messages that come again, or in another order.
 
-use crate::tests::row::{ABSENT, Action, CONNECT_A, NOTHING, Row, Table, fault_in};
+use world_rows::{ABSENT, Action, CONNECT_A, NOTHING, Row, Table, fault_in};
 
 // A CONNECT is answered once the backup holds it. Then the Commit comes again, the Held, and the
 // Append, which is held again; an Append that is already there adds nothing. The numbers of `Does`,

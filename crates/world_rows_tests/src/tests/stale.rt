@@ -1,11 +1,10 @@
 // A primary of a ballot that is over.
 
-use crate::tests::row::{
-    Action, Fault, NOTHING, PRESENT_AND_PUBLISH, PUBREC, Row, Said, Table, UNOPENED, came,
+use std::alloc::Global;
+use world_rows::{
+    Action, Fault, NOTHING, PRESENT_AND_PUBLISH, PUBREC, Row, Said, Table, UNOPENED, World, came,
     fault_at, fault_in, is_right, opened,
 };
-use std::alloc::Global;
-use world::World;
 
 // What is agreed at the end. The PUBREC of the subscriber, which only the stale primary holds, is
 // not.

@@ -1,6 +1,6 @@
 // A ballot that waits for its activation when the next one is given.
 
-use crate::tests::row::{ABSENT, Action, CONNECT_A, NOTHING, Row, Said, Table, fault_in};
+use world_rows::{ABSENT, Action, CONNECT_A, NOTHING, Row, Said, Table, fault_in};
 
 const AFTER: &[Said] = &[Said::Start(3), Said::Connect("a")];
 

@@ -1,6 +1,6 @@
 // Nodes that cut their logs.
 
-use crate::tests::row::{Action, PRESENT, Row, Said, Table, fault_in};
+use world_rows::{Action, PRESENT, Row, Said, Table, fault_in};
 
 // What is agreed before and after the other member takes over.
 const BEFORE: &[Said] = &[Said::Connect("a")];

@@ -4,10 +4,9 @@
 use crate::tests::courses::{
     COURSES, Course, WAITS, all_hold, begun, is_kept, last_ballot, may_lead,
 };
-use crate::tests::row::{Action, PRESENT, Row, does, named, opened};
 use packet::ClientId;
 use std::alloc::Global;
-use world::{Command, EscapeError, Event, World};
+use world_rows::{Action, Command, EscapeError, Event, PRESENT, Row, World, does, named, opened};
 
 // Lists of members: the rising ones of nodes 1 to 3, and some that no ballot may have.
 const LISTS: &[&[u8]] = &[

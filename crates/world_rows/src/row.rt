@@ -15,25 +15,29 @@ pub const CONNECT_A: &[u8] = b"\x10\x0D\x00\x04MQTT\x04\x00\x00\x00\x00\x01a";
 /// That of client `b`.
 pub const CONNECT_B: &[u8] = b"\x10\x0D\x00\x04MQTT\x04\x00\x00\x00\x00\x01b";
 
-/// CONNACK (3.2), accepted: without a session, and with Session Present.
+/// CONNACK (3.2), accepted, without a session.
 pub const ABSENT: &[u8] = b"\x20\x02\x00\x00";
 
+/// The same with Session Present.
 pub const PRESENT: &[u8] = b"\x20\x02\x01\x00";
 
 /// PUBLISH (3.3) at QoS 2, no RETAIN: 8 bytes follow, the Topic Name, Packet Identifier 1 and the
-/// payload. Then the same sent again, with DUP.
+/// payload.
 pub const PUBLISH: &[u8] = b"\x34\x08\x00\x03t/1\x00\x01x";
 
+/// The same sent again, with DUP.
 pub const PUBLISH_AGAIN: &[u8] = b"\x3C\x08\x00\x03t/1\x00\x01x";
 
 /// What a subscriber is sent when it comes back: its session is present, and the publication again.
 pub const PRESENT_AND_PUBLISH: &[u8] = b"\x20\x02\x01\x00\x3C\x08\x00\x03t/1\x00\x01x";
 
-/// PUBREC (3.5), and PUBREL, whose lower bits are 0010 (3.6), of Packet Identifier 1.
+/// PUBREC (3.5) of Packet Identifier 1.
 pub const PUBREC: &[u8] = b"\x50\x02\x00\x01";
 
+/// PUBREL of it, whose lower bits are 0010 (3.6).
 pub const PUBREL: &[u8] = b"\x62\x02\x00\x01";
 
+/// No bytes wait.
 pub const NOTHING: &[u8] = b"";
 
 /// What happens.
@@ -240,6 +244,7 @@ pub fn is_right(alloc: Global, world: &mut World, row: &Row) -> bool {
     }
 }
 
+// Says whether the bytes that wait are these.
 fn are_same(waiting: &[u8], bytes: &[u8]) -> bool {
     waiting == bytes
 }
