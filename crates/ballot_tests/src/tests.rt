@@ -5,7 +5,5 @@ mod counting;
 mod cutting;
 mod memory;
 mod opening;
-mod pairs;
 mod refusals;
-mod replicas;
 mod stories;

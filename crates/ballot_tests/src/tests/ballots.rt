@@ -1,4 +1,4 @@
-use super::replicas::config;
+use ballot_replicas::config;
 use master::{Activation, AssignError, Master};
 use std::alloc::Global;
 

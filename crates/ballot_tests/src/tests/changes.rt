@@ -1,9 +1,8 @@
 // Changes of configuration, as worked examples with two nodes.
 
-use super::pairs::*;
-use super::replicas::{shows, takes};
 use super::stories::{Change, first_fault_of_two};
 use ballot::{Body, Role};
+use ballot_replicas::{Pair, hand_on, hands_on, is_assigned, master_says, shows, takes};
 use machine::TallyCommand;
 use std::alloc::Global;
 

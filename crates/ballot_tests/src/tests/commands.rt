@@ -1,8 +1,8 @@
 // Commands inside ballot 1, as worked examples with one, two and three members.
 
-use super::replicas::*;
 use super::stories::{Run, first_fault};
 use ballot::{Body, Effect, ProposeError, Replica, Role};
+use ballot_replicas::{appends, commits, gives, hears, holds, logs, shows, takes};
 use machine::{Tally, TallyCommand};
 
 // Says whether a replica takes these commands.

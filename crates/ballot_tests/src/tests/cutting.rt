@@ -1,9 +1,8 @@
 // Logs that are cut, and snapshots that go over to another node.
 
-use super::pairs::*;
-use super::replicas::*;
 use super::stories::{Change, Run, first_fault, first_fault_of_two};
 use ballot::{Body, Effect, Log, Replica, Role};
+use ballot_replicas::{Pair, gives, hands_on, hears, is_assigned, logs, master_says, shows, takes};
 use machine::{Tally, TallyCommand};
 use std::alloc::Global;
 

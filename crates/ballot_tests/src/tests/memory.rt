@@ -3,8 +3,8 @@
 // out of memory, the replica has stopped for good; a message for which memory runs out is lost and
 // counted.
 
-use super::replicas::{appends, gives, logs, made, shows};
 use ballot::{Effect, ProposeError, Replica, Role};
+use ballot_replicas::{appends, gives, logs, made, shows};
 use machine::{Machine, Tally, TallyCommand, ThawFault};
 use std::alloc::Global;
 use std::test::*;

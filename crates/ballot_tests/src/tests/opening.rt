@@ -1,6 +1,6 @@
-use super::replicas::made;
 use super::stories::{Run, first_fault};
 use ballot::OpeningError;
+use ballot_replicas::made;
 use std::alloc::Global;
 
 // Says whether node 1 does not open, for its members.

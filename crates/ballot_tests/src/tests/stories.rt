@@ -1,9 +1,8 @@
 // Which replicas and pairs go through what. Each is made in one place and lent from there.
 
-use super::pairs::{Pair, open};
-use super::replicas::{made, shows};
 use super::{changes, commands, cutting};
 use ballot::{Effect, Replica, Role, Status};
+use ballot_replicas::{Pair, made, open, shows};
 use machine::{Tally, TallyCommand};
 use std::alloc::Global;
 

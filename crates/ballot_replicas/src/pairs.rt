@@ -1,6 +1,6 @@
 // Two nodes, and what came out of them.
 
-use super::replicas::{hears, made};
+use crate::replicas::{hears, made};
 use ballot::{Body, Effect, Members, Message, OpeningError, Replica};
 use machine::{Memory, Tally, TallyCommand};
 use std::alloc::Global;
