@@ -2,7 +2,7 @@
 use denote.Param.Send.{IsSend, sendable}
 use Rattle.broker.specs.contracts.broker_machine.BrokerMachine as BrokerMachine
 use Rattle.broker_tables.proofs.of_broker_session.client_row.ClientRow.TheSendSync.{the_send as row_send}
-use Rattle.packet.proofs.client_id.ClientId.TheSendSync.{the_send as client_send}
+use Rattle.packet_base.proofs.client_id.ClientId.TheSendSync.{the_send as client_send}
 use Rattle.broker_tables.proofs.of_retained.retained_store.RetainedStore.TheSendSync.{the_send as store_send}
 use Rattle.std.proofs.Crossing.{crosses}
 use Rattle.std.proofs.MapsCrossing as maps

@@ -69,7 +69,7 @@ fn write_sessions(
 }
 
 // Appends a client with its session.
-#[tactic(auto, using(packet::proofs::Clients::client_short))]
+#[tactic(auto, using(packet_base::proofs::Clients::client_short))]
 fn write_row(client: &ClientId, row: &ClientRow, bytes: &mut Vec<u8>) -> Result<(), AllocError>
     requires { HasForm row.now.state }
     ensures { OnOk result (bytes.new.items ≡ bytes.old.items ++ row_bytes (client.now, row.now)) }

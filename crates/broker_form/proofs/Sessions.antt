@@ -3,7 +3,7 @@ use Rattle.std.proofs.Common.{◌≡◌, ℕ, ◌+◌, ◌≤◌, ◌<◌, ◌^�
 use Rattle.std.specs.Prelude.{IsTrue}
 use Rattle.std.specs.List.{AllByRecursion}
 use Rattle.packet.specs.declared.packet.Packet.TheVariants as packets
-use Rattle.packet.specs.ClientId.{is_client}
+use Rattle.packet_base.specs.ClientId.{is_client}
 use Rattle.broker_spec.specs.retained.Retained.{RetainedTopics}
 use Rattle.lists.specs.Lists.{IsDistinct}
 use Rattle.session_base.specs.declared.publication.Publication.{Publication}

@@ -10,7 +10,7 @@ use Rattle.packet_base.specs.TopicFields.{topic_at}
 use Rattle.packet_base.specs.topics.Text.{is_topic}
 use Rattle.packet_base.proofs.Steps.{then_if, seq_if, check_if}
 use Rattle.packet_base.proofs.FieldsFound.{Splits, Splits-then, Splits-all, byte_found, front_found, text_found, topic_found, ended_found}
-use Rattle.packet.specs.ClientId.{is_client}
+use Rattle.packet_base.specs.ClientId.{is_client}
 use Rattle.broker_spec.specs.retained.declared.retained_publication.RetainedPublication.{RetainedPublication}
 use Rattle.session_base.specs.Counted.{counted, counted_at}
 use Rattle.session_base.specs.Form.{long_number, long_number_at, flag_at, qos_at, state_bytes}

@@ -11,7 +11,7 @@ use Rattle.packet_base.proofs.Steps.{then_if, check_if, seq_if}
 use Rattle.packet_base.proofs.FieldsAgain.{number_again}
 use Rattle.packet_base.proofs.FieldsFound.{Splits, text_found, topic_found, ended_found}
 use Rattle.packet_base.specs.topics.Text.{is_topic}
-use Rattle.packet.specs.ClientId.{is_client}
+use Rattle.packet_base.specs.ClientId.{is_client}
 use Rattle.packet.specs.Spelling.{max_body}
 use Rattle.broker_spec.specs.retained.declared.retained_publication.RetainedPublication.{RetainedPublication}
 use Rattle.broker_spec.specs.retained.Retained.{RetainedTopics}

@@ -5,7 +5,7 @@ use Rattle.std.specs.Int.{w64, from_be_bytes}
 use Rattle.packet_base.specs.declared.stop.Stop.{Stop}
 use Rattle.packet_base.specs.Reading.{◌>>=◌, ◌>>◌, byte_at, front_at, number_at, text_at, ended}
 use Rattle.packet_base.specs.TopicFields.{topic_at}
-use Rattle.packet.specs.ClientId.{is_client}
+use Rattle.packet_base.specs.ClientId.{is_client}
 use Rattle.packet.specs.Spelling.{max_body}
 use Rattle.broker_spec.specs.retained.declared.retained_publication.RetainedPublication.{RetainedPublication}
 use Rattle.broker_spec.specs.retained.Retained.{max_topics}

@@ -3,7 +3,7 @@
 use Rattle.std.specs.Prelude.{ℕ, ◌≤◌, IsTrue, true, List, length, Option, Some, None}
 use Rattle.std.specs.List.{AllByRecursion}
 use Rattle.packet_base.specs.Spelling.{IsId}
-use Rattle.packet.specs.ClientId.{is_client}
+use Rattle.packet_base.specs.ClientId.{is_client}
 use Rattle.broker_spec.specs.retained.declared.retained_publication.RetainedPublication.{RetainedPublication}
 use Rattle.broker_spec.specs.retained.Retained.{IsRising}
 use Rattle.session_base.specs.InRange.{CanBeSent, IsGrantedFilter, IsQueue}

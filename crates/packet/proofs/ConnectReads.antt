@@ -11,10 +11,10 @@ use Rattle.packet_base.specs.Reading.{AreBytes, byte_at, number_at, text_at, end
 use Rattle.packet_base.proofs.Steps.{then_if, seq_if, check_if}
 use Rattle.packet_base.proofs.FieldsFound.{AreBytes-drop, Splits, Splits-then, byte_found, number_found, text_found, ended_found}
 use Rattle.packet_base.proofs.FieldsAgain.{number_again, text_again}
+use Rattle.packet_base.proofs.Clients.{client_checked, client_parts, client_short}
+use Rattle.packet_base.specs.ClientId.{has_client_length, is_client}
 use Rattle.packet.specs.declared.connect.Connect.{Connect}
-use Rattle.packet.specs.ClientId.{has_client_length, is_client}
 use Rattle.packet.specs.Connect.{protocol, clean_of, connect, connect_of, FitsConnect}
-use Rattle.packet.proofs.Clients.{client_checked, client_parts, client_short}
 
 -- connect flags below 4 whose lowest bit is not set
 clean_flags : (flags : ℕ) → flags % 2 ≡ 0 → flags < 4 → flags ≡ 2 * bit (eqb flags 2)

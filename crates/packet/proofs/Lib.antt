@@ -1,4 +1,3 @@
-pub mod Clients
 pub mod ConnectReads
 pub mod ConnackReads
 pub mod QoSReads
@@ -10,5 +9,6 @@ pub mod PacketReads
 pub mod After
 pub mod OneSpelling
 pub mod MoreBytes
+pub use Rattle.packet_base.proofs.Clients
 pub use Rattle.packet_base.proofs as of_packet_base
 pub use Rattle.packet_base.proofs.of_topics as of_topics

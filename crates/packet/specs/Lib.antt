@@ -1,6 +1,5 @@
 pub mod ConnectFaultRows
 pub mod QoS
-pub mod ClientId
 pub mod Connect
 pub mod Connack
 pub mod Delivery
@@ -17,5 +16,6 @@ pub mod FaultRows
 pub use Rattle.packet_base.specs.declared.stop.Stop
 pub use Rattle.packet_base.specs.declared.refusal_code.RefusalCode
 pub use Rattle.packet_base.specs.declared.packet_id.PacketId
+pub use Rattle.packet_base.specs.ClientId
 pub use Rattle.packet_base.specs as packet_base
 pub use Rattle.packet_base.specs.topics as topics

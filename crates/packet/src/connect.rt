@@ -5,8 +5,10 @@ ghost use Rattle.std.specs.Prelude.{IfOk, IsOk};
 ghost use Rattle.packet_base.specs.Outcome.{Gives, IsOutOfMemory, TakesNoMemory};
 ghost use Rattle.packet.specs.Connect.{clean_of, connect, connect_of, FitsConnect};
 
-use crate::client_id::{ClientId, has_client_length};
-use packet_base::{Reader, RefusalCode, Stop, put_byte, put_bytes, put_number, put_text};
+use packet_base::{
+    ClientId, Reader, RefusalCode, Stop, has_client_length, put_byte, put_bytes, put_number,
+    put_text,
+};
 use std::alloc::Global;
 use topics::MalformedKind;
 
@@ -33,7 +35,7 @@ pub struct Connect {
 
 impl Connect {
     /// Reads the body of a CONNECT (MQTT 3.1). The first fault that is met stops it.
-    #[tactic(auto, unfolding(crate::specs::Connect::connect_of), using(crate::proofs::Clients::client_checked))]
+    #[tactic(auto, unfolding(crate::specs::Connect::connect_of), using(packet_base::proofs::Clients::client_checked))]
     pub(crate) fn read(alloc: Global, body: &mut Reader) -> Result<Connect, Stop>
         ensures exact { Gives (λ x. x) result (connect_of body.old) }
         ensures memory { IsOutOfMemory result → IsOk (connect_of body.old) }

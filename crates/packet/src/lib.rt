@@ -2,7 +2,6 @@
 //! `encode` appends the one spelling of a packet to a vector.
 #![tactic(auto)]
 
-mod client_id;
 mod connack;
 mod connect;
 mod decoding;
@@ -20,7 +19,6 @@ mod suback;
 mod subscribe;
 mod unsubscribe;
 
-pub use client_id::ClientId;
 pub use connack::Connack;
 pub use connect::Connect;
 pub use decoding::{Step, decode};
@@ -31,7 +29,7 @@ pub use laws::{
     faults_stay, fronts_are_unfinished, no_spelling_begins_another, one_spelling, spelling_spells,
 };
 pub use packet::{MAX_BODY, Packet};
-pub use packet_base::{PacketId, PacketList, RefusalCode};
+pub use packet_base::{ClientId, PacketId, PacketList, RefusalCode};
 pub use payload::Payload;
 pub use publish::Publish;
 pub use qos::QoS;

@@ -9,4 +9,5 @@ pub mod ListsRead
 pub mod ItemsInALoop
 pub mod ListsWritten
 pub mod Growing
+pub mod Clients
 pub use Rattle.topics.proofs as of_topics

@@ -5,5 +5,6 @@ pub mod Reading
 pub mod Outcome
 pub mod Lists
 pub mod Inside
+pub mod ClientId
 pub mod TopicFields
 pub use Rattle.topics.specs as topics

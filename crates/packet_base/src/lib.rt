@@ -2,6 +2,7 @@
 //! left, and the calls that append a field to a vector.
 #![tactic(auto)]
 
+mod client_id;
 mod header;
 mod item;
 mod packet_id;
@@ -9,9 +10,11 @@ mod packet_list;
 mod reader;
 mod refusal_code;
 mod remaining_length;
+mod rows;
 mod stop;
 mod writing;
 
+pub use client_id::{ClientId, has_client_length};
 pub use header::{DeliveryFlags, Header};
 pub use item::ListItem;
 pub use packet_id::PacketId;
@@ -19,5 +22,6 @@ pub use packet_list::PacketList;
 pub use reader::Reader;
 pub use refusal_code::RefusalCode;
 pub use remaining_length::{length_size, put_length, take_length};
+pub use rows::numbers_of_fields;
 pub use stop::{OUT_OF_MEMORY, Stop};
 pub use writing::{put_byte, put_bytes, put_number, put_text};

@@ -8,7 +8,7 @@ use Rattle.packet_base.specs.topics.Text.{has}
 use Rattle.packet_base.specs.topics.declared.malformed.MalformedKind.{MalformedKind}
 use Rattle.packet_base.specs.topics.declared.malformed.MalformedKind.TheVariants as kinds
 use Rattle.packet_base.specs.Reading.{is_text}
-use Rattle.packet.specs.ClientId.{has_client_length, is_client}
+use Rattle.packet_base.specs.ClientId.{has_client_length, is_client}
 
 -- a text of the right length without U+0000 is one
 pub is_client_none : (text : List ℕ) → IsUtf8 text → has_client_length text ≡ true → has 0 text ≡ false → is_client text ≡ true

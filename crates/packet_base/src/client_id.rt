@@ -1,7 +1,7 @@
 // The Client Identifier, by which the server finds a client's session.
 
 ghost use Rattle.std.specs.Prelude.{◌≡◌, None, Some, IfOk, OnOk, IfErr, IsTrue, true};
-ghost use Rattle.packet.specs.ClientId.{client_fault, has_client_length, is_client};
+ghost use Rattle.packet_base.specs.ClientId.{client_fault, has_client_length, is_client};
 ghost use Rattle.packet_base.specs.topics.Text.{RefusesBy};
 
 use std::alloc::{AllocError, Global};
@@ -21,7 +21,7 @@ pub struct ClientId {
 
 impl Model for ClientId {
     ghost use Rattle.std.specs.Prelude.{List, ℕ, IsTrue};
-    ghost use Rattle.packet.specs.ClientId.{is_client};
+    ghost use Rattle.packet_base.specs.ClientId.{is_client};
 
     ghost Value = { List ℕ };
 
@@ -54,7 +54,7 @@ impl ClientId {
 
     /// Returns the Client Identifier of a text without a fault. The only error is that memory ran
     /// out.
-    pub(crate) fn of_checked(alloc: Global, text: &str) -> Result<ClientId, AllocError>
+    pub fn of_checked(alloc: Global, text: &str) -> Result<ClientId, AllocError>
         requires { is_client text.now ≡ true }
         ensures { IfOk result (λ client. client ≡ text.now) }
     {
@@ -72,7 +72,7 @@ impl ClientId {
 }
 
 /// Says whether a text has 1 to 64 bytes.
-pub(crate) fn has_client_length(text: &str) -> bool
+pub fn has_client_length(text: &str) -> bool
     ensures { result ≡ has_client_length text.now }
 {
     !text.is_empty() && text.len() <= MAX_CLIENT_BYTES
