@@ -11,7 +11,6 @@ mod error;
 mod id_alone;
 mod laws;
 mod packet;
-mod payload;
 mod publish;
 mod qos;
 mod rows;
@@ -29,8 +28,7 @@ pub use laws::{
     faults_stay, fronts_are_unfinished, no_spelling_begins_another, one_spelling, spelling_spells,
 };
 pub use packet::{MAX_BODY, Packet};
-pub use packet_base::{ClientId, PacketId, PacketList, RefusalCode};
-pub use payload::Payload;
+pub use packet_base::{ClientId, PacketId, PacketList, Payload, RefusalCode};
 pub use publish::Publish;
 pub use qos::QoS;
 pub use rows::{first_fault_counts, numbers_of_packets};

@@ -16,8 +16,7 @@ ghost use Rattle.packet_base.specs.TopicFields.{topic_at};
 ghost use Rattle.packet.specs.Publish.{publish, publish_of, FitsPublish};
 
 use crate::delivery::Delivery;
-use crate::payload::Payload;
-use packet_base::{DeliveryFlags, Reader, Stop, put_bytes, put_text};
+use packet_base::{DeliveryFlags, Payload, Reader, Stop, put_bytes, put_text};
 use std::alloc::Global;
 use topics::TopicName;
 
