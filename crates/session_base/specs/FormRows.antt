@@ -1,6 +1,8 @@
--- A worked example with something in every part of a session, each byte by hand: two filters, two
--- received identifiers, an entry in flight of each kind, two that wait.
+-- Worked examples. A session with something in every part, each byte by hand: two filters, two
+-- received identifiers, an entry in flight of each kind, two that wait. And a publication: how many
+-- bytes its PUBLISH has after the header, counted by hand.
 use Rattle.std.specs.Prelude.{◌≡◌, ℕ, true, false, List, [], ◌∷◌, ◌++◌, codes}
+use Rattle.packet.specs.declared.qos.QoS.{QoS}
 use Rattle.packet.specs.declared.qos.QoS.TheVariants as qualities
 use Rattle.session_base.specs.declared.publication.Publication.{Publication}
 use Rattle.session_base.specs.declared.awaits.Awaits.TheVariants as waits_for
@@ -71,3 +73,9 @@ full_session_by_hand = filters_by_hand ++ flights_by_hand ++ waiting_by_hand
 -- the session is frozen to these bytes
 abbrev pub FullSessionIsFrozen : Type 0
 FullSessionIsFrozen = state_bytes full_session ≡ full_session_by_hand
+
+-- a publication at this QoS: the body of its PUBLISH has 2 + 1 bytes of topic, 2 of Packet
+-- Identifier at QoS 1 and 2, none at QoS 0, and 2 of payload (MQTT 3.3.2, 3.3.3)
+abbrev pub one_and_two_bytes : QoS → Publication
+one_and_two_bytes qos =
+    record { retain = false; qos = qos; topic = codes "a"; payload = codes "xy" }

@@ -7,6 +7,7 @@ mod form_laws;
 mod laws;
 mod publication;
 mod reading;
+mod rows;
 mod writing;
 
 pub use awaits::Awaits;
@@ -20,6 +21,7 @@ pub use reading::{
     body_length, check_form, payload_of, read_flag, read_flight, read_granted_filter,
     read_long_number, read_publication, read_qos, read_waiting,
 };
+pub use rows::bodies_are_counted;
 pub use writing::{
     write_flight, write_granted_filter, write_number, write_payload, write_publication, write_text,
 };
