@@ -61,7 +61,7 @@ impl Machine for BrokerMachine {
     ghost thaws = { frozen_is_thawed };
 
     fn copy(_alloc: Global, command: &Command) -> Result<Command, Memory> {
-        command.known();
+        command.ensure_ranges();
         Ok(command.copy()?)
     }
 
@@ -76,7 +76,7 @@ impl Machine for BrokerMachine {
     }
 
     fn apply(&mut self, command: &Command, out: &mut Vec<Output>) -> Result<(), Halted> {
-        command.known();
+        command.ensure_ranges();
         let mut given = Vec::new(*out.allocator());
         if self.tables.apply(command, &mut given).is_err() {
             self.tables = Tables::new(*out.allocator());

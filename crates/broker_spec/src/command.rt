@@ -42,7 +42,7 @@ impl Command {
 
     /// Ensures, for a proof, that the parts of this command are in their ranges; it does nothing
     /// else.
-    pub fn known(&self)
+    pub fn ensure_ranges(&self)
         ensures { IsBrokerCommand self.now }
     {
         match self {
@@ -52,7 +52,7 @@ impl Command {
             }
             Command::Packet(connection, packet) => {
                 let _ballot = connection.ballot();
-                packet.packet().known();
+                packet.packet().ensure_ranges();
             }
             Command::Lost(connection) => {
                 let _ballot = connection.ballot();

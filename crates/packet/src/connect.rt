@@ -83,7 +83,7 @@ impl Connect {
     }
 
     /// Ensures that the fields are in their ranges.
-    pub(crate) fn known(&self)
+    pub(crate) fn ensure_ranges(&self)
         ensures { FitsConnect self.now }
     {
         let _keep_alive = self.keep_alive;

@@ -98,7 +98,7 @@ impl Delivery {
     }
 
     /// Ensures that the identifier is in its range.
-    pub(crate) fn known(self)
+    pub(crate) fn ensure_ranges(self)
         ensures { FitsDelivery self }
     {
         match self {

@@ -25,7 +25,7 @@ pub fn encode(packet: &Packet, out: &mut Vec<u8>) -> Result<(), EncodeFault>
     ensures room { vec_len out.old + spelled_len packet.now ≤ vec_capacity out.old
         → result ≢ Err EncodeFault.Memory }
 {
-    packet.known();
+    packet.ensure_ranges();
     let len = packet.body_len();
     if len > MAX_BODY {
         return Err(EncodeFault::TooLarge);

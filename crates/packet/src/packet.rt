@@ -76,20 +76,20 @@ impl Packet {
 
     /// Ensures, for a proof, that the fields of this packet are in their ranges; it does nothing
     /// else.
-    pub fn known(&self)
+    pub fn ensure_ranges(&self)
         ensures { Fits self.now }
     {
         match self {
-            Packet::Connect(connect) => connect.known(),
-            Packet::Publish(publish) => publish.known(),
-            Packet::Subscribe(subscribe) => subscribe.known(),
-            Packet::Suback(suback) => suback.known(),
-            Packet::Unsubscribe(unsubscribe) => unsubscribe.known(),
-            Packet::Puback(id) => known_id(*id),
-            Packet::Pubrec(id) => known_id(*id),
-            Packet::Pubrel(id) => known_id(*id),
-            Packet::Pubcomp(id) => known_id(*id),
-            Packet::Unsuback(id) => known_id(*id),
+            Packet::Connect(connect) => connect.ensure_ranges(),
+            Packet::Publish(publish) => publish.ensure_ranges(),
+            Packet::Subscribe(subscribe) => subscribe.ensure_ranges(),
+            Packet::Suback(suback) => suback.ensure_ranges(),
+            Packet::Unsubscribe(unsubscribe) => unsubscribe.ensure_ranges(),
+            Packet::Puback(id) => ensure_id_range(*id),
+            Packet::Pubrec(id) => ensure_id_range(*id),
+            Packet::Pubrel(id) => ensure_id_range(*id),
+            Packet::Pubcomp(id) => ensure_id_range(*id),
+            Packet::Unsuback(id) => ensure_id_range(*id),
             Packet::Connack(_) | Packet::Pingreq | Packet::Pingresp | Packet::Disconnect => {}
         }
     }
@@ -204,7 +204,7 @@ impl Packet {
 }
 
 // Ensures that the identifier is in its range.
-fn known_id(id: PacketId)
+fn ensure_id_range(id: PacketId)
     ensures { IsId id }
 {
     let _number = id.number();

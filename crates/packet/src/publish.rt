@@ -77,10 +77,10 @@ impl Publish {
     }
 
     /// Ensures that the fields are in their ranges.
-    pub(crate) fn known(&self)
+    pub(crate) fn ensure_ranges(&self)
         ensures { FitsPublish self.now }
     {
         let _topic = self.topic.as_str();
-        self.delivery.known();
+        self.delivery.ensure_ranges();
     }
 }

@@ -79,7 +79,7 @@ impl ListItem for SubackCode {
         put_byte(out, self.number());
     }
 
-    fn known(&self) {}
+    fn ensure_ranges(&self) {}
 }
 
 /// The answer to a SUBSCRIBE (MQTT 3.9). The list is not empty in a packet that was read, and must
@@ -121,7 +121,7 @@ impl Suback {
     }
 
     /// Ensures that the fields are in their ranges.
-    pub(crate) fn known(&self)
+    pub(crate) fn ensure_ranges(&self)
         ensures { FitsSuback self.now }
     {
         let _id = self.id.number();

@@ -72,7 +72,7 @@ impl ListItem for Subscription {
         put_byte(out, self.qos.number());
     }
 
-    fn known(&self) {
+    fn ensure_ranges(&self) {
         let _filter = self.filter.as_str();
     }
 }
@@ -116,10 +116,10 @@ impl Subscribe {
     }
 
     /// Ensures that the fields are in their ranges.
-    pub(crate) fn known(&self)
+    pub(crate) fn ensure_ranges(&self)
         ensures { FitsSubscribe self.now }
     {
         let _id = self.id.number();
-        self.filters.known();
+        self.filters.ensure_ranges();
     }
 }

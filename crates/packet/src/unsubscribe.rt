@@ -58,10 +58,10 @@ impl Unsubscribe {
     }
 
     /// Ensures that the fields are in their ranges.
-    pub(crate) fn known(&self)
+    pub(crate) fn ensure_ranges(&self)
         ensures { FitsUnsubscribe self.now }
     {
         let _id = self.id.number();
-        self.filters.known();
+        self.filters.ensure_ranges();
     }
 }

@@ -47,7 +47,7 @@ pub trait ListItem: Drop {
         ensures capacity { vec_capacity out.old ≤ vec_capacity out.new };
 
     /// Ensures, for a proof, that this item is in its range; it does nothing else.
-    fn known(&self)
+    fn ensure_ranges(&self)
         ensures { Fits self.now };
 }
 
@@ -75,7 +75,7 @@ impl ListItem for Filter {
         put_text(out, self.as_str());
     }
 
-    fn known(&self) {
+    fn ensure_ranges(&self) {
         let _text = self.as_str();
     }
 }

@@ -98,11 +98,11 @@ impl<T: ListItem> PacketList<T> {
     }
 
     /// Ensures, for a proof, that the items of this list are in their ranges; it does nothing else.
-    pub fn known(&self)
+    pub fn ensure_ranges(&self)
         ensures { All T.Fits self.now }
     {
         for item in self.as_slice() {
-            item.known();
+            item.ensure_ranges();
         }
     }
 }

@@ -15,7 +15,7 @@ invariant_of-self-else-is_err c =
     let done : is_err c.apply.result ≡ false = sym c.is_err.ensures.value ∙ c.if-is_err.false in
     let is : state_in c.apply.new.self ≡ (step usual_limits 64 (state_in t) c.args.command.now).0
     = at_ok c.apply.result done c.apply.ensures.state ∙ ap (λ p. p.0) (stepped_is t c.args.command.now) in (
-      subst IsUsualState (sym is) (stays_usual (state_in t) c.args.command.now c.self.invariant.0 c.known.ensures),
+      subst IsUsualState (sym is) (stays_usual (state_in t) c.args.command.now c.self.invariant.0 c.ensure_ranges.ensures),
       at_ok c.apply.result done c.apply.ensures.tied,
     )
 
