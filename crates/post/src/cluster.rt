@@ -6,10 +6,10 @@ ghost use Rattle.master.specs.lists.Lists.{has_id};
 ghost use Rattle.post.specs.Mastering.{MayGet};
 ghost use Rattle.post.specs.Numbers.{are_nodes, is_node, numbers_of};
 
+use crate::addressed_message::AddressedMessage;
 use crate::choosing::{Shown, primary_of};
 use crate::messaging_master::{Answer, MessagingMaster};
 use crate::order_error::OrderError;
-use crate::outgoing::Outgoing;
 use crate::peer::Peer;
 use crate::queuing::{Given, Receivers, queue_all};
 use ballot::MASTER;
@@ -204,31 +204,31 @@ impl Cluster {
     }
 
     // Queues a message that a step of a node gave for a node.
-    fn queue<R: Wait>(&self, rt: &R, outgoing: Outgoing)
-        requires { outgoing.receiver ≡ 0 → ⊥ }
+    fn queue<R: Wait>(&self, rt: &R, addressed: AddressedMessage)
+        requires { addressed.receiver ≡ 0 → ⊥ }
     {
-        match self.node(outgoing.receiver()) {
-            Some(node) => node.queue_outgoing(rt, outgoing),
-            None => outgoing.lose(self),
+        match self.node(addressed.receiver()) {
+            Some(node) => node.queue_addressed(rt, addressed),
+            None => addressed.lose(self),
         }
     }
 
     // Lets the master answer a message that a step of a node gave for it.
-    fn ask_master<R: Wait>(&self, rt: &R, outgoing: Outgoing)
-        requires { outgoing.receiver ≡ 0 }
+    fn ask_master<R: Wait>(&self, rt: &R, addressed: AddressedMessage)
+        requires { addressed.receiver ≡ 0 }
     {
-        match self.answer(rt, outgoing) {
+        match self.answer(rt, addressed) {
             Some(answer) => self.queue_answer(rt, answer),
             None => {}
         }
     }
 
     // Returns the master's answer to a message that a step of a node gave for it.
-    fn answer<R: Wait>(&self, rt: &R, outgoing: Outgoing) -> Option<Answer>
-        requires { outgoing.receiver ≡ 0 }
+    fn answer<R: Wait>(&self, rt: &R, addressed: AddressedMessage) -> Option<Answer>
+        requires { addressed.receiver ≡ 0 }
     {
         let mut master = self.master.lock(rt);
-        outgoing.ask(&mut master)
+        addressed.ask(&mut master)
     }
 
     // Queues an answer of the master for its receiver.
@@ -289,12 +289,12 @@ impl<'a> Receivers for NodesAndMaster<'a> {
     // It queues in outboxes under their locks, of which no clause says anything: see `Outbox`.
     ghost queues = { λ _ _ _ _. Unit {0} };
 
-    fn queue<R: Wait>(&mut self, rt: &R, outgoing: Outgoing) {
+    fn queue<R: Wait>(&mut self, rt: &R, addressed: AddressedMessage) {
         let cluster = self.cluster;
-        if outgoing.receiver() == MASTER {
-            cluster.ask_master(rt, outgoing);
+        if addressed.receiver() == MASTER {
+            cluster.ask_master(rt, addressed);
         } else {
-            cluster.queue(rt, outgoing);
+            cluster.queue(rt, addressed);
         }
     }
 }

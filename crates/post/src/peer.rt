@@ -6,10 +6,10 @@ ghost use Rattle.node.specs.Lists.{Each};
 ghost use Rattle.post.specs.Mastering.{MayGet};
 ghost use Rattle.post.specs.Queued.{IsPosted, IsQueued};
 
+use crate::addressed_message::AddressedMessage;
 use crate::messaging_master::{Answer, MessagingMaster};
 use crate::order_error::OrderError;
 use crate::outbox::Outbox;
-use crate::outgoing::Outgoing;
 use crate::waker::Waker;
 use crate::waking::is_urgent;
 use master::AssignError;
@@ -87,15 +87,15 @@ impl Peer {
     /// Queues a message of another node for the node, and wakes nobody: its giver does so, or has
     /// it taken, once it has released its own node's lock. If there is no room or memory for it, it
     /// is lost, as the protocol allows.
-    pub(crate) fn queue_outgoing<R: Wait>(&self, rt: &R, outgoing: Outgoing)
-        requires { outgoing.receiver ≡ self.now.number }
+    pub(crate) fn queue_addressed<R: Wait>(&self, rt: &R, addressed: AddressedMessage)
+        requires { addressed.receiver ≡ self.now.number }
     {
         let mut outbox = self.outbox.lock(rt);
         // It is this node's, which no clause says: see `Outbox`.
         if outbox.number() == self.number {
-            let _ = outgoing.queue_in(&mut outbox);
+            let _ = addressed.queue_in(&mut outbox);
         } else {
-            outgoing.lose_at(&outbox);
+            addressed.lose_at(&outbox);
         }
     }
 

@@ -5,7 +5,7 @@ ghost use Rattle.node.specs.Lists.{Each};
 ghost use Rattle.post.specs.Queuing.{QueuesAll, messages_of};
 ghost use Rattle.post.specs.Queued.{WasGiven};
 
-use crate::outgoing::Outgoing;
+use crate::addressed_message::AddressedMessage;
 use node::{Command, Effect, Output};
 use std::marker::Model;
 use std::sync::Wait;
@@ -53,8 +53,8 @@ pub trait Receivers {
     ghost queues: { Self → ℕ → Message Command → Self → Type 0 };
 
     /// Queues a message that a step of a node gave for its receiver.
-    fn queue<R: Wait>(&mut self, rt: &R, outgoing: Outgoing)
-        ensures { queues self.old outgoing.receiver outgoing.message self.new };
+    fn queue<R: Wait>(&mut self, rt: &R, addressed: AddressedMessage)
+        ensures { queues self.old addressed.receiver addressed.message self.new };
 }
 
 /// Queues all that steps of a node gave for others, in order, each message once. Outputs are for no
@@ -86,7 +86,10 @@ fn queue_one<C: Receivers, R: Wait>(rt: &R, receivers: &mut C, effect: Effect<Co
     ensures { QueuesAll C.queues receivers.old (messages_of (effect ∷ [])) receivers.new }
 {
     match effect {
-        Effect::To(receiver, message) => receivers.queue(rt, Outgoing::new(receiver, message)),
+        Effect::To(receiver, message) => receivers.queue(
+            rt,
+            AddressedMessage::new(receiver, message),
+        ),
         Effect::Out(_, _) => {}
     }
 }

@@ -3,7 +3,7 @@ use Rattle.node.specs.declared.Item.TheVariants.{Peer}
 use Rattle.post.specs.Queuing.{Addressed}
 use Rattle.post.specs.Queued.{IsPosted}
 use Rattle.post.specs.Queued.IsPosted.{of_node}
-use Rattle.post.proofs.outgoing.Outgoing.queue_in.Goals as goal
+use Rattle.post.proofs.addressed_message.AddressedMessage.queue_in.Goals as goal
 
 pub queue-requires : goal.queue-requires
 queue-requires c =

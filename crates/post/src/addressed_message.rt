@@ -17,12 +17,12 @@ use std::marker::Model;
 /// A message that a step of a node gave, and the number of the node that it is for; 0 is the
 /// master. It cannot be dropped: it ends in an outbox of that node, at the master, or is lost if no
 /// node has that number.
-pub struct Outgoing {
+pub struct AddressedMessage {
     receiver: u8,
     message: Message<Command>,
 }
 
-impl Model for Outgoing {
+impl Model for AddressedMessage {
     ghost use Rattle.node.specs.Effect.TheVariants.{To};
     ghost use Rattle.post.specs.Queuing.{Addressed};
     ghost use Rattle.post.specs.Given.{WasGiven};
@@ -31,16 +31,16 @@ impl Model for Outgoing {
 
     ghost view = { λ it. record { receiver = it.receiver; message = it.message } };
 
-    ghost invariant = { λ outgoing. WasGiven (To outgoing.receiver outgoing.message) };
+    ghost invariant = { λ addressed. WasGiven (To addressed.receiver addressed.message) };
 }
 
-impl Outgoing {
+impl AddressedMessage {
     /// Returns a message that a step of a node gave, with its receiver.
-    pub(crate) fn new(receiver: u8, message: Message<Command>) -> Outgoing
+    pub(crate) fn new(receiver: u8, message: Message<Command>) -> AddressedMessage
         requires { WasGiven (To receiver message) }
         ensures { result ≡ record { receiver = receiver; message = message } }
     {
-        Outgoing { receiver, message }
+        AddressedMessage { receiver, message }
     }
 
     /// Returns the number of the node that it is for.
@@ -61,7 +61,7 @@ impl Outgoing {
           items = still_waiting (Peer self.message) outbox.old.items;
         } }
     {
-        let Outgoing {
+        let AddressedMessage {
             receiver: _receiver,
             message,
         } = self;
@@ -76,7 +76,7 @@ impl Outgoing {
         ensures state { master.new
             ≡ master_after master.old (answer_to master.old self.message.from self.message.body) }
     {
-        let Outgoing {
+        let AddressedMessage {
             receiver: _receiver,
             message,
         } = self;
@@ -90,7 +90,7 @@ impl Outgoing {
         requires none { has_id self.receiver cluster.now ≡ false }
     {
         let _ = cluster;
-        let Outgoing {
+        let AddressedMessage {
             receiver: _receiver,
             message: _message,
         } = self;
@@ -101,7 +101,7 @@ impl Outgoing {
         requires { outbox.now.number ≡ self.receiver → ⊥ }
     {
         let _ = outbox;
-        let Outgoing {
+        let AddressedMessage {
             receiver: _receiver,
             message: _message,
         } = self;

@@ -2,7 +2,7 @@ use Rattle.std.proofs.Common.{ℕ, ◌∙◌, ap, subst}
 use Rattle.node.specs.Effect.TheVariants.{To}
 use Rattle.post.specs.Queuing.{Addressed}
 use Rattle.post.specs.Queued.{WasGiven}
-use Rattle.post.proofs.outgoing.Outgoing.ask.Goals as goal
+use Rattle.post.proofs.addressed_message.AddressedMessage.ask.Goals as goal
 
 pub answer-requires : goal.answer-requires
 answer-requires c =
