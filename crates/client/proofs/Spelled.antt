@@ -4,7 +4,7 @@ use Rattle.std.proofs.lemmas.List.{map_more}
 use Rattle.cutter.specs.packet.declared.packet.Packet.{Packet}
 use Rattle.cutter.specs.packet.declared.packet.Packet.TheVariants as packets
 use Rattle.cutter.specs.packet.Spelling.{AppendsSpelling}
-use Rattle.client_base.specs.declared.kept_publication.KeptPublication.{KeptPublication}
+use Rattle.client_base.specs.declared.unacknowledged_publication.UnacknowledgedPublication.{UnacknowledgedPublication}
 use Rattle.client_base.specs.State.{ClientState, publish_kept, resent}
 use Rattle.client.specs.Core.{AppendsAll}
 
@@ -43,7 +43,7 @@ appends_after front bytes packets all =
 
 -- ---- what is kept
 
-pub all_resent : (state : ClientState) (none released sent unsent : List ℕ) (ids : List ℕ) (again first : List KeptPublication) → none ≡ []
+pub all_resent : (state : ClientState) (none released sent unsent : List ℕ) (ids : List ℕ) (again first : List UnacknowledgedPublication) → none ≡ []
     → ids ≡ state.released → again ≡ state.sent → first ≡ state.unsent
     → AppendsAll none released (map packets.Pubrel ids) → AppendsAll released sent (map (publish_kept true) again)
     → AppendsAll sent unsent (map (publish_kept false) first) → AppendsAll [] unsent (resent state)

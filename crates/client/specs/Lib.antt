@@ -3,7 +3,7 @@ pub mod Reading
 pub mod Inside
 pub use Rattle.client_base.specs.declared.accepted.Accepted
 pub use Rattle.client_base.specs.declared.error.ClientError
-pub use Rattle.client_base.specs.declared.kept_publication.KeptPublication
+pub use Rattle.client_base.specs.declared.unacknowledged_publication.UnacknowledgedPublication
 pub use Rattle.client_base.specs.declared.request.Request
 pub use Rattle.client_base.specs.declared.stage.Stage
 pub use Rattle.client_base.specs.Refusals

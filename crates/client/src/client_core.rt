@@ -3,7 +3,7 @@
 ghost use Rattle.std.specs.Prelude.{◌≡◌};
 ghost use Rattle.client.specs.Core.{new_core, gone};
 
-use client_base::{Accepted, KeptPublication, Request, Stage};
+use client_base::{Accepted, Request, Stage, UnacknowledgedPublication};
 use cutter::Cutter;
 use packet::{ClientId, PacketId};
 use std::alloc::Global;
@@ -18,8 +18,8 @@ pub struct ClientCore {
     pub(crate) client: ClientId,
     pub(crate) keep_alive: u16,
     pub(crate) released: Vec<PacketId>,
-    pub(crate) sent: Vec<KeptPublication>,
-    pub(crate) unsent: Vec<KeptPublication>,
+    pub(crate) sent: Vec<UnacknowledgedPublication>,
+    pub(crate) unsent: Vec<UnacknowledgedPublication>,
     pub(crate) received: Vec<PacketId>,
     pub(crate) requests: Vec<Request>,
     pub(crate) stage: Stage,

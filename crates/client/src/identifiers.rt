@@ -10,7 +10,7 @@ ghost use Rattle.client_base.specs.session_base.Identifiers.{without_id};
 ghost use Rattle.client_base.specs.Publishing.{next_id, has_free_id};
 
 use crate::client_core::ClientCore;
-use client_base::{KeptPublication, Request};
+use client_base::{Request, UnacknowledgedPublication};
 use packet::{PacketId, QoS};
 use session_base::fill_takes_what_waits;
 
@@ -52,7 +52,7 @@ pub(crate) fn has_id(ids: &[PacketId], id: PacketId) -> bool
 }
 
 // Says whether a kept publication has it.
-fn is_kept(kept: &[KeptPublication], id: PacketId) -> bool
+fn is_kept(kept: &[UnacknowledgedPublication], id: PacketId) -> bool
     ensures { result ≡ list_any (λ one. id == one.id) kept.now }
 {
     kept.iter().any(|one| id == one.id)
@@ -83,14 +83,14 @@ pub(crate) fn forget(ids: &mut Vec<PacketId>, id: PacketId)
 }
 
 // Says whether PUBACK with this identifier ends the publication.
-fn awaits_puback(id: PacketId, kept: &KeptPublication) -> bool
+fn awaits_puback(id: PacketId, kept: &UnacknowledgedPublication) -> bool
     ensures { result ≡ awaits_puback id kept.now }
 {
     id == kept.id && kept.publication.qos == QoS::AtLeastOnce
 }
 
 /// Says whether PUBREC with this identifier releases the publication.
-pub(crate) fn awaits_pubrec(id: PacketId, kept: &KeptPublication) -> bool
+pub(crate) fn awaits_pubrec(id: PacketId, kept: &UnacknowledgedPublication) -> bool
     ensures { result ≡ awaits_pubrec id kept.now }
 {
     id == kept.id && kept.publication.qos != QoS::AtLeastOnce
@@ -117,21 +117,21 @@ fn is_unsubscribe(id: PacketId, request: Request) -> bool
 }
 
 /// Says whether PUBREC with this identifier releases one of these.
-pub(crate) fn has_unreleased(kept: &[KeptPublication], id: PacketId) -> bool
+pub(crate) fn has_unreleased(kept: &[UnacknowledgedPublication], id: PacketId) -> bool
     ensures { result ≡ list_any (awaits_pubrec id) kept.now }
 {
     kept.iter().any(|one| awaits_pubrec(id, one))
 }
 
 /// Takes out what PUBACK ends.
-pub(crate) fn end_acknowledged(kept: &mut Vec<KeptPublication>, id: PacketId)
+pub(crate) fn end_acknowledged(kept: &mut Vec<UnacknowledgedPublication>, id: PacketId)
     ensures { kept.new.items ≡ filter (λ one. not (awaits_puback id one)) kept.old.items }
 {
     kept.retain(|one| !awaits_puback(id, one));
 }
 
 /// Takes out what PUBREC releases.
-pub(crate) fn take_released(kept: &mut Vec<KeptPublication>, id: PacketId)
+pub(crate) fn take_released(kept: &mut Vec<UnacknowledgedPublication>, id: PacketId)
     ensures { kept.new.items ≡ filter (λ one. not (awaits_pubrec id one)) kept.old.items }
 {
     kept.retain(|one| !awaits_pubrec(id, one));

@@ -14,5 +14,5 @@ mod reading;
 mod refusing;
 mod writing;
 
-pub use client_base::{Accepted, ClientError, KeptPublication, Request, Stage};
+pub use client_base::{Accepted, ClientError, Request, Stage, UnacknowledgedPublication};
 pub use client_core::ClientCore;

@@ -14,7 +14,7 @@ ghost use Rattle.client.specs.Inside.Handling.{keeping, sending};
 
 use crate::client_core::ClientCore;
 use crate::writing::{publish_again, write, write_publish};
-use client_base::{ClientError, KeptPublication, Stage};
+use client_base::{ClientError, Stage, UnacknowledgedPublication};
 use packet::{Delivery, Packet, PacketId, Payload, Publish, QoS};
 use session_base::Publication;
 use std::alloc::AllocError;
@@ -75,11 +75,11 @@ impl ClientCore {
             self.old result self.new }
     {
         let id = self.publication_id()?;
-        self.keep(KeptPublication { id, publication })
+        self.keep(UnacknowledgedPublication { id, publication })
     }
 
     // Keeps a publication, and sends it if the client is online.
-    fn keep(&mut self, kept: KeptPublication) -> Result<(), ClientError>
+    fn keep(&mut self, kept: UnacknowledgedPublication) -> Result<(), ClientError>
         ensures { AnswersCall (keeping kept self.old.state) self.old result self.new }
     {
         if is_too_large(&kept)? {
@@ -93,7 +93,7 @@ impl ClientCore {
     }
 
     // Sends a publication, and keeps it as sent.
-    fn send(&mut self, kept: KeptPublication) -> Result<(), ClientError>
+    fn send(&mut self, kept: UnacknowledgedPublication) -> Result<(), ClientError>
         ensures { AnswersCall (sending kept self.old.state) self.old result self.new }
     {
         self.sent.reserve(1)?;
@@ -132,7 +132,7 @@ fn packet_once(publication: Publication) -> Packet
 }
 
 // Says whether the PUBLISH of a publication is over the size limit.
-fn is_too_large(kept: &KeptPublication) -> Result<bool, AllocError>
+fn is_too_large(kept: &UnacknowledgedPublication) -> Result<bool, AllocError>
     ensures { IfOk result (λ large. large ≡ is_over_limit (publish_kept false kept.now)) }
 {
     let packet = publish_again(kept, false)?;

@@ -6,7 +6,7 @@ ghost use Rattle.cutter.specs.packet.declared.packet.Packet.TheVariants as packe
 ghost use Rattle.client_base.specs.State.{publish_kept};
 ghost use Rattle.client.specs.Core.{AppendsAll};
 
-use client_base::{ClientError, KeptPublication};
+use client_base::{ClientError, UnacknowledgedPublication};
 use packet::{ClientId, Connect, Packet, PacketId, Publish, encode};
 use session_base::delivery;
 use std::alloc::AllocError;
@@ -46,7 +46,10 @@ pub(crate) fn write_connect(
 }
 
 /// Returns the PUBLISH of a kept publication, with this DUP. The only error is that memory ran out.
-pub(crate) fn publish_again(kept: &KeptPublication, dup: bool) -> Result<Packet, AllocError>
+pub(crate) fn publish_again(
+    kept: &UnacknowledgedPublication,
+    dup: bool,
+) -> Result<Packet, AllocError>
     ensures { IfOk result (λ packet. packet ≡ publish_kept dup kept.now) }
 {
     let publication = &kept.publication;
@@ -109,7 +112,7 @@ pub(crate) fn write_pubrels(ids: &[PacketId], out: &mut Vec<u8>) -> Result<(), C
 /// Writes the PUBLISH of a kept publication, with this DUP. [`ClientError::Memory`] comes if memory
 /// runs out, and then nothing is written.
 pub(crate) fn write_publish(
-    kept: &KeptPublication,
+    kept: &UnacknowledgedPublication,
     dup: bool,
     out: &mut Vec<u8>,
 ) -> Result<(), ClientError>
@@ -125,7 +128,7 @@ pub(crate) fn write_publish(
 /// Writes PUBLISH for each of these, in order, with this DUP. [`ClientError::Memory`] comes if
 /// memory runs out; some may have been written then.
 pub(crate) fn write_publishes(
-    kept: &[KeptPublication],
+    kept: &[UnacknowledgedPublication],
     dup: bool,
     out: &mut Vec<u8>,
 ) -> Result<(), ClientError>

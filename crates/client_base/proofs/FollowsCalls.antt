@@ -5,7 +5,7 @@ use Rattle.session_base.specs.lists.Lists.{has_id}
 use Rattle.session_base.specs.packet.declared.packet.Packet.TheVariants as packets
 use Rattle.session_base.specs.declared.publication.Publication.{Publication}
 use Rattle.session_base.specs.Publication.{publish_of}
-use Rattle.client_base.specs.declared.kept_publication.KeptPublication.{KeptPublication}
+use Rattle.client_base.specs.declared.unacknowledged_publication.UnacknowledgedPublication.{UnacknowledgedPublication}
 use Rattle.client_base.specs.State.{ClientState}
 use Rattle.client_base.specs.Answered.{ClientOutcome}
 use Rattle.client_base.specs.Keeper.{Own, Keeper, Side, next_number}
@@ -42,7 +42,7 @@ first_sent (Own.Done n q ∷ own) k p id none = first_sent own k p id none
 abbrev pub own_of : Publication → ℕ → ℕ → Bool → Bool → Own
 own_of p id n answered online = if answered then (if online then Own.Sent n p id else Own.Unsent n p id) else Own.Done n p
 
-abbrev pub kept_of : Publication → ℕ → KeptPublication
+abbrev pub kept_of : Publication → ℕ → UnacknowledgedPublication
 kept_of p id = record { id = id; publication = p }
 
 abbrev pub side_of : Publication → ℕ → Side ℕ → Bool → Bool → Side ℕ
@@ -63,7 +63,7 @@ publish_outcome p id state answered online =
     else record { state = record state { unsent = state.unsent ++ kept_of p id ∷ [] }; writes = []; refusal = None }
 
 -- with one more of its own
-own_stands : (keeper : Keeper) (state : ClientState) (o : Own) (sent unsent : List KeptPublication) → KeeperStandsFor keeper state
+own_stands : (keeper : Keeper) (state : ClientState) (o : Own) (sent unsent : List UnacknowledgedPublication) → KeeperStandsFor keeper state
     → sent ≡ sent_of (o ∷ []) → unsent ≡ unsent_of (o ∷ []) → released_of (o ∷ []) ≡ [] → IsSentFirst (keeper.own ++ o ∷ [])
     → (keeper.is_online ≡ true → unsent ≡ [])
     → KeeperStandsFor (record keeper { own = keeper.own ++ o ∷ [] }) (record state { sent = state.sent ++ sent; unsent = state.unsent ++ unsent })
@@ -85,7 +85,7 @@ own_stands keeper state o sent unsent s is_sent is_unsent released first online 
     }
 
 -- nothing more is nothing
-none_more : (state : ClientState) (sent unsent : List KeptPublication) (keeper : Keeper) → state.sent ≡ sent → state.unsent ≡ unsent
+none_more : (state : ClientState) (sent unsent : List UnacknowledgedPublication) (keeper : Keeper) → state.sent ≡ sent → state.unsent ≡ unsent
     → KeeperStandsFor keeper (record state { sent = sent; unsent = unsent }) → KeeperStandsFor keeper state
 none_more state sent unsent keeper e f s =
     record {

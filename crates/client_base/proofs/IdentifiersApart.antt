@@ -5,7 +5,7 @@ use Rattle.std.proofs.lemmas.Bool.{both_ways, eqb-true}
 use Rattle.session_base.specs.lists.Lists.{IsDistinct}
 use Rattle.session_base.specs.Publication.{is_acknowledged}
 use Rattle.session_base.proofs.CountedIdentifiers.{count, one_if, count-append, not_counted, not_among}
-use Rattle.client_base.specs.declared.kept_publication.KeptPublication.{KeptPublication}
+use Rattle.client_base.specs.declared.unacknowledged_publication.UnacknowledgedPublication.{UnacknowledgedPublication}
 use Rattle.client_base.specs.declared.request.Request.{Request}
 use Rattle.client_base.specs.State.{ClientState, ids_of_kept, id_of_request, used_ids}
 use Rattle.client_base.specs.Answered.{awaits_pubrec}
@@ -38,7 +38,7 @@ from_once (x ∷ ids) few =
 
 -- ---- what is left out is not there more often
 
-pub fewer_kept : (i : ℕ) (test : KeptPublication → Bool) (kept : List KeptPublication) → often i (ids_of_kept (filter test kept)) ≤ often i (ids_of_kept kept)
+pub fewer_kept : (i : ℕ) (test : UnacknowledgedPublication → Bool) (kept : List UnacknowledgedPublication) → often i (ids_of_kept (filter test kept)) ≤ often i (ids_of_kept kept)
 fewer_kept i test [] = omega arith
 fewer_kept i test (one ∷ kept) = by (test one) (fewer_kept i test kept)
   where
@@ -66,12 +66,12 @@ fewer_ids i test (one ∷ ids) = by (test one) (fewer_ids i test ids)
     by false ih = omega arith
 
 -- PUBREC takes out one that it names, at least
-pub released_leaves : (i id : ℕ) (sent : List KeptPublication) → list_any (awaits_pubrec id) sent ≡ true
+pub released_leaves : (i id : ℕ) (sent : List UnacknowledgedPublication) → list_any (awaits_pubrec id) sent ≡ true
     → one_if (i == id) + often i (ids_of_kept (filter (λ one. not (awaits_pubrec id one)) sent)) ≤ often i (ids_of_kept sent)
 released_leaves i id [] waits = absurd (both_ways false refl waits)
 released_leaves i id (one ∷ sent) waits = by (id == one.id) (not (is_acknowledged one.publication.qos)) refl waits (released_leaves i id sent) (fewer_kept i (λ x. not (awaits_pubrec id x)) sent)
   where
-    left : List KeptPublication
+    left : List UnacknowledgedPublication
     left = filter (λ x. not (awaits_pubrec id x)) sent
 
     by : (b c : Bool) → (id == one.id) ≡ b → ((b && c) || list_any (awaits_pubrec id) sent) ≡ true

@@ -6,7 +6,7 @@ use Rattle.session_base.specs.packet.declared.connack.Connack.TheVariants as con
 use Rattle.session_base.specs.packet.declared.packet.Packet.{Packet}
 use Rattle.session_base.specs.packet.declared.packet.Packet.TheVariants as packets
 use Rattle.session_base.specs.Laws.{IsLeastFree}
-use Rattle.client_base.specs.declared.kept_publication.KeptPublication.{KeptPublication}
+use Rattle.client_base.specs.declared.unacknowledged_publication.UnacknowledgedPublication.{UnacknowledgedPublication}
 use Rattle.client_base.specs.declared.stage.Stage.{Stage}
 use Rattle.client_base.specs.declared.stage.Stage.TheVariants as stages
 use Rattle.client_base.specs.State.{ClientState, new_client, ids_of_kept, used_ids, publication_ids, request_ids}
@@ -19,7 +19,7 @@ use Rattle.client_base.proofs.IdentifiersStay.{AreOnce, fewer, published_once, a
 
 -- ---- CONNACK 0
 
-kept_joined : (i : ℕ) (kept others : List KeptPublication) → often i (ids_of_kept (kept ++ others)) ≡ often i (ids_of_kept kept) + often i (ids_of_kept others)
+kept_joined : (i : ℕ) (kept others : List UnacknowledgedPublication) → often i (ids_of_kept (kept ++ others)) ≡ often i (ids_of_kept kept) + often i (ids_of_kept others)
 kept_joined i [] others = omega arith
 kept_joined i (k ∷ kept) others = let ih = kept_joined i kept others in omega (arith, ih)
 

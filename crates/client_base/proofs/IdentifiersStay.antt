@@ -13,7 +13,7 @@ use Rattle.session_base.specs.Publication.{is_answered}
 use Rattle.session_base.specs.Laws.{IsLeastFree}
 use Rattle.session_base.proofs.CountedIdentifiers.{one_if, count-append, not_counted}
 use Rattle.client_base.specs.declared.error.ClientError.{ClientError}
-use Rattle.client_base.specs.declared.kept_publication.KeptPublication.{KeptPublication}
+use Rattle.client_base.specs.declared.unacknowledged_publication.UnacknowledgedPublication.{UnacknowledgedPublication}
 use Rattle.client_base.specs.declared.request.Request.{Request}
 use Rattle.client_base.specs.declared.stage.Stage.{Stage}
 use Rattle.client_base.specs.declared.stage.Stage.TheVariants as stages
@@ -45,7 +45,7 @@ one_more old new x free more few i = by (i == x) refl (more i) (few i)
 next_free : (law : IsLeastFree) (state : ClientState) → tally (next_id state) state ≡ 0
 next_free law state = sym (used_tally (next_id state) state) ∙ not_counted (next_id state) (used_ids state) (law (used_ids state)).2
 
-kept_more : (i : ℕ) (kept : List KeptPublication) (one : KeptPublication) → often i (ids_of_kept (kept ++ one ∷ [])) ≡ often i (ids_of_kept kept) + one_if (i == one.id)
+kept_more : (i : ℕ) (kept : List UnacknowledgedPublication) (one : UnacknowledgedPublication) → often i (ids_of_kept (kept ++ one ∷ [])) ≡ often i (ids_of_kept kept) + one_if (i == one.id)
 kept_more i [] one = omega arith
 kept_more i (k ∷ kept) one = let ih = kept_more i kept one in omega (arith, ih)
 
@@ -65,12 +65,12 @@ pub unless : (refusal : Option ClientError) (outcome : ClientOutcome) (state : C
 unless (Some cause) outcome state e f = e
 unless None outcome state e f = f
 
-pub sent_once : (law : IsLeastFree) (one : KeptPublication) (state : ClientState) → one.id ≡ next_id state → AreOnce state → AreOnce (record state { sent = state.sent ++ one ∷ [] })
+pub sent_once : (law : IsLeastFree) (one : UnacknowledgedPublication) (state : ClientState) → one.id ≡ next_id state → AreOnce state → AreOnce (record state { sent = state.sent ++ one ∷ [] })
 sent_once law one state is few =
     one_more state (record state { sent = state.sent ++ one ∷ [] }) (next_id state) (next_free law state)
     (λ i. let m = kept_more i state.sent one in let n : one_if (i == one.id) ≡ one_if (i == next_id state) = ap (λ y. one_if (i == y)) is in omega (arith, m, n)) few
 
-pub unsent_once : (law : IsLeastFree) (one : KeptPublication) (state : ClientState) → one.id ≡ next_id state → AreOnce state → AreOnce (record state { unsent = state.unsent ++ one ∷ [] })
+pub unsent_once : (law : IsLeastFree) (one : UnacknowledgedPublication) (state : ClientState) → one.id ≡ next_id state → AreOnce state → AreOnce (record state { unsent = state.unsent ++ one ∷ [] })
 unsent_once law one state is few =
     one_more state (record state { unsent = state.unsent ++ one ∷ [] }) (next_id state) (next_free law state)
     (λ i. let m = kept_more i state.unsent one in let n : one_if (i == one.id) ≡ one_if (i == next_id state) = ap (λ y. one_if (i == y)) is in omega (arith, m, n)) few

@@ -2,7 +2,7 @@
 use Rattle.std.proofs.Common.{◌≡◌, ℕ, ◌+◌, suc, Bool, true, false, not, ◌&&◌, ◌==◌, if◌then◌else◌, List, [], ◌∷◌, ◌++◌, map, length, refl, ap, sym, ◌∙◌, subst, arith}
 use Rattle.std.proofs.lemmas.Bool.{both_ways}
 use Rattle.session_base.specs.Publication.{is_acknowledged}
-use Rattle.client_base.specs.declared.kept_publication.KeptPublication.{KeptPublication}
+use Rattle.client_base.specs.declared.unacknowledged_publication.UnacknowledgedPublication.{UnacknowledgedPublication}
 use Rattle.client_base.specs.Keeper.{Own, Written, number_in}
 use Rattle.client_base.specs.Written.{sent_all, sent_again, sent_first, publishes}
 use Rattle.client_base.specs.Handshakes.{at_puback, at_pubrec, at_pubcomp}
@@ -16,7 +16,7 @@ none_again [] none = refl
 none_again (Own.Unsent k p id ∷ own) none = none_again own none
 none_again (Own.Sent k p id ∷ own) none = absurd (both_ways true (ap is_none none) refl)
   where
-    is_none : List KeptPublication → Bool
+    is_none : List UnacknowledgedPublication → Bool
     is_none [] = false
     is_none (x ∷ xs) = true
 none_again (Own.Released k p id ∷ own) none = none_again own none

@@ -3,7 +3,7 @@
 use Rattle.std.proofs.Common.{◌≡◌, ℕ, Bool, true, false, not, ◌&&◌, ◌||◌, ◌==◌, if◌then◌else◌, List, [], ◌∷◌, map, filter, refl, ap}
 use Rattle.std.specs.List.{list_any}
 use Rattle.session_base.specs.Publication.{is_acknowledged}
-use Rattle.client_base.specs.declared.kept_publication.KeptPublication.{KeptPublication}
+use Rattle.client_base.specs.declared.unacknowledged_publication.UnacknowledgedPublication.{UnacknowledgedPublication}
 use Rattle.client_base.specs.Answered.{awaits_puback, awaits_pubrec}
 use Rattle.session_base.specs.Identifiers.{without_id}
 use Rattle.client_base.specs.Keeper.{Own}
@@ -17,19 +17,19 @@ puback_sent i [] = refl
 puback_sent i (Own.Unsent k p id ∷ own) = puback_sent i own
 puback_sent i (Own.Sent k p id ∷ own) = by ((i == id) && is_acknowledged p.qos) (puback_sent i own)
   where
-    left : List KeptPublication
+    left : List UnacknowledgedPublication
     left = filter (λ one. not (awaits_puback i one)) (sent_of own)
 
     by : (b : Bool) → sent_of (map (at_puback i) own) ≡ left
         → sent_of ((if b then Own.Done k p else Own.Sent k p id) ∷ map (at_puback i) own) ≡ (if not b then record { id = id; publication = p } ∷ left else left)
     by true ih = ih
-    by false ih = ap (λ (l : List KeptPublication). record { id = id; publication = p } ∷ l) ih
+    by false ih = ap (λ (l : List UnacknowledgedPublication). record { id = id; publication = p } ∷ l) ih
 puback_sent i (Own.Released k p id ∷ own) = puback_sent i own
 puback_sent i (Own.Done k p ∷ own) = puback_sent i own
 
 pub puback_unsent : (i : ℕ) (own : List Own) → unsent_of (map (at_puback i) own) ≡ unsent_of own
 puback_unsent i [] = refl
-puback_unsent i (Own.Unsent k p id ∷ own) = ap (λ (l : List KeptPublication). record { id = id; publication = p } ∷ l) (puback_unsent i own)
+puback_unsent i (Own.Unsent k p id ∷ own) = ap (λ (l : List UnacknowledgedPublication). record { id = id; publication = p } ∷ l) (puback_unsent i own)
 puback_unsent i (Own.Sent k p id ∷ own) = by ((i == id) && is_acknowledged p.qos) (puback_unsent i own)
   where
     by : (b : Bool) → unsent_of (map (at_puback i) own) ≡ unsent_of own → unsent_of ((if b then Own.Done k p else Own.Sent k p id) ∷ map (at_puback i) own) ≡ unsent_of own
@@ -56,19 +56,19 @@ pubrec_sent i [] = refl
 pubrec_sent i (Own.Unsent k p id ∷ own) = pubrec_sent i own
 pubrec_sent i (Own.Sent k p id ∷ own) = by ((i == id) && not (is_acknowledged p.qos)) (pubrec_sent i own)
   where
-    left : List KeptPublication
+    left : List UnacknowledgedPublication
     left = filter (λ one. not (awaits_pubrec i one)) (sent_of own)
 
     by : (b : Bool) → sent_of (map (at_pubrec i) own) ≡ left
         → sent_of ((if b then Own.Released k p id else Own.Sent k p id) ∷ map (at_pubrec i) own) ≡ (if not b then record { id = id; publication = p } ∷ left else left)
     by true ih = ih
-    by false ih = ap (λ (l : List KeptPublication). record { id = id; publication = p } ∷ l) ih
+    by false ih = ap (λ (l : List UnacknowledgedPublication). record { id = id; publication = p } ∷ l) ih
 pubrec_sent i (Own.Released k p id ∷ own) = pubrec_sent i own
 pubrec_sent i (Own.Done k p ∷ own) = pubrec_sent i own
 
 pub pubrec_unsent : (i : ℕ) (own : List Own) → unsent_of (map (at_pubrec i) own) ≡ unsent_of own
 pubrec_unsent i [] = refl
-pubrec_unsent i (Own.Unsent k p id ∷ own) = ap (λ (l : List KeptPublication). record { id = id; publication = p } ∷ l) (pubrec_unsent i own)
+pubrec_unsent i (Own.Unsent k p id ∷ own) = ap (λ (l : List UnacknowledgedPublication). record { id = id; publication = p } ∷ l) (pubrec_unsent i own)
 pubrec_unsent i (Own.Sent k p id ∷ own) = by ((i == id) && not (is_acknowledged p.qos)) (pubrec_unsent i own)
   where
     by : (b : Bool) → unsent_of (map (at_pubrec i) own) ≡ unsent_of own → unsent_of ((if b then Own.Released k p id else Own.Sent k p id) ∷ map (at_pubrec i) own) ≡ unsent_of own
@@ -89,7 +89,7 @@ pubrec_waits i (Own.Done k p ∷ own) = pubrec_waits i own
 pub pubcomp_sent : (i : ℕ) (own : List Own) → sent_of (map (at_pubcomp i) own) ≡ sent_of own
 pubcomp_sent i [] = refl
 pubcomp_sent i (Own.Unsent k p id ∷ own) = pubcomp_sent i own
-pubcomp_sent i (Own.Sent k p id ∷ own) = ap (λ (l : List KeptPublication). record { id = id; publication = p } ∷ l) (pubcomp_sent i own)
+pubcomp_sent i (Own.Sent k p id ∷ own) = ap (λ (l : List UnacknowledgedPublication). record { id = id; publication = p } ∷ l) (pubcomp_sent i own)
 pubcomp_sent i (Own.Released k p id ∷ own) = by (i == id) (pubcomp_sent i own)
   where
     by : (b : Bool) → sent_of (map (at_pubcomp i) own) ≡ sent_of own → sent_of ((if b then Own.Done k p else Own.Released k p id) ∷ map (at_pubcomp i) own) ≡ sent_of own
@@ -99,7 +99,7 @@ pubcomp_sent i (Own.Done k p ∷ own) = pubcomp_sent i own
 
 pub pubcomp_unsent : (i : ℕ) (own : List Own) → unsent_of (map (at_pubcomp i) own) ≡ unsent_of own
 pubcomp_unsent i [] = refl
-pubcomp_unsent i (Own.Unsent k p id ∷ own) = ap (λ (l : List KeptPublication). record { id = id; publication = p } ∷ l) (pubcomp_unsent i own)
+pubcomp_unsent i (Own.Unsent k p id ∷ own) = ap (λ (l : List UnacknowledgedPublication). record { id = id; publication = p } ∷ l) (pubcomp_unsent i own)
 pubcomp_unsent i (Own.Sent k p id ∷ own) = pubcomp_unsent i own
 pubcomp_unsent i (Own.Released k p id ∷ own) = by (i == id) (pubcomp_unsent i own)
   where

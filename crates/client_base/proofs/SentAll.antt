@@ -2,7 +2,7 @@
 -- is published.
 use Rattle.std.proofs.Common.{◌≡◌, true, false, List, [], ◌∷◌, ◌++◌, map, refl, ap, sym, ◌∙◌}
 use Rattle.session_base.specs.packet.declared.packet.Packet.{Packet}
-use Rattle.client_base.specs.declared.kept_publication.KeptPublication.{KeptPublication}
+use Rattle.client_base.specs.declared.unacknowledged_publication.UnacknowledgedPublication.{UnacknowledgedPublication}
 use Rattle.client_base.specs.State.{publish_kept}
 use Rattle.client_base.specs.Keeper.{Own, Written}
 use Rattle.client_base.specs.Written.{sent_all, sent_again, sent_first}
@@ -35,9 +35,9 @@ all_first (Own.Done k p ∷ own) = all_first own
 pub all_sent : (own : List Own) → IsSentFirst own → sent_of (sent_all own) ≡ sent_of own ++ unsent_of own
 all_sent [] first = refl
 all_sent (Own.Unsent k p id ∷ own) first =
-    ap (λ (l : List KeptPublication). record { id = id; publication = p } ∷ l) (all_sent own first.1 ∙ ap (λ l. l ++ unsent_of own) first.0)
-    ∙ sym (ap (λ (l : List KeptPublication). l ++ unsent_of (Own.Unsent k p id ∷ own)) first.0)
-all_sent (Own.Sent k p id ∷ own) first = ap (λ (l : List KeptPublication). record { id = id; publication = p } ∷ l) (all_sent own first)
+    ap (λ (l : List UnacknowledgedPublication). record { id = id; publication = p } ∷ l) (all_sent own first.1 ∙ ap (λ l. l ++ unsent_of own) first.0)
+    ∙ sym (ap (λ (l : List UnacknowledgedPublication). l ++ unsent_of (Own.Unsent k p id ∷ own)) first.0)
+all_sent (Own.Sent k p id ∷ own) first = ap (λ (l : List UnacknowledgedPublication). record { id = id; publication = p } ∷ l) (all_sent own first)
 all_sent (Own.Released k p id ∷ own) first = all_sent own first
 all_sent (Own.Done k p ∷ own) first = all_sent own first
 
@@ -65,13 +65,13 @@ first_same (Own.Done k p ∷ own) = first_same own
 pub sent_more : (own more : List Own) → sent_of (own ++ more) ≡ sent_of own ++ sent_of more
 sent_more [] more = refl
 sent_more (Own.Unsent k p id ∷ own) more = sent_more own more
-sent_more (Own.Sent k p id ∷ own) more = ap (λ (l : List KeptPublication). record { id = id; publication = p } ∷ l) (sent_more own more)
+sent_more (Own.Sent k p id ∷ own) more = ap (λ (l : List UnacknowledgedPublication). record { id = id; publication = p } ∷ l) (sent_more own more)
 sent_more (Own.Released k p id ∷ own) more = sent_more own more
 sent_more (Own.Done k p ∷ own) more = sent_more own more
 
 pub unsent_more : (own more : List Own) → unsent_of (own ++ more) ≡ unsent_of own ++ unsent_of more
 unsent_more [] more = refl
-unsent_more (Own.Unsent k p id ∷ own) more = ap (λ (l : List KeptPublication). record { id = id; publication = p } ∷ l) (unsent_more own more)
+unsent_more (Own.Unsent k p id ∷ own) more = ap (λ (l : List UnacknowledgedPublication). record { id = id; publication = p } ∷ l) (unsent_more own more)
 unsent_more (Own.Sent k p id ∷ own) more = unsent_more own more
 unsent_more (Own.Released k p id ∷ own) more = unsent_more own more
 unsent_more (Own.Done k p ∷ own) more = unsent_more own more

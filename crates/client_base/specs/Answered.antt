@@ -12,7 +12,7 @@ use Rattle.session_base.specs.Publication.{is_acknowledged}
 use Rattle.session_base.specs.lists.Lists.{has_id}
 use Rattle.client_base.specs.declared.accepted.Accepted.{Accepted}
 use Rattle.client_base.specs.declared.error.ClientError.{ClientError}
-use Rattle.client_base.specs.declared.kept_publication.KeptPublication.{KeptPublication}
+use Rattle.client_base.specs.declared.unacknowledged_publication.UnacknowledgedPublication.{UnacknowledgedPublication}
 use Rattle.client_base.specs.declared.request.Request.{Request}
 use Rattle.client_base.specs.declared.request.Request.TheVariants as requests
 use Rattle.client_base.specs.State.{ClientState, lost}
@@ -69,11 +69,11 @@ on_pubrel id state =
 -- ---- its own publications
 
 -- whether PUBACK with this identifier ends the publication
-abbrev pub awaits_puback : ℕ → KeptPublication → Bool
+abbrev pub awaits_puback : ℕ → UnacknowledgedPublication → Bool
 awaits_puback id kept = (id == kept.id) && is_acknowledged kept.publication.qos
 
 -- whether PUBREC with this identifier releases it
-abbrev pub awaits_pubrec : ℕ → KeptPublication → Bool
+abbrev pub awaits_pubrec : ℕ → UnacknowledgedPublication → Bool
 awaits_pubrec id kept = (id == kept.id) && not (is_acknowledged kept.publication.qos)
 
 -- PUBACK ends a QoS 1 publication that was sent (MQTT 4.3.2)

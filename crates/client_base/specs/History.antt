@@ -2,20 +2,20 @@
 use Rattle.std.specs.Prelude.{◌≡◌, ℕ, true, nat_lt, List, [], ◌∷◌, ◌++◌, map}
 use Rattle.session_base.specs.packet.declared.packet.Packet.{Packet}
 use Rattle.session_base.specs.lists.Lists.{has_id}
-use Rattle.client_base.specs.declared.kept_publication.KeptPublication.{KeptPublication}
+use Rattle.client_base.specs.declared.unacknowledged_publication.UnacknowledgedPublication.{UnacknowledgedPublication}
 use Rattle.client_base.specs.State.{ClientState, is_open, is_online}
 use Rattle.client_base.specs.Keeper.{Own, Written, ClientConnection, Keeper}
 
 -- ---- what is kept of all that was published
 
 -- the publications that were sent and are not acknowledged yet
-abbrev pub sent_of : List Own → List KeptPublication
+abbrev pub sent_of : List Own → List UnacknowledgedPublication
 sent_of (Own.Sent k p id ∷ own) = record { id = id; publication = p } ∷ sent_of own
 sent_of (_ ∷ own) = sent_of own
 sent_of [] = []
 
 -- the publications that were not sent yet
-abbrev pub unsent_of : List Own → List KeptPublication
+abbrev pub unsent_of : List Own → List UnacknowledgedPublication
 unsent_of (Own.Unsent k p id ∷ own) = record { id = id; publication = p } ∷ unsent_of own
 unsent_of (_ ∷ own) = unsent_of own
 unsent_of [] = []

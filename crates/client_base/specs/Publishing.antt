@@ -9,7 +9,7 @@ use Rattle.session_base.specs.Publication.{publish_of, is_answered}
 use Rattle.session_base.specs.Identifiers.{least_free}
 use Rattle.client_base.specs.declared.error.ClientError.{ClientError}
 use Rattle.client_base.specs.declared.error.ClientError.TheVariants as errors
-use Rattle.client_base.specs.declared.kept_publication.KeptPublication.{KeptPublication}
+use Rattle.client_base.specs.declared.unacknowledged_publication.UnacknowledgedPublication.{UnacknowledgedPublication}
 use Rattle.client_base.specs.State.{ClientState, is_online, kept_count, used_ids}
 use Rattle.client_base.specs.Answered.{ClientOutcome, going_on}
 
@@ -45,7 +45,7 @@ publish_refusal p state =
 -- a publication at QoS 1 or 2 is kept; each is sent at once if the client is online (MQTT 4.3)
 abbrev pub published : Publication → ClientState → ClientOutcome
 published p state =
-    let kept : KeptPublication = record { id = next_id state; publication = p } in
+    let kept : UnacknowledgedPublication = record { id = next_id state; publication = p } in
     if is_online state.stage
     then going_on
     (if is_answered p.qos then record state { sent = state.sent ++ kept ∷ [] } else state)

@@ -4,7 +4,7 @@ use Rattle.session_base.specs.packet.declared.packet.Packet.{Packet}
 use Rattle.session_base.specs.packet.declared.packet.Packet.TheVariants as packets
 use Rattle.session_base.specs.Publication.{publish_of}
 use Rattle.client_base.specs.declared.accepted.Accepted.{Accepted}
-use Rattle.client_base.specs.declared.kept_publication.KeptPublication.{KeptPublication}
+use Rattle.client_base.specs.declared.unacknowledged_publication.UnacknowledgedPublication.{UnacknowledgedPublication}
 use Rattle.client_base.specs.declared.request.Request.{Request}
 use Rattle.client_base.specs.declared.request.Request.TheVariants as requests
 use Rattle.client_base.specs.declared.stage.Stage.{Stage}
@@ -16,8 +16,8 @@ pub record ClientState : Type 0 where
   pub client : List ℕ  -- its Client Identifier
   pub keep_alive : ℕ  -- in seconds
   pub released : List ℕ  -- identifiers of those that had their PUBREC, in the order of these
-  pub sent : List KeptPublication  -- in the order of their calls, as the next ones
-  pub unsent : List KeptPublication  -- published while it was offline
+  pub sent : List UnacknowledgedPublication  -- in the order of their calls, as the next ones
+  pub unsent : List UnacknowledgedPublication  -- published while it was offline
   pub received : List ℕ  -- of QoS 2 publications that it accepted and has no PUBREL for
   pub requests : List Request  -- not answered yet
   pub stage : Stage
@@ -66,7 +66,7 @@ id_of_request (requests.Subscribes id) = id
 id_of_request (requests.Unsubscribes id) = id
 
 -- the identifiers of kept publications
-abbrev pub ids_of_kept : List KeptPublication → List ℕ
+abbrev pub ids_of_kept : List UnacknowledgedPublication → List ℕ
 ids_of_kept = map (λ kept. kept.id)
 
 -- the identifiers of a client's publications
@@ -84,7 +84,7 @@ used_ids state = publication_ids state ++ request_ids state
 -- ---- what is kept is sent again (MQTT 4.4)
 
 -- the PUBLISH of a kept publication, with this DUP
-abbrev pub publish_kept : Bool → KeptPublication → Packet
+abbrev pub publish_kept : Bool → UnacknowledgedPublication → Packet
 publish_kept dup kept = packets.Publish (publish_of dup kept.id kept.publication)
 
 -- after a CONNACK 0: PUBREL for what is released, PUBLISH with DUP 1 for what was sent, then what

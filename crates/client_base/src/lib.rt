@@ -4,17 +4,17 @@
 
 mod accepted;
 mod error;
-mod kept_publication;
 mod laws;
 mod request;
 mod stage;
+mod unacknowledged_publication;
 
 pub use accepted::Accepted;
 pub use error::ClientError;
-pub use kept_publication::KeptPublication;
 pub use laws::{
     accepted_once_an_identifier, history_is_followed, identifiers_are_distinct,
     publishing_order_is_kept,
 };
 pub use request::Request;
 pub use stage::Stage;
+pub use unacknowledged_publication::UnacknowledgedPublication;

@@ -6,7 +6,7 @@ use Rattle.byte_world.specs.client_base.History as history
 use Rattle.byte_world.specs.client_base.History.{IsSentFirst, sent_of, unsent_of}
 use Rattle.byte_world.specs.client_base.Keeper.{Keeper, Own}
 use Rattle.byte_world.specs.client_base.State.{ClientState}
-use Rattle.byte_world.specs.client_base.declared.kept_publication.KeptPublication.{KeptPublication}
+use Rattle.byte_world.specs.client_base.declared.unacknowledged_publication.UnacknowledgedPublication.{UnacknowledgedPublication}
 use Rattle.byte_world.specs.exactly_once.Items.{SenderItem, value_of}
 use Rattle.byte_world.specs.exactly_once.HandshakeInvariant.{IsNew}
 use Rattle.byte_world.specs.lists.Lists.{Each}
@@ -49,7 +49,7 @@ kept_own (Own.Released k p id ∷ own) = kept_own own
 kept_own (Own.Done k p ∷ own) = kept_own own
 kept_own [] = []
 
-abbrev publication_kept : KeptPublication → Publication
+abbrev publication_kept : UnacknowledgedPublication → Publication
 publication_kept k = k.publication
 
 -- if none was sent
@@ -63,13 +63,13 @@ none_sent (Own.Done k p ∷ own) e = none_sent own e
 kept_in_order : (own : List Own) → IsSentFirst own → map publication_kept (sent_of own ++ unsent_of own) ≡ kept_own own
 kept_in_order [] first = refl
 kept_in_order (Own.Unsent k p id ∷ own) first =
-    ap (λ (l : List KeptPublication). map publication_kept (l ++ unsent_of (Own.Unsent k p id ∷ own))) first.0 ∙ ap (λ (l : List Publication). p ∷ l) (none_sent own first.0)
+    ap (λ (l : List UnacknowledgedPublication). map publication_kept (l ++ unsent_of (Own.Unsent k p id ∷ own))) first.0 ∙ ap (λ (l : List Publication). p ∷ l) (none_sent own first.0)
 kept_in_order (Own.Sent k p id ∷ own) first = ap (λ (l : List Publication). p ∷ l) (kept_in_order own first)
 kept_in_order (Own.Released k p id ∷ own) first = kept_in_order own first
 kept_in_order (Own.Done k p ∷ own) first = kept_in_order own first
 
 kept_is : (keeper : Keeper) (state : ClientState) → history.KeeperStandsFor keeper state → unacknowledged_of state ≡ kept_own keeper.own
-kept_is keeper state s = ap₂ (λ (a b : List KeptPublication). map publication_kept (a ++ b)) s.sent s.unsent ∙ kept_in_order keeper.own s.sent_first
+kept_is keeper state s = ap₂ (λ (a b : List UnacknowledgedPublication). map publication_kept (a ++ b)) s.sent s.unsent ∙ kept_in_order keeper.own s.sent_first
 
 -- ---- by number
 

@@ -21,7 +21,7 @@ use Rattle.byte_world.specs.broker_spec.Place.{Client, Mark, Past, Place, same_c
 use Rattle.byte_world.specs.broker_spec.Readings.{publication_in}
 use Rattle.byte_world.specs.broker_spec.Received.{is_exactly_once}
 use Rattle.byte_world.specs.client_base.State.{ClientState}
-use Rattle.byte_world.specs.client_base.declared.kept_publication.KeptPublication.{KeptPublication}
+use Rattle.byte_world.specs.client_base.declared.unacknowledged_publication.UnacknowledgedPublication.{UnacknowledgedPublication}
 use Rattle.byte_world.specs.exactly_once.Carried.{is_two}
 use Rattle.byte_world.specs.exactly_once.Acceptance.{is_released, two_entries}
 use Rattle.byte_world.specs.exactly_once.InStep.{entries_in, starts_of}
@@ -40,7 +40,8 @@ at_two = filter is_at_two
 
 -- the client's publications for which no PUBACK or PUBREC came yet, the oldest first
 abbrev pub unacknowledged_of : ClientState → List Publication
-unacknowledged_of state = map (λ (k : KeptPublication). k.publication) (state.sent ++ state.unsent)
+unacknowledged_of state =
+    map (λ (k : UnacknowledgedPublication). k.publication) (state.sent ++ state.unsent)
 
 -- the publication that is new at a place, if there is one (MQTT 4.3.3)
 abbrev pub new_at : Client → Command → Mark → List Publication

@@ -13,7 +13,7 @@ use Rattle.client.specs.packet.declared.packet.Packet.TheVariants as packets
 use Rattle.client.specs.packet.Spelling.{Fits, IsPacket}
 use Rattle.client.specs.lists.Lists.{Each, has_id}
 use Rattle.client.proofs.of_lists.OfEach.{each_append, each_then}
-use Rattle.client.specs.client_base.declared.kept_publication.KeptPublication.{KeptPublication}
+use Rattle.client.specs.client_base.declared.unacknowledged_publication.UnacknowledgedPublication.{UnacknowledgedPublication}
 use Rattle.client.specs.client_base.declared.stage.Stage.{Stage}
 use Rattle.client.specs.client_base.declared.stage.Stage.TheVariants as stages
 use Rattle.client.specs.client_base.State.{ClientState, lost, publish_kept, resent}
@@ -51,7 +51,7 @@ dup_fits_at qualities.AtMostOnce id retain topic payload fits = fits
 dup_fits_at qualities.AtLeastOnce id retain topic payload fits = fits
 dup_fits_at qualities.ExactlyOnce id retain topic payload fits = fits
 
-pub dup_fits : (kept : KeptPublication) → IsPacket (publish_kept false kept) → IsPacket (publish_kept true kept)
+pub dup_fits : (kept : UnacknowledgedPublication) → IsPacket (publish_kept false kept) → IsPacket (publish_kept true kept)
 dup_fits kept fits = dup_fits_at kept.publication.qos kept.id kept.publication.retain kept.publication.topic kept.publication.payload fits
 
 -- ---- after a CONNACK

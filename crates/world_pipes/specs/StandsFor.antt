@@ -4,7 +4,7 @@ use Rattle.client.specs.packet_base.Spelling.{IsId}
 use Rattle.client.specs.packet.ClientId.{is_client}
 use Rattle.client.specs.packet.Spelling.{IsPacket}
 use Rattle.client.specs.lists.Lists.{Each, IsPrefixOf}
-use Rattle.client.specs.client_base.declared.kept_publication.KeptPublication.{KeptPublication}
+use Rattle.client.specs.client_base.declared.unacknowledged_publication.UnacknowledgedPublication.{UnacknowledgedPublication}
 use Rattle.client.specs.client_base.State.{ClientState, publish_kept}
 use Rattle.client.specs.client_base.History as history
 use Rattle.byte_world.specs.exactly_once.Acceptance.{accepted_on}
@@ -49,8 +49,10 @@ pub record CanGoOut (state : ClientState) : Type 0 where
   pub keep_alive : state.keep_alive ≡ 0
   pub client : IsTrue (is_client state.client)
   pub released : Each IsId state.released
-  pub sent : Each (λ (kept : KeptPublication). IsPacket (publish_kept false kept)) state.sent
-  pub unsent : Each (λ (kept : KeptPublication). IsPacket (publish_kept false kept)) state.unsent
+  pub sent : Each
+      (λ (kept : UnacknowledgedPublication). IsPacket (publish_kept false kept)) state.sent
+  pub unsent : Each
+      (λ (kept : UnacknowledgedPublication). IsPacket (publish_kept false kept)) state.unsent
 
 -- the client in code corresponds to this one of the model
 pub record ClientStandsFor (client : Piped) (m : ClientPipes) : Type 0 where

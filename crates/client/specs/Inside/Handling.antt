@@ -8,7 +8,7 @@ use Rattle.cutter.specs.declared.error.CutError.TheVariants as cuts
 use Rattle.cutter.specs.Stream.{Stream, Takes}
 use Rattle.client_base.specs.declared.error.ClientError.{ClientError}
 use Rattle.client_base.specs.declared.error.ClientError.TheVariants as errors
-use Rattle.client_base.specs.declared.kept_publication.KeptPublication.{KeptPublication}
+use Rattle.client_base.specs.declared.unacknowledged_publication.UnacknowledgedPublication.{UnacknowledgedPublication}
 use Rattle.client_base.specs.State.{ClientState, is_online, publish_kept}
 use Rattle.client_base.specs.Answered.{ClientOutcome, going_on}
 use Rattle.client_base.specs.Calls.{refused}
@@ -100,12 +100,12 @@ TakesNext old (Err cause) new =
     × (new.state ≡ old.state) × (new.out ≡ old.out)
 
 -- a publication is sent, and kept as sent
-abbrev pub sending : KeptPublication → ClientState → ClientOutcome
+abbrev pub sending : UnacknowledgedPublication → ClientState → ClientOutcome
 sending kept state =
     going_on (record state { sent = state.sent ++ kept ∷ [] }) (publish_kept false kept ∷ [])
 
 -- a publication that is not too large is kept, and sent at once if the client is online
-abbrev pub keeping : KeptPublication → ClientState → ClientOutcome
+abbrev pub keeping : UnacknowledgedPublication → ClientState → ClientOutcome
 keeping kept state =
     if is_over_limit (publish_kept false kept) then refused errors.TooLarge state else
     if is_online state.stage then sending kept state
