@@ -6,7 +6,7 @@ use Rattle.std.proofs.lemmas.List.{append_assoc}
 use Rattle.topics.specs.Text.{Levels}
 use Rattle.topics.specs.Matching.{is_all}
 use Rattle.subs.specs.Shape.{Children, Shape, asked, rows}
-use Rattle.subs.specs.Ways.{led, slot, IsTree, IsReached}
+use Rattle.subs.specs.Ways.{led, slot, IsTree, IsReachedNode}
 use Rattle.subs.specs.Changes.{Links, AddsNode, FreesNode, IsBare}
 use Rattle.subs.proofs.Ways.{rows_below}
 use Rattle.subs.proofs.Linked.{free_unreached, tree_opened, tree_linked, rows_linked, led_new}
@@ -16,7 +16,7 @@ pub same_rows : (old new : Shape) (root : Option ℕ) → new.child ≡ old.chil
 same_rows old new root child held = λ i. rows (record { child = child i; held = held i; used = old.used }) root
 
 -- a number that is reached is used once more are used
-pub still_used : (old mid : Shape) (root : Option ℕ) (at n : ℕ) → IsTree old.child old.used root → IsReached old.child root at → AddsNode old mid n → mid.used at ≡ true
+pub still_used : (old mid : Shape) (root : Option ℕ) (at n : ℕ) → IsTree old.child old.used root → IsReachedNode old.child root at → AddsNode old mid n → mid.used at ≡ true
 still_used old mid root at n tree reached opens = opens.used at ∙ either (at == n) (old.used at) (tree.used reached.0 at reached.1)
   where
     either : (a b : Bool) → b ≡ true → (a || b) ≡ true
@@ -31,7 +31,7 @@ pub record IsMade (old new : Shape) (root : Option ℕ) (at n : ℕ) (level : Li
 
 pub made :
     (old mid new : Shape) (root : Option ℕ) (at n : ℕ) (level : List ℕ)
-    → IsTree old.child old.used root → IsReached old.child root at → old.child at level ≡ None
+    → IsTree old.child old.used root → IsReachedNode old.child root at → old.child at level ≡ None
     → AddsNode old mid n → IsBare mid n → Links mid new at level (Some n)
     → IsMade old new root at n level
 made old mid new root at n level tree reached none opens bare links =

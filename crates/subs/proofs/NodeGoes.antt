@@ -4,7 +4,7 @@ use Rattle.std.specs.Prelude.{option_and_then}
 use Rattle.std.proofs.lemmas.List.{append_assoc}
 use Rattle.topics.specs.Text.{Levels}
 use Rattle.subs.specs.Shape.{Children, Held, Shape, rows}
-use Rattle.subs.specs.Ways.{reach, led, IsTree, IsReached}
+use Rattle.subs.specs.Ways.{reach, led, IsTree, IsReachedNode}
 use Rattle.subs.specs.Changes.{Links, FreesNode, IsBare}
 use Rattle.subs.proofs.Ways.{led_append, led_more}
 use Rattle.subs.proofs.Unlinked.{tree_unlinked, rows_unlinked, led_stays}
@@ -21,7 +21,7 @@ pub record IsGone (old new : Shape) (root : Option ℕ) (at : ℕ) : Type 0 wher
 
 pub gone :
     (old mid new : Shape) (root : Option ℕ) (at n : ℕ) (level : List ℕ)
-    → IsTree old.child old.used root → IsReached old.child root at → old.child at level ≡ Some n
+    → IsTree old.child old.used root → IsReachedNode old.child root at → old.child at level ≡ Some n
     → IsBare old n → Links old mid at level None → FreesNode mid new n
     → IsGone old new root at
 gone old mid new root at n level tree reached some bare links closes = record {

@@ -21,8 +21,8 @@ abbrev pub rows_of : Nodes → Levels → List ℕ → Option QoS
 rows_of nodes = rows (shape nodes) (root_of nodes)
 
 -- the nodes are a tree: what a node number may be
-abbrev pub IsSound : Nodes → Type 0
-IsSound nodes = IsTree (shape nodes).child (shape nodes).used (root_of nodes)
+abbrev pub IsSoundTree : Nodes → Type 0
+IsSoundTree nodes = IsTree (shape nodes).child (shape nodes).used (root_of nodes)
 
 -- these levels lead to the node
 abbrev pub LeadsTo : Nodes → Levels → ℕ → Type 0

@@ -27,5 +27,5 @@ pub record IsTree (child : Children) (marked : ℕ → Bool) (root : Option ℕ)
   pub used : (p : Levels) (at : ℕ) → led child root p ≡ Some at → marked at ≡ true
 
 -- some path leads to the node
-abbrev pub IsReached : Children → Option ℕ → ℕ → Type 0
-IsReached child root at = (path : Levels) × (led child root path ≡ Some at)
+abbrev pub IsReachedNode : Children → Option ℕ → ℕ → Type 0
+IsReachedNode child root at = (path : Levels) × (led child root path ≡ Some at)

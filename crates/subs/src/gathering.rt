@@ -9,7 +9,7 @@ ghost use Rattle.subs_base.specs.Content.{no_subscriptions, with_row};
 ghost use Rattle.subs_base.specs.ListIndex.{content_of};
 ghost use Rattle.subs_base.specs.Inside.{listed};
 ghost use Rattle.subs.specs.Gathered.{gathered, groups_of, clients_set, filters_set};
-ghost use Rattle.subs.specs.Shown.{content_in, IsSound};
+ghost use Rattle.subs.specs.Shown.{content_in, IsSoundTree};
 
 use crate::group::Group;
 use crate::nodes::Nodes;
@@ -77,7 +77,7 @@ fn add_row(
 pub(crate) fn nodes_of(alloc: Global, groups: Groups) -> Result<Nodes, AllocError>
     ensures content { IfOk result
         (λ nodes. content_in nodes ≡ gathered (groups_of groups.entries)) }
-    ensures sound { IfOk result IsSound }
+    ensures sound { IfOk result IsSoundTree }
 {
     let mut nodes = Nodes::new(alloc);
     for (filter, group) in groups {

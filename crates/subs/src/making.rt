@@ -3,7 +3,7 @@
 ghost use Rattle.std.specs.Prelude.{◌≡◌, ◌++◌, [], ◌∷◌, List, ℕ, OnErr, IfOk, None};
 ghost use Rattle.topics.specs.Text.{Levels, levels_of};
 ghost use Rattle.subs.specs.Ways.{slot};
-ghost use Rattle.subs.specs.Shown.{shape, rows_of, IsSound, LeadsTo, IsThere};
+ghost use Rattle.subs.specs.Shown.{shape, rows_of, IsSoundTree, LeadsTo, IsThere};
 
 use crate::node_id::NodeId;
 use crate::nodes::{Nodes, is_all};
@@ -15,13 +15,13 @@ impl Nodes {
     /// Returns the slot of the filter that continues with this text after a node. Nodes that are
     /// missing are made; if memory runs out some of them may stay.
     pub(crate) fn make_slot(&mut self, at: NodeId, text: Option<&[u8]>) -> Result<Slot, AllocError>
-        requires sound { IsSound self.old }
+        requires sound { IsSoundTree self.old }
         requires there { IsThere self.old at.number }
         ensures leads { IfOk result (λ made. (path : Levels) → LeadsTo self.old path at.number
             → LeadsTo self.new (path ++ (slot (levels_of text.entry)).0) made.node.number) }
         ensures side { IfOk result (λ made. made.rest ≡ (slot (levels_of text.entry)).1) }
         ensures rows { rows_of self.new ≡ rows_of self.old }
-        ensures sound { IsSound self.new }
+        ensures sound { IsSoundTree self.new }
         ensures root { self.new.root ≡ self.old.root }
         ensures none { OnErr result
             ((path : Levels) (client : List ℕ) → LeadsTo self.old path at.number
@@ -46,12 +46,12 @@ impl Nodes {
 
     // Returns the node after a level, which is made if there is none.
     fn child_or_new(&mut self, at: NodeId, level: &[u8]) -> Result<NodeId, AllocError>
-        requires sound { IsSound self.old }
+        requires sound { IsSoundTree self.old }
         requires there { IsThere self.old at.number }
         ensures leads { IfOk result (λ child. (path : Levels) → LeadsTo self.old path at.number
             → LeadsTo self.new (path ++ level.now ∷ []) child.number) }
         ensures rows { rows_of self.new ≡ rows_of self.old }
-        ensures sound { IsSound self.new }
+        ensures sound { IsSoundTree self.new }
         ensures root { self.new.root ≡ self.old.root }
         ensures none { OnErr result ((shape self.old).child at.number level.now ≡ None) }
     {
@@ -63,13 +63,13 @@ impl Nodes {
 
     // Makes the node after a level.
     fn add_child(&mut self, at: NodeId, level: &[u8]) -> Result<NodeId, AllocError>
-        requires sound { IsSound self.old }
+        requires sound { IsSoundTree self.old }
         requires there { IsThere self.old at.number }
         requires none { (shape self.old).child at.number level.now ≡ None }
         ensures leads { IfOk result (λ child. (path : Levels) → LeadsTo self.old path at.number
             → LeadsTo self.new (path ++ level.now ∷ []) child.number) }
         ensures rows { rows_of self.new ≡ rows_of self.old }
-        ensures sound { IsSound self.new }
+        ensures sound { IsSoundTree self.new }
         ensures root { self.new.root ≡ self.old.root }
     {
         let child = add_node(&mut self.slab, self.alloc)?;

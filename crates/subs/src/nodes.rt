@@ -7,7 +7,7 @@ ghost use Rattle.topics.specs.Matching.{is_all};
 ghost use Rattle.subs.specs.Ways.{reach, slot};
 ghost use Rattle.subs.specs.Inside.{nothing, with_asked, with_rows};
 ghost use Rattle.subs.specs.Rows.{row_at};
-ghost use Rattle.subs.specs.Shown.{shape, root_of, rows_of, IsSound};
+ghost use Rattle.subs.specs.Shown.{shape, root_of, rows_of, IsSoundTree};
 
 use crate::node::Node;
 use crate::node_id::NodeId;
@@ -30,7 +30,7 @@ impl Nodes {
     /// Returns a vector without nodes.
     pub(crate) fn new(alloc: Global) -> Nodes
         ensures rows { rows_of result ≡ nothing }
-        ensures sound { IsSound result }
+        ensures sound { IsSoundTree result }
     {
         Nodes {
             slab: Slab::new(alloc),
@@ -42,13 +42,13 @@ impl Nodes {
     /// Sets the client's subscription of the filter with this text. If memory runs out it leaves
     /// the rows as they were, and removes the nodes that it made.
     pub(crate) fn set(&mut self, text: &[u8], client: &ClientId, qos: QoS) -> Result<(), AllocError>
-        requires { IsSound self.old }
+        requires { IsSoundTree self.old }
         ensures ok { OnOk result
             (rows_of self.new
             ≡ with_asked (rows_of self.old) (levels text.now) client.now (Some qos)) }
         ensures err { OnErr result (rows_of self.new ≡ rows_of self.old) }
         ensures absent { OnErr result (rows_of self.old (levels text.now) client.now ≡ None) }
-        ensures sound { IsSound self.new }
+        ensures sound { IsSoundTree self.new }
     {
         let root = self.make_root()?;
         let set = self.set_below(root, text, client, qos);
@@ -61,10 +61,10 @@ impl Nodes {
     /// Puts these rows in place of those of the filter with this text. If memory runs out some
     /// nodes that hold nothing may stay.
     pub(crate) fn put(&mut self, text: &[u8], rows: Rows) -> Result<(), AllocError>
-        requires { IsSound self.old }
+        requires { IsSoundTree self.old }
         ensures ok { OnOk result
             (rows_of self.new ≡ with_rows (rows_of self.old) (levels text.now) (row_at rows)) }
-        ensures sound { OnOk result (IsSound self.new) }
+        ensures sound { OnOk result (IsSoundTree self.new) }
     {
         let root = self.make_root()?;
         let slot = self.make_slot(root, Some(text))?;
@@ -75,11 +75,11 @@ impl Nodes {
     /// Removes the client's subscription of the filter with this text, and says whether there was
     /// one. Nodes that then hold nothing are removed.
     pub(crate) fn clear(&mut self, text: &[u8], client: &ClientId) -> bool
-        requires { IsSound self.old }
+        requires { IsSoundTree self.old }
         ensures found { IsTrue result ↔ IsSome (rows_of self.old (levels text.now) client.now) }
         ensures after { rows_of self.new
             ≡ with_asked (rows_of self.old) (levels text.now) client.now None }
-        ensures sound { IsSound self.new }
+        ensures sound { IsSoundTree self.new }
     {
         let Some(root) = self.root else {
             return false;
@@ -94,8 +94,8 @@ impl Nodes {
 
     // Returns the root, which is made if there is none.
     fn make_root(&mut self) -> Result<NodeId, AllocError>
-        requires { IsSound self.old }
-        ensures sound { IsSound self.new }
+        requires { IsSoundTree self.old }
+        ensures sound { IsSoundTree self.new }
         ensures rows { rows_of self.new ≡ rows_of self.old }
         ensures root { IfOk result (λ root. root_of self.new ≡ Some root.number) }
         ensures none { OnErr result (root_of self.old ≡ None) }
@@ -116,14 +116,14 @@ impl Nodes {
         client: &ClientId,
         qos: QoS,
     ) -> Result<(), AllocError>
-        requires sound { IsSound self.old }
+        requires sound { IsSoundTree self.old }
         requires root { root_of self.old ≡ Some root.number }
         ensures ok { OnOk result
             (rows_of self.new
             ≡ with_asked (rows_of self.old) (levels text.now) client.now (Some qos)) }
         ensures err { OnErr result (rows_of self.new ≡ rows_of self.old) }
         ensures absent { OnErr result (rows_of self.old (levels text.now) client.now ≡ None) }
-        ensures sound { IsSound self.new }
+        ensures sound { IsSoundTree self.new }
         ensures root { self.new.root ≡ self.old.root }
     {
         let slot = self.make_slot(root, Some(text))?;

@@ -2,7 +2,7 @@
 
 ghost use Rattle.std.specs.Prelude.{◌≡◌, ◌++◌, ℕ};
 ghost use Rattle.topics.specs.Text.{Levels};
-ghost use Rattle.subs.specs.Shown.{rows_of, IsSound, LeadsTo, IsThere};
+ghost use Rattle.subs.specs.Shown.{rows_of, IsSoundTree, LeadsTo, IsThere};
 
 use crate::node_id::NodeId;
 use crate::nodes::Nodes;
@@ -13,10 +13,10 @@ impl Nodes {
     /// Removes the nodes that hold nothing, of those along these levels after a node, the last
     /// first.
     pub(crate) fn prune(&mut self, at: NodeId, text: Option<&[u8]>)
-        requires sound { IsSound self.old }
+        requires sound { IsSoundTree self.old }
         requires there { IsThere self.old at.number }
         ensures rows { rows_of self.new ≡ rows_of self.old }
-        ensures sound { IsSound self.new }
+        ensures sound { IsSoundTree self.new }
         ensures root { self.new.root ≡ self.old.root }
 
         // The nodes on the way to this one stay.
@@ -36,10 +36,10 @@ impl Nodes {
 
     // Removes the node after a level if it holds nothing.
     fn drop_empty(&mut self, at: NodeId, level: &[u8])
-        requires sound { IsSound self.old }
+        requires sound { IsSoundTree self.old }
         requires there { IsThere self.old at.number }
         ensures rows { rows_of self.new ≡ rows_of self.old }
-        ensures sound { IsSound self.new }
+        ensures sound { IsSoundTree self.new }
         ensures root { self.new.root ≡ self.old.root }
         ensures ways { (path after : Levels) (k : ℕ) → LeadsTo self.old (path ++ after) at.number
             → LeadsTo self.old path k → LeadsTo self.new path k }

@@ -7,7 +7,7 @@ ghost use Rattle.std.specs.Ordering.{nat_cmp};
 ghost use Rattle.subs_base.specs.ListIndex.{content_of};
 ghost use Rattle.subs.specs.Inside.{cleared};
 ghost use Rattle.subs.specs.Walk.{GivesSome};
-ghost use Rattle.subs.specs.Shown.{content_in, IsSound};
+ghost use Rattle.subs.specs.Shown.{content_in, IsSoundTree};
 
 use crate::gathering::{gather, nodes_of};
 use crate::nodes::Nodes;
@@ -41,14 +41,14 @@ impl Drop for TreeIndex {
 impl Model for TreeIndex {
     ghost use Rattle.std.specs.Prelude.{◌≡◌};
     ghost use Rattle.subs_base.specs.ListIndex.{Clients, content_of};
-    ghost use Rattle.subs.specs.Shown.{content_in, IsSound};
+    ghost use Rattle.subs.specs.Shown.{content_in, IsSoundTree};
 
     ghost Value = { Clients };
 
     ghost view = { λ index. index.clients };
 
     ghost invariant = { λ index. (content_of index.clients ≡ content_in index.nodes)
-        × IsSound index.nodes };
+        × IsSoundTree index.nodes };
 }
 
 impl SubIndex for TreeIndex {
@@ -117,10 +117,10 @@ impl TreeIndex {
 
 // Removes the client's subscriptions of these filters.
 fn clear_all(nodes: &mut Nodes, filters: &BTreeMap<Filter, QoS>, client: &ClientId)
-    requires { IsSound nodes.old }
+    requires { IsSoundTree nodes.old }
     ensures after { content_in nodes.new
         ≡ cleared client.now filters.now.entries (content_in nodes.old) }
-    ensures sound { IsSound nodes.new }
+    ensures sound { IsSoundTree nodes.new }
 {
     for (filter, _) in filters {
         nodes.clear(filter.as_str().as_bytes(), client);

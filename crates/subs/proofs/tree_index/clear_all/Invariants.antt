@@ -1,10 +1,10 @@
 -- Once those that are left are cleared, all are.
 use Rattle.std.proofs.Common.{◌≡◌}
 use Rattle.subs.specs.Inside.{cleared}
-use Rattle.subs.specs.Shown.{content_in, IsSound}
+use Rattle.subs.specs.Shown.{content_in, IsSoundTree}
 use Rattle.subs.proofs.tree_index.clear_all.Given as goal
 
 abbrev pub invariant-loop-filter : goal.invariant-loop-filter
 invariant-loop-filter l =
     (cleared l.client l.filter-iterator (content_in l.nodes) ≡ cleared l.client l.filters.entries (content_in l.fn.nodes))
-    × IsSound l.nodes
+    × IsSoundTree l.nodes
