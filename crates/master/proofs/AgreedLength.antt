@@ -20,7 +20,7 @@ use Rattle.snapshots.specs.agreement.Inside.Ballots.{Given, History, IsChain, Li
 use Rattle.snapshots.specs.agreement.Inside.Ballots.Told.{told_as_primary}
 use Rattle.snapshots.specs.agreement.Inside.Chosen.{ChosenList, IsAgreedIn}
 use Rattle.snapshots.specs.agreement.Inside.Serves.{Serves}
-use Rattle.snapshots.specs.agreement.Inside.Sound.{IsSound}
+use Rattle.snapshots.specs.agreement.Inside.Sound.{IsSoundWorld}
 use Rattle.snapshots.specs.agreement.Inside.Saying.{SpeaksTruth}
 use Rattle.snapshots.specs.agreement.Inside.ToldLengths.{chosen_length, least_of, max_told, told_by, told_in, told_length}
 use Rattle.snapshots.proofs.of_agreement.Agreed.AgreedExists.{least_each, least_most, least_top, newest_agreed}
@@ -177,7 +177,7 @@ primary_silent w h b g to from (Held x held) says given is = by_ballot (cases_eq
     by_ballot (inr ne) = ap (λ k. cond k held 0) (ne_eqb x b ne)
 primary_silent w h b g to from (Commit x held) says given is = refl
 
-primary_told : {S C O : Type 0} (rules : Rules S C O) (w : World S C O) (h : History C) (b : ℕ) (g : Given) → IsSound rules w h → h.given b ≡ Some g →
+primary_told : {S C O : Type 0} (rules : Rules S C O) (w : World S C O) (h : History C) (b : ℕ) (g : Given) → IsSoundWorld rules w h → h.given b ≡ Some g →
     max_told g.primary b w.sent ≡ 0
 primary_told {S = S} {C = C} rules w h b g s given = told_none g.primary b w.sent (λ x i. by_sender x i (cases_eq x.1.from g.primary))
   where
@@ -367,7 +367,7 @@ sole_within {S = S} {C = C} {O = O} rules a xs f n r stands primary = by_ballot 
     b : ℕ
     b = a.master.active
 
-    s : IsSound rules a.world h
+    s : IsSoundWorld rules a.world h
     s = f.serves.sound
 
     positive : 0 < b

@@ -11,7 +11,7 @@ use Rattle.agreement.specs.Inside.Chosen.{IsAgreedIn}
 use Rattle.agreement.specs.Inside.Ballots.{Given, Line, History, Told, IsChosenIn, IsChain}
 use Rattle.agreement.specs.MasterState.{MasterState}
 use Rattle.agreement.specs.Inside.Masters.{IsMaster}
-use Rattle.agreement.specs.Inside.Sound.{IsSound}
+use Rattle.agreement.specs.Inside.Sound.{IsSoundWorld}
 use Rattle.agreement.specs.Inside.ToldLengths.{told_length, least_of, chosen_length}
 use Rattle.whole.proofs.of_lists.Prefixes.{prefix_then, prefix_take, take_prefix}
 use Rattle.agreement.proofs.Frame.Apart.{chosen_within}
@@ -48,7 +48,7 @@ front_of {X = X} j k xs less within =
 
 -- in an activated ballot the members' least acknowledged length is chosen
 pub chosen_least : {S C O : Type 0} (rules : Rules S C O) (w : World S C O) (h : History C) (b : ℕ) (g : Given) (l : Line C) →
-    IsSound rules w h → In b h.activated → h.given b ≡ Some g → h.line b ≡ Some l → IsChosenIn w h b (chosen_length w.sent b g l)
+    IsSoundWorld rules w h → In b h.activated → h.given b ≡ Some g → h.line b ≡ Some l → IsChosenIn w h b (chosen_length w.sent b g l)
 chosen_least {S = S} {C = C} rules w h b g l s active given lined = (
   g,
   given,
@@ -64,7 +64,7 @@ chosen_least {S = S} {C = C} rules w h b g l s active given lined = (
 
 -- and nothing longer is
 pub chosen_at_most : {S C O : Type 0} (rules : Rules S C O) (w : World S C O) (h : History C) (b j : ℕ) (g : Given) (l : Line C) →
-    IsSound rules w h → h.given b ≡ Some g → h.line b ≡ Some l → IsChosenIn w h b j → j ≤ chosen_length w.sent b g l
+    IsSoundWorld rules w h → h.given b ≡ Some g → h.line b ≡ Some l → IsChosenIn w h b j → j ≤ chosen_length w.sent b g l
 chosen_at_most rules w h b j g l s given lined chosen =
     least_most (length l.list) (told_length w.sent b g l) g.members j
     (chosen_within w h s.ballots (within_of rules w h s) b j l lined chosen)
@@ -72,7 +72,7 @@ chosen_at_most rules w h b j g l s given lined chosen =
 
 -- that front of the newest ballot's list is the agreed list
 pub newest_agreed : {S C O : Type 0} (rules : Rules S C O) (w : World S C O) (h : History C) (b : ℕ) (older : List ℕ) (g : Given) (l : Line C) →
-    IsSound rules w h → h.activated ≡ b ∷ older → h.given b ≡ Some g → h.line b ≡ Some l →
+    IsSoundWorld rules w h → h.activated ≡ b ∷ older → h.given b ≡ Some g → h.line b ≡ Some l →
     IsAgreedIn w h (take (chosen_length w.sent b g l) l.list)
 newest_agreed {S = S} {C = C} rules w h b older g l s newest given lined =
     record {
@@ -112,7 +112,7 @@ newest_agreed {S = S} {C = C} rules w h b older g l s newest given lined =
         (front_of j (chosen_length w.sent b g l) l.list k top)
 
 -- there is an agreed list
-pub agreed_exists : {S C O : Type 0} (rules : Rules S C O) (m : MasterState) (w : World S C O) (h : History C) → IsSound rules w h → IsMaster m h →
+pub agreed_exists : {S C O : Type 0} (rules : Rules S C O) (m : MasterState) (w : World S C O) (h : History C) → IsSoundWorld rules w h → IsMaster m h →
     (xs : List C) × IsAgreedIn w h xs
 agreed_exists {S = S} {C = C} rules m w h s k =
     let t = s.lines.told m.active (subst (λ bs. In m.active bs) (sym k.newest) here) in

@@ -15,7 +15,7 @@ use Rattle.agreement.specs.Inside.Ballots.{Line, History, IsChosenIn}
 use Rattle.agreement.specs.Inside.Keeps.{HistoryGoesOn}
 use Rattle.agreement.specs.MasterState.{MasterState}
 use Rattle.agreement.specs.Inside.Masters.{IsMaster}
-use Rattle.agreement.specs.Inside.Sound.{IsSound}
+use Rattle.agreement.specs.Inside.Sound.{IsSoundWorld}
 use Rattle.whole.proofs.of_lists.Prefixes.{prefix_then, prefix_either, prefix_length}
 use Rattle.agreement.proofs.Frame.Apart.{chosen_within}
 use Rattle.agreement.proofs.Frame.Framing.{within_of}
@@ -24,7 +24,7 @@ use Rattle.agreement.proofs.Frame.Bases.{one_line}
 use Rattle.agreement.proofs.Agreed.AppliedAgreed.{chosen_list, applied_agreed, agreed_held}
 
 -- two logs that were installed in one ballot
-same_ballot : {S C O : Type 0} (rules : Rules S C O) (w : World S C O) (h : History C) (n k : ℕ) (r q : ReplicaState S C) → IsSound rules w h →
+same_ballot : {S C O : Type 0} (rules : Rules S C O) (w : World S C O) (h : History C) (n k : ℕ) (r q : ReplicaState S C) → IsSoundWorld rules w h →
     slice_get w.nodes n ≡ Some r → slice_get w.nodes k ≡ Some q → r.held_in ≡ q.held_in → IsPrefixOf r.log q.log ⊎ IsPrefixOf q.log r.log
 same_ballot {S = S} {C = C} rules w h n k r q s e f same = by_ballot (cases_lt 0 r.held_in)
   where
@@ -39,7 +39,7 @@ same_ballot {S = S} {C = C} rules w h n k r q s e f same = by_ballot (cases_lt 0
 
 -- the nodes agree
 pub sound_agrees : {S C O : Type 0} (rules : Rules S C O) (m : MasterState) (w : World S C O) (h : History C) (xs : List C) →
-    IsSound rules w h → IsMaster m h → IsAgreedIn w h xs → Agrees rules m w xs
+    IsSoundWorld rules w h → IsMaster m h → IsAgreedIn w h xs → Agrees rules m w xs
 sound_agrees {S = S} {C = C} {O = O} rules m w h xs s k a =
     record {
       applied = λ n r e. applied_agreed w h r xs a (s.nodes n r e).applied;
@@ -50,7 +50,7 @@ sound_agrees {S = S} {C = C} {O = O} rules m w h xs s k a =
 
 -- what left is in order
 pub sound_leaves : {S C O : Type 0} (rules : Rules S C O) (past : List (Moment S C O)) (w : World S C O) (h : History C) (xs : List C) →
-    IsSound rules w h → IsAgreedIn w h xs → ((b : ℕ) → In b h.activated → WasActive past b) → LeftInOrder rules past w xs
+    IsSoundWorld rules w h → IsAgreedIn w h xs → ((b : ℕ) → In b h.activated → WasActive past b) → LeftInOrder rules past w xs
 sound_leaves {S = S} {C = C} {O = O} rules past w h xs s a active =
     record {
       segments = s.left.segments;

@@ -10,7 +10,7 @@ use Rattle.whole.specs.lists.Lists.In.{here}
 use Rattle.agreement.specs.Inside.Chosen.{ChosenList, IsAgreedIn}
 use Rattle.agreement.specs.Inside.Ballots.{Given, Line, History, Told, Sealed, IsChosenIn, IsChain, Applied}
 use Rattle.agreement.specs.Inside.Ballots.Applied.{nothing, in_ballot}
-use Rattle.agreement.specs.Inside.Sound.{IsSoundNode, IsSound}
+use Rattle.agreement.specs.Inside.Sound.{IsSoundNode, IsSoundWorld}
 use Rattle.whole.proofs.of_lists.Prefixes.{prefix_then, prefix_take, take_prefix}
 use Rattle.agreement.proofs.Masters.Assigned.{at_most_newest}
 use Rattle.agreement.proofs.Frame.Bases.{chosen_told, sealed_bounds, base_is, one_line}
@@ -30,7 +30,7 @@ applied_agreed w h r xs a (in_ballot b k l i up e chosen front) =
 
 -- what is chosen in the newest ballot is held by its members
 newest_held : {S C O : Type 0} (rules : Rules S C O) (w : World S C O) (h : History C) (b k : ℕ) (older : List ℕ) (g : Given) (l : Line C)
-    (n : ℕ) (r : ReplicaState S C) → IsSound rules w h → h.activated ≡ b ∷ older → h.given b ≡ Some g → In (n + 1) g.members →
+    (n : ℕ) (r : ReplicaState S C) → IsSoundWorld rules w h → h.activated ≡ b ∷ older → h.given b ≡ Some g → In (n + 1) g.members →
     h.line b ≡ Some l → IsChosenIn w h b k → slice_get w.nodes n ≡ Some r → IsPrefixOf (take k l.list) r.log
 newest_held {S = S} {C = C} {O = O} rules w h b k older g l n r s newest given member lined chosen stands = by_order (cases_lt b r.held_in)
   where
@@ -72,7 +72,7 @@ newest_held {S = S} {C = C} {O = O} rules w h b k older g l n r s newest given m
 
 -- the agreed list is held by the members of the newest ballot
 pub agreed_held : {S C O : Type 0} (rules : Rules S C O) (w : World S C O) (h : History C) (xs : List C) (b : ℕ) (older : List ℕ) (g : Given)
-    (n : ℕ) (r : ReplicaState S C) → IsSound rules w h → (xs ≡ []) ⊎ ChosenList w h xs → h.activated ≡ b ∷ older → h.given b ≡ Some g →
+    (n : ℕ) (r : ReplicaState S C) → IsSoundWorld rules w h → (xs ≡ []) ⊎ ChosenList w h xs → h.activated ≡ b ∷ older → h.given b ≡ Some g →
     In (n + 1) g.members → slice_get w.nodes n ≡ Some r → IsPrefixOf xs r.log
 agreed_held {S = S} {C = C} rules w h xs b older g n r s (inl none) newest given member stands =
     subst (λ (us : List C). IsPrefixOf us r.log) (sym none) (record { rest = r.log; is = refl })

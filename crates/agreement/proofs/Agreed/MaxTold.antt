@@ -11,7 +11,7 @@ use Rattle.whole.specs.lists.Lists.{In}
 use Rattle.whole.specs.lists.Lists.In.{here, there}
 use Rattle.agreement.specs.Inside.Ballots.{Given, Line, History, Told}
 use Rattle.agreement.specs.Inside.Ballots.Told.{told_at_opening, told_by_held, told_by_installed, told_as_primary}
-use Rattle.agreement.specs.Inside.Sound.{IsSound}
+use Rattle.agreement.specs.Inside.Sound.{IsSoundWorld}
 use Rattle.agreement.specs.Inside.ToldLengths.{told_by, told_in, max_told, told_length}
 use Rattle.agreement.proofs.Frame.Framing.{within_of}
 
@@ -103,7 +103,7 @@ told_whole w h m b g l given lined t = by_primary (cases_eq m g.primary)
 
 -- and no node acknowledged more
 pub told_at_most : {S C O : Type 0} (rules : Rules S C O) (w : World S C O) (h : History C) (m b j : ℕ) (g : Given) (l : Line C) →
-    IsSound rules w h → h.given b ≡ Some g → h.line b ≡ Some l → Told w h m b j → j ≤ told_length w.sent b g l m
+    IsSoundWorld rules w h → h.given b ≡ Some g → h.line b ≡ Some l → Told w h m b j → j ≤ told_length w.sent b g l m
 told_at_most {S = S} {C = C} rules w h m b j g l s given lined t = by_primary (cases_eq m g.primary)
   where
     by_told : (m ≡ g.primary → ⊥) → Told w h m b j → j ≤ max_told m b w.sent

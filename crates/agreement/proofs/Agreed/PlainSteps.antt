@@ -11,7 +11,7 @@ use Rattle.agreement.specs.Inside.Extending.{Extends}
 use Rattle.agreement.specs.Inside.GroupSteps.{GroupStep, adds_of}
 use Rattle.agreement.specs.Inside.Own.{OwnLines}
 use Rattle.agreement.specs.Inside.Serves.{Serves}
-use Rattle.agreement.specs.Inside.Sound.{IsSound}
+use Rattle.agreement.specs.Inside.Sound.{IsSoundWorld}
 use Rattle.agreement.specs.MasterState.{MasterState}
 use Rattle.agreement.specs.Moments.{Moment}
 use Rattle.agreement.specs.Proposals.{proposal_of}
@@ -29,7 +29,7 @@ WereApplied {S} {C} {O} past w h =
     (c : Moment S C O) → In c past → (n : ℕ) (r : ReplicaState S C) → slice_get c.world.nodes n ≡ Some r → Applied w h r
 
 -- .. is so still after a step
-pub were_applied : {S C O : Type 0} (rules : Rules S C O) (past : List (Moment S C O)) (w v : World S C O) (h i : History C) → IsSound rules w h →
+pub were_applied : {S C O : Type 0} (rules : Rules S C O) (past : List (Moment S C O)) (w v : World S C O) (h i : History C) → IsSoundWorld rules w h →
     Extends w h v i → ((b : ℕ) → In b h.activated → In b i.activated) → WereApplied past w h → WereApplied past v i
 were_applied rules past w v h i s extends active were c j n r stands =
     applied_kept w v h i r extends active (within_of rules w h s) (were c j n r stands)

@@ -18,7 +18,7 @@ use Rattle.whole.specs.lists.Lists.In.{here, there}
 use Rattle.agreement.specs.Inside.Ballots.{Given, History, Told}
 use Rattle.agreement.specs.Inside.Ballots.Applied.{in_ballot}
 use Rattle.agreement.specs.Inside.Keeps.{KeepsAdding}
-use Rattle.agreement.specs.Inside.Sound.{IsInstalling, IsSoundNode, IsSound}
+use Rattle.agreement.specs.Inside.Sound.{IsInstalling, IsSoundNode, IsSoundWorld}
 use Rattle.agreement.specs.Inside.Saying.{SpeaksTruth}
 use Rattle.agreement.proofs.Frame.Adding.{adds_less}
 use Rattle.agreement.proofs.Frame.EqualLists.{prefix_of_same}
@@ -50,7 +50,7 @@ none_of (x ∷ xs) short = absurd (omega (arith, short))
 
 -- the new primary leads, if all members hold its log
 activated_leads : {S C O : Type 0} (rules : Rules S C O) (w : World S C O) (h : History C) (n : ℕ) (r : ReplicaState S C) →
-    IsSound rules w h → slice_get w.nodes n ≡ Some r → IsInstalling w h n r → r.lacking ≡ [] → In r.joined h.activated →
+    IsSoundWorld rules w h → slice_get w.nodes n ≡ Some r → IsInstalling w h n r → r.lacking ≡ [] → In r.joined h.activated →
     Leading w h n (record (applied_to rules r (length r.log)) { role = Active; progress = progress_at (length r.log) (others r.id r.members) })
 activated_leads {S = S} {C = C} rules w h n r s stands j none active =
     record {
@@ -96,7 +96,7 @@ activated_leads {S = S} {C = C} rules w h n r s stands j none active =
 
 -- an Activated that comes
 pub keeps_activated : {S C O : Type 0} (rules : Rules S C O) (w : World S C O) (h : History C) (n : ℕ) (r : ReplicaState S C)
-    (from b : ℕ) → IsSound rules w h → slice_get w.nodes n ≡ Some r → r.machine ≡ replay rules (take r.committed r.log) →
+    (from b : ℕ) → IsSoundWorld rules w h → slice_get w.nodes n ≡ Some r → r.machine ≡ replay rules (take r.committed r.log) →
     In (n + 1, record { from = from; body = Activated b }) w.sent → KeepsAdding rules w h n (λ c x. x ≡ rules.start_of c) (on_activated rules r b)
 keeps_activated {S = S} {C = C} {O = O} rules w h n r from b s stands ran sent =
     by_condition (cases_Bool ((r.joined == b && is_installing r.role) && (nat_le (length r.lacking) 0 && nat_lt (length r.log) max_places)))

@@ -13,7 +13,7 @@ use Rattle.agreement.specs.Inside.Ballots.{Given, Line, History}
 use Rattle.agreement.specs.Inside.Keeps.LineAdds.{as_it_was}
 use Rattle.agreement.specs.Inside.Keeps.{KeepsSoundness}
 use Rattle.agreement.specs.Inside.MovesAt.{MovesAt, with_lines}
-use Rattle.agreement.specs.Inside.Sound.{IsSoundNode, IsSound}
+use Rattle.agreement.specs.Inside.Sound.{IsSoundNode, IsSoundWorld}
 use Rattle.whole.proofs.of_lists.Prefixes.{prefix_length}
 use Rattle.agreement.proofs.Effects.{thinned_messages}
 use Rattle.agreement.proofs.Frame.MoveLines.{tells_here}
@@ -28,7 +28,7 @@ use Rattle.agreement.proofs.Changing.SameNode.{same_node}
 
 -- an Install that is answered
 install_answered : {S C O : Type 0} (rules : Rules S C O) (w : World S C O) (h : History C) (n : ℕ) (r : ReplicaState S C)
-    (from b : ℕ) (log : List C) → IsSound rules w h → slice_get w.nodes n ≡ Some r → InstallHeard w h n from b log →
+    (from b : ℕ) (log : List C) → IsSoundWorld rules w h → slice_get w.nodes n ≡ Some r → InstallHeard w h n from b log →
     r.joined ≡ b → r.held_in ≡ b →
     KeepsSoundness rules w h n (record { state = r; effects = message_to O r.id (Installed b (length log)) from ∷ [] })
 install_answered {S = S} {C = C} {O = O} rules w h n r from b log s stands q joined held given thinned =
@@ -68,7 +68,7 @@ install_answered {S = S} {C = C} {O = O} rules w h n r from b log s stands q joi
 
 -- an Install that comes
 pub keeps_install : {S C O : Type 0} (rules : Rules S C O) (w : World S C O) (h : History C) (n : ℕ) (r : ReplicaState S C)
-    (from b : ℕ) (log : List C) → IsSound rules w h → slice_get w.nodes n ≡ Some r →
+    (from b : ℕ) (log : List C) → IsSoundWorld rules w h → slice_get w.nodes n ≡ Some r →
     In (n + 1, record { from = from; body = Install b log }) w.sent → KeepsSoundness rules w h n (on_install O r from b log)
 keeps_install {S = S} {C = C} {O = O} rules w h n r from b log s stands sent =
     by_condition (cases_Bool ((nat_lt r.joined b || (r.joined == b && nat_lt r.held_in b)) && nat_le r.committed (length log)))

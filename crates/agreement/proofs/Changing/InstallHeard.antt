@@ -14,7 +14,7 @@ use Rattle.whole.specs.lists.Lists.In.{here, there}
 use Rattle.agreement.specs.Inside.Ballots.{Given, Line, History}
 use Rattle.agreement.specs.Inside.Extending.{Extends}
 use Rattle.agreement.specs.Inside.MovesAt.{MovesAt}
-use Rattle.agreement.specs.Inside.Sound.{IsSound}
+use Rattle.agreement.specs.Inside.Sound.{IsSoundWorld}
 use Rattle.agreement.specs.Inside.Saying.{SpeaksTruth, IsOf}
 use Rattle.whole.proofs.of_lists.Prefixes.{prefix_length, take_prefix}
 use Rattle.agreement.proofs.Effects.{thinned_messages, thinned_outputs}
@@ -54,7 +54,7 @@ install_heard w h n from b log (g, o, f, other, (l, lined, base)) =
 
 -- the node sends Installed
 pub installed_sends : {S C O : Type 0} (rules : Rules S C O) (w : World S C O) (h : History C) (n from b : ℕ) (log : List C)
-    (r new : ReplicaState S C) (given : List (Effect C O)) → IsSound rules w h → slice_get w.nodes n ≡ Some r →
+    (r new : ReplicaState S C) (given : List (Effect C O)) → IsSoundWorld rules w h → slice_get w.nodes n ≡ Some r →
     InstallHeard w h n from b log → r.joined ≤ b → b ≡ new.held_in → length log ≤ length new.log → r.joined ≤ new.joined → r.committed ≤ new.committed →
     Thinned given (message_to O r.id (Installed b (length log)) from ∷ []) → Sends w h n r new given
 installed_sends {S = S} {C = C} {O = O} rules w h n from b log r new given s stands q low held short rises committed thinned =

@@ -14,7 +14,7 @@ use Rattle.agreement.specs.Inside.Extending.{Extends}
 use Rattle.agreement.specs.Inside.Ballots.Told.{told_by_installed}
 use Rattle.agreement.specs.Inside.Ballots.Applied.{nothing, in_ballot}
 use Rattle.agreement.specs.Inside.Keeps.{KeepsSoundness}
-use Rattle.agreement.specs.Inside.Sound.{IsInstalling, IsSoundNode, IsSound}
+use Rattle.agreement.specs.Inside.Sound.{IsInstalling, IsSoundNode, IsSoundWorld}
 use Rattle.agreement.specs.Inside.Saying.{SpeaksTruth}
 use Rattle.agreement.proofs.Frame.Later.{told_kept}
 use Rattle.agreement.proofs.Frame.Joining.{IsSilent, MovesQuietly, quiet_extends}
@@ -34,7 +34,7 @@ all_installed w h n r i none =
 
 -- an Installed that is noted
 pub installed_noted : {S C O : Type 0} (rules : Rules S C O) (w : World S C O) (h : History C) (n : ℕ) (r : ReplicaState S C)
-    (from b held : ℕ) → IsSound rules w h → slice_get w.nodes n ≡ Some r →
+    (from b held : ℕ) → IsSoundWorld rules w h → slice_get w.nodes n ≡ Some r →
     In (n + 1, record { from = from; body = Installed b held }) w.sent → r.joined ≡ b → is_installing r.role ≡ true →
     KeepsSoundness rules w h n (record {
       state = record r { lacking = others from r.lacking };

@@ -12,14 +12,14 @@ use Rattle.agreement.specs.World.{World}
 use Rattle.whole.specs.lists.Lists.{In}
 use Rattle.agreement.specs.Inside.Ballots.{History}
 use Rattle.agreement.specs.Inside.Keeps.{KeepsSoundness}
-use Rattle.agreement.specs.Inside.Sound.{IsSound}
+use Rattle.agreement.specs.Inside.Sound.{IsSoundWorld}
 use Rattle.agreement.proofs.Frame.Quiet.{keeps_nothing}
 use Rattle.whole.proofs.ChangeRows.{on_installed-stays, on_installed-counts}
 use Rattle.agreement.proofs.Changing.InstalledCounts.{installed_noted}
 
 -- an Installed that comes
 pub keeps_installed : {S C O : Type 0} (rules : Rules S C O) (w : World S C O) (h : History C) (n : ℕ) (r : ReplicaState S C)
-    (from b held : ℕ) → IsSound rules w h → slice_get w.nodes n ≡ Some r →
+    (from b held : ℕ) → IsSoundWorld rules w h → slice_get w.nodes n ≡ Some r →
     In (n + 1, record { from = from; body = Installed b held }) w.sent → KeepsSoundness rules w h n (on_installed O r from b)
 keeps_installed {S = S} {C = C} {O = O} rules w h n r from b held s stands sent =
     by_role (cases_Bool ((r.joined == b && is_installing r.role) && list_any (λ member. member == from) r.lacking))

@@ -13,7 +13,7 @@ use Rattle.agreement.specs.Inside.Ballots.Applied.{nothing, in_ballot}
 use Rattle.agreement.specs.Inside.Keeps.LineAdds.{as_it_was}
 use Rattle.agreement.specs.Inside.Keeps.{KeepsSoundness}
 use Rattle.agreement.specs.Inside.MovesAt.{MovesAt, with_lines}
-use Rattle.agreement.specs.Inside.Sound.{IsSoundNode, IsSound}
+use Rattle.agreement.specs.Inside.Sound.{IsSoundNode, IsSoundWorld}
 use Rattle.whole.proofs.of_lists.Prefixes.{prefix_same}
 use Rattle.agreement.proofs.Effects.{thinned_messages}
 use Rattle.agreement.proofs.Frame.MoveLines.{tells_here}
@@ -27,7 +27,7 @@ use Rattle.agreement.proofs.Changing.InstallHeard.{same_front, Sends, InstallHea
 
 -- an Install that is taken
 pub install_taken : {S C O : Type 0} (rules : Rules S C O) (w : World S C O) (h : History C) (n : ℕ) (r : ReplicaState S C)
-    (from b : ℕ) (log : List C) → IsSound rules w h → slice_get w.nodes n ≡ Some r → InstallHeard w h n from b log →
+    (from b : ℕ) (log : List C) → IsSoundWorld rules w h → slice_get w.nodes n ≡ Some r → InstallHeard w h n from b log →
     r.joined ≤ b → r.held_in < b → r.committed ≤ length log →
     KeepsSoundness rules w h n (record {
       state = record r { joined = b; held_in = b; log = log; role = Backup };

@@ -15,7 +15,7 @@ use Rattle.whole.specs.lists.Lists.In.{here, there}
 use Rattle.agreement.specs.Inside.Ballots.{Given, History, Applied, Sealed, AreLines}
 use Rattle.agreement.specs.Inside.Ballots.Applied.{nothing, in_ballot}
 use Rattle.agreement.specs.Inside.Keeps.{KeepsSoundness}
-use Rattle.agreement.specs.Inside.Sound.{IsSoundNode, IsSound}
+use Rattle.agreement.specs.Inside.Sound.{IsSoundNode, IsSoundWorld}
 use Rattle.agreement.specs.Inside.Saying.{SpeaksTruth, IsOffered}
 use Rattle.whole.proofs.of_lists.Places.{get_set}
 use Rattle.agreement.proofs.Frame.Framing.{within_of}
@@ -80,7 +80,7 @@ answers_node {S = S} {C = C} {O = O} v h n r new b g (joins less) given old give
 
 -- a Join that is answered
 join_answered : {S C O : Type 0} (rules : Rules S C O) (w : World S C O) (h : History C) (n : ℕ) (r new : ReplicaState S C)
-    (from b a : ℕ) → IsSound rules w h → slice_get w.nodes n ≡ Some r → SpeaksTruth w h (n + 1) from (Join b a) →
+    (from b a : ℕ) → IsSoundWorld rules w h → slice_get w.nodes n ≡ Some r → SpeaksTruth w h (n + 1) from (Join b a) →
     r.joined ≤ b → Answers r b new →
     KeepsSoundness rules w h n (record { state = new; effects = message_to O r.id (State b r.log) from ∷ [] })
 join_answered {S = S} {C = C} {O = O} rules w h n r new from b a s stands (g, is_of, is_from, prev, joined, (old, given_a, member)) low way =
@@ -123,7 +123,7 @@ join_answered {S = S} {C = C} {O = O} rules w h n r new from b a s stands (g, is
 
 -- a Join that comes
 pub keeps_join : {S C O : Type 0} (rules : Rules S C O) (w : World S C O) (h : History C) (n : ℕ) (r : ReplicaState S C)
-    (from b a : ℕ) → IsSound rules w h → slice_get w.nodes n ≡ Some r →
+    (from b a : ℕ) → IsSoundWorld rules w h → slice_get w.nodes n ≡ Some r →
     In (n + 1, record { from = from; body = Join b a }) w.sent → KeepsSoundness rules w h n (on_join O r from b a)
 keeps_join {S = S} {C = C} {O = O} rules w h n r from b a s stands sent = by_condition (cases_Bool (nat_le r.joined b && nat_le a r.held_in))
   where

@@ -16,7 +16,7 @@ use Rattle.agreement.specs.Inside.Ballots.{Given, Line, History, Applied}
 use Rattle.agreement.specs.Inside.Ballots.Told.{told_as_primary}
 use Rattle.agreement.specs.Inside.Ballots.Applied.{nothing, in_ballot}
 use Rattle.agreement.specs.Inside.Keeps.{KeepsSoundness}
-use Rattle.agreement.specs.Inside.Sound.{IsSoundNode, IsSound}
+use Rattle.agreement.specs.Inside.Sound.{IsSoundNode, IsSoundWorld}
 use Rattle.agreement.specs.Inside.Saying.{SpeaksTruth}
 use Rattle.whole.proofs.of_lists.Places.{get_set}
 use Rattle.agreement.proofs.Frame.Joining.{IsSilent, MovesQuietly}
@@ -45,7 +45,7 @@ no_line_yet rules w h n r b g s given primary low (Some l) e =
 
 -- a NewBallot that is taken
 new_ballot_taken : {S C O : Type 0} (rules : Rules S C O) (w : World S C O) (h : History C) (n : ℕ) (r : ReplicaState S C)
-    (from b a : ℕ) (members old : List ℕ) → IsSound rules w h → slice_get w.nodes n ≡ Some r →
+    (from b a : ℕ) (members old : List ℕ) → IsSoundWorld rules w h → slice_get w.nodes n ≡ Some r →
     SpeaksTruth w h (n + 1) from (NewBallot b members a old) → r.joined < b →
     KeepsSoundness rules w h n (record {
       state = record r {
@@ -121,7 +121,7 @@ new_ballot_taken {S = S} {C = C} {O = O} rules w h n r from b a members old s st
 
 -- a NewBallot that comes
 pub keeps_new_ballot : {S C O : Type 0} (rules : Rules S C O) (w : World S C O) (h : History C) (n : ℕ) (r : ReplicaState S C)
-    (from b a : ℕ) (members old : List ℕ) → IsSound rules w h → slice_get w.nodes n ≡ Some r →
+    (from b a : ℕ) (members old : List ℕ) → IsSoundWorld rules w h → slice_get w.nodes n ≡ Some r →
     In (n + 1, record { from = from; body = NewBallot b members a old }) w.sent →
     KeepsSoundness rules w h n (on_new_ballot O r b members a old)
 keeps_new_ballot {S = S} {C = C} {O = O} rules w h n r from b a members old s stands sent = by_order (cases_lt r.joined b)

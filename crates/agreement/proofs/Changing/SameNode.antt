@@ -4,7 +4,7 @@ use Rattle.whole.specs.Messages.{Effect}
 use Rattle.whole.specs.Replica.{ReplicaState}
 use Rattle.agreement.specs.World.{World, moved}
 use Rattle.agreement.specs.Inside.Ballots.{Line, History, Told}
-use Rattle.agreement.specs.Inside.Extending.{Extends, IsWithin}
+use Rattle.agreement.specs.Inside.Extending.{Extends, AcknowledgedIsWithin}
 use Rattle.agreement.specs.Inside.MovesAt.{MovesAt, with_lines}
 use Rattle.agreement.specs.Inside.Sound.{IsSoundNode}
 use Rattle.agreement.proofs.Frame.Framing.{move_extends}
@@ -14,7 +14,7 @@ use Rattle.agreement.proofs.Frame.Telling.{told_placed, told_in_log}
 
 -- a node that acknowledges more and stays as it was
 pub same_node : {S C O : Type 0} (w : World S C O) (h : History C) (n : ℕ) (r : ReplicaState S C) (given : List (Effect C O)) →
-    MovesAt w h h.line n r r given → IsWithin w h → IsSoundNode w h n r → IsSoundNode (moved w n r given) (with_lines h h.line) n r
+    MovesAt w h h.line n r r given → AcknowledgedIsWithin w h → IsSoundNode w h n r → IsSoundNode (moved w n r given) (with_lines h h.line) n r
 same_node {S = S} {C = C} {O = O} w h n r given q within s =
     record {
       id = s.id;

@@ -15,7 +15,7 @@ use Rattle.agreement.specs.Inside.Keeps.{KeepsSoundness, LineAdds}
 use Rattle.agreement.specs.Inside.Keeps.LineAdds.{as_it_was, begins_after}
 use Rattle.agreement.specs.Inside.MovesAt.{MovesAt, with_lines, lined_at}
 use Rattle.agreement.specs.Inside.MovesAt.LineGoesOn.{begins}
-use Rattle.agreement.specs.Inside.Sound.{IsInstalling, IsSoundNode, IsSound}
+use Rattle.agreement.specs.Inside.Sound.{IsInstalling, IsSoundNode, IsSoundWorld}
 use Rattle.whole.proofs.of_lists.Prefixes.{prefix_same}
 use Rattle.agreement.proofs.Effects.{thinned_messages, thinned_outputs}
 use Rattle.agreement.proofs.Frame.MoveLines.{tells_here}
@@ -35,7 +35,7 @@ use Rattle.agreement.proofs.Serving.Ticking.{says_installs, silent_installs, dum
 
 -- a State that is taken
 pub state_taken : {S C O : Type 0} (rules : Rules S C O) (w : World S C O) (h : History C) (n : ℕ) (r : ReplicaState S C) (xs : List C) →
-    IsSound rules w h → slice_get w.nodes n ≡ Some r → StateHeard w h n r xs → r.committed ≤ length xs →
+    IsSoundWorld rules w h → slice_get w.nodes n ≡ Some r → StateHeard w h n r xs → r.committed ≤ length xs →
     KeepsSoundness rules w h n (record {
       state = record r { held_in = r.joined; log = xs; role = Installing; lacking = others r.id r.members };
       effects = installs O (record r { held_in = r.joined; log = xs; role = Installing; lacking = others r.id r.members }) (others r.id r.members);

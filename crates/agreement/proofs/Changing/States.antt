@@ -12,7 +12,7 @@ use Rattle.agreement.specs.World.{World}
 use Rattle.whole.specs.lists.Lists.{In}
 use Rattle.agreement.specs.Inside.Ballots.{History}
 use Rattle.agreement.specs.Inside.Keeps.{KeepsSoundness}
-use Rattle.agreement.specs.Inside.Sound.{IsSound}
+use Rattle.agreement.specs.Inside.Sound.{IsSoundWorld}
 use Rattle.agreement.proofs.Frame.Quiet.{keeps_nothing}
 use Rattle.agreement.proofs.Frame.Roles.{role_fetching}
 use Rattle.whole.proofs.ChangeRows.{on_state-stays, on_state-takes}
@@ -21,7 +21,7 @@ use Rattle.agreement.proofs.Changing.StateTaken.{state_taken}
 
 -- a State that comes
 pub keeps_state : {S C O : Type 0} (rules : Rules S C O) (w : World S C O) (h : History C) (n : ℕ) (r : ReplicaState S C)
-    (from b : ℕ) (xs : List C) → IsSound rules w h → slice_get w.nodes n ≡ Some r →
+    (from b : ℕ) (xs : List C) → IsSoundWorld rules w h → slice_get w.nodes n ≡ Some r →
     In (n + 1, record { from = from; body = State b xs }) w.sent → KeepsSoundness rules w h n (on_state O r b xs)
 keeps_state {S = S} {C = C} {O = O} rules w h n r from b xs s stands sent =
     by_condition (cases_Bool (r.joined == b && (is_fetching r.role && nat_le r.committed (length xs))))

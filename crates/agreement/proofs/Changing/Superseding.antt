@@ -12,14 +12,14 @@ use Rattle.agreement.specs.World.{World, moved}
 use Rattle.agreement.specs.Inside.Ballots.{History, Applied}
 use Rattle.agreement.specs.Inside.Ballots.Applied.{nothing, in_ballot}
 use Rattle.agreement.specs.Inside.Keeps.{KeepsSoundness}
-use Rattle.agreement.specs.Inside.Sound.{IsSoundNode, IsSound}
+use Rattle.agreement.specs.Inside.Sound.{IsSoundNode, IsSoundWorld}
 use Rattle.agreement.proofs.Frame.Joining.{MovesQuietly}
 use Rattle.agreement.proofs.Frame.Quiet.{before_quiet, quiet_keeps, keeps_nothing}
 use Rattle.whole.proofs.ChangeRows.{on_superseded-stays, on_superseded-leaves}
 
 -- a Superseded that comes; nothing that it says is needed
 pub keeps_superseded : {S C O : Type 0} (rules : Rules S C O) (w : World S C O) (h : History C) (n : ℕ) (r : ReplicaState S C) (b : ℕ) →
-    IsSound rules w h → slice_get w.nodes n ≡ Some r → KeepsSoundness rules w h n (on_superseded O r b)
+    IsSoundWorld rules w h → slice_get w.nodes n ≡ Some r → KeepsSoundness rules w h n (on_superseded O r b)
 keeps_superseded {S = S} {C = C} {O = O} rules w h n r b s stands = by_role (cases_Bool (r.joined == b && is_installing r.role))
   where
     new : ReplicaState S C

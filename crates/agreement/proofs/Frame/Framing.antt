@@ -7,15 +7,15 @@ use Rattle.whole.specs.Messages.{Effect}
 use Rattle.whole.specs.Replica.{ReplicaState}
 use Rattle.agreement.specs.World.{World, messages, moved}
 use Rattle.agreement.specs.Inside.Ballots.{Line, History, Told}
-use Rattle.agreement.specs.Inside.Extending.{Extends, IsWithin}
+use Rattle.agreement.specs.Inside.Extending.{Extends, AcknowledgedIsWithin}
 use Rattle.agreement.specs.Inside.MovesAt.{MovesAt, with_lines, TellsNow}
-use Rattle.agreement.specs.Inside.Sound.{IsSound}
+use Rattle.agreement.specs.Inside.Sound.{IsSoundWorld}
 use Rattle.whole.proofs.of_lists.Prefixes.{prefix_length}
 use Rattle.whole.proofs.of_lists.Places.{get_set, get_set_other}
 use Rattle.whole.proofs.of_lists.Members.{in_left}
 
 -- what is acknowledged of a ballot with a list lies within it
-pub within_of : {S C O : Type 0} (rules : Rules S C O) (w : World S C O) (h : History C) → IsSound rules w h → IsWithin w h
+pub within_of : {S C O : Type 0} (rules : Rules S C O) (w : World S C O) (h : History C) → IsSoundWorld rules w h → AcknowledgedIsWithin w h
 within_of {S = S} {C = C} rules w h s m b k l e t = by_line (s.within m b k t)
   where
     by_line : (k ≡ 0) ⊎ ((l : Line C) × (h.line b ≡ Some l) × (k ≤ length l.list)) → k ≤ length l.list

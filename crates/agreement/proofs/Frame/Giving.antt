@@ -13,9 +13,9 @@ use Rattle.agreement.specs.World.{World, outputs, moved}
 use Rattle.whole.specs.lists.Lists.{In, IsPrefixOf}
 use Rattle.whole.specs.lists.Lists.In.{here, there}
 use Rattle.agreement.specs.Inside.Ballots.{Given, Line, History, IsChosenIn, AreBallots, AreLines}
-use Rattle.agreement.specs.Inside.Extending.{Extends, IsWithin}
+use Rattle.agreement.specs.Inside.Extending.{Extends, AcknowledgedIsWithin}
 use Rattle.agreement.specs.Inside.MovesAt.{MovesAt, with_lines}
-use Rattle.agreement.specs.Inside.Sound.{LeftIs, IsSound}
+use Rattle.agreement.specs.Inside.Sound.{LeftIs, IsSoundWorld}
 use Rattle.agreement.specs.Leaving.{Segment}
 use Rattle.whole.proofs.of_lists.Places.{get_set}
 use Rattle.whole.proofs.of_lists.Members.{in_append, in_at}
@@ -53,7 +53,7 @@ at_most b c (inr (same, p)) = omega (arith, same)
 
 -- new outputs left
 pub left_more : {S C O : Type 0} (rules : Rules S C O) (w : World S C O) (h : History C) (line : ℕ → Option (Line C)) (n : ℕ)
-    (old new : ReplicaState S C) (given : List (Effect C O)) → MovesAt w h line n old new given → IsSound rules w h →
+    (old new : ReplicaState S C) (given : List (Effect C O)) → MovesAt w h line n old new given → IsSoundWorld rules w h →
     (b first past : ℕ) (g : Given) (l : Line C) → In b h.activated → h.given b ≡ Some g → g.primary ≡ n + 1 → line b ≡ Some l →
     first < past → length l.base ≤ first → old.committed ≤ first → past ≤ new.committed →
     IsChosenIn (moved w n new given) (with_lines h line) b past → outputs given ≡ outputs (outputs_between rules l.list first past) →
@@ -89,7 +89,7 @@ left_more {S = S} {C = C} {O = O} rules w h line n old new given q s b first pas
     lines : AreLines (moved w n new given) (with_lines h line)
     lines = move_lines w h line n old new given q (within_of rules w h s) s.lines
 
-    within : IsWithin (moved w n new given) (with_lines h line)
+    within : AcknowledgedIsWithin (moved w n new given) (with_lines h line)
     within m c k y e t = by_line (move_within w h line n old new given q s.within m c k t)
       where
         by_line : (k ≡ 0) ⊎ ((u : Line C) × (line c ≡ Some u) × (k ≤ length u.list)) → k ≤ length y.list

@@ -7,11 +7,11 @@ use Rattle.agreement.specs.World.{World}
 use Rattle.agreement.specs.Inside.Ballots.{History, Told}
 use Rattle.agreement.specs.Inside.Extending.{Extends}
 use Rattle.agreement.specs.Inside.Keeps.{HistoryGoesOn}
-use Rattle.agreement.specs.Inside.Sound.{IsSound}
+use Rattle.agreement.specs.Inside.Sound.{IsSoundWorld}
 use Rattle.whole.proofs.of_lists.Prefixes.{prefix_same, prefix_then}
 
 -- nothing happened
-abbrev pub goes_same : {S C O : Type 0} (rules : Rules S C O) (w : World S C O) (h : History C) → IsSound rules w h → HistoryGoesOn rules w h w
+abbrev pub goes_same : {S C O : Type 0} (rules : Rules S C O) (w : World S C O) (h : History C) → IsSoundWorld rules w h → HistoryGoesOn rules w h w
 goes_same rules w h s =
     record {
       history = h;

@@ -9,7 +9,7 @@ use Rattle.whole.specs.Replica.{ReplicaState}
 use Rattle.agreement.specs.World.{World, messages, outputs, moved}
 use Rattle.whole.specs.lists.Lists.{In}
 use Rattle.agreement.specs.Inside.Ballots.{Line, History, Told}
-use Rattle.agreement.specs.Inside.Extending.{Extends, IsWithin}
+use Rattle.agreement.specs.Inside.Extending.{Extends, AcknowledgedIsWithin}
 use Rattle.agreement.specs.Inside.Ballots.Told.{told_at_opening, told_by_held, told_by_installed, told_as_primary}
 use Rattle.agreement.specs.Inside.Sound.{IsSoundNode}
 use Rattle.whole.proofs.of_lists.Prefixes.{prefix_same}
@@ -90,7 +90,7 @@ quiet_extends {S = S} {C = C} w h n old new given q =
 
 -- a node that did not move stays as it should be
 pub quiet_node : {S C O : Type 0} (w : World S C O) (h : History C) (n : ℕ) (old new : ReplicaState S C) (given : List (Effect C O)) →
-    MovesQuietly w n old new given → IsWithin w h → (m : ℕ) (r : ReplicaState S C) → IsSoundNode w h m r →
+    MovesQuietly w n old new given → AcknowledgedIsWithin w h → (m : ℕ) (r : ReplicaState S C) → IsSoundNode w h m r →
     IsSoundNode (moved w n new given) h m r
 quiet_node {S = S} {C = C} {O = O} w h n old new given q within m r s =
     let x = quiet_extends w h n old new given q in

@@ -4,7 +4,7 @@ use Rattle.whole.specs.Replica.{ReplicaState}
 use Rattle.agreement.specs.World.{World}
 use Rattle.whole.specs.lists.Lists.{In, IsPrefixOf}
 use Rattle.agreement.specs.Inside.Ballots.{Line, History, Told, IsChosenIn, Sealed, Applied}
-use Rattle.agreement.specs.Inside.Extending.{Extends, IsWithin}
+use Rattle.agreement.specs.Inside.Extending.{Extends, AcknowledgedIsWithin}
 use Rattle.agreement.specs.Inside.Ballots.Applied.{nothing, in_ballot}
 use Rattle.agreement.specs.Inside.Ballots.Told.{told_at_opening, told_by_held, told_by_installed, told_as_primary}
 use Rattle.whole.proofs.of_lists.Prefixes.{prefix_then, prefix_length, take_prefix}
@@ -32,7 +32,7 @@ told_kept w v h i m b k x (told_as_primary g l given primary lined below) =
 
 -- what is sealed stays sealed
 pub sealed_kept : {S C O : Type 0} (w v : World S C O) (h i : History C) (b : ℕ) (xs : List C) → Extends w h v i →
-    IsWithin w h → Sealed w h b xs → Sealed v i b xs
+    AcknowledgedIsWithin w h → Sealed w h b xs → Sealed v i b xs
 sealed_kept {S = S} {C = C} {O = O} w v h i b xs x within s =
     let y = x.nodes s.node s.replica s.stands in
     let z = x.lines b s.line s.lined in
@@ -63,7 +63,7 @@ chosen_kept w v h i b k x (g, given, told) = (g, x.given b g given, λ m j. told
 
 -- what a node applied stays chosen
 pub applied_kept : {S C O : Type 0} (w v : World S C O) (h i : History C) (r : ReplicaState S C) → Extends w h v i →
-    ((b : ℕ) → In b h.activated → In b i.activated) → IsWithin w h → Applied w h r → Applied v i r
+    ((b : ℕ) → In b h.activated → In b i.activated) → AcknowledgedIsWithin w h → Applied w h r → Applied v i r
 applied_kept w v h i r x active within (nothing e) = nothing e
 applied_kept {S = S} {C = C} w v h i r x active within (in_ballot b k l j low lined chosen front) =
     let z = x.lines b l lined in

@@ -10,7 +10,7 @@ use Rattle.agreement.specs.World.{World, messages, moved}
 use Rattle.whole.specs.lists.Lists.{In}
 use Rattle.agreement.specs.Inside.Ballots.{Line, History, AreBallots, IsChain}
 use Rattle.agreement.specs.Inside.MovesAt.{MovesAt, with_lines}
-use Rattle.agreement.specs.Inside.Sound.{IsSoundNode, LeftIs, IsSound}
+use Rattle.agreement.specs.Inside.Sound.{IsSoundNode, LeftIs, IsSoundWorld}
 use Rattle.agreement.specs.Inside.Saying.{SpeaksTruth}
 use Rattle.whole.proofs.of_lists.Places.{get_set, get_set_other}
 use Rattle.whole.proofs.of_lists.Members.{in_append}
@@ -39,11 +39,11 @@ ballots_same h line s =
 
 -- a move keeps a world sound
 pub move_sound : {S C O : Type 0} (rules : Rules S C O) (w : World S C O) (h : History C) (line : ℕ → Option (Line C)) (n : ℕ)
-    (old new : ReplicaState S C) (given : List (Effect C O)) → IsSound rules w h → MovesAt w h line n old new given →
+    (old new : ReplicaState S C) (given : List (Effect C O)) → IsSoundWorld rules w h → MovesAt w h line n old new given →
     IsSoundNode (moved w n new given) (with_lines h line) n new →
     ((to : ℕ) (m : Message C) → In (to, m) (messages given) → SpeaksTruth (moved w n new given) (with_lines h line) to m.from m.body) →
     LeftIs rules (moved w n new given) (with_lines h line) →
-    IsSound rules (moved w n new given) (with_lines h line)
+    IsSoundWorld rules (moved w n new given) (with_lines h line)
 move_sound {S = S} {C = C} {O = O} rules w h line n old new given s q node says left =
     record {
       ballots = ballots_same h line s.ballots;

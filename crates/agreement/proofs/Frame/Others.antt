@@ -5,7 +5,7 @@ use Rattle.whole.specs.Replica.{ReplicaState}
 use Rattle.agreement.specs.World.{World, moved}
 use Rattle.whole.specs.lists.Lists.{IsPrefixOf}
 use Rattle.agreement.specs.Inside.Ballots.{Given, Line, History, Told}
-use Rattle.agreement.specs.Inside.Extending.{Extends, IsWithin}
+use Rattle.agreement.specs.Inside.Extending.{Extends, AcknowledgedIsWithin}
 use Rattle.agreement.specs.Inside.MovesAt.{MovesAt, with_lines, TellsNow}
 use Rattle.agreement.specs.Inside.Sound.{IsSoundNode}
 use Rattle.whole.proofs.of_lists.Prefixes.{prefix_then}
@@ -23,7 +23,7 @@ between_kept {S = S} {C = C} w v h i b xs x (g, given, (l, lined, base, list)) =
 
 -- a node that did not move
 pub other_node : {S C O : Type 0} (w : World S C O) (h : History C) (line : ℕ → Option (Line C)) (n : ℕ)
-    (old new : ReplicaState S C) (given : List (Effect C O)) → MovesAt w h line n old new given → IsWithin w h →
+    (old new : ReplicaState S C) (given : List (Effect C O)) → MovesAt w h line n old new given → AcknowledgedIsWithin w h →
     (m : ℕ) (r : ReplicaState S C) → (m ≡ n → ⊥) → IsSoundNode w h m r →
     IsSoundNode (moved w n new given) (with_lines h line) m r
 other_node {S = S} {C = C} {O = O} w h line n old new given q within m r other s =

@@ -13,7 +13,7 @@ use Rattle.agreement.specs.Inside.Ballots.{History, Applied}
 use Rattle.agreement.specs.Inside.Ballots.Applied.{nothing, in_ballot}
 use Rattle.agreement.specs.Inside.Keeps.LineAdds.{as_it_was}
 use Rattle.agreement.specs.Inside.Keeps.{KeepsSoundness}
-use Rattle.agreement.specs.Inside.Sound.{IsSoundNode, IsSound}
+use Rattle.agreement.specs.Inside.Sound.{IsSoundNode, IsSoundWorld}
 use Rattle.agreement.specs.Inside.Saying.{SpeaksTruth}
 use Rattle.agreement.proofs.Effects.{thinned_outputs, thinned_messages}
 use Rattle.agreement.proofs.Frame.Framing.{within_of}
@@ -22,13 +22,13 @@ use Rattle.agreement.proofs.Frame.QuietWorlds.{quiet_sound}
 
 -- the node of a quiet step before it, seen in the world after it
 pub before_quiet : {S C O : Type 0} (rules : Rules S C O) (w : World S C O) (h : History C) (n : ℕ) (old new : ReplicaState S C)
-    (given : List (Effect C O)) → IsSound rules w h → MovesQuietly w n old new given → IsSoundNode (moved w n new given) h n old
+    (given : List (Effect C O)) → IsSoundWorld rules w h → MovesQuietly w n old new given → IsSoundNode (moved w n new given) h n old
 before_quiet rules w h n old new given s q =
     quiet_node w h n old new given q (within_of rules w h s) n old (s.nodes n old q.stands)
 
 -- a step that says nothing and has no output
 pub quiet_keeps : {S C O : Type 0} (rules : Rules S C O) (w : World S C O) (h : History C) (n : ℕ) (old : ReplicaState S C) (o : Outcome S C O) →
-    IsSound rules w h → slice_get w.nodes n ≡ Some old → old.joined ≤ o.state.joined → old.committed ≤ o.state.committed →
+    IsSoundWorld rules w h → slice_get w.nodes n ≡ Some old → old.joined ≤ o.state.joined → old.committed ≤ o.state.committed →
     AreSilent (messages o.effects) → outputs o.effects ≡ [] →
     ((given : List (Effect C O)) → MovesQuietly w n old o.state given → IsSoundNode (moved w n o.state given) h n o.state) →
     ((given : List (Effect C O)) → MovesQuietly w n old o.state given → (to : ℕ) (m : Message C) → In (to, m) (messages o.effects) →
@@ -57,7 +57,7 @@ quiet_keeps {S = S} {C = C} {O = O} rules w h n old o s stands rises committed s
 
 -- a step that does nothing
 pub keeps_nothing : {S C O : Type 0} (rules : Rules S C O) (w : World S C O) (h : History C) (n : ℕ) (old : ReplicaState S C) (o : Outcome S C O) →
-    IsSound rules w h → slice_get w.nodes n ≡ Some old → o ≡ nothing_done O old → KeepsSoundness rules w h n o
+    IsSoundWorld rules w h → slice_get w.nodes n ≡ Some old → o ≡ nothing_done O old → KeepsSoundness rules w h n o
 keeps_nothing {S = S} {C = C} {O = O} rules w h n old o s stands e =
     subst (λ (x : Outcome S C O). KeepsSoundness rules w h n x) (sym e)
     (quiet_keeps rules w h n old (nothing_done O old) s stands (omega arith) (omega arith) (λ to m i. elim i [ ]) refl
@@ -65,7 +65,7 @@ keeps_nothing {S = S} {C = C} {O = O} rules w h n old o s stands e =
 
 -- a node that stops
 pub keeps_halted : {S C O : Type 0} (rules : Rules S C O) (w : World S C O) (h : History C) (n : ℕ) (old : ReplicaState S C) →
-    IsSound rules w h → slice_get w.nodes n ≡ Some old → KeepsSoundness rules w h n (record { state = halted rules old; effects = [] })
+    IsSoundWorld rules w h → slice_get w.nodes n ≡ Some old → KeepsSoundness rules w h n (record { state = halted rules old; effects = [] })
 keeps_halted {S = S} {C = C} {O = O} rules w h n old s stands =
     quiet_keeps rules w h n old (record { state = halted rules old; effects = [] }) s stands (omega arith) (omega arith)
     (λ to m i. elim i [ ]) refl (λ given q. node given q) (λ given q to m i. elim i [ ])

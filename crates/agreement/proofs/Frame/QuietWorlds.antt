@@ -9,8 +9,8 @@ use Rattle.whole.specs.Replica.{ReplicaState}
 use Rattle.agreement.specs.World.{World, messages, moved}
 use Rattle.whole.specs.lists.Lists.{In}
 use Rattle.agreement.specs.Inside.Ballots.{Given, History, AreLines}
-use Rattle.agreement.specs.Inside.Extending.{Extends, IsWithin}
-use Rattle.agreement.specs.Inside.Sound.{IsSoundNode, IsSound}
+use Rattle.agreement.specs.Inside.Extending.{Extends, AcknowledgedIsWithin}
+use Rattle.agreement.specs.Inside.Sound.{IsSoundNode, IsSoundWorld}
 use Rattle.agreement.specs.Inside.Saying.{SpeaksTruth}
 use Rattle.agreement.specs.Leaving.{Segment}
 use Rattle.whole.proofs.of_lists.Places.{get_set, get_set_other}
@@ -21,7 +21,7 @@ use Rattle.agreement.proofs.Frame.Joining.{MovesQuietly, told_back, quiet_extend
 
 -- the rows on lists after such a move
 pub quiet_lines : {S C O : Type 0} (w : World S C O) (h : History C) (n : ℕ) (old new : ReplicaState S C) (given : List (Effect C O)) →
-    MovesQuietly w n old new given → IsWithin w h → AreLines w h → AreLines (moved w n new given) h
+    MovesQuietly w n old new given → AcknowledgedIsWithin w h → AreLines w h → AreLines (moved w n new given) h
 quiet_lines w h n old new given q within s =
     let x = quiet_extends w h n old new given q in
     record {
@@ -37,10 +37,10 @@ quiet_lines w h n old new given q within s =
 -- a move that says nothing keeps a world sound, if the node is as it should be and its messages are
 -- so
 pub quiet_sound : {S C O : Type 0} (rules : Rules S C O) (w : World S C O) (h : History C) (n : ℕ) (old new : ReplicaState S C)
-    (given : List (Effect C O)) → IsSound rules w h → IsWithin w h → MovesQuietly w n old new given →
+    (given : List (Effect C O)) → IsSoundWorld rules w h → AcknowledgedIsWithin w h → MovesQuietly w n old new given →
     IsSoundNode (moved w n new given) h n new →
     ((to : ℕ) (m : Message C) → In (to, m) (messages given) → SpeaksTruth (moved w n new given) h to m.from m.body) →
-    IsSound rules (moved w n new given) h
+    IsSoundWorld rules (moved w n new given) h
 quiet_sound {S = S} {C = C} {O = O} rules w h n old new given s within q node says =
     record {
       ballots = s.ballots;

@@ -5,7 +5,7 @@ use Rattle.whole.specs.Messages.Body.{NewBallot, Join, State, Install, Installed
 use Rattle.agreement.specs.World.{World}
 use Rattle.whole.specs.lists.Lists.{In, IsPrefixOf}
 use Rattle.agreement.specs.Inside.Ballots.{Given, History, Told, IsChosenIn}
-use Rattle.agreement.specs.Inside.Extending.{Extends, IsWithin}
+use Rattle.agreement.specs.Inside.Extending.{Extends, AcknowledgedIsWithin}
 use Rattle.agreement.specs.Inside.Saying.{HasJoined, IsOf, IsOffered, SpeaksTruth}
 use Rattle.agreement.specs.Inside.Ballots.Told.{told_at_opening, told_by_held, told_by_installed, told_as_primary}
 use Rattle.whole.proofs.of_lists.Prefixes.{prefix_then, prefix_length, prefix_get}
@@ -28,7 +28,7 @@ offered_kept {S = S} {C = C} w v h i b g xs x (inr (l, lined, base, front)) =
 
 -- what a message says stays so
 pub says_kept : {S C O : Type 0} (w v : World S C O) (h i : History C) (to from : ℕ) (body : Body C) → Extends w h v i →
-    ((b : ℕ) → In b h.activated → In b i.activated) → IsWithin w h → SpeaksTruth w h to from body → SpeaksTruth v i to from body
+    ((b : ℕ) → In b h.activated → In b i.activated) → AcknowledgedIsWithin w h → SpeaksTruth w h to from body → SpeaksTruth v i to from body
 says_kept w v h i to from (NewBallot b ms a am) x active within (g, o, s, t, p, q, (old, given, members)) =
     (g, of_kept w v h i b g x o, s, t, p, q, (old, x.given a old given, members))
 says_kept w v h i to from (Join b a) x active within (g, o, s, t, p, (old, given, member)) =

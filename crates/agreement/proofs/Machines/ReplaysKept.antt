@@ -12,7 +12,7 @@ use Rattle.agreement.specs.World.{World, moved}
 use Rattle.agreement.specs.Inside.Ballots.{History}
 use Rattle.agreement.specs.Inside.Keeps.{NodeGoesOn}
 use Rattle.agreement.specs.Replays.{IsReplay, AreReplays}
-use Rattle.agreement.specs.Inside.Sound.{IsSound}
+use Rattle.agreement.specs.Inside.Sound.{IsSoundWorld}
 use Rattle.whole.proofs.of_lists.Places.{get_set, get_set_other}
 use Rattle.agreement.proofs.Machines.Applies.{Applies}
 use Rattle.agreement.proofs.Machines.Comparing.{applied_stays}
@@ -21,7 +21,7 @@ use Rattle.agreement.proofs.Machines.StepApplies.{step_applies}
 -- a node that continues by the places that are new is a replay still: what it applied before stays
 -- in its log
 replay_kept : {S C O : Type 0} (rules : Rules S C O) (w : World S C O) (h : History C) (n : ℕ) (old new : ReplicaState S C)
-    (given : List (Effect C O)) (adds : ℕ → C → Type 0) → IsSound rules w h → NodeGoesOn rules w h adds (moved w n new given) →
+    (given : List (Effect C O)) (adds : ℕ → C → Type 0) → IsSoundWorld rules w h → NodeGoesOn rules w h adds (moved w n new given) →
     slice_get w.nodes n ≡ Some old → Applies rules old new → IsReplay rules old → IsReplay rules new
 replay_kept {C = C} rules w h n old new given adds s g stands a ran =
     a.machine ∙ replay_goes_on rules old.machine new.log old.committed new.committed a.up
@@ -42,7 +42,7 @@ replays_moved {S = S} {C = C} rules w n old new given stands all ran m r e runs 
 
 -- a step of a node, perhaps with losses
 pub step_replays : {S C O : Type 0} (rules : Rules S C O) (w : World S C O) (h : History C) (n : ℕ) (old : ReplicaState S C) (input : Input C)
-    (new : ReplicaState S C) (given : List (Effect C O)) (adds : ℕ → C → Type 0) → IsSound rules w h →
+    (new : ReplicaState S C) (given : List (Effect C O)) (adds : ℕ → C → Type 0) → IsSoundWorld rules w h →
     NodeGoesOn rules w h adds (moved w n new given) → slice_get w.nodes n ≡ Some old → old.stopped ≡ false → AreReplays rules w →
     Loses rules old (replica_step rules old input) new given → AreReplays rules (moved w n new given)
 step_replays {S = S} {C = C} {O = O} rules w h n old input new given adds s g stands runs all loses =

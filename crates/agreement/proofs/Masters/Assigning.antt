@@ -11,14 +11,14 @@ use Rattle.agreement.specs.MasterState.{MasterState, assigned}
 use Rattle.agreement.specs.Inside.Masters.{IsMaster}
 use Rattle.agreement.specs.Steps.{sends_from_master}
 use Rattle.agreement.specs.Inside.MovesAt.{given_at}
-use Rattle.agreement.specs.Inside.Sound.{IsSound}
+use Rattle.agreement.specs.Inside.Sound.{IsSoundWorld}
 use Rattle.agreement.proofs.Masters.MasterSends.{ToldBack, with_ballots, chain_more}
 use Rattle.agreement.proofs.Masters.MasterMoves.{master_goes_on, master_lost}
 use Rattle.agreement.proofs.Masters.Assigned.{given_here, given_other, given_cases, at_most_newest, Assigned}
 
 -- a configuration whose primary is a member is given a ballot
 pub assign_goes_on : {S C O : Type 0} (rules : Rules S C O) (m : MasterState) (w : World S C O) (h : History C) (config : Config) →
-    IsSound rules w h → IsMaster m h → In config.primary config.members → Assigned rules m w h (assigned C m config)
+    IsSoundWorld rules w h → IsMaster m h → In config.primary config.members → Assigned rules m w h (assigned C m config)
 assign_goes_on {S = S} {C = C} {O = O} rules m w h config s k member =
     record {
       goes_on = record { history = with_ballots h given h.activated; extends = whole.1; active = λ c j. j; sound = whole.0 };
@@ -127,13 +127,13 @@ assign_goes_on {S = S} {C = C} {O = O} rules m w h config s k member =
       waits = λ b c e. waits b c e;
     }
 
-    gone : IsSound rules w (with_ballots h (given_at (m.given + 1) new h.given) h.activated)
+    gone : IsSoundWorld rules w (with_ballots h (given_at (m.given + 1) new h.given) h.activated)
         × Extends w h w (with_ballots h (given_at (m.given + 1) new h.given) h.activated)
         × ToldBack w h w (with_ballots h (given_at (m.given + 1) new h.given) h.activated)
     gone = master_lost rules w h (given_at (m.given + 1) new h.given) h.activated s more
         (λ c g e. (numbered c g e).0) (λ c j. j) ballots s.lines.told
 
-    whole : IsSound rules (sends_from_master w (assigned C m config)) (with_ballots h (given_at (m.given + 1) new h.given) h.activated)
+    whole : IsSoundWorld rules (sends_from_master w (assigned C m config)) (with_ballots h (given_at (m.given + 1) new h.given) h.activated)
         × Extends w h (sends_from_master w (assigned C m config)) (with_ballots h (given_at (m.given + 1) new h.given) h.activated)
         × ToldBack w h (sends_from_master w (assigned C m config)) (with_ballots h (given_at (m.given + 1) new h.given) h.activated)
     whole = master_goes_on rules w h (assigned C m config) (given_at (m.given + 1) new h.given) h.activated s tt more

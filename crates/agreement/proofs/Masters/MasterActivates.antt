@@ -13,7 +13,7 @@ use Rattle.agreement.specs.Inside.Extending.{Extends}
 use Rattle.agreement.specs.MasterState.{MasterState, MasterOutcome, activated}
 use Rattle.agreement.specs.Inside.Masters.{IsMaster}
 use Rattle.agreement.specs.Steps.{sends_from_master}
-use Rattle.agreement.specs.Inside.Sound.{IsSound}
+use Rattle.agreement.specs.Inside.Sound.{IsSoundWorld}
 use Rattle.agreement.specs.Inside.Saying.{SpeaksTruth}
 use Rattle.agreement.proofs.Masters.Assigned.{Assigned}
 use Rattle.agreement.proofs.Masters.MasterSends.{ToldBack, with_ballots, chain_more}
@@ -22,7 +22,7 @@ use Rattle.agreement.proofs.Masters.MasterAnswers.{answer_goes_on}
 
 -- the ballot that waits is activated
 waiting_goes_on : {S C O : Type 0} (rules : Rules S C O) (m : MasterState) (w : World S C O) (h : History C) (b from : ℕ) (config : Config) →
-    IsSound rules w h → IsMaster m h → SpeaksTruth w h 0 from (Activate b) → m.waiting ≡ Some (b, config) →
+    IsSoundWorld rules w h → IsMaster m h → SpeaksTruth w h 0 from (Activate b) → m.waiting ≡ Some (b, config) →
     Assigned rules m w h (record {
       state = record m { active = b; members = config.members; waiting = None };
       receiver = from;
@@ -101,11 +101,11 @@ waiting_goes_on {S = S} {C = C} {O = O} rules m w h b from config s k (g, is_of,
       waits = λ c d e. cc;
     }
 
-    gone : IsSound rules w (with_ballots h h.given (b ∷ h.activated)) × Extends w h w (with_ballots h h.given (b ∷ h.activated))
+    gone : IsSoundWorld rules w (with_ballots h h.given (b ∷ h.activated)) × Extends w h w (with_ballots h h.given (b ∷ h.activated))
         × ToldBack w h w (with_ballots h h.given (b ∷ h.activated))
     gone = master_lost rules w h h.given (b ∷ h.activated) s (λ c y e. e) (λ c y e. (k.numbered c y e).0) (λ c j. there j) ballots told
 
-    whole : IsSound rules (sends_from_master w outcome) (with_ballots h h.given (b ∷ h.activated))
+    whole : IsSoundWorld rules (sends_from_master w outcome) (with_ballots h h.given (b ∷ h.activated))
         × Extends w h (sends_from_master w outcome) (with_ballots h h.given (b ∷ h.activated))
         × ToldBack w h (sends_from_master w outcome) (with_ballots h h.given (b ∷ h.activated))
     whole = master_goes_on rules w h outcome h.given (b ∷ h.activated) s tt (λ c y e. e) (λ c y e. (k.numbered c y e).0) (λ c j. there j) ballots told
@@ -113,7 +113,7 @@ waiting_goes_on {S = S} {C = C} {O = O} rules m w h b from config s k (g, is_of,
 
 -- an Activate that comes to the master
 pub activate_goes_on : {S C O : Type 0} (rules : Rules S C O) (m : MasterState) (w : World S C O) (h : History C) (b from : ℕ) →
-    IsSound rules w h → IsMaster m h → In (0, record { from = from; body = Activate b }) w.sent →
+    IsSoundWorld rules w h → IsMaster m h → In (0, record { from = from; body = Activate b }) w.sent →
     (waiting : Option (ℕ × Config)) → m.waiting ≡ waiting → Assigned rules m w h (activated C m b from waiting)
 activate_goes_on rules m w h b from s k sent None e = answer_goes_on rules m w h b from s k (s.said 0 _ sent)
 activate_goes_on {S = S} {C = C} rules m w h b from s k sent (Some (waiting, config)) e = by_ballot (cases_Bool (b == waiting))

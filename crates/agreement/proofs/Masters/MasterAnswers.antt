@@ -12,7 +12,7 @@ use Rattle.agreement.specs.Inside.Extending.{Extends}
 use Rattle.agreement.specs.MasterState.{MasterState, activated}
 use Rattle.agreement.specs.Inside.Masters.{IsMaster}
 use Rattle.agreement.specs.Steps.{sends_from_master}
-use Rattle.agreement.specs.Inside.Sound.{IsSound}
+use Rattle.agreement.specs.Inside.Sound.{IsSoundWorld}
 use Rattle.agreement.specs.Inside.Saying.{SpeaksTruth}
 use Rattle.agreement.proofs.Masters.Assigned.{Assigned}
 use Rattle.agreement.proofs.Frame.Joining.{IsSilent}
@@ -21,7 +21,7 @@ use Rattle.agreement.proofs.Masters.MasterMoves.{master_goes_on, master_lost}
 
 -- a ballot that does not wait is answered
 pub answer_goes_on : {S C O : Type 0} (rules : Rules S C O) (m : MasterState) (w : World S C O) (h : History C) (b from : ℕ) →
-    IsSound rules w h → IsMaster m h → SpeaksTruth w h 0 from (Activate b) → Assigned rules m w h (activated C m b from None)
+    IsSoundWorld rules w h → IsMaster m h → SpeaksTruth w h 0 from (Activate b) → Assigned rules m w h (activated C m b from None)
 answer_goes_on {S = S} {C = C} {O = O} rules m w h b from s k (g, is_of, sender, (l, lined, chosen)) =
     record {
       goes_on = record { history = h; extends = whole.1; active = λ c j. j; sound = whole.0 };
@@ -51,10 +51,10 @@ answer_goes_on {S = S} {C = C} {O = O} rules m w h b from s k (g, is_of, sender,
     )
     says false e = (g, is_of.given, sender)
 
-    gone : IsSound rules w h × Extends w h w h × ToldBack w h w h
+    gone : IsSoundWorld rules w h × Extends w h w h × ToldBack w h w h
     gone = master_lost rules w h h.given h.activated s (λ c x e. e) (λ c x e. (k.numbered c x e).0) (λ c j. j) s.ballots s.lines.told
 
-    whole : IsSound rules (sends_from_master w (activated C m b from None)) h × Extends w h (sends_from_master w (activated C m b from None)) h
+    whole : IsSoundWorld rules (sends_from_master w (activated C m b from None)) h × Extends w h (sends_from_master w (activated C m b from None)) h
         × ToldBack w h (sends_from_master w (activated C m b from None)) h
     whole = master_goes_on rules w h (activated C m b from None) h.given h.activated s (silent (b == m.active)) (λ c x e. e)
         (λ c x e. (k.numbered c x e).0) (λ c j. j) s.ballots s.lines.told (says (b == m.active) refl)

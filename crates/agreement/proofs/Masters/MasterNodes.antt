@@ -5,7 +5,7 @@ use Rattle.whole.specs.Replica.{ReplicaState}
 use Rattle.agreement.specs.World.{World}
 use Rattle.whole.specs.lists.Lists.{In}
 use Rattle.agreement.specs.Inside.Ballots.{Given, Line, History, Told, AreLines}
-use Rattle.agreement.specs.Inside.Extending.{Extends, IsWithin}
+use Rattle.agreement.specs.Inside.Extending.{Extends, AcknowledgedIsWithin}
 use Rattle.agreement.specs.Inside.Sound.{IsSoundNode}
 use Rattle.agreement.proofs.Frame.Later.{told_kept, applied_kept}
 use Rattle.agreement.proofs.Frame.SaysLater.{of_kept}
@@ -14,7 +14,7 @@ use Rattle.agreement.proofs.Frame.Others.{between_kept}
 -- a node, with more ballots
 pub node_with_ballots : {S C O : Type 0} (w v : World S C O) (h : History C) (given : ℕ → Option Given) (activated : List ℕ) (n : ℕ)
     (r : ReplicaState S C) → Extends w h v (record h { given = given; activated = activated }) →
-    ((c : ℕ) → In c h.activated → In c activated) → IsWithin w h →
+    ((c : ℕ) → In c h.activated → In c activated) → AcknowledgedIsWithin w h →
     ((c : ℕ) (g : Given) → given c ≡ Some g → (x : Given) × (h.given c ≡ Some x) → h.given c ≡ Some g) →
     ((c : ℕ) (g : Given) → given c ≡ Some g → 0 < c) →
     ((c k : ℕ) → Told v (record h { given = given; activated = activated }) (n + 1) c k → Told w h (n + 1) c k) →

@@ -7,9 +7,9 @@ use Rattle.agreement.specs.World.{World}
 use Rattle.whole.specs.lists.Lists.{In}
 use Rattle.whole.specs.lists.Lists.In.{here, there}
 use Rattle.agreement.specs.Inside.Ballots.{Given, Line, History, Told, IsChosenIn, IsChain, AreBallots}
-use Rattle.agreement.specs.Inside.Extending.{Extends, IsWithin}
+use Rattle.agreement.specs.Inside.Extending.{Extends, AcknowledgedIsWithin}
 use Rattle.agreement.specs.Inside.Ballots.Told.{told_at_opening, told_by_held, told_by_installed, told_as_primary}
-use Rattle.agreement.specs.Inside.Sound.{IsSound}
+use Rattle.agreement.specs.Inside.Sound.{IsSoundWorld}
 use Rattle.agreement.specs.Inside.Saying.{SpeaksTruth}
 use Rattle.whole.proofs.of_lists.Prefixes.{prefix_same}
 use Rattle.whole.proofs.of_lists.Members.{in_left, in_append}
@@ -44,14 +44,14 @@ ToldBack w h v i = (m b k : ℕ) → Told v i m b k → Told w h m b k
 
 -- messages of the master, perhaps none
 pub master_sends : {S C O : Type 0} (rules : Rules S C O) (w : World S C O) (h : History C) (extra : List (ℕ × Message C))
-    (given : ℕ → Option Given) (activated : List ℕ) → IsSound rules w h → AreSilent extra →
+    (given : ℕ → Option Given) (activated : List ℕ) → IsSoundWorld rules w h → AreSilent extra →
     ((c : ℕ) (g : Given) → h.given c ≡ Some g → given c ≡ Some g) →
     ((c : ℕ) (g : Given) → given c ≡ Some g → 0 < c) →
     ((c : ℕ) → In c h.activated → In c activated) → AreBallots (with_ballots h given activated) →
     ((c : ℕ) → In c activated → (l : Line C) × (h.line c ≡ Some l) × IsChosenIn w h c (length l.base)) →
     ((to : ℕ) (m : Message C) → In (to, m) extra →
     SpeaksTruth (record w { sent = w.sent ++ extra }) (with_ballots h given activated) to m.from m.body) →
-    IsSound rules (record w { sent = w.sent ++ extra }) (with_ballots h given activated)
+    IsSoundWorld rules (record w { sent = w.sent ++ extra }) (with_ballots h given activated)
     × Extends w h (record w { sent = w.sent ++ extra }) (with_ballots h given activated)
     × ToldBack w h (record w { sent = w.sent ++ extra }) (with_ballots h given activated)
 master_sends {S = S} {C = C} {O = O} rules w h extra given activated s silent more positive active ballots told says = (
@@ -88,7 +88,7 @@ master_sends {S = S} {C = C} {O = O} rules w h extra given activated s silent mo
     i : History C
     i = with_ballots h given activated
 
-    within : IsWithin w h
+    within : AcknowledgedIsWithin w h
     within = within_of rules w h s
 
     back : (c : ℕ) (g : Given) → given c ≡ Some g → (x : Given) × (h.given c ≡ Some x) → h.given c ≡ Some g

@@ -17,7 +17,7 @@ use Rattle.agreement.specs.Inside.Keeps.{NodeGoesOn, LineAdds}
 use Rattle.agreement.specs.Inside.Keeps.LineAdds.{as_it_was, begins_after, adds_one}
 use Rattle.agreement.specs.Proposals.{commands_of, IsOfBallot}
 use Rattle.agreement.specs.Inside.Own.{OwnLines}
-use Rattle.agreement.specs.Inside.Sound.{IsSound}
+use Rattle.agreement.specs.Inside.Sound.{IsSoundWorld}
 use Rattle.whole.proofs.of_lists.Prefixes.{prefix_then}
 use Rattle.agreement.proofs.Orders.Owning.{own_starts, own_proposed}
 use Rattle.agreement.proofs.Frame.Bases.{one_line}
@@ -93,7 +93,7 @@ own_goes_on rules w v h r Ticks rows g s =
 
 -- what clients need of it: in each log the commands of one ballot are a prefix of those proposed in
 -- it
-pub own_in_logs : {S C O : Type 0} (rules : Rules S C O) (w : World S C O) (h : History C) (rows : List (ℕ × C)) → IsSound rules w h →
+pub own_in_logs : {S C O : Type 0} (rules : Rules S C O) (w : World S C O) (h : History C) (rows : List (ℕ × C)) → IsSoundWorld rules w h →
     OwnLines rules.start_of h rows → (n : ℕ) (r : ReplicaState S C) → slice_get w.nodes n ≡ Some r → (names : C → Bool) (ballot : ℕ) →
     IsOfBallot rules.start_of names ballot rows → IsPrefixOf (filter names r.log) (filter names (commands_of rows))
 own_in_logs {S = S} {C = C} rules w h rows s own n r stands names ballot of = by_ballot (cases_lt 0 r.held_in)

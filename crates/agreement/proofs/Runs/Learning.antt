@@ -16,8 +16,8 @@ use Rattle.whole.proofs.of_lists.Prefixes.{prefix_take, prefix_then}
 use Rattle.agreement.specs.Inside.Ballots.{History, Applied}
 use Rattle.agreement.specs.Inside.Ballots.Applied.{nothing, in_ballot}
 use Rattle.agreement.specs.Inside.Keeps.{KeepsSoundness}
-use Rattle.agreement.specs.Inside.Serves.{IsLed, Serves}
-use Rattle.agreement.specs.Inside.Sound.{IsSound, IsSoundNode}
+use Rattle.agreement.specs.Inside.Serves.{IsLedByNode, Serves}
+use Rattle.agreement.specs.Inside.Sound.{IsSoundWorld, IsSoundNode}
 use Rattle.agreement.specs.MasterState.{MasterState}
 use Rattle.agreement.specs.World.{World, moved}
 use Rattle.agreement.proofs.Frame.Joining.{MovesQuietly, quiet_extends}
@@ -52,7 +52,7 @@ learned_applied {S = S} {C = C} {O = O} rules w h r t k y = by_way y.applied
 
 -- a node that learns
 pub keeps_learned : {S C O : Type 0} (rules : Rules S C O) (w : World S C O) (h : History C) (n : ℕ) (r t : ReplicaState S C) (k : ℕ) →
-    IsSound rules w h → slice_get w.nodes n ≡ Some r → is_active r.role ≡ false → r.committed ≤ k → k ≤ length r.log → Teaches w h r t k →
+    IsSoundWorld rules w h → slice_get w.nodes n ≡ Some r → is_active r.role ≡ false → r.committed ≤ k → k ≤ length r.log → Teaches w h r t k →
     KeepsSoundness rules w h n (record { state = applied_to rules r k; effects = [] })
 keeps_learned {S = S} {C = C} {O = O} rules w h n r t k s stands passive up within y =
     quiet_keeps rules w h n r (record { state = new; effects = [] }) s stands (omega arith) up (λ to m i. elim i [ ]) refl
@@ -124,7 +124,7 @@ learned_serves {S = S} {C = C} {O = O} rules m w h n r k s stands x =
       replays = x.run.replays;
       serving = s.serving;
       senders = moved_senders rules w h n r (applied_to rules r k) [] s.sound stands (λ to y i. elim i [ ]) s.senders;
-      led = subst (λ j. IsLed j x.run.group.goes_on.history m.active) (sym (length-set w.nodes n (applied_to rules r k)))
+      led = subst (λ j. IsLedByNode j x.run.group.goes_on.history m.active) (sym (length-set w.nodes n (applied_to rules r k)))
           (s.led.0, x.run.group.goes_on.extends.given m.active s.led.0 s.led.1, s.led.2);
       begun = x.run.begun s.begun;
       long = x.run.long;

@@ -9,11 +9,11 @@ use Rattle.whole.specs.Replica.{ReplicaState, opening, opening_member, progress_
 use Rattle.agreement.specs.World.{can_open, opening_nodes, opening_world}
 use Rattle.agreement.specs.Inside.Masters.{IsServing}
 use Rattle.agreement.specs.Inside.Begun.{AreLong}
-use Rattle.agreement.specs.Inside.Serves.{IsLed, Serves}
+use Rattle.agreement.specs.Inside.Serves.{IsLedByNode, Serves}
 use Rattle.agreement.specs.Inside.OpeningHistory.{first_ballot, opening_history}
 use Rattle.agreement.specs.MasterState.{opening_master}
 use Rattle.agreement.specs.Replays.{IsReplay, AreReplays}
-use Rattle.agreement.specs.Inside.Sound.{IsSound}
+use Rattle.agreement.specs.Inside.Sound.{IsSoundWorld}
 use Rattle.agreement.proofs.Masters.Assigns.{can_open_is, lawful_is}
 use Rattle.agreement.proofs.Runs.RunsGoOn.{opening_begun}
 use Rattle.agreement.proofs.Runs.OpeningTold.{first_given}
@@ -31,7 +31,7 @@ opening_serves config = record { waiting = λ b c f. cc; given = omega arith }
 
 -- its primary is one of the nodes
 opening_led : {S C O : Type 0} (rules : Rules S C O) (nodes : ℕ) (config : Config) → can_open nodes config ≡ true →
-    IsLed (length (opening_world rules nodes config).nodes) (opening_history C config) 1
+    IsLedByNode (length (opening_world rules nodes config).nodes) (opening_history C config) 1
 opening_led {C = C} rules nodes config e =
     let lawful = lawful_is config (can_open_is nodes config e).0 in
     let within = (can_open_is nodes config e).1 config.primary lawful.0 in
@@ -41,7 +41,7 @@ opening_led {C = C} rules nodes config e =
 
 -- the first ballot alone has an active primary
 opening_long : {S C O : Type 0} (rules : Rules S C O) (nodes : ℕ) (config : Config) →
-    IsSound rules (opening_world rules nodes config) (opening_history C config) → AreLong (opening_world rules nodes config) (opening_history C config)
+    IsSoundWorld rules (opening_world rules nodes config) (opening_history C config) → AreLong (opening_world rules nodes config) (opening_history C config)
 opening_long {C = C} rules nodes config s n r e active =
     let a = (s.nodes n r e).active active in inl (first_given C config r.joined a.leads.0 a.leads.1).0
 

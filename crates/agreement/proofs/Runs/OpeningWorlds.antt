@@ -13,7 +13,7 @@ use Rattle.agreement.specs.Inside.Ballots.Told.{told_at_opening}
 use Rattle.agreement.specs.Inside.Masters.{IsMaster}
 use Rattle.agreement.specs.Inside.OpeningHistory.{first_ballot, first_line, opening_history}
 use Rattle.agreement.specs.MasterState.{opening_master}
-use Rattle.agreement.specs.Inside.Sound.{IsSoundNode, IsSound}
+use Rattle.agreement.specs.Inside.Sound.{IsSoundNode, IsSoundWorld}
 use Rattle.whole.proofs.of_lists.Prefixes.{prefix_same}
 use Rattle.agreement.proofs.Frame.Giving.{get_pushed_to}
 use Rattle.agreement.proofs.Runs.OpeningTold.{first_given, first_lined, told_opens}
@@ -44,7 +44,7 @@ none_later C config b g e later =
 
 -- a world that opens is sound
 pub opening_sound : {S C O : Type 0} (rules : Rules S C O) (nodes : ℕ) (config : Config) → In config.primary config.members →
-    IsSound rules (opening_world rules nodes config) (opening_history C config)
+    IsSoundWorld rules (opening_world rules nodes config) (opening_history C config)
 opening_sound {S = S} {C = C} {O = O} rules nodes config led =
     record {
       ballots = record {

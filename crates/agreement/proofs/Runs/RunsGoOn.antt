@@ -19,7 +19,7 @@ use Rattle.agreement.specs.MasterState.{MasterState}
 use Rattle.agreement.specs.Inside.Masters.{IsMaster}
 use Rattle.agreement.specs.Inside.OpeningHistory.{opening_history}
 use Rattle.agreement.specs.Replays.{AreReplays}
-use Rattle.agreement.specs.Inside.Sound.{IsSound}
+use Rattle.agreement.specs.Inside.Sound.{IsSoundWorld}
 use Rattle.agreement.proofs.Masters.Assigned.{GivenNow, ActivatedNow}
 use Rattle.agreement.proofs.Masters.Assigning.{assign_goes_on}
 use Rattle.agreement.proofs.Starts.Begins.{begun_lines, keeps_begun}
@@ -76,7 +76,7 @@ begun_same {C = C} start_of h i e begun b k f = begun b k (ap (λ (g : ℕ → O
 
 -- whatever happens
 pub group_goes_on : {S C O : Type 0} (rules : Rules S C O) (m k : MasterState) (w v : World S C O) (h : History C) →
-    IsSound rules w h → AreLong w h → AreReplays rules w → IsMaster m h → (step : GroupStep rules m w k v) → StepGoesOn rules w h k v (adds_of step)
+    IsSoundWorld rules w h → AreLong w h → AreReplays rules w → IsMaster m h → (step : GroupStep rules m w k v) → StepGoesOn rules w h k v (adds_of step)
 group_goes_on {C = C} rules m k w v h s long all master (takes n r input {new = new} {given = given} stands runs may loses) =
     let g = lossy_goes_on rules w h n r (λ b c. AddsBy rules r input b c × BeginsOrFollows rules.start_of h b c) (replica_step rules r input) _ _ s stands
     (keeps_begun rules w h n r input s long stands (all n r stands runs) may) loses in

@@ -18,8 +18,8 @@ use Rattle.agreement.specs.Steps.{MayHappen, sends_from_master, world_after}
 use Rattle.agreement.specs.Steps.MayHappen.{node_takes, node_stops, master_assigns, master_hears, assignment_lost, answer_lost}
 use Rattle.agreement.specs.Inside.Ballots.{Given, History}
 use Rattle.agreement.specs.Inside.Extending.{Extends}
-use Rattle.agreement.specs.Inside.Serves.{IsNode, AreSenders, IsLed, Serves}
-use Rattle.agreement.specs.Inside.Sound.{IsSound}
+use Rattle.agreement.specs.Inside.Serves.{IsNode, AreSenders, IsLedByNode, Serves}
+use Rattle.agreement.specs.Inside.Sound.{IsSoundWorld}
 use Rattle.agreement.proofs.Effects.{thinned_messages}
 use Rattle.agreement.proofs.Masters.Assigns.{active_or_waiting}
 use Rattle.agreement.proofs.Runs.Senders.{from_in, step_is_from}
@@ -42,7 +42,7 @@ loses_from {C = C} {O = O} rules r input new given (inr (inr (e, f))) to m i =
 
 -- a node's move
 pub moved_senders : {S C O : Type 0} (rules : Rules S C O) (w : World S C O) (h : History C) (n : ℕ) (r new : ReplicaState S C) (given : List (Effect C O)) →
-    IsSound rules w h → slice_get w.nodes n ≡ Some r → ((to : ℕ) (m : Message C) → In (to, m) (messages given) → m.from ≡ r.id) →
+    IsSoundWorld rules w h → slice_get w.nodes n ≡ Some r → ((to : ℕ) (m : Message C) → In (to, m) (messages given) → m.from ≡ r.id) →
     AreSenders w → AreSenders (moved w n new given)
 moved_senders {S = S} {C = C} {O = O} rules w h n r new given s stands from senders to m i = by_age (in_append w.sent (messages given) i)
   where
@@ -66,7 +66,7 @@ master_senders {C = C} w o senders to m i = by_age (in_append w.sent _ i)
 
 -- whatever happens
 pub senders_stay : {S C O : Type 0} (rules : Rules S C O) (m : MasterState) (w : World S C O) (k : MasterState) (v : World S C O) (h : History C) →
-    IsSound rules w h → MayHappen rules m w k v → AreSenders w → AreSenders v
+    IsSoundWorld rules w h → MayHappen rules m w k v → AreSenders w → AreSenders v
 senders_stay rules m w k v h s (node_takes n r input {new = new} {given = given} stands runs may loses) senders =
     moved_senders rules w h n r new given s stands (loses_from rules r input new given loses) senders
 senders_stay rules m w k v h s (node_stops n r stands) senders =
@@ -123,7 +123,7 @@ active_then {S = S} {C = C} {O = O} rules m w k v (assignment_lost config) = by_
 
 -- who asks for the ballot that waits is its primary, a member, and so no master
 asked_led : {S C O : Type 0} (rules : Rules S C O) (m : MasterState) (w : World S C O) (h : History C) (b : ℕ) →
-    Serves rules m w h → IsAsked m w b → IsLed (length w.nodes) h b
+    Serves rules m w h → IsAsked m w b → IsLedByNode (length w.nodes) h b
 asked_led {S = S} {C = C} {O = O} rules m w h b s (from, sent, (config, waits)) = by_sender (s.senders 0 _ sent)
   where
     said : (g : Given) × (h.given b ≡ Some g) × (from ≡ g.primary)
@@ -138,7 +138,7 @@ asked_led {S = S} {C = C} {O = O} rules m w h b s (from, sent, (config, waits)) 
     member : In said.0.primary config.members
     member = subst (λ ms. In said.0.primary ms) (ap (λ (y : Given). y.members) same ∙ given.2) (s.sound.ballots.led b said.0 said.1)
 
-    by_sender : (from ≡ 0) ⊎ IsNode (length w.nodes) from → IsLed (length w.nodes) h b
+    by_sender : (from ≡ 0) ⊎ IsNode (length w.nodes) from → IsLedByNode (length w.nodes) h b
     by_sender (inl none) =
         let z = s.serving.waiting b config waits said.0.primary member in
         let e = z.1 in let f = said.2 in absurd (omega (arith, e, f, none))
@@ -146,13 +146,13 @@ asked_led {S = S} {C = C} {O = O} rules m w h b s (from, sent, (config, waits)) 
 
 -- the primary of the active ballot is a node
 pub led_then : {S C O : Type 0} (rules : Rules S C O) (m : MasterState) (w : World S C O) (k : MasterState) (v : World S C O) (h i : History C) →
-    Serves rules m w h → Extends w h v i → MayHappen rules m w k v → IsLed (length v.nodes) i k.active
+    Serves rules m w h → Extends w h v i → MayHappen rules m w k v → IsLedByNode (length v.nodes) i k.active
 led_then {S = S} {C = C} {O = O} rules m w k v h i s extends step =
-    subst (λ j. IsLed j i k.active) (sym (same_nodes rules m w k v step)) (given_still (by_active (active_then rules m w k v step)))
+    subst (λ j. IsLedByNode j i k.active) (sym (same_nodes rules m w k v step)) (given_still (by_active (active_then rules m w k v step)))
   where
-    by_active : (k.active ≡ m.active) ⊎ IsAsked m w k.active → IsLed (length w.nodes) h k.active
-    by_active (inl same) = subst (λ b. IsLed (length w.nodes) h b) (sym same) s.led
+    by_active : (k.active ≡ m.active) ⊎ IsAsked m w k.active → IsLedByNode (length w.nodes) h k.active
+    by_active (inl same) = subst (λ b. IsLedByNode (length w.nodes) h b) (sym same) s.led
     by_active (inr asked) = asked_led rules m w h k.active s asked
 
-    given_still : IsLed (length w.nodes) h k.active → IsLed (length w.nodes) i k.active
+    given_still : IsLedByNode (length w.nodes) h k.active → IsLedByNode (length w.nodes) i k.active
     given_still (g, is, node) = (g, extends.given k.active g is, node)

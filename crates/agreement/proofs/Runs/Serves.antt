@@ -14,9 +14,9 @@ use Rattle.agreement.specs.Steps.MayHappen.{node_takes, node_stops, master_assig
 use Rattle.agreement.specs.Inside.Ballots.{Given, History}
 use Rattle.agreement.specs.Inside.GroupSteps.{adds_of, GroupStep}
 use Rattle.agreement.specs.Inside.GroupSteps.GroupStep.{takes, stops, assigns, hears, assigns_unheard, hears_unanswered}
-use Rattle.agreement.specs.Inside.Sound.{IsSound}
+use Rattle.agreement.specs.Inside.Sound.{IsSoundWorld}
 use Rattle.agreement.proofs.Agreed.Agreeing.{sound_agrees}
-use Rattle.agreement.specs.Inside.Serves.{IsLed, IsNode}
+use Rattle.agreement.specs.Inside.Serves.{IsLedByNode, IsNode}
 use Rattle.agreement.proofs.Masters.Assigns.{lawful_is, not_refused, serving_assigned, serving_activated}
 
 -- a step of such a group changes nothing, or is one of the group that takes in the same proposal
@@ -58,8 +58,8 @@ node_there (x ∷ xs) zero low = (x, refl)
 node_there (x ∷ xs) (suc n) low = node_there xs n (omega (arith, low))
 
 -- the primary of the active ballot is a member that is a node, and holds the agreed list
-pub serves_held : {S C O : Type 0} (rules : Rules S C O) (m : MasterState) (w : World S C O) (h : History C) (xs : List C) → IsSound rules w h →
-    IsMaster m h → IsLed (length w.nodes) h m.active → IsAgreedIn w h xs → Holds m w xs
+pub serves_held : {S C O : Type 0} (rules : Rules S C O) (m : MasterState) (w : World S C O) (h : History C) (xs : List C) → IsSoundWorld rules w h →
+    IsMaster m h → IsLedByNode (length w.nodes) h m.active → IsAgreedIn w h xs → Holds m w xs
 serves_held {S = S} {C = C} {O = O} rules m w h xs s k led agreed = by_number (subst (λ (y : Given). IsNode (length w.nodes) y.primary) same led.2)
   where
     same : led.0 ≡ k.active_members.0

@@ -20,7 +20,7 @@ use Rattle.agreement.specs.MasterState.{MasterState, MasterOutcome}
 use Rattle.agreement.specs.Inside.Masters.{IsMaster}
 use Rattle.agreement.specs.Inside.MovesAt.{with_lines}
 use Rattle.agreement.specs.Replays.{IsReplay}
-use Rattle.agreement.specs.Inside.Sound.{IsSound}
+use Rattle.agreement.specs.Inside.Sound.{IsSoundWorld}
 use Rattle.agreement.proofs.Serving.ActiveTicks.{keeps_tick_active}
 use Rattle.agreement.proofs.Changing.Activating.{keeps_activated}
 use Rattle.agreement.proofs.Frame.Adding.{adds_less}
@@ -42,7 +42,7 @@ use Rattle.agreement.proofs.Serving.Ticking.{keeps_tick}
 
 -- a message that comes
 keeps_received : {S C O : Type 0} (rules : Rules S C O) (w : World S C O) (h : History C) (n : ℕ) (r : ReplicaState S C) (from : ℕ)
-    (body : Body C) → IsSound rules w h → slice_get w.nodes n ≡ Some r → IsReplay rules r → In (n + 1, record { from = from; body = body }) w.sent →
+    (body : Body C) → IsSoundWorld rules w h → slice_get w.nodes n ≡ Some r → IsReplay rules r → In (n + 1, record { from = from; body = body }) w.sent →
     KeepsAdding rules w h n (λ b c. c ≡ rules.start_of b) (received rules r from body)
 keeps_received rules w h n r from (NewBallot b members a old) s e ran i = adds_less rules w h n (λ b c. ⊥) (λ b c. c ≡ rules.start_of b) _ (λ b c z. absurd z) (keeps_new_ballot rules w h n r from b a members old s e i)
 keeps_received rules w h n r from (Join b a) s e ran i = adds_less rules w h n (λ b c. ⊥) (λ b c. c ≡ rules.start_of b) _ (λ b c z. absurd z) (keeps_join rules w h n r from b a s e i)
@@ -58,7 +58,7 @@ keeps_received rules w h n r from (Commit b held) s e ran i = adds_less rules w 
 
 -- the step of a node
 pub keeps_step : {S C O : Type 0} (rules : Rules S C O) (w : World S C O) (h : History C) (n : ℕ) (r : ReplicaState S C) (input : Input C) →
-    IsSound rules w h → slice_get w.nodes n ≡ Some r → IsReplay rules r → MayTake w n input → KeepsAdding rules w h n (AddsBy rules r input) (replica_step rules r input)
+    IsSoundWorld rules w h → slice_get w.nodes n ≡ Some r → IsReplay rules r → MayTake w n input → KeepsAdding rules w h n (AddsBy rules r input) (replica_step rules r input)
 keeps_step rules w h n r (Receives message) s e ran i = keeps_received rules w h n r message.from message.body s e ran i
 keeps_step rules w h n r (Proposes c) s e ran i = keeps_proposed rules w h n r c s e ran
 keeps_step rules w h n r Ticks s e ran i =

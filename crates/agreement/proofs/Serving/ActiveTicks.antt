@@ -15,7 +15,7 @@ use Rattle.whole.specs.lists.Lists.In.{here, there}
 use Rattle.agreement.specs.Inside.Ballots.{History, Told, IsChosenIn}
 use Rattle.agreement.specs.Inside.Ballots.Told.{told_as_primary}
 use Rattle.agreement.specs.Inside.Keeps.{KeepsSoundness}
-use Rattle.agreement.specs.Inside.Sound.{IsActive, IsSoundNode, IsSound}
+use Rattle.agreement.specs.Inside.Sound.{IsActive, IsSoundNode, IsSoundWorld}
 use Rattle.agreement.specs.Inside.Saying.{SpeaksTruth}
 use Rattle.whole.proofs.of_lists.Members.{in_append}
 use Rattle.agreement.proofs.Effects.{messages-append, outputs-append, outputs_of_messages}
@@ -93,7 +93,7 @@ followed_other w h n r a reached i =
 
 -- a tick of an active primary
 pub keeps_tick_active : {S C O : Type 0} (rules : Rules S C O) (w : World S C O) (h : History C) (n : ℕ) (r : ReplicaState S C) →
-    IsSound rules w h → slice_get w.nodes n ≡ Some r → IsActive w h n r → KeepsSoundness rules w h n (on_tick_active O r)
+    IsSoundWorld rules w h → slice_get w.nodes n ≡ Some r → IsActive w h n r → KeepsSoundness rules w h n (on_tick_active O r)
 keeps_tick_active {S = S} {C = C} {O = O} rules w h n r s stands a =
     subst (λ (o : Outcome S C O). KeepsSoundness rules w h n o) (sym (on_tick_active-is O r))
     (speaking_keeps rules w h n r (appends_after O r.id r.joined r.log r.progress ++ message_to_followed O r.id (Commit r.joined r.committed) r.progress)

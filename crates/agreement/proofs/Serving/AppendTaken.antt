@@ -16,7 +16,7 @@ use Rattle.agreement.specs.Inside.Ballots.Applied.{nothing, in_ballot}
 use Rattle.agreement.specs.Inside.Keeps.LineAdds.{as_it_was}
 use Rattle.agreement.specs.Inside.Keeps.{KeepsSoundness}
 use Rattle.agreement.specs.Inside.MovesAt.{MovesAt, with_lines}
-use Rattle.agreement.specs.Inside.Sound.{IsSoundNode, IsSound}
+use Rattle.agreement.specs.Inside.Sound.{IsSoundNode, IsSoundWorld}
 use Rattle.agreement.specs.Inside.Saying.{SpeaksTruth}
 use Rattle.whole.proofs.of_lists.Prefixes.{prefix_then, prefix_length, take_prefix}
 use Rattle.agreement.proofs.Effects.{thinned_messages, thinned_outputs}
@@ -32,7 +32,7 @@ use Rattle.agreement.proofs.Serving.Extending.{extended_front, extended_grows}
 
 -- an Append that is taken
 pub append_taken : {S C O : Type 0} (rules : Rules S C O) (w : World S C O) (h : History C) (n : ℕ) (r : ReplicaState S C)
-    (from b place : ℕ) (c : C) → IsSound rules w h → slice_get w.nodes n ≡ Some r → SpeaksTruth w h (n + 1) from (Append b place c) →
+    (from b place : ℕ) (c : C) → IsSoundWorld rules w h → slice_get w.nodes n ≡ Some r → SpeaksTruth w h (n + 1) from (Append b place c) →
     Follows r b → place ≤ length r.log →
     (g : Given) (l : Line C) → h.given b ≡ Some g → h.line b ≡ Some l → IsPrefixOf l.base r.log → IsPrefixOf r.log l.list →
     KeepsSoundness rules w h n (record {

@@ -12,7 +12,7 @@ use Rattle.agreement.specs.World.{World}
 use Rattle.whole.specs.lists.Lists.{In, IsPrefixOf}
 use Rattle.agreement.specs.Inside.Ballots.{Given, Line, History}
 use Rattle.agreement.specs.Inside.Keeps.{KeepsSoundness}
-use Rattle.agreement.specs.Inside.Sound.{IsSound}
+use Rattle.agreement.specs.Inside.Sound.{IsSoundWorld}
 use Rattle.agreement.specs.Inside.Saying.{SpeaksTruth}
 use Rattle.agreement.proofs.Serving.Committing.{Follows, follows_is}
 use Rattle.agreement.proofs.Frame.Quiet.{keeps_nothing}
@@ -20,7 +20,7 @@ use Rattle.agreement.proofs.Serving.AppendTaken.{append_taken}
 
 -- an Append that comes
 pub keeps_append : {S C O : Type 0} (rules : Rules S C O) (w : World S C O) (h : History C) (n : ℕ) (r : ReplicaState S C)
-    (from b place : ℕ) (c : C) → IsSound rules w h → slice_get w.nodes n ≡ Some r →
+    (from b place : ℕ) (c : C) → IsSoundWorld rules w h → slice_get w.nodes n ≡ Some r →
     In (n + 1, record { from = from; body = Append b place c }) w.sent → KeepsSoundness rules w h n (on_append O r from b place c)
 keeps_append {S = S} {C = C} {O = O} rules w h n r from b place c s stands sent = by_role (cases_Bool (follows r b))
   where

@@ -12,7 +12,7 @@ use Rattle.whole.specs.lists.Lists.{In}
 use Rattle.agreement.specs.Inside.Ballots.{History}
 use Rattle.agreement.specs.Inside.Keeps.{KeepsAdding}
 use Rattle.agreement.specs.Inside.MovesAt.{with_lines, lined_at}
-use Rattle.agreement.specs.Inside.Sound.{IsSound}
+use Rattle.agreement.specs.Inside.Sound.{IsSoundWorld}
 use Rattle.agreement.specs.Inside.Saying.{SpeaksTruth}
 use Rattle.whole.proofs.of_lists.Prefixes.{prefix_push, take_prefix}
 use Rattle.whole.proofs.of_lists.Places.{get_pushed}
@@ -26,7 +26,7 @@ use Rattle.agreement.proofs.Serving.Growing.{grown_ready}
 
 -- a command is added, and sent
 pub keeps_added : {S C O : Type 0} (rules : Rules S C O) (w : World S C O) (h : History C) (n : ℕ) (old r : ReplicaState S C) (c : C) →
-    IsSound rules w h → slice_get w.nodes n ≡ Some old → Leading w h n r → r.id ≡ old.id → r.joined ≡ old.joined →
+    IsSoundWorld rules w h → slice_get w.nodes n ≡ Some old → Leading w h n r → r.id ≡ old.id → r.joined ≡ old.joined →
     r.held_in ≡ old.held_in → r.log ≡ old.log → old.committed ≤ r.committed → r.machine ≡ replay rules (take r.committed r.log) →
     KeepsAdding rules w h n (λ b x. (b ≡ r.joined) × (x ≡ c)) (added rules r c)
 keeps_added {S = S} {C = C} {O = O} rules w h n old r c s stands q same_id same_joined same_held same_log up ran =

@@ -16,7 +16,7 @@ use Rattle.whole.specs.lists.Lists.{In}
 use Rattle.agreement.specs.Inside.Ballots.{Line, History, IsChosenIn}
 use Rattle.agreement.specs.Inside.Keeps.{KeepsAdding}
 use Rattle.agreement.specs.Inside.MovesAt.{MovesAt, with_lines}
-use Rattle.agreement.specs.Inside.Sound.{IsActive, IsSoundNode, IsSound}
+use Rattle.agreement.specs.Inside.Sound.{IsActive, IsSoundNode, IsSoundWorld}
 use Rattle.agreement.specs.Inside.Saying.{SpeaksTruth}
 use Rattle.whole.proofs.of_lists.Members.{in_append}
 use Rattle.agreement.proofs.Effects.{messages-append, outputs-append, outputs_of_messages, thinned_messages, thinned_outputs}
@@ -32,7 +32,7 @@ use Rattle.agreement.proofs.Serving.Ready.{Ready, committed_node}
 
 -- what a primary sends first, and then with its commit
 pub ready_keeps : {S C O : Type 0} (rules : Rules S C O) (w : World S C O) (h : History C) (line : ℕ → Option (Line C)) (n : ℕ)
-    (old r : ReplicaState S C) (adds : ℕ → C → Type 0) (firsts : List (Effect C O)) → IsSound rules w h → Ready rules w h line n old r adds → outputs firsts ≡ [] →
+    (old r : ReplicaState S C) (adds : ℕ → C → Type 0) (firsts : List (Effect C O)) → IsSoundWorld rules w h → Ready rules w h line n old r adds → outputs firsts ≡ [] →
     r.id ≡ n + 1 → r.machine ≡ replay rules (take r.committed r.log) →
     ((to : ℕ) (m : Message C) → In (to, m) (messages firsts) → (m.from ≡ n + 1) × IsSilent m.body) →
     ((k : ℕ) (t : S) (given : List (Effect C O)) → MovesAt w h line n old (record r { committed = k; machine = t }) given →

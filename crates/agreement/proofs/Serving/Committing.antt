@@ -15,7 +15,7 @@ use Rattle.whole.specs.lists.Lists.{In, IsPrefixOf}
 use Rattle.agreement.specs.Inside.Ballots.{Given, Line, History, Applied}
 use Rattle.agreement.specs.Inside.Ballots.Applied.{nothing, in_ballot}
 use Rattle.agreement.specs.Inside.Keeps.{KeepsSoundness}
-use Rattle.agreement.specs.Inside.Sound.{IsSoundNode, IsSound}
+use Rattle.agreement.specs.Inside.Sound.{IsSoundNode, IsSoundWorld}
 use Rattle.agreement.specs.Inside.Saying.{SpeaksTruth}
 use Rattle.agreement.proofs.Frame.Later.{chosen_kept, takes}
 use Rattle.agreement.proofs.Frame.Joining.{MovesQuietly, quiet_extends}
@@ -36,7 +36,7 @@ follows_is r b e =
 
 -- a Commit that is taken
 commit_taken : {S C O : Type 0} (rules : Rules S C O) (w : World S C O) (h : History C) (n : ℕ) (r : ReplicaState S C)
-    (from b held : ℕ) → IsSound rules w h → slice_get w.nodes n ≡ Some r → SpeaksTruth w h (n + 1) from (Commit b held) →
+    (from b held : ℕ) → IsSoundWorld rules w h → slice_get w.nodes n ≡ Some r → SpeaksTruth w h (n + 1) from (Commit b held) →
     Follows r b → held ≤ length r.log →
     KeepsSoundness rules w h n (record { state = applied_to rules r (max r.committed held); effects = [] })
 commit_taken {S = S} {C = C} {O = O} rules w h n r from b held s stands said f within =
@@ -82,7 +82,7 @@ commit_taken {S = S} {C = C} {O = O} rules w h n r from b held s stands said f w
 
 -- a Commit that comes
 pub keeps_commit : {S C O : Type 0} (rules : Rules S C O) (w : World S C O) (h : History C) (n : ℕ) (r : ReplicaState S C)
-    (from b held : ℕ) → IsSound rules w h → slice_get w.nodes n ≡ Some r →
+    (from b held : ℕ) → IsSoundWorld rules w h → slice_get w.nodes n ≡ Some r →
     In (n + 1, record { from = from; body = Commit b held }) w.sent → KeepsSoundness rules w h n (on_commit rules r b held)
 keeps_commit {S = S} {C = C} {O = O} rules w h n r from b held s stands sent = by_role (cases_Bool (follows r b))
   where

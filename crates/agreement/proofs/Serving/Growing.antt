@@ -13,7 +13,7 @@ use Rattle.agreement.specs.Inside.Keeps.{LineAdds}
 use Rattle.agreement.specs.Inside.Keeps.LineAdds.{as_it_was, adds_one}
 use Rattle.agreement.specs.Inside.MovesAt.{MovesAt, with_lines, lined_at}
 use Rattle.agreement.specs.Inside.MovesAt.LineGoesOn.{grows}
-use Rattle.agreement.specs.Inside.Sound.{IsSoundNode, IsSound}
+use Rattle.agreement.specs.Inside.Sound.{IsSoundNode, IsSoundWorld}
 use Rattle.whole.proofs.of_lists.Prefixes.{prefix_then, prefix_push, prefix_length, take_prefix}
 use Rattle.agreement.proofs.Frame.EqualLists.{prefix_of_same}
 use Rattle.agreement.proofs.Frame.Framing.{within_of, move_extends}
@@ -26,7 +26,7 @@ use Rattle.agreement.proofs.Serving.Leading.{Leading, longer}
 
 -- the primary is ready to commit
 pub grown_ready : {S C O : Type 0} (rules : Rules S C O) (w : World S C O) (h : History C) (n : ℕ) (old r : ReplicaState S C) (c : C) →
-    IsSound rules w h → slice_get w.nodes n ≡ Some old → (q : Leading w h n r) → r.id ≡ old.id → r.joined ≡ old.joined →
+    IsSoundWorld rules w h → slice_get w.nodes n ≡ Some old → (q : Leading w h n r) → r.id ≡ old.id → r.joined ≡ old.joined →
     r.held_in ≡ old.held_in → r.log ≡ old.log → old.committed ≤ r.committed →
     Ready rules w h (lined_at r.joined (longer q.line c) h.line) n old (record r { log = r.log ++ c ∷ [] })
     (λ b x. (b ≡ r.joined) × (x ≡ c))

@@ -19,7 +19,7 @@ use Rattle.agreement.specs.Inside.Ballots.Applied.{nothing, in_ballot}
 use Rattle.agreement.specs.Inside.Keeps.LineAdds.{as_it_was}
 use Rattle.agreement.specs.Inside.Keeps.{KeepsSoundness}
 use Rattle.agreement.specs.Inside.MovesAt.{MovesAt, with_lines}
-use Rattle.agreement.specs.Inside.Sound.{IsActive, IsSoundNode, IsSound}
+use Rattle.agreement.specs.Inside.Sound.{IsActive, IsSoundNode, IsSoundWorld}
 use Rattle.agreement.proofs.Frame.Framing.{within_of, move_extends}
 use Rattle.agreement.proofs.Frame.Later.{told_kept, applied_kept}
 use Rattle.agreement.proofs.Frame.Lining.{silent_within}
@@ -32,7 +32,7 @@ use Rattle.agreement.proofs.Serving.Raising.{in_raised, raised_in, raised_told}
 
 -- the primary is ready to commit
 raised_ready : {S C O : Type 0} (rules : Rules S C O) (w : World S C O) (h : History C) (n : ℕ) (r : ReplicaState S C) (from held : ℕ) →
-    IsSound rules w h → slice_get w.nodes n ≡ Some r → r.role ≡ Active → Told w h from r.joined held →
+    IsSoundWorld rules w h → slice_get w.nodes n ≡ Some r → r.role ≡ Active → Told w h from r.joined held →
     Ready rules w h h.line n r (record r { progress = raised from held r.progress }) (λ b c. ⊥)
 raised_ready {S = S} {C = C} {O = O} rules w h n r from held s stands role heard =
     record {
@@ -124,7 +124,7 @@ raised_ready {S = S} {C = C} {O = O} rules w h n r from held s stands role heard
 
 -- a Held that comes
 pub keeps_held : {S C O : Type 0} (rules : Rules S C O) (w : World S C O) (h : History C) (n : ℕ) (r : ReplicaState S C)
-    (from b held : ℕ) → IsSound rules w h → slice_get w.nodes n ≡ Some r → r.machine ≡ replay rules (take r.committed r.log) →
+    (from b held : ℕ) → IsSoundWorld rules w h → slice_get w.nodes n ≡ Some r → r.machine ≡ replay rules (take r.committed r.log) →
     In (n + 1, record { from = from; body = Held b held }) w.sent → KeepsSoundness rules w h n (on_held rules r from b held)
 keeps_held {S = S} {C = C} {O = O} rules w h n r from b held s stands ran sent = by_role (cases_Bool (leads r b))
   where

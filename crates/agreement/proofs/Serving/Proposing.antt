@@ -10,7 +10,7 @@ use Rattle.whole.proofs.StepRows.{proposed-adds, proposed-not_active, proposed-f
 use Rattle.agreement.specs.World.{World}
 use Rattle.agreement.specs.Inside.Ballots.{History}
 use Rattle.agreement.specs.Inside.Keeps.{KeepsAdding}
-use Rattle.agreement.specs.Inside.Sound.{IsSound}
+use Rattle.agreement.specs.Inside.Sound.{IsSoundWorld}
 use Rattle.agreement.proofs.Frame.Adding.{adds_less}
 use Rattle.agreement.proofs.Serving.CommandAdded.{keeps_added}
 use Rattle.agreement.proofs.Serving.Leading.{active_leading}
@@ -19,7 +19,7 @@ use Rattle.agreement.proofs.Frame.Roles.{role_active}
 
 -- a proposal
 pub keeps_proposed : {S C O : Type 0} (rules : Rules S C O) (w : World S C O) (h : History C) (n : ℕ) (r : ReplicaState S C) (c : C) →
-    IsSound rules w h → slice_get w.nodes n ≡ Some r → r.machine ≡ replay rules (take r.committed r.log) →
+    IsSoundWorld rules w h → slice_get w.nodes n ≡ Some r → r.machine ≡ replay rules (take r.committed r.log) →
     KeepsAdding rules w h n (λ b x. (b ≡ r.joined) × (x ≡ c)) (proposed rules r c)
 keeps_proposed {S = S} {C = C} {O = O} rules w h n r c s stands ran = by_role (cases_Bool (is_active r.role))
   where

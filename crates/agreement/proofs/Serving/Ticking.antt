@@ -16,7 +16,7 @@ use Rattle.whole.specs.lists.Lists.{In}
 use Rattle.whole.specs.lists.Lists.In.{here, there}
 use Rattle.agreement.specs.Inside.Ballots.{Given, History}
 use Rattle.agreement.specs.Inside.Keeps.{KeepsSoundness}
-use Rattle.agreement.specs.Inside.Sound.{IsFetching, IsInstalling, IsActive, IsSound}
+use Rattle.agreement.specs.Inside.Sound.{IsFetching, IsInstalling, IsActive, IsSoundWorld}
 use Rattle.agreement.specs.Inside.Saying.{SpeaksTruth}
 use Rattle.agreement.proofs.Frame.Framing.{within_of}
 use Rattle.agreement.proofs.Frame.SaysLater.{says_kept}
@@ -27,7 +27,7 @@ use Rattle.agreement.proofs.Frame.Quiet.{before_quiet, quiet_keeps, keeps_nothin
 
 -- a step that changes no node, whose messages are so already and say nothing
 pub speaking_keeps : {S C O : Type 0} (rules : Rules S C O) (w : World S C O) (h : History C) (n : ℕ) (r : ReplicaState S C)
-    (effects : List (Effect C O)) → IsSound rules w h → slice_get w.nodes n ≡ Some r → AreSilent (messages effects) →
+    (effects : List (Effect C O)) → IsSoundWorld rules w h → slice_get w.nodes n ≡ Some r → AreSilent (messages effects) →
     outputs effects ≡ [] → ((to : ℕ) (m : Message C) → In (to, m) (messages effects) → SpeaksTruth w h to m.from m.body) →
     KeepsSoundness rules w h n (record { state = r; effects = effects })
 speaking_keeps rules w h n r effects s stands silent dumb says =
@@ -42,7 +42,7 @@ same_given o x y e f = cc
 
 -- a tick of a new primary that waits for a log
 keeps_tick_fetching : {S C O : Type 0} (rules : Rules S C O) (w : World S C O) (h : History C) (n : ℕ) (r : ReplicaState S C) →
-    IsSound rules w h → slice_get w.nodes n ≡ Some r → IsFetching w h n r → KeepsSoundness rules w h n (on_tick_fetching O r)
+    IsSoundWorld rules w h → slice_get w.nodes n ≡ Some r → IsFetching w h n r → KeepsSoundness rules w h n (on_tick_fetching O r)
 keeps_tick_fetching {S = S} {C = C} {O = O} rules w h n r s stands (leads, low, none, (g, is_of, prev, (old, given, olds))) =
     speaking_keeps rules w h n r (message_to_each O r.id (Join r.joined r.previous) r.previous_members) s stands
     (said_to_each O (λ to m. IsSilent m.body) r.id (Join r.joined r.previous) r.previous_members (λ to i. tt))
@@ -101,7 +101,7 @@ from_installs O r (x ∷ ms) to m i =
 
 -- a tick of a node
 pub keeps_tick : {S C O : Type 0} (rules : Rules S C O) (w : World S C O) (h : History C) (n : ℕ) (r : ReplicaState S C) →
-    IsSound rules w h → slice_get w.nodes n ≡ Some r →
+    IsSoundWorld rules w h → slice_get w.nodes n ≡ Some r →
     (IsActive w h n r → KeepsSoundness rules w h n (on_tick_active O r)) →
     (role : Role) → r.role ≡ role → KeepsSoundness rules w h n (ticked O r role)
 keeps_tick rules w h n r s stands active Backup e = keeps_nothing rules w h n r _ s stands refl

@@ -16,7 +16,7 @@ use Rattle.agreement.specs.Steps.{MayTake}
 use Rattle.agreement.specs.Inside.Keeps.{NodeGoesOn, KeepsAdding, LineAdds}
 use Rattle.agreement.specs.Inside.Keeps.LineAdds.{as_it_was, begins_after, adds_one}
 use Rattle.agreement.specs.Replays.{IsReplay}
-use Rattle.agreement.specs.Inside.Sound.{IsSound}
+use Rattle.agreement.specs.Inside.Sound.{IsSoundWorld}
 use Rattle.whole.proofs.of_lists.Prefixes.{prefix_get}
 use Rattle.whole.proofs.of_lists.Places.{get_pushed}
 use Rattle.agreement.proofs.Frame.Adding.{adds_less}
@@ -27,7 +27,7 @@ use Rattle.agreement.proofs.Runs.Steps.{keeps_step}
 
 -- the lists after a step
 pub begun_lines : {S C O : Type 0} (rules : Rules S C O) (w v : World S C O) (h : History C) (adds : ℕ → C → Type 0) →
-    ((b : ℕ) (c : C) → adds b c → BeginsOrFollows rules.start_of h b c) → IsSound rules w h → (g : NodeGoesOn rules w h adds v) →
+    ((b : ℕ) (c : C) → adds b c → BeginsOrFollows rules.start_of h b c) → IsSoundWorld rules w h → (g : NodeGoesOn rules w h adds v) →
     AreBegun rules.start_of h → AreBegun rules.start_of g.history
 begun_lines {S = S} {C = C} rules w v h adds may s g begun b k e = by_line (g.added b k e)
   where
@@ -66,7 +66,7 @@ follows_active h r (inr longer) l lined still = let z = longer l lined in let u 
 
 -- what a step of a node adds is as it was said, and begins or follows
 pub keeps_begun : {S C O : Type 0} (rules : Rules S C O) (w : World S C O) (h : History C) (n : ℕ) (r : ReplicaState S C) (input : Input C) →
-    IsSound rules w h → AreLong w h → slice_get w.nodes n ≡ Some r → IsReplay rules r → MayTake w n input →
+    IsSoundWorld rules w h → AreLong w h → slice_get w.nodes n ≡ Some r → IsReplay rules r → MayTake w n input →
     KeepsAdding rules w h n (λ b c. AddsBy rules r input b c × BeginsOrFollows rules.start_of h b c) (replica_step rules r input)
 keeps_begun rules w h n r (Receives message) s long e ran i =
     adds_less rules w h n (AddsBy rules r (Receives message)) _ _ (λ b c z. (z, inl z)) (keeps_step rules w h n r (Receives message) s e ran i)

@@ -12,7 +12,7 @@ use Rattle.agreement.specs.World.{World, moved}
 use Rattle.agreement.specs.Inside.Ballots.{Line, History}
 use Rattle.agreement.specs.Inside.Begun.{AreLong}
 use Rattle.agreement.specs.Inside.Keeps.{NodeGoesOn}
-use Rattle.agreement.specs.Inside.Sound.{IsSound}
+use Rattle.agreement.specs.Inside.Sound.{IsSoundWorld}
 use Rattle.whole.proofs.of_lists.Places.{get_set, get_set_other}
 use Rattle.whole.proofs.of_lists.Prefixes.{prefix_length}
 use Rattle.agreement.proofs.Frame.Bases.{one_line}
@@ -40,7 +40,7 @@ long_same {S = S} {C = C} w h i e long = subst (λ (line : ℕ → Option (Line 
 
 -- after a move of a node
 pub long_moved : {S C O : Type 0} (rules : Rules S C O) (w v : World S C O) (h : History C) (adds : ℕ → C → Type 0) (n : ℕ) (old new : ReplicaState S C)
-    (given : List (Effect C O)) → IsSound rules w h → slice_get w.nodes n ≡ Some old → (g : NodeGoesOn rules w h adds v) → AreLong w h →
+    (given : List (Effect C O)) → IsSoundWorld rules w h → slice_get w.nodes n ≡ Some old → (g : NodeGoesOn rules w h adds v) → AreLong w h →
     v ≡ moved w n new given →
     StaysActive {O = O} old (record { state = new; effects = [] }) ⊎ Begins {O = O} old (record { state = new; effects = [] }) → AreLong v g.history
 long_moved {S = S} {C = C} {O = O} rules w v h adds n old new given s stands g long same how m r e active = by_place (cases_eq m n)

@@ -22,6 +22,7 @@ pub record Extends {S C O : Type 0} (w : World S C O) (h : History C) (v : World
       Told w h (n + 1) b k ⊎ (r.joined ≤ b)
 
 -- what is acknowledged lies within the ballot's list
-abbrev pub IsWithin : {S C O : Type 0} → World S C O → History C → Type 0
-IsWithin {S = S} {C = C} w h = (m b k : ℕ) (l : Line C) → h.line b ≡ Some l → Told w h m b k →
+abbrev pub AcknowledgedIsWithin : {S C O : Type 0} → World S C O → History C → Type 0
+AcknowledgedIsWithin {S = S} {C = C} w h =
+    (m b k : ℕ) (l : Line C) → h.line b ≡ Some l → Told w h m b k →
     k ≤ length l.list

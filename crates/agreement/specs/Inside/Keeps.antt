@@ -10,7 +10,7 @@ use Rattle.agreement.specs.World.{World, moved}
 use Rattle.whole.specs.lists.Lists.{In, IsPrefixOf}
 use Rattle.agreement.specs.Inside.Ballots.{Told, TellsHere, Given, Line, History}
 use Rattle.agreement.specs.Inside.Extending.{Extends}
-use Rattle.agreement.specs.Inside.Sound.{IsSound}
+use Rattle.agreement.specs.Inside.Sound.{IsSoundWorld}
 
 -- a later world is sound, with a history that continues from the one before
 pub record HistoryGoesOn {S C O : Type 0} (rules : Rules S C O) (w : World S C O) (h : History C)
@@ -18,7 +18,7 @@ pub record HistoryGoesOn {S C O : Type 0} (rules : Rules S C O) (w : World S C O
   pub history : History C
   pub extends : Extends w h v history
   pub active : (b : ℕ) → In b h.activated → In b history.activated
-  pub sound : IsSound rules v history
+  pub sound : IsSoundWorld rules v history
 
 -- how the list of a ballot changes at most: it begins as a prefix of the earlier ballot's, or takes
 -- one command
@@ -42,7 +42,7 @@ pub record NodeGoesOn {S C O : Type 0} (rules : Rules S C O) (w : World S C O) (
   pub history : History C
   pub extends : Extends w h v history
   pub active : (b : ℕ) → In b h.activated → In b history.activated
-  pub sound : IsSound rules v history
+  pub sound : IsSoundWorld rules v history
   pub ballots : history ≡ with_lines h history.line
   pub added : (b : ℕ) (k : Line C) → history.line b ≡ Some k → LineAdds adds h b k
   -- what is acknowledged was acknowledged before, or is acknowledged now by a node that holds it

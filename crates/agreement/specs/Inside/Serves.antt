@@ -6,7 +6,7 @@ use Rattle.agreement.specs.Inside.Ballots.{Given, History}
 use Rattle.agreement.specs.Inside.Begun.{AreBegun, AreLong}
 use Rattle.agreement.specs.MasterState.{MasterState}
 use Rattle.agreement.specs.Replays.{AreReplays}
-use Rattle.agreement.specs.Inside.Sound.{IsSound}
+use Rattle.agreement.specs.Inside.Sound.{IsSoundWorld}
 use Rattle.agreement.specs.World.{World}
 use Rattle.whole.specs.Messages.{Message}
 use Rattle.whole.specs.lists.Lists.{In}
@@ -21,18 +21,18 @@ AreSenders {C = C} w = (to : ℕ) (m : Message C) → In (to, m) w.sent →
     (m.from ≡ 0) ⊎ IsNode (length w.nodes) m.from
 
 -- the primary of a ballot is a node
-abbrev pub IsLed : {C : Type 0} → ℕ → History C → ℕ → Type 0
-IsLed nodes h b = (g : Given) × (h.given b ≡ Some g) × IsNode nodes g.primary
+abbrev pub IsLedByNode : {C : Type 0} → ℕ → History C → ℕ → Type 0
+IsLedByNode nodes h b = (g : Given) × (h.given b ≡ Some g) × IsNode nodes g.primary
 
 -- its ballots, messages and nodes are as they should be, the primary of its active ballot is a
 -- node, and each ballot's list has its start after its base
 pub record Serves {S C O : Type 0} (rules : Rules S C O) (m : MasterState) (w : World S C O)
     (h : History C) : Type 0 where
-  pub sound : IsSound rules w h
+  pub sound : IsSoundWorld rules w h
   pub master : IsMaster m h
   pub replays : AreReplays rules w
   pub serving : IsServing m
   pub senders : AreSenders w
-  pub led : IsLed (length w.nodes) h m.active
+  pub led : IsLedByNode (length w.nodes) h m.active
   pub begun : AreBegun rules.start_of h
   pub long : AreLong w h

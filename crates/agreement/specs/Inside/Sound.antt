@@ -95,7 +95,7 @@ pub record LeftIs {S C O : Type 0} (rules : Rules S C O) (w : World S C O)
   pub in_order : AreInOrder segments
 
 -- what holds for a world
-pub record IsSound {S C O : Type 0} (rules : Rules S C O) (w : World S C O)
+pub record IsSoundWorld {S C O : Type 0} (rules : Rules S C O) (w : World S C O)
     (h : History C) : Type 0 where
   pub ballots : AreBallots h
   pub lines : AreLines w h
