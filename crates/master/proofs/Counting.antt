@@ -29,7 +29,7 @@ use Rattle.master.specs.Outcomes.EventOutcome.{by_node, by_cut, by_master, unhee
 use Rattle.master.specs.Group.{GroupState}
 use Rattle.master.specs.Exact.{takes, hears, comes, gives, outcome_of, after, group_step}
 use Rattle.master.specs.Outcomes.{NodeOutcome, EventOutcome, running, can_take, taking, stopping, cut_outcome, cutting}
-use Rattle.master.specs.Steps.{Freezes, Happens, StepsBy, LosesNothing}
+use Rattle.master.specs.Steps.{Freezes, Happens, StepsBy, GroupLosesNothing}
 use Rattle.master.specs.Steps.Happens.{nothing_happens, node_goes, master_goes}
 use Rattle.master.specs.Inside.{RunsAt, asks_for}
 use Rattle.master.specs.Inside.Losing.{MasterTook, TookCut, TookStep}
@@ -142,7 +142,7 @@ steps_unheeded rules old event e = record { way = inl (sym (ap (after old.moment
 
 -- a count that did not rise lost nothing
 pub steps_exactly : {S C O : Type 0} (rules : Rules S C O) (old new : GroupState S C O) (event : Event C) →
-    StepsBy rules old event new → LosesNothing old new → new.moment ≡ group_step rules event old.moment
+    StepsBy rules old event new → GroupLosesNothing old new → new.moment ≡ group_step rules event old.moment
 steps_exactly rules old new event s exact = by_way s.way
   where
     by_way : ((new.moment ≡ group_step rules event old.moment) × (new.losses ≡ old.losses))

@@ -28,8 +28,8 @@ use Rattle.master.specs.Outcomes.EventOutcome.{by_node, by_cut, by_master, unhee
 use Rattle.master.specs.Copying.{has_numbers_alone}
 use Rattle.master.specs.Inside.{RunsAt}
 use Rattle.master.specs.Inside.Losing.{TookStep}
-use Rattle.master.specs.Steps.{StepsBy, TakesNoMemory, done_exactly}
-use Rattle.master.specs.Steps.TakesNoMemory.{comes_to_nobody, goes_unheeded, sends_and_adds_nothing, stops_a_node}
+use Rattle.master.specs.Steps.{StepsBy, GroupTakesNoMemory, done_exactly}
+use Rattle.master.specs.Steps.GroupTakesNoMemory.{comes_to_nobody, goes_unheeded, sends_and_adds_nothing, stops_a_node}
 use Rattle.master.proofs.Calling.{proposal_busy}
 use Rattle.master.proofs.Counting.{delivers_turn, some_idle, stops_turn, takes_turn}
 
@@ -77,7 +77,7 @@ steps_exactly_done {S = S} {C = C} {O = O} rules old event e =
 -- a node's step needs no memory if it is quiet, or if the node stops
 pub node_needs : {S C O : Type 0} {P : Type 0} (rules : Rules S C O) (a : Moment S C O) (event : Event C) (t : NodeOutcome S C O) →
     outcome_of rules a event ≡ Some (by_node t) → ((node : ℕ) → event ≡ Crash node → P) → (SendsAndAddsNothing t.before t.outcome → P) →
-    TakesNoMemory rules a event → P
+    GroupTakesNoMemory rules a event → P
 node_needs rules a event t e stops quiet (comes_to_nobody f) = some_idle e f
 node_needs rules a event t e stops quiet (goes_unheeded f) = let g = sym e ∙ f in cc
 node_needs rules a event t e stops quiet (stops_a_node node f) = stops node f
@@ -99,7 +99,7 @@ turn_quiet {S = S} {C = C} {O = O} rules old new event t e took quiet =
 
 -- a cut needs some
 pub cut_needs : {S C O : Type 0} {P : Type 0} (rules : Rules S C O) (a : Moment S C O) (node : ℕ) (t : NodeOutcome S C O) →
-    outcome_of rules a (Cut node) ≡ Some (by_cut t) → TakesNoMemory rules a (Cut node) → P
+    outcome_of rules a (Cut node) ≡ Some (by_cut t) → GroupTakesNoMemory rules a (Cut node) → P
 cut_needs rules a node t e (comes_to_nobody f) = some_idle e f
 cut_needs rules a node t e (goes_unheeded f) = let g = sym e ∙ f in cc
 cut_needs rules a node t e (stops_a_node other f) = cc
@@ -107,7 +107,7 @@ cut_needs rules a node t e (sends_and_adds_nothing s f still) = let g = sym e �
 
 -- and one of the master needs some
 pub master_needs : {S C O : Type 0} {P : Type 0} (rules : Rules S C O) (a : Moment S C O) (event : Event C) (o : MasterOutcome C) →
-    outcome_of rules a event ≡ Some (by_master o) → ((node : ℕ) → event ≡ Crash node → P) → TakesNoMemory rules a event → P
+    outcome_of rules a event ≡ Some (by_master o) → ((node : ℕ) → event ≡ Crash node → P) → GroupTakesNoMemory rules a event → P
 master_needs rules a event o e stops (comes_to_nobody f) = some_idle e f
 master_needs rules a event o e stops (goes_unheeded f) = let g = sym e ∙ f in cc
 master_needs rules a event o e stops (stops_a_node node f) = stops node f
@@ -142,7 +142,7 @@ tick_silent {S = S} {C = C} {O = O} rules old node at x seen speaks same exactly
 pub tick_says : {S C O : Type 0} {P : Type 0} (rules : Rules S C O) (old : GroupState S C O) (node at : ℕ) (x : RunsAt old.moment.world.nodes node at)
     (seen : ReplicaState S C) (speaks : Bool) → seen ≡ x.replica →
     (speaks ≡ false → replica_step rules seen Ticks ≡ nothing_done O seen) × (replica_step rules seen Ticks ≡ nothing_done O seen → speaks ≡ false) →
-    speaks ≡ true → TakesNoMemory rules old.moment (Tick node) → P
+    speaks ≡ true → GroupTakesNoMemory rules old.moment (Tick node) → P
 tick_says {S = S} {C = C} {O = O} rules old node at x seen speaks same exactly on =
     node_needs rules old.moment (Tick node) _ (tick_goes rules old node at x) (λ n f. cc)
     (λ f. absurd (both_ways speaks
@@ -161,7 +161,7 @@ message_passed {S = S} {C = C} {O = O} rules old k at x found y seen heeds same 
 pub message_taken : {S C O : Type 0} (rules : Rules S C O) (old new : GroupState S C O) (k at : ℕ) (x : ℕ × Message C) (m : Message C) →
     slice_get old.moment.world.sent k ≡ Some x → m ≡ x.1 → (y : RunsAt old.moment.world.nodes x.0 at) →
     TookStep rules old (record { index = at; before = y.replica; outcome = replica_step rules y.replica (Receives m) }) new →
-    TakesNoMemory rules old.moment (Deliver k) → new ≡ done_exactly rules old (Deliver k)
+    GroupTakesNoMemory rules old.moment (Deliver k) → new ≡ done_exactly rules old (Deliver k)
 message_taken rules old new k at x m found same y took =
     let goes = delivers_turn rules old.moment k at x m found same y in
     node_needs rules old.moment (Deliver k) _ goes (λ n f. cc) (λ quiet. turn_quiet rules old new (Deliver k) _ goes took quiet)
@@ -174,7 +174,7 @@ not_copied (Err e) error is ok = cc
 -- and one for whose copy there is no memory
 pub message_lost : {S C O : Type 0} {P : Type 0} (rules : Rules S C O) (old : GroupState S C O) (k at : ℕ) (x : ℕ × Message C) →
     slice_get old.moment.world.sent k ≡ Some x → (y : RunsAt old.moment.world.nodes x.0 at) → (has_numbers_alone x.1.body ≡ true → ⊥) →
-    (has_numbers_alone x.1.body ≡ false → SendsAndAddsNothing y.replica (replica_step rules y.replica (Receives x.1)) → ⊥) → TakesNoMemory rules old.moment (Deliver k) → P
+    (has_numbers_alone x.1.body ≡ false → SendsAndAddsNothing y.replica (replica_step rules y.replica (Receives x.1)) → ⊥) → GroupTakesNoMemory rules old.moment (Deliver k) → P
 message_lost rules old k at x found y numbers more =
     node_needs rules old.moment (Deliver k) _ (delivers_turn rules old.moment k at x x.1 found refl y) (λ n f. cc)
     (λ quiet. absurd (by_kind quiet (cases_Bool (has_numbers_alone x.1.body))))
@@ -194,9 +194,9 @@ exactly_stopped {S = S} {C = C} {O = O} rules old new node at x e =
 
 -- the same event by another name
 pub quiet_as : {S C O : Type 0} (rules : Rules S C O) (old new : GroupState S C O) (e event : Event C) → event ≡ e →
-    (TakesNoMemory rules old.moment e → new ≡ done_exactly rules old e) → TakesNoMemory rules old.moment event → new ≡ done_exactly rules old event
+    (GroupTakesNoMemory rules old.moment e → new ≡ done_exactly rules old e) → GroupTakesNoMemory rules old.moment event → new ≡ done_exactly rules old event
 quiet_as {C = C} rules old new e event same quiet =
-    subst (λ (x : Event C). TakesNoMemory rules old.moment x → new ≡ done_exactly rules old x) (sym same) quiet
+    subst (λ (x : Event C). GroupTakesNoMemory rules old.moment x → new ≡ done_exactly rules old x) (sym same) quiet
 
 -- a configuration that the master refuses
 pub refused_turn : {S C O : Type 0} (rules : Rules S C O) (a : Moment S C O) (config : Config) (can : Bool) →

@@ -14,21 +14,21 @@ use Rattle.snapshots.proofs.PastsAgree.{agreed_grows, has_agreed, nodes_agree}
 use Rattle.master.specs.declared.event.Event.{Event}
 use Rattle.master.specs.Group.{GroupState}
 use Rattle.master.specs.Exact.{group_step, group_run}
-use Rattle.master.specs.Steps.{Happens, Run, StepsBy, LosesNothing}
-use Rattle.master.specs.Steps.Run.{ends, goes_on}
+use Rattle.master.specs.Steps.{Happens, GroupRun, StepsBy, GroupLosesNothing}
+use Rattle.master.specs.Steps.GroupRun.{ends, goes_on}
 use Rattle.master.specs.Agreement.{AgreesAfter}
 use Rattle.master.proofs.Counting.{steps_exactly}
 use Rattle.master.proofs.Happening.{step_may}
 
 -- what is seen of a group after some events
 pub record Ran {S C O : Type 0} (rules : Rules S C O) (old : GroupState S C O) (events : List (Event C)) (new : GroupState S C O) : Type 0 where
-  pub ran : Run rules old events new
+  pub ran : GroupRun rules old events new
   pub counts : old.losses ≤ 2 ^ 64 - 1 → (old.losses ≤ new.losses) × (new.losses ≤ 2 ^ 64 - 1)
-  pub exact : LosesNothing old new → new.moment ≡ group_run rules events old.moment
+  pub exact : GroupLosesNothing old new → new.moment ≡ group_run rules events old.moment
 
 -- one event more
 run_more : {S C O : Type 0} {rules : Rules S C O} {w v u : GroupState S C O} {events : List (Event C)} {e : Event C} →
-    Run rules w events v → StepsBy rules v e u → Run rules w (events ++ e ∷ []) u
+    GroupRun rules w events v → StepsBy rules v e u → GroupRun rules w (events ++ e ∷ []) u
 run_more ends s = goes_on s ends
 run_more (goes_on t r) s = goes_on t (run_more r s)
 
@@ -67,7 +67,7 @@ ran_next {S = S} {C = C} rules old now new events i e below read r s =
     counts (a, b) (inl f) = (omega (arith, a, f), omega (arith, b, f))
     counts (a, b) (inr f) = let g : new.losses ≡ min (now.losses + 1) (2 ^ 64 - 1) = f in (omega (arith, a, b, g), omega (arith, g))
 
-    exact : LosesNothing old new → (old.losses ≤ now.losses) × (now.losses ≤ 2 ^ 64 - 1) →
+    exact : GroupLosesNothing old new → (old.losses ≤ now.losses) × (now.losses ≤ 2 ^ 64 - 1) →
         (new.losses ≡ now.losses) ⊎ (new.losses ≡ one_more now.losses) → new.moment ≡ group_run rules (take i events ++ e ∷ []) old.moment
     exact (same, few) (a, b) (inl f) =
         let g : now.losses ≡ old.losses = sym f ∙ same in
@@ -93,7 +93,7 @@ one_agreed {S = S} {C = C} {O = O} config past xs ys x y = by_chosen x.chosen
     by_chosen (inr (b, active, chosen)) = y.longest b xs active chosen
 
 went : {S C O : Type 0} (rules : Rules S C O) (config : Config) (w v : GroupState S C O) (past : List (Moment S C O)) (events : List (Event C)) →
-    Moments rules config (w.moment ∷ past) → Run rules w events v → Went rules config (w.moment ∷ past) v.moment
+    Moments rules config (w.moment ∷ past) → GroupRun rules w events v → Went rules config (w.moment ∷ past) v.moment
 went rules config w v past events came ends =
     record { earlier = past; between = []; goes_on = refl; came = came; grown = λ xs ys before after. one_agreed config (map whole_moment (w.moment ∷ past)) xs ys before after }
 went {S = S} {C = C} {O = O} rules config w v past events came (goes_on {next = u} {e = e} {events = rest} s r) =
@@ -110,7 +110,7 @@ went {S = S} {C = C} {O = O} rules config w v past events came (goes_on {next = 
 
 -- so the nodes agree after a run
 pub agrees_after : {S C O : Type 0} (rules : Rules S C O) (config : Config) (first last : GroupState S C O) (past : List (Moment S C O)) (events : List (Event C)) →
-    Moments rules config (first.moment ∷ past) → Run rules first events last → AgreesAfter rules config (first.moment ∷ past) last.moment
+    Moments rules config (first.moment ∷ past) → GroupRun rules first events last → AgreesAfter rules config (first.moment ∷ past) last.moment
 agrees_after {S = S} {C = C} rules config first last past events came r =
     let q = went rules config first last past events came r in
     let xs = has_agreed rules config last.moment q.earlier q.came in

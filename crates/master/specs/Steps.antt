@@ -33,17 +33,17 @@ pub data Happens {S C O : Type 0} (rules : Rules S C O) :
 -- an event that needs no memory: it reaches no node, or a master that ignores it; or, by the
 -- protocol, its node sends nothing, keeps its log and applies nothing, though it may learn
 -- something, such as what a member holds; or the event stops a node
-pub data TakesNoMemory {S C O : Type 0} (rules : Rules S C O) (a : Moment S C O) (e : Event C) :
-    Type 0 where
+pub data GroupTakesNoMemory {S C O : Type 0} (rules : Rules S C O) (a : Moment S C O)
+    (e : Event C) : Type 0 where
   -- no node gets it
-  comes_to_nobody : outcome_of rules a e ≡ None → TakesNoMemory rules a e
+  comes_to_nobody : outcome_of rules a e ≡ None → GroupTakesNoMemory rules a e
   -- the master ignores it
-  goes_unheeded : outcome_of rules a e ≡ Some unheeded → TakesNoMemory rules a e
+  goes_unheeded : outcome_of rules a e ≡ Some unheeded → GroupTakesNoMemory rules a e
   -- its node sends nothing, keeps its log and applies nothing
   sends_and_adds_nothing : (t : NodeOutcome S C O) → outcome_of rules a e ≡ Some (by_node t) →
-      SendsAndAddsNothing t.before t.outcome → TakesNoMemory rules a e
+      SendsAndAddsNothing t.before t.outcome → GroupTakesNoMemory rules a e
   -- a node crashes
-  stops_a_node : (node : ℕ) → e ≡ Crash node → TakesNoMemory rules a e
+  stops_a_node : (node : ℕ) → e ≡ Crash node → GroupTakesNoMemory rules a e
 
 -- a group after an event that was done exactly, without a loss
 abbrev pub done_exactly : {S C O : Type 0} →
@@ -70,14 +70,15 @@ pub record StepsBy {S C O : Type 0} (rules : Rules S C O) (old : GroupState S C 
 
 -- events one after another, each done exactly or with losses that were counted: no loss excuses
 -- another event
-pub data Run {S C O : Type 0} (rules : Rules S C O) :
+pub data GroupRun {S C O : Type 0} (rules : Rules S C O) :
     GroupState S C O → List (Event C) → GroupState S C O → Type 0 where
   -- no event
-  ends : {first : GroupState S C O} → Run rules first [] first
+  ends : {first : GroupState S C O} → GroupRun rules first [] first
   -- one event, exact or with a loss that is counted, and others after it
   goes_on : {first next last : GroupState S C O} {e : Event C} {events : List (Event C)} →
-      StepsBy rules first e next → Run rules next events last → Run rules first (e ∷ events) last
+      StepsBy rules first e next → GroupRun rules next events last →
+      GroupRun rules first (e ∷ events) last
 
 -- the count is exact as long as it is below its greatest number
-abbrev pub LosesNothing : {S C O : Type 0} → GroupState S C O → GroupState S C O → Type 0
-LosesNothing old new = (new.losses ≡ old.losses) × (old.losses < greatest_count)
+abbrev pub GroupLosesNothing : {S C O : Type 0} → GroupState S C O → GroupState S C O → Type 0
+GroupLosesNothing old new = (new.losses ≡ old.losses) × (old.losses < greatest_count)

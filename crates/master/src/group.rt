@@ -18,7 +18,7 @@ ghost use Rattle.master.specs.Exact.{outcome_of, group_step, group_run};
 ghost use Rattle.master.specs.Outcomes.{running};
 ghost use Rattle.master.specs.Inside.{HoldsAt, IsShort, RunsAt, held_by};
 ghost use Rattle.master.specs.Inside.Losing.{TookStep, input_of};
-ghost use Rattle.master.specs.Steps.{Run, StepsBy, TakesNoMemory, LosesNothing, done_exactly};
+ghost use Rattle.master.specs.Steps.{GroupRun, StepsBy, GroupTakesNoMemory, GroupLosesNothing, done_exactly};
 
 use crate::event::{Event, Idle};
 use crate::inputs::{Input, counted, part, step_replica};
@@ -127,12 +127,12 @@ impl<M: Machine> Group<M> {
     /// memory runs out, messages are lost, nothing happens, or the node stops.
     pub fn step(&mut self, event: &Event<M::Command>) -> Result<(), Idle>
         ensures step { StepsBy M.rules self.old event.now self.new }
-        ensures exact { LosesNothing self.old self.new →
+        ensures exact { GroupLosesNothing self.old self.new →
             self.new.moment ≡ group_step M.rules event.now self.old.moment }
         ensures idle { IsErr result ↔ (outcome_of M.rules self.old.moment event.now ≡ None) }
         ensures same { OnErr result (self.new ≡ self.old) }
         // What needs no memory is done exactly, however little there is, and counts as no loss.
-        ensures quiet { TakesNoMemory M.rules self.old.moment event.now →
+        ensures quiet { GroupTakesNoMemory M.rules self.old.moment event.now →
             self.new ≡ done_exactly M.rules self.old event.now }
         // Whatever led to this group, the nodes agree after the event, the outputs that left are in
         // order, and what is agreed has only grown.
@@ -153,8 +153,8 @@ impl<M: Machine> Group<M> {
     /// Lets events happen one after another. Idle ones are skipped.
     pub fn run(&mut self, events: &[Event<M::Command>])
         // Each event is done exactly, or with losses that are counted for it.
-        ensures run { Run M.rules self.old events.now self.new }
-        ensures exact { LosesNothing self.old self.new →
+        ensures run { GroupRun M.rules self.old events.now self.new }
+        ensures exact { GroupLosesNothing self.old self.new →
             self.new.moment ≡ group_run M.rules events.now self.old.moment }
         // Whatever led to this group, the nodes agree after the events, the outputs that left are
         // in order, and what is agreed has only grown.

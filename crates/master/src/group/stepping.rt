@@ -11,7 +11,7 @@ ghost use Rattle.snapshots.specs.agreement.MasterState.{refusal};
 ghost use Rattle.master.specs.Exact.{outcome_of};
 ghost use Rattle.master.specs.Outcomes.{cut_outcome};
 ghost use Rattle.master.specs.Inside.Losing.{MasterTook, TookCut};
-ghost use Rattle.master.specs.Steps.{StepsBy, TakesNoMemory, done_exactly};
+ghost use Rattle.master.specs.Steps.{StepsBy, GroupTakesNoMemory, done_exactly};
 
 use super::Group;
 use crate::copying::{config_of, copy_of};
@@ -30,7 +30,8 @@ impl<M: Machine> Group<M> {
         ensures idle { IsErr result ↔
             (outcome_of M.rules self.old.moment (Event.Propose node command.now) ≡ None) }
         ensures same { OnErr result (self.new ≡ self.old) }
-        ensures quiet { TakesNoMemory M.rules self.old.moment (Event.Propose node command.now) →
+        ensures quiet { GroupTakesNoMemory
+            M.rules self.old.moment (Event.Propose node command.now) →
             self.new ≡ done_exactly M.rules self.old (Event.Propose node command.now) }
     {
         let Some(at) = self.running(node) else {
@@ -53,7 +54,7 @@ impl<M: Machine> Group<M> {
         ensures idle { IsErr result ↔
             (outcome_of M.rules self.old.moment (Event.Assign config.now) ≡ None) }
         ensures same { OnErr result (self.new ≡ self.old) }
-        ensures quiet { TakesNoMemory M.rules self.old.moment (Event.Assign config.now) →
+        ensures quiet { GroupTakesNoMemory M.rules self.old.moment (Event.Assign config.now) →
             self.new ≡ done_exactly M.rules self.old (Event.Assign config.now) }
     {
         if !self.master.can_assign(config) {
@@ -92,7 +93,7 @@ impl<M: Machine> Group<M> {
         ensures idle { IsErr result ↔
             (outcome_of M.rules self.old.moment (Event.Deliver number) ≡ None) }
         ensures same { OnErr result (self.new ≡ self.old) }
-        ensures quiet { TakesNoMemory M.rules self.old.moment (Event.Deliver number) →
+        ensures quiet { GroupTakesNoMemory M.rules self.old.moment (Event.Deliver number) →
             self.new ≡ done_exactly M.rules self.old (Event.Deliver number) }
     {
         let Some((receiver, message)) = self.sent.get(number as usize) else {
@@ -140,7 +141,7 @@ impl<M: Machine> Group<M> {
         ensures idle { IsErr result ↔
             (outcome_of M.rules self.old.moment (Event.Tick node) ≡ None) }
         ensures same { OnErr result (self.new ≡ self.old) }
-        ensures quiet { TakesNoMemory M.rules self.old.moment (Event.Tick node) →
+        ensures quiet { GroupTakesNoMemory M.rules self.old.moment (Event.Tick node) →
             self.new ≡ done_exactly M.rules self.old (Event.Tick node) }
     {
         let Some(at) = self.running(node) else {
@@ -158,7 +159,7 @@ impl<M: Machine> Group<M> {
         ensures step { StepsBy M.rules self.old (Event.Cut node) self.new }
         ensures idle { IsErr result ↔ (outcome_of M.rules self.old.moment (Event.Cut node) ≡ None) }
         ensures same { OnErr result (self.new ≡ self.old) }
-        ensures quiet { TakesNoMemory M.rules self.old.moment (Event.Cut node) →
+        ensures quiet { GroupTakesNoMemory M.rules self.old.moment (Event.Cut node) →
             self.new ≡ done_exactly M.rules self.old (Event.Cut node) }
     {
         let Some(at) = self.running(node) else {
@@ -210,7 +211,7 @@ impl<M: Machine> Group<M> {
         ensures idle { IsErr result ↔
             (outcome_of M.rules self.old.moment (Event.Crash node) ≡ None) }
         ensures same { OnErr result (self.new ≡ self.old) }
-        ensures quiet { TakesNoMemory M.rules self.old.moment (Event.Crash node) →
+        ensures quiet { GroupTakesNoMemory M.rules self.old.moment (Event.Crash node) →
             self.new ≡ done_exactly M.rules self.old (Event.Crash node) }
     {
         let Some(at) = self.running(node) else {
