@@ -4,10 +4,10 @@ use Rattle.std.proofs.lemmas.List.{append-nil}
 use Rattle.client_base.specs.lists.Lists.{Each}
 use Rattle.exactly_once.specs.Items.{SenderItem, sent, releasing, finishing, start_first}
 use Rattle.exactly_once.specs.Handshake.{Forward, Backward, Transit, Handshake, answer, reply, heard, taking, accepting, with_items}
-use Rattle.exactly_once.specs.HandshakeSteps.{Advances, Run, opening}
+use Rattle.exactly_once.specs.HandshakeSteps.{Advances, HandshakeRun, opening}
 use Rattle.exactly_once.specs.Exact.{is_over, IsExact}
 use Rattle.exactly_once.specs.HandshakeSteps.Advances.{adds, starts, takes, takes_alone, hears, hears_alone, sender_leaves, receiver_leaves, parts, parts_ahead, restarts}
-use Rattle.exactly_once.specs.HandshakeSteps.Run.{stays, goes_on}
+use Rattle.exactly_once.specs.HandshakeSteps.HandshakeRun.{stays, goes_on}
 use Rattle.exactly_once.specs.HandshakeInvariant.{IsNew, IsAhead, FitsTransit, IsGood}
 use Rattle.exactly_once.proofs.SidesStart.{sides_add, sides_start, sent_waits, free_of}
 use Rattle.exactly_once.proofs.SidesHear.{sides_release, sides_finish}
@@ -131,7 +131,7 @@ good_moves h k g parts_ahead =
 good_moves h k g (restarts ids d r) =
     record { old = g.old; new = g.new; sides = g.sides; transit = joined_anew h.items h.accepted h.received g.old g.new ids g.sides d r }
 
-pub good_run : {V : Type 0} (h k : Handshake V) → IsGood h → Run h k → IsGood k
+pub good_run : {V : Type 0} (h k : Handshake V) → IsGood h → HandshakeRun h k → IsGood k
 good_run h k g stays = g
 good_run h k g (goes_on {k = m} r s) = good_moves m k (good_run h m g r) s
 
@@ -156,9 +156,9 @@ good_exact h g =
     record { prefix = g.old; others = g.new; is = g.sides.is; accepted = g.sides.accepted_is; rest = none_over h.received g.new g.sides.news }
 
 -- after every run from the opening
-pub runs_are_exact : (V : Type 0) (h : Handshake V) → Run (opening V) h → IsExact h
+pub runs_are_exact : (V : Type 0) (h : Handshake V) → HandshakeRun (opening V) h → IsExact h
 runs_are_exact V h r = good_exact h (good_run (opening V) h (good_opening V) r)
 
-pub run_then : {V : Type 0} {h k l : Handshake V} → Run h k → Run k l → Run h l
+pub run_then : {V : Type 0} {h k l : Handshake V} → HandshakeRun h k → HandshakeRun k l → HandshakeRun h l
 run_then r stays = r
 run_then r (goes_on q m) = goes_on (run_then r q) m

@@ -19,7 +19,7 @@ use Rattle.broker_base.specs.broker_spec.declared.command.Command.TheVariants as
 use Rattle.exactly_once.specs.Items.{SenderItem, releasing, has_sent}
 use Rattle.exactly_once.specs.Handshake.{Forward, Backward, Transit, with_items, heard, reply}
 use Rattle.exactly_once.specs.HandshakeSteps.Advances.{hears}
-use Rattle.exactly_once.specs.HandshakeSteps.Run.{stays, goes_on}
+use Rattle.exactly_once.specs.HandshakeSteps.HandshakeRun.{stays, goes_on}
 use Rattle.client_base.proofs.of_lists.Tests.{or_then}
 use Rattle.exactly_once.specs.HandshakeInvariant.{IsGood, IsJoined, FitsTransit}
 use Rattle.broker_base.specs.broker_spec.Past.{current_connection}

@@ -20,7 +20,7 @@ use Rattle.broker_base.specs.broker_spec.AnswersInOrder.{answers_at}
 use Rattle.broker_base.proofs.ClientsInOrder.{same_self}
 use Rattle.exactly_once.specs.Handshake.{Forward, Backward, Transit, Handshake, answer, taking, accepting}
 use Rattle.exactly_once.specs.HandshakeSteps.Advances.{takes}
-use Rattle.exactly_once.specs.HandshakeSteps.Run.{stays, goes_on}
+use Rattle.exactly_once.specs.HandshakeSteps.HandshakeRun.{stays, goes_on}
 use Rattle.exactly_once.specs.Sends.{sends_to, put_to}
 use Rattle.exactly_once.specs.Sides.{ClientConnection}
 use Rattle.client_base.specs.Keeper.{Keeper}

@@ -3,7 +3,7 @@ use Rattle.std.specs.Prelude.{◌≡◌, ℕ, Bool, true, false, List, ◌∷◌
 use Rattle.client_base.specs.lists.Lists.{In, Each}
 use Rattle.exactly_once.specs.Items.{SenderItem, value_of}
 use Rattle.exactly_once.specs.Handshake.{Forward, Transit, Handshake}
-use Rattle.exactly_once.specs.HandshakeSteps.{Run, opening}
+use Rattle.exactly_once.specs.HandshakeSteps.{HandshakeRun, opening}
 
 -- ---- what holds after every run
 
@@ -23,7 +23,7 @@ pub record IsExact {V : Type 0} (h : Handshake V) : Type 0 where
 
 -- each run from the opening leads to an exact handshake
 abbrev pub RunsAreExact : Type 0 → Type 0
-RunsAreExact V = (h : Handshake V) → Run (opening V) h → IsExact h
+RunsAreExact V = (h : Handshake V) → HandshakeRun (opening V) h → IsExact h
 
 -- what comes next to the receiver
 abbrev pub next_of : {V : Type 0} → Transit V → Option (Forward V)
@@ -35,6 +35,6 @@ next_of _ = None
 -- one
 abbrev pub RepeatsWereAccepted : Type 0 → Type 0
 RepeatsWereAccepted V =
-    (h : Handshake V) → Run (opening V) h → (id : ℕ) (v : V) →
+    (h : Handshake V) → HandshakeRun (opening V) h → (id : ℕ) (v : V) →
     next_of h.transit ≡ Some (Forward.Publish id v) →
     h.received id ≡ true → In v h.accepted

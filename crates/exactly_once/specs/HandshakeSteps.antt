@@ -32,9 +32,10 @@ pub data Advances {V : Type 0} (h : Handshake V) : Handshake V → Type 0 where
       Advances h (with_items h.items (Transit.Joined (resend releases h.items) []) h)
 
 -- steps one after another
-pub data Run {V : Type 0} (h : Handshake V) : Handshake V → Type 0 where
-  stays : Run h h  -- nothing happened
-  goes_on : {k l : Handshake V} → Run h k → Advances k l → Run h l  -- one more step
+pub data HandshakeRun {V : Type 0} (h : Handshake V) : Handshake V → Type 0 where
+  stays : HandshakeRun h h  -- nothing happened
+  goes_on : {k l : Handshake V} → HandshakeRun h k → Advances k l →
+      HandshakeRun h l  -- one more step
 
 -- nothing was sent yet, and there is no connection
 abbrev pub opening : (V : Type 0) → Handshake V

@@ -4,9 +4,9 @@ use Rattle.broker_base.specs.broker_spec.Connection.{ConnectionName}
 use Rattle.broker_base.specs.broker_spec.Place.{Past, Limits}
 use Rattle.exactly_once.specs.Items.{SenderItem}
 use Rattle.exactly_once.specs.Handshake.{Forward, Backward, Transit, Handshake, with_items, heard, reply}
-use Rattle.exactly_once.specs.HandshakeSteps.{Run, Advances}
+use Rattle.exactly_once.specs.HandshakeSteps.{HandshakeRun, Advances}
 use Rattle.exactly_once.specs.HandshakeSteps.Advances.{hears, hears_alone, sender_leaves, receiver_leaves, parts}
-use Rattle.exactly_once.specs.HandshakeSteps.Run.{stays, goes_on}
+use Rattle.exactly_once.specs.HandshakeSteps.HandshakeRun.{stays, goes_on}
 use Rattle.exactly_once.proofs.Exact.{run_then}
 use Rattle.exactly_once.specs.Sides.{ClientConnection}
 use Rattle.exactly_once.specs.Inside.Projections.{forward_of_own, backward_of_own, to_come, to_be_taken, is_current, transit_of_own, GoesTo}
@@ -53,7 +53,7 @@ link_is limits past current online (Some κ) = by (is_current current κ.name) o
 
 pub record Reaches (h : Handshake ℕ) (items : List (SenderItem ℕ)) (l : Transit ℕ) : Type 0 where
   pub after : Handshake ℕ
-  pub run : Run h after
+  pub run : HandshakeRun h after
   pub items_are : after.items ≡ items
   pub accepted : after.accepted ≡ h.accepted
   pub received : after.received ≡ h.received

@@ -6,7 +6,7 @@ use Rattle.broker_base.specs.broker_spec.Place.{Limits}
 use Rattle.broker_base.specs.broker_spec.Past.{current_connection}
 use Rattle.broker_base.specs.broker_spec.Times.{at_puback, at_pubcomp, window_at, entries_of}
 use Rattle.exactly_once.specs.Handshake.{Backward, heard, reply, with_items}
-use Rattle.exactly_once.specs.HandshakeSteps.Run.{stays}
+use Rattle.exactly_once.specs.HandshakeSteps.HandshakeRun.{stays}
 use Rattle.client_base.specs.Keeper.{Written}
 use Rattle.exactly_once.specs.Sides.{ClientConnection}
 use Rattle.exactly_once.specs.Story.{Story}

@@ -3,7 +3,7 @@ use Rattle.std.proofs.Common.{◌≡◌, ℕ, List, [], ap, sym, ◌∙◌, inl,
 use Rattle.client_base.specs.session_base.declared.publication.Publication.{Publication}
 use Rattle.exactly_once.specs.Handshake.{Backward, Transit, Handshake, with_items}
 use Rattle.exactly_once.specs.HandshakeSteps.Advances.{receiver_leaves, parts}
-use Rattle.exactly_once.specs.HandshakeSteps.Run.{stays, goes_on}
+use Rattle.exactly_once.specs.HandshakeSteps.HandshakeRun.{stays, goes_on}
 use Rattle.exactly_once.specs.Inside.Projections.{GoesTo}
 use Rattle.exactly_once.proofs.subscribing.Standing.{Stands}
 

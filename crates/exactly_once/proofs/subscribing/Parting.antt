@@ -10,7 +10,7 @@ use Rattle.broker_base.specs.broker_spec.AnswersInOrder.{answers_at}
 use Rattle.client_base.specs.lists.Lists.{Each}
 use Rattle.exactly_once.specs.Handshake.{Backward, Transit, Handshake, with_items}
 use Rattle.exactly_once.specs.HandshakeSteps.Advances.{sender_leaves, parts}
-use Rattle.exactly_once.specs.HandshakeSteps.Run.{stays, goes_on}
+use Rattle.exactly_once.specs.HandshakeSteps.HandshakeRun.{stays, goes_on}
 use Rattle.exactly_once.specs.Sends.{sends_to}
 use Rattle.exactly_once.specs.Sides.{ClientConnection}
 use Rattle.client_base.specs.Keeper.{Keeper}

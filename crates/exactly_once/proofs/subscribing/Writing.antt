@@ -10,7 +10,7 @@ use Rattle.broker_base.specs.broker_spec.Place.{Client, Past, Limits}
 use Rattle.broker_base.specs.broker_spec.Past.{current_connection}
 use Rattle.client_base.specs.lists.Lists.{Each}
 use Rattle.exactly_once.specs.Handshake.{Backward, Transit}
-use Rattle.exactly_once.specs.HandshakeSteps.Run.{stays}
+use Rattle.exactly_once.specs.HandshakeSteps.HandshakeRun.{stays}
 use Rattle.client_base.specs.Keeper.{Own, Written, Keeper, ids_in_use, next_number}
 use Rattle.client_base.specs.declared.request.Request.{Request}
 use Rattle.client_base.specs.declared.request.Request.TheVariants as requests

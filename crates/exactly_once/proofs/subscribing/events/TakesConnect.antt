@@ -14,7 +14,7 @@ use Rattle.broker_base.specs.broker_spec.declared.command.Output.TheVariants.{Cl
 use Rattle.broker_base.proofs.QuietPasts.{no_connection, entries_none}
 use Rattle.exactly_once.specs.Handshake.{Transit, with_items}
 use Rattle.exactly_once.specs.HandshakeSteps.Advances.{parts_ahead}
-use Rattle.exactly_once.specs.HandshakeSteps.Run.{stays, goes_on}
+use Rattle.exactly_once.specs.HandshakeSteps.HandshakeRun.{stays, goes_on}
 use Rattle.exactly_once.specs.Sends.{sends_to}
 use Rattle.client_base.specs.Keeper.{Written}
 use Rattle.exactly_once.specs.Sides.{ClientConnection}
