@@ -19,14 +19,14 @@ use Rattle.broker_base.specs.Command.TheVariants as commands
 use Rattle.broker_base.specs.Output.{Output}
 use Rattle.broker_base.specs.Output.TheVariants.{Send}
 use Rattle.broker_base.proofs.ClientsInOrder.{same_self}
-use Rattle.broker_rows.specs.Served.{IsServed, with_session, holding}
+use Rattle.broker_rows.specs.Served.{ServesClient, with_session, holding}
 use Rattle.broker_rows.specs.PacketLaws.{handled_state, HandledStep, subscribed_to, subscribe_answers, SubscribeStep}
 use Rattle.broker_rows.specs.IdlePacketLaws.{PingreqStep, RepeatStep}
 use Rattle.broker_rows.proofs.ServedStep.{served_on, served_found, written_same, served_step}
 use Rattle.broker_rows.proofs.ServedGoesOn.{packet_at, handled_is, subscribe_is, repeat_is}
 
 -- a session is replaced by an equal one
-same_session : (state : State) (x : ConnectionName) (c : Client) (kept : ClientSession) → IsServed state x c kept → with_session c (Some kept) state ≡ state
+same_session : (state : State) (x : ConnectionName) (c : Client) (kept : ClientSession) → ServesClient state x c kept → with_session c (Some kept) state ≡ state
 same_session state x c kept served =
     ap (λ sessions. record { window = state.window; sessions = sessions; retained = state.retained })
     (written_same c kept state.sessions (served_found state x c kept served))

@@ -15,7 +15,7 @@ use Rattle.broker_base.specs.Command.{Command}
 use Rattle.broker_base.specs.Command.TheVariants as commands
 use Rattle.broker_base.specs.Output.{Output}
 use Rattle.broker_rows.specs.Touched.{comes_on, is_taken, written}
-use Rattle.broker_rows.specs.Served.{IsServed, IsOnItsConnection, with_session}
+use Rattle.broker_rows.specs.Served.{ServesClient, IsOnItsConnection, with_session}
 use Rattle.broker_rows.proofs.OwnersRow.{on_is, owner_found}
 use Rattle.broker_rows.proofs.CommandOfOwner.{owner_written}
 
@@ -35,11 +35,11 @@ on_owner x owner (row ∷ rows) found = by (any_connection (same_connection x) r
     by false off more e = more e
 
 -- so a served client's is
-pub served_on : (state : State) (x : ConnectionName) (c : Client) (kept : ClientSession) → IsServed state x c kept → kept.connection ≡ Some x
+pub served_on : (state : State) (x : ConnectionName) (c : Client) (kept : ClientSession) → ServesClient state x c kept → kept.connection ≡ Some x
 served_on state x c kept served = on_is x kept.connection (on_owner x (c, kept) state.sessions served.owner)
 
 -- and it is found by its client
-pub served_found : (state : State) (x : ConnectionName) (c : Client) (kept : ClientSession) → IsServed state x c kept → session_in c state.sessions ≡ Some kept
+pub served_found : (state : State) (x : ConnectionName) (c : Client) (kept : ClientSession) → ServesClient state x c kept → session_in c state.sessions ≡ Some kept
 served_found state x c kept served = owner_found x (c, kept) state.sessions served.sound.by_client served.owner
 
 -- both
@@ -65,7 +65,7 @@ retained_same _ _ content e = refl
 
 -- with the mark, and what that does to the client's session
 pub served_step : (limits : Limits) (later : ℕ) (state : State) (command : Command) (x : ConnectionName) (c : Client) (kept : ClientSession) (mark : Mark) (after : Option ClientSession)
-    (answers : List Output) → IsServed state x c kept → comes_on command ≡ Some x → window_after later command state.window ≡ state.window →
+    (answers : List Output) → ServesClient state x c kept → comes_on command ≡ Some x → window_after later command state.window ≡ state.window →
     mark_in limits state command ≡ mark → is_taken mark ≡ false →
     session_after state.window (record { command = command; mark = mark }) state.retained c kept ≡ after →
     answers_by_state state.window (record { command = command; mark = mark }) state command mark ≡ answers →

@@ -12,13 +12,13 @@ use Rattle.broker_base.specs.Decisions.{repeats}
 use Rattle.broker_base.specs.Step.{step}
 use Rattle.broker_base.specs.Command.TheVariants as commands
 use Rattle.broker_base.specs.Output.TheVariants.{Send}
-use Rattle.broker_rows.specs.Served.{IsServed}
+use Rattle.broker_rows.specs.Served.{ServesClient}
 
 -- PINGREQ is answered by PINGRESP (MQTT 3.12.4)
 abbrev pub PingreqStep : Type 0
 PingreqStep =
     (limits : Limits) → (later : ℕ) → (state : State) → (x : ConnectionName) → (c : Client) →
-    (kept : ClientSession) → IsServed state x c kept →
+    (kept : ClientSession) → ServesClient state x c kept →
     step limits later state (commands.Packet x packets.Pingreq)
     ≡ (state, Send x packets.Pingresp ∷ [])
 
@@ -26,7 +26,7 @@ PingreqStep =
 abbrev pub RepeatStep : Type 0
 RepeatStep =
     (limits : Limits) → (later : ℕ) → (state : State) → (x : ConnectionName) → (c : Client) →
-    (kept : ClientSession) → IsServed state x c kept → (p : Publish) →
+    (kept : ClientSession) → ServesClient state x c kept → (p : Publish) →
     repeats kept p.delivery ≡ true →
     step limits later state (commands.Packet x (packets.Publish p))
     ≡ (state, acknowledged x p.delivery)

@@ -11,14 +11,14 @@ use Rattle.broker_base.specs.Decisions.{owned_mark}
 use Rattle.broker_base.specs.Step.{step}
 use Rattle.broker_base.specs.Command.TheVariants as commands
 use Rattle.broker_base.specs.Output.TheVariants.{Close}
-use Rattle.broker_rows.specs.Served.{IsServed, with_session, left_off}
+use Rattle.broker_rows.specs.Served.{ServesClient, with_session, left_off}
 
 -- a DISCONNECT, a violation or a refused PUBLISH closes the connection
 abbrev pub LeavingStep : Type 0
 LeavingStep =
     (limits : Limits) → (later : ℕ) → (state : State) → (x : ConnectionName) → (c : Client) →
     (kept : ClientSession) →
-    IsServed state x c kept → (packet : Packet) →
+    ServesClient state x c kept → (packet : Packet) →
     is_leaving (owned_mark limits state (c, kept) packet) ≡ true →
     step limits later state (commands.Packet x packet)
     ≡ (with_session c (left_off kept) state, Close x ∷ [])
@@ -28,7 +28,7 @@ abbrev pub FurtherConnectStep : Type 0
 FurtherConnectStep =
     (limits : Limits) → (later : ℕ) → (state : State) → (x : ConnectionName) → (c : Client) →
     (kept : ClientSession) →
-    IsServed state x c kept → (named : Client) → (clean : Bool) →
+    ServesClient state x c kept → (named : Client) → (clean : Bool) →
     step limits later state (commands.Connect x named clean)
     ≡ (with_session c (left_off kept) state, Close x ∷ [])
 
@@ -37,7 +37,7 @@ abbrev pub LostStep : Type 0
 LostStep =
     (limits : Limits) → (later : ℕ) → (state : State) → (x : ConnectionName) → (c : Client) →
     (kept : ClientSession) →
-    IsServed state x c kept →
+    ServesClient state x c kept →
     step limits later state (commands.Lost x) ≡ (with_session c (left_off kept) state, [])
 
 -- the loss of a connection that is no client's current one changes nothing

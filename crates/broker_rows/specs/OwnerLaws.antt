@@ -12,7 +12,7 @@ use Rattle.broker_base.specs.State.{Sessions, State, session_in, owner_in}
 use Rattle.broker_base.specs.StateLaws.{AreApart, IsSound}
 use Rattle.broker_base.specs.StepAnswers.{connection_of}
 use Rattle.broker_rows.specs.Touched.{written}
-use Rattle.broker_rows.specs.Served.{IsServed, left_off}
+use Rattle.broker_rows.specs.Served.{ServesClient, left_off}
 use Rattle.broker_rows.specs.ConnectLaws.{all_left_off}
 use Rattle.broker_rows.specs.Published.{changed, received_on, all_delivered}
 use Rattle.broker_rows.specs.Owners.{owners_in, with_owner, without_owner, no_owners, all_owned}
@@ -28,7 +28,7 @@ WritingKeepsOwners =
 abbrev pub LeavingRemovesTheOwner : Type 0
 LeavingRemovesTheOwner =
     (state : State) → (x : ConnectionName) → (c : Client) → (kept : ClientSession) →
-    IsServed state x c kept →
+    ServesClient state x c kept →
     (y : ConnectionName) →
     owners_in (written c (left_off kept) state.sessions) y
     ≡ without_owner (Some x) (owners_in state.sessions) y

@@ -25,7 +25,7 @@ use Rattle.broker_base.specs.StepAnswers.{handled_in}
 use Rattle.broker_base.specs.Step.{step}
 use Rattle.broker_base.specs.Command.TheVariants as commands
 use Rattle.broker_base.specs.Output.TheVariants.{Send}
-use Rattle.broker_rows.specs.Served.{IsServed, with_session, holding}
+use Rattle.broker_rows.specs.Served.{ServesClient, with_session, holding}
 
 -- ---- the packets that are handled
 
@@ -49,7 +49,7 @@ abbrev pub HandledStep : Type 0
 HandledStep =
     (limits : Limits) → (later : ℕ) → (state : State) → (x : ConnectionName) → (c : Client) →
     (kept : ClientSession) →
-    IsServed state x c kept → (packet : Packet) →
+    ServesClient state x c kept → (packet : Packet) →
     owned_mark limits state (c, kept) packet ≡ Mark.Handled c →
     step limits later state (commands.Packet x packet)
     ≡ (
@@ -79,7 +79,7 @@ subscribe_answers window content s which held =
 abbrev pub SubscribeStep : Type 0
 SubscribeStep =
     (limits : Limits) → (later : ℕ) → (state : State) → (x : ConnectionName) → (c : Client) →
-    (kept : ClientSession) → IsServed state x c kept → (s : Subscribe) → (which : List Bool) →
+    (kept : ClientSession) → ServesClient state x c kept → (s : Subscribe) → (which : List Bool) →
     grants limits state.retained kept.state.subscriptions
     (room limits.entries kept.state.queue) s.filters
     ≡ which →

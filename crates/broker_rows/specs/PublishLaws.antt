@@ -21,7 +21,7 @@ use Rattle.broker_base.specs.Command.TheVariants as commands
 use Rattle.broker_base.specs.Output.TheVariants.{Close}
 use Rattle.subs_base.specs.Granted.{Row}
 use Rattle.broker_rows.specs.Touched.{written}
-use Rattle.broker_rows.specs.Served.{IsServed, with_session, left_off}
+use Rattle.broker_rows.specs.Served.{ServesClient, with_session, left_off}
 use Rattle.broker_rows.specs.Published.{granted_rows, changed, received_on, delivered_on}
 use Rattle.broker_rows.specs.Published.{all_delivered, is_full_at, answered_in_turn}
 
@@ -37,7 +37,7 @@ abbrev pub RefusedStep : Type 0
 RefusedStep =
     (limits : Limits) → (later : ℕ) → (state : State) → (x : ConnectionName) → (c : Client) →
     (kept : ClientSession) →
-    IsServed state x c kept → (p : Publish) → repeats kept p.delivery ≡ false →
+    ServesClient state x c kept → (p : Publish) → repeats kept p.delivery ≡ false →
     is_refused_in limits state (publication_of p) ≡ true →
     step limits later state (commands.Packet x (packets.Publish p))
     ≡ (with_session c (left_off kept) state, Close x ∷ [])
@@ -49,7 +49,7 @@ abbrev pub TakenStep : Type 0
 TakenStep =
     (limits : Limits) → (later : ℕ) → (state : State) → (x : ConnectionName) → (c : Client) →
     (kept : ClientSession) →
-    IsServed state x c kept → (p : Publish) → repeats kept p.delivery ≡ false →
+    ServesClient state x c kept → (p : Publish) → repeats kept p.delivery ≡ false →
     is_refused_in limits state (publication_of p) ≡ false →
     let granted = granted_rows p.topic state.sessions in
     let noted = changed c (received_on p.delivery) state.sessions in

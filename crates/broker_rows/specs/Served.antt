@@ -10,7 +10,7 @@ use Rattle.broker_base.specs.StateLaws.{IsSound}
 use Rattle.broker_rows.specs.Touched.{written}
 
 -- in a sound state the client is served on the connection, and this is kept of its session
-pub record IsServed (state : State) (x : ConnectionName) (c : Client)
+pub record ServesClient (state : State) (x : ConnectionName) (c : Client)
     (kept : ClientSession) : Type 0 where
   pub sound : IsSound state
   pub owner : owner_in x state.sessions ≡ Some (c, kept)
@@ -38,5 +38,5 @@ left_off kept =
 abbrev pub IsOnItsConnection : Type 0
 IsOnItsConnection =
     (state : State) → (x : ConnectionName) → (c : Client) → (kept : ClientSession) →
-    IsServed state x c kept →
+    ServesClient state x c kept →
     (kept.connection ≡ Some x) × (session_in c state.sessions ≡ Some kept)

@@ -15,7 +15,7 @@ use Rattle.broker_session.specs.broker_base.ClientSession.{ClientSession}
 use Rattle.broker_session.specs.broker_base.SessionStep.{kept_anew, kept_resumed}
 use Rattle.broker_session.specs.broker_base.State.{State, session_in, owner_in}
 use Rattle.broker_session.specs.broker_base.StepAnswers.{connection_of}
-use Rattle.broker_session.specs.broker_rows.Served.{IsServed}
+use Rattle.broker_session.specs.broker_rows.Served.{ServesClient}
 use Rattle.broker_session.specs.broker_rows.Published.{changed}
 use Rattle.broker_session.specs.broker_rows.ConnectLaws.{may_have_session, begins_in}
 use Rattle.broker_session.specs.broker_rows.Owners.{owners_in, with_owner, without_owner}
@@ -43,7 +43,7 @@ takes_over tables x c left q tied =
 -- ---- on a connection of a client
 
 pub further_of : (tables : Tables) (x : ConnectionName) (c : Client) (kept : ClientSession) (named : Client) (clean : Bool) →
-    IsServed (state_in tables) x c kept →
+    ServesClient (state_in tables) x c kept →
     stepped tables (commands.Connect x named clean) ≡ ((stepped tables (commands.Lost x)).0, outputs.Close x ∷ [])
 unfolding stepped
 further_of tables x c kept named clean served =

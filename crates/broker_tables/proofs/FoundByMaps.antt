@@ -5,7 +5,7 @@ use Rattle.broker_session.specs.broker_spec.Connection.{ConnectionName}
 use Rattle.broker_session.specs.broker_spec.Place.{Client}
 use Rattle.broker_session.specs.broker_base.ClientSession.{ClientSession}
 use Rattle.broker_session.specs.broker_base.State.{owner_in, session_in}
-use Rattle.broker_session.specs.broker_rows.Served.{IsServed}
+use Rattle.broker_session.specs.broker_rows.Served.{ServesClient}
 use Rattle.broker_session.specs.broker_rows.Owners.{owners_in, row_in}
 use Rattle.broker_session.proofs.of_broker_rows.OwnerByMap.{owner_by_map}
 use Rattle.broker_tables.specs.declared.tables.Tables.{Tables}
@@ -21,7 +21,7 @@ found tables x c step owned =
 
 -- it is served on it
 pub is_served : (tables : Tables) (x : ConnectionName) (c : Client) (kept : ClientSession) → IsConsistent tables →
-    owners_in tables.sessions.entries x ≡ Some c → session_in c tables.sessions.entries ≡ Some kept → IsServed (state_in tables) x c kept
+    owners_in tables.sessions.entries x ≡ Some c → session_in c tables.sessions.entries ≡ Some kept → ServesClient (state_in tables) x c kept
 is_served tables x c kept step owned held = record {
   sound = step.sound;
   owner = found tables x c step owned ∙ ap (option_map (λ (k : ClientSession). (c, k))) held;

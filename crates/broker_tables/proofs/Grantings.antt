@@ -16,7 +16,7 @@ use Rattle.broker_session.specs.broker_spec.declared.command.Command.TheVariants
 use Rattle.broker_session.specs.broker_spec.declared.command.Output.TheVariants as outputs
 use Rattle.broker_session.specs.broker_base.ClientSession.{ClientSession}
 use Rattle.broker_session.specs.broker_base.State.{session_in}
-use Rattle.broker_session.specs.broker_rows.Served.{IsServed, with_session, holding}
+use Rattle.broker_session.specs.broker_rows.Served.{ServesClient, with_session, holding}
 use Rattle.broker_session.specs.broker_rows.CopyLaws.{granted_in_turn, subscribed_in_turn, sent_in_turn}
 use Rattle.broker_session.specs.broker_rows.Indexed.{all_set}
 use Rattle.broker_session.proofs.of_broker_rows.PacketSteps.{subscribe_step}
@@ -31,7 +31,7 @@ use Rattle.broker_tables.proofs.TiesOfRows.{tied_to}
 abbrev pub which_of : Tables → SessionState → Subscribe → List Bool
 which_of tables held s = granted_in_turn usual_limits tables.window tables.retained held s.filters
 
-pub subscribe_of : (tables : Tables) (x : ConnectionName) (c : Client) (kept : ClientSession) (s : Subscribe) → IsServed (state_in tables) x c kept →
+pub subscribe_of : (tables : Tables) (x : ConnectionName) (c : Client) (kept : ClientSession) (s : Subscribe) → ServesClient (state_in tables) x c kept →
     stepped tables (commands.Packet x (packets.Subscribe s))
     ≡ (
       with_session c (Some (holding (subscribed_in_turn usual_limits tables.window tables.retained kept.state s.filters) kept)) (state_in tables),

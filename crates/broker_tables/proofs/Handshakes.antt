@@ -12,7 +12,7 @@ use Rattle.broker_session.specs.broker_spec.declared.command.Output.TheVariants 
 use Rattle.broker_session.specs.broker_base.ClientSession.{ClientSession}
 use Rattle.broker_session.specs.broker_base.Decisions.{owned_mark}
 use Rattle.broker_session.specs.broker_base.StepAnswers.{handled_in, while_connected}
-use Rattle.broker_session.specs.broker_rows.Served.{IsServed, with_session, holding}
+use Rattle.broker_session.specs.broker_rows.Served.{ServesClient, with_session, holding}
 use Rattle.broker_session.specs.broker_rows.PacketLaws.{handled_state}
 use Rattle.broker_session.proofs.of_broker_rows.PacketSteps.{handled_step}
 use Rattle.broker_session.proofs.of_broker_rows.ServedStep.{served_on}
@@ -42,7 +42,7 @@ answered w x kept _ e on = absurd (cc)
 
 -- the whole step
 pub handshake_step : (tables : Tables) (x : ConnectionName) (c : Client) (kept : ClientSession) (packet : Packet) →
-    IsServed (state_in tables) x c kept → is_handshake packet ≡ true →
+    ServesClient (state_in tables) x c kept → is_handshake packet ≡ true →
     stepped tables (commands.Packet x packet)
     ≡ (
       with_session c (Some (holding (handled_state tables.window packet kept.state) kept)) (state_in tables),

@@ -10,7 +10,7 @@ use Rattle.broker_session.specs.broker_base.ClientSession.{ClientSession}
 use Rattle.broker_session.specs.subs_base.Content.{Content, without_client}
 use Rattle.broker_session.specs.subs_base.ListIndex.{content_of}
 use Rattle.broker_session.specs.broker_rows.Touched.{written}
-use Rattle.broker_session.specs.broker_rows.Served.{IsServed, with_session, left_off}
+use Rattle.broker_session.specs.broker_rows.Served.{ServesClient, with_session, left_off}
 use Rattle.broker_session.specs.broker_rows.Owners.{owners_in}
 use Rattle.broker_session.proofs.of_broker_rows.LeavingSteps.{lost_step}
 use Rattle.broker_session.proofs.of_broker_rows.NobodysSteps.{nobodys_loss_step}
@@ -31,7 +31,7 @@ IsWithout tables x after =
     ≡ cond (is_at (by_connection x) q) None (lookup (is_at (by_connection q)) tables.owners.entries)
 
 -- of a client that is served
-pub loss_step : (tables : Tables) (x : ConnectionName) (c : Client) (kept : ClientSession) → IsServed (state_in tables) x c kept →
+pub loss_step : (tables : Tables) (x : ConnectionName) (c : Client) (kept : ClientSession) → ServesClient (state_in tables) x c kept →
     stepped tables (commands.Lost x) ≡ (with_session c (left_off kept) (state_in tables), [])
 unfolding stepped
 loss_step tables x c kept served = lost_step usual_limits 64 (state_in tables) x c kept served
@@ -43,7 +43,7 @@ unfolding stepped
 nobodys_loss tables x none = nobodys_loss_step usual_limits 64 (state_in tables) x (is_nobodys tables x none)
 
 -- the ties after it
-pub ties_after : (tables after : Tables) (x : ConnectionName) (c : Client) (kept : ClientSession) → IsServed (state_in tables) x c kept →
+pub ties_after : (tables after : Tables) (x : ConnectionName) (c : Client) (kept : ClientSession) → ServesClient (state_in tables) x c kept →
     IsTied tables → IsWithout tables x after → after.sessions.entries ≡ written c (left_off kept) tables.sessions.entries →
     content_of after.index ≡ (cond kept.clean (without_client (content_of tables.index) c) (content_of tables.index)) → IsTied after
 ties_after tables after x c kept served tied without is index =

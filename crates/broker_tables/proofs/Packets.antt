@@ -16,7 +16,7 @@ use Rattle.broker_session.specs.broker_spec.declared.command.Output.TheVariants 
 use Rattle.broker_session.specs.broker_base.ClientSession.{ClientSession}
 use Rattle.broker_session.specs.broker_base.Decisions.{owned_mark}
 use Rattle.broker_session.specs.broker_base.State.{owner_in}
-use Rattle.broker_session.specs.broker_rows.Served.{IsServed}
+use Rattle.broker_session.specs.broker_rows.Served.{ServesClient}
 use Rattle.broker_session.specs.broker_rows.Owners.{owners_in}
 use Rattle.broker_session.proofs.of_broker_rows.PacketSteps.{pingreq_step}
 use Rattle.broker_session.proofs.of_broker_rows.LeavingSteps.{leaving_step}
@@ -67,7 +67,7 @@ pub violation_of : (tables : Tables) (x : ConnectionName) (c : Client) (packet :
 unfolding stepped
 violation_of tables x c packet step is wrong =
     owned tables x c is (λ d kept e.
-    let served : IsServed (state_in tables) x d kept = record { sound = step.sound; owner = e } in
+    let served : ServesClient (state_in tables) x d kept = record { sound = step.sound; owner = e } in
     leaving_step usual_limits 64 (state_in tables) x d kept served packet (leaves tables (d, kept) packet wrong)
     ∙ ap (λ s. (s, outputs.Close x ∷ [])) (sym (ap (λ q. q.0) (loss_step tables x d kept served))))
 

@@ -19,7 +19,7 @@ use Rattle.broker_session.specs.broker_spec.declared.command.Output.TheVariants 
 use Rattle.broker_session.specs.broker_base.ClientSession.{ClientSession}
 use Rattle.broker_session.specs.broker_base.State.{Sessions, session_in}
 use Rattle.broker_session.specs.broker_base.Decisions.{repeats, is_one_topic_over}
-use Rattle.broker_session.specs.broker_rows.Served.{IsServed}
+use Rattle.broker_session.specs.broker_rows.Served.{ServesClient}
 use Rattle.broker_session.specs.broker_rows.Published.{granted_rows, changed, received_on, all_delivered, answered_in_turn, is_full_at}
 use Rattle.broker_session.specs.broker_rows.PublishLaws.{is_refused_in, HaveRoomInTurn}
 use Rattle.broker_session.proofs.of_broker_rows.PacketSteps.{repeat_step}
@@ -31,7 +31,7 @@ use Rattle.broker_tables.specs.Tables.{by_connection, state_in, stepped, IsTied}
 use Rattle.broker_tables.proofs.Losses.{loss_step}
 use Rattle.broker_tables.proofs.TiesOfRows.{tied_to}
 
-module _ (tables : Tables) (x : ConnectionName) (c : Client) (kept : ClientSession) (served : IsServed (state_in tables) x c kept) (p : Publish) where
+module _ (tables : Tables) (x : ConnectionName) (c : Client) (kept : ClientSession) (served : ServesClient (state_in tables) x c kept) (p : Publish) where
   -- another try
   pub repeat_of : repeats kept p.delivery ≡ true →
       stepped tables (commands.Packet x (packets.Publish p)) ≡ (state_in tables, acknowledged x p.delivery)

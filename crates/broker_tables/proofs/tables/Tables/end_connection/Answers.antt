@@ -9,7 +9,7 @@ use Rattle.broker_session.specs.broker_spec.Place.{by_bytes}
 use Rattle.broker_session.specs.broker_base.ClientSession.{ClientSession}
 use Rattle.broker_session.specs.broker_base.State.{Sessions, session_in}
 use Rattle.broker_session.specs.broker_rows.Touched.{written}
-use Rattle.broker_session.specs.broker_rows.Served.{IsServed}
+use Rattle.broker_session.specs.broker_rows.Served.{ServesClient}
 use Rattle.broker_tables.specs.Tables.{state_in}
 use Rattle.broker_tables.proofs.FoundByMaps.{has_session, is_served, some_is}
 use Rattle.broker_tables.proofs.Losses.{loss_step, nobodys_loss, ties_after, left_clean, left_other}
@@ -29,7 +29,7 @@ pub returns-then-index-clause-state : goal.returns-then-index-clause-state
 returns-then-index-clause-state c =
     let t = c.args.self.now in
     let kept = c.index.result.now in
-    let served : IsServed (state_in t) c.args.connection c.in-Some.client kept
+    let served : ServesClient (state_in t) c.args.connection c.in-Some.client kept
     = is_served t c.args.connection c.in-Some.client kept c.requires
     (sym (c.requires.tied.owners c.args.connection) ∙ sym c.in-Some.ensures.value) c.index.ensures in
     let clean : kept.clean ≡ true = sym (ap (λ (k : ClientSession). k.clean) c.behind-self.view_is) ∙ c.if-index.true in
@@ -42,7 +42,7 @@ pub returns-then-index-clause-tied : goal.returns-then-index-clause-tied
 returns-then-index-clause-tied c =
     let t = c.args.self.now in
     let kept = c.index.result.now in
-    let served : IsServed (state_in t) c.args.connection c.in-Some.client kept
+    let served : ServesClient (state_in t) c.args.connection c.in-Some.client kept
     = is_served t c.args.connection c.in-Some.client kept c.requires
     (sym (c.requires.tied.owners c.args.connection) ∙ sym c.in-Some.ensures.value) c.index.ensures in
     let clean : kept.clean ≡ true = sym (ap (λ (k : ClientSession). k.clean) c.behind-self.view_is) ∙ c.if-index.true in
@@ -58,7 +58,7 @@ returns-clause-state c =
     let kept = c.unwrap-row.result.now in
     let held : session_in c.in-Some.client t.sessions.entries ≡ Some kept
     = sym c.get_mut.ensures.value ∙ ap option_copied_mut c.unwrap-row.ensures in
-    let served : IsServed (state_in t) c.args.connection c.in-Some.client kept
+    let served : ServesClient (state_in t) c.args.connection c.in-Some.client kept
     = is_served t c.args.connection c.in-Some.client kept c.requires
     (sym (c.requires.tied.owners c.args.connection) ∙ sym c.in-Some.ensures.value) held in
     let other : kept.clean ≡ false
@@ -77,7 +77,7 @@ returns-clause-tied c =
     let kept = c.unwrap-row.result.now in
     let held : session_in c.in-Some.client t.sessions.entries ≡ Some kept
     = sym c.get_mut.ensures.value ∙ ap option_copied_mut c.unwrap-row.ensures in
-    let served : IsServed (state_in t) c.args.connection c.in-Some.client kept
+    let served : ServesClient (state_in t) c.args.connection c.in-Some.client kept
     = is_served t c.args.connection c.in-Some.client kept c.requires
     (sym (c.requires.tied.owners c.args.connection) ∙ sym c.in-Some.ensures.value) held in
     let other : kept.clean ≡ false
