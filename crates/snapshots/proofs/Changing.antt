@@ -14,7 +14,7 @@ use Rattle.agreement.specs.whole.Changing.{on_new_ballot as whole_on_new_ballot,
 use Rattle.agreement.specs.whole.Activating.{activates as whole_activates, on_installed as whole_on_installed, on_activated as whole_on_activated, on_superseded as whole_on_superseded}
 use Rattle.agreement.specs.ballot_base.Logs.{places}
 use Rattle.snapshots.specs.Whole.{whole_log, whole, whole_body, whole_effects}
-use Rattle.snapshots.specs.Matches.{IsBased, Matches}
+use Rattle.snapshots.specs.Matches.{IsBased, OutcomeMatches}
 use Rattle.agreement.specs.ballot_base.declared.message.Body.{Body}
 use Rattle.agreement.specs.ballot_base.Sending.{message_to_each}
 use Rattle.agreement.specs.ballot_base.declared.message.Body.TheVariants.{Join, Install}
@@ -41,13 +41,13 @@ whole_asked O archive r [] = refl
 whole_asked O archive r (x ∷ lacking) = refl
 
 pub new_ballot_matches : {S C : Type 0} (O : Type 0) (archive : List C) (r : ReplicaState S C) (ballot : ℕ) (members : List ℕ) (previous : ℕ) (old : List ℕ) →
-    Matches {O = O} archive (on_new_ballot O r ballot members previous old) (whole_on_new_ballot O (whole archive r) ballot members previous old)
+    OutcomeMatches {O = O} archive (on_new_ballot O r ballot members previous old) (whole_on_new_ballot O (whole archive r) ballot members previous old)
 unfolding on_new_ballot whole_on_new_ballot
 new_ballot_matches O archive r ballot members previous old =
     if_matches archive (nat_lt r.joined ballot) (nat_lt r.joined ballot) _ _ _ _ refl (matches_all archive _ _ refl (whole_to_each O archive r.id (Join ballot previous) old)) (matches_nothing O archive r)
 
 pub join_matches : {S C : Type 0} (O : Type 0) (archive : List C) (r : ReplicaState S C) (from ballot previous : ℕ) →
-    Matches {O = O} archive (on_join O r from ballot previous) (whole_on_join O (whole archive r) from ballot previous)
+    OutcomeMatches {O = O} archive (on_join O r from ballot previous) (whole_on_join O (whole archive r) from ballot previous)
 unfolding on_join whole_on_join
 join_matches {S = S} {C = C} O archive r from ballot previous =
     if_matches archive (nat_le r.joined ballot && nat_le previous r.held_in) (nat_le r.joined ballot && nat_le previous r.held_in) _ _ _ _ refl (matches_all archive _ _ (by (nat_lt r.joined ballot)) refl) (matches_nothing O archive r)
@@ -58,26 +58,26 @@ join_matches {S = S} {C = C} O archive r from ballot previous =
     by false = refl
 
 pub installed_matches : {S C : Type 0} (O : Type 0) (archive : List C) (r : ReplicaState S C) (from ballot : ℕ) →
-    Matches {O = O} archive (on_installed O r from ballot) (whole_on_installed O (whole archive r) from ballot)
+    OutcomeMatches {O = O} archive (on_installed O r from ballot) (whole_on_installed O (whole archive r) from ballot)
 unfolding on_installed whole_on_installed
 installed_matches O archive r from ballot =
     if_matches archive ((r.joined == ballot && is_installing r.role) && list_any (λ member. member == from) r.lacking) ((r.joined == ballot && is_installing r.role) && list_any (λ member. member == from) r.lacking) _ _ _ _ refl
     (matches_all archive _ _ refl (whole_asked O archive (record r { lacking = others from r.lacking }) (others from r.lacking))) (matches_nothing O archive r)
 
 pub superseded_matches : {S C : Type 0} (O : Type 0) (archive : List C) (r : ReplicaState S C) (ballot : ℕ) →
-    Matches {O = O} archive (on_superseded O r ballot) (whole_on_superseded O (whole archive r) ballot)
+    OutcomeMatches {O = O} archive (on_superseded O r ballot) (whole_on_superseded O (whole archive r) ballot)
 unfolding on_superseded whole_on_superseded
 superseded_matches {S = S} {C = C} O archive r ballot =
     if_matches archive (r.joined == ballot && is_installing r.role) (r.joined == ballot && is_installing r.role)
     (record { state = record r { role = Backup }; effects = [] }) _ (record { state = record (whole archive r) { role = Backup }; effects = [] }) _ refl (matches_all archive _ _ refl refl) (matches_nothing O archive r)
 
 pub activated_matches : {S C O : Type 0} (rules : Rules S C O) (archive : List C) (r : ReplicaState S C) (ballot : ℕ) → IsBased archive r →
-    Matches {O = O} archive (on_activated rules r ballot) (whole_on_activated rules (whole archive r) ballot)
+    OutcomeMatches {O = O} archive (on_activated rules r ballot) (whole_on_activated rules (whole archive r) ballot)
 unfolding on_activated whole_on_activated
 activated_matches {S = S} {C = C} {O = O} rules archive r ballot b =
     if_matches archive _ _ _ _ _ _
     (ap (λ n. (r.joined == ballot && is_installing r.role) && (nat_le (length r.lacking) 0 && nat_lt n max_places)) (sym long))
-    (subst (λ (x : WholeState S C). Matches {O = O} archive (added rules active (rules.start_of ballot)) (whole_added rules x (rules.start_of ballot))) same
+    (subst (λ (x : WholeState S C). OutcomeMatches {O = O} archive (added rules active (rules.start_of ballot)) (whole_added rules x (rules.start_of ballot))) same
     (added_matches rules archive active (rules.start_of ballot) (record { within = b.within; low = omega arith })))
     (matches_nothing O archive r)
   where
@@ -96,9 +96,9 @@ activated_matches {S = S} {C = C} {O = O} rules archive r ballot b =
         ∙ ap (λ n. with_all n (drop r.committed (take n (whole_log archive r.log)))) (sym long)
 
 pub tick_fetching_matches : {S C : Type 0} (O : Type 0) (archive : List C) (r : ReplicaState S C) →
-    Matches {O = O} archive (on_tick_fetching O r) (whole_on_tick_fetching O (whole archive r))
+    OutcomeMatches {O = O} archive (on_tick_fetching O r) (whole_on_tick_fetching O (whole archive r))
 tick_fetching_matches O archive r = matches_all archive _ _ refl (whole_to_each O archive r.id (Join r.joined r.previous) r.previous_members)
 
 pub tick_installing_matches : {S C : Type 0} (O : Type 0) (archive : List C) (r : ReplicaState S C) →
-    Matches {O = O} archive (on_tick_installing O r) (whole_on_tick_installing O (whole archive r))
+    OutcomeMatches {O = O} archive (on_tick_installing O r) (whole_on_tick_installing O (whole archive r))
 tick_installing_matches O archive r = matches_all archive _ _ refl (whole_handed O archive r r.lacking)

@@ -19,7 +19,7 @@ use Rattle.agreement.proofs.Agreed.PastAgrees.{has_agreed}
 use Rattle.agreement.proofs.Agreed.PastKnown.{past_known}
 use Rattle.agreement.specs.ballot_base.Logs.{Log, places}
 use Rattle.snapshots.specs.Whole.{whole, whole_input}
-use Rattle.snapshots.specs.Matches.{Matches}
+use Rattle.snapshots.specs.Matches.{OutcomeMatches}
 use Rattle.agreement.specs.ballot_base.declared.message.Body.{Body}
 use Rattle.agreement.specs.ballot_base.declared.message.Effect.{Effect}
 use Rattle.agreement.specs.ballot_base.declared.message.Message.{Message}
@@ -165,7 +165,7 @@ own_thinned s (loses t) own to m i = own_thinned s t (λ a b j. own a b (there j
 pub kept_plainly : {S C O : Type 0} (rules : Rules S C O) (config : Config) (m : MasterState) (w : World S C O) (earlier : List (Moment S C O))
     (n : ℕ) (r : ReplicaState S C) (input : Input C) (new : ReplicaState S C) (given : List (Effect C O)) → (k : Kept rules config m w earlier) →
     slice_get w.nodes n ≡ Some r → r.stopped ≡ false → MayTake w n input → KeepsBase {O = O} r (replica_step rules r input) →
-    Matches w.archive (replica_step rules r input) (whole_step rules (whole w.archive r) (whole_input w.archive input)) →
+    OutcomeMatches w.archive (replica_step rules r input) (whole_step rules (whole w.archive r) (whole_input w.archive input)) →
     new ≡ (replica_step rules r input).state → Thinned given (replica_step rules r input).effects →
     KeptWith rules config m (moved w n new given) (moment m w ∷ earlier) k.came (added_whole w.archive n r input new given)
 kept_plainly {S = S} {C = C} {O = O} rules config m w earlier n r input new given k stands runs may base matches is thin =

@@ -14,7 +14,7 @@ use Rattle.agreement.specs.ballot_base.Replica.{is_active, is_fetching, others, 
 use Rattle.agreement.specs.whole.Sending.{Outcome as WholeOutcome, message_to as whole_message_to}
 use Rattle.agreement.specs.ballot_base.Logs.{Log, places}
 use Rattle.snapshots.specs.Whole.{whole_log, whole}
-use Rattle.snapshots.specs.Matches.{Matches}
+use Rattle.snapshots.specs.Matches.{OutcomeMatches}
 use Rattle.agreement.specs.ballot_base.Sending.{Outcome, message_to, nothing_done}
 use Rattle.agreement.specs.ballot_base.declared.message.Body.TheVariants.{State, Install, Installed}
 use Rattle.agreement.specs.ballot_base.Changing.{on_install, on_state}
@@ -78,10 +78,10 @@ state_nothing {O = O} rules r ballot log e = rw e refl
 
 pub state_stays : {S C O : Type 0} (rules : Rules S C O) (archive : List C) (r : ReplicaState S C) (ballot : ℕ) (log : Log C) → log.base ≤ length archive →
     (r.joined == ballot && (is_fetching r.role && nat_le r.committed (places log))) ≡ false →
-    Matches {O = O} archive (on_state rules r ballot log) (whole_on_state O (whole archive r) ballot (whole_log archive log))
+    OutcomeMatches {O = O} archive (on_state rules r ballot log) (whole_on_state O (whole archive r) ballot (whole_log archive log))
 state_stays {S = S} {C = C} {O = O} rules archive r ballot log within e =
-    subst (λ (o : Outcome S C O). Matches archive o (whole_on_state O (whole archive r) ballot (whole_log archive log))) (sym (state_nothing rules r ballot log e))
-    (subst (λ (p : WholeOutcome S C O). Matches archive (nothing_done O r) p)
+    subst (λ (o : Outcome S C O). OutcomeMatches archive o (whole_on_state O (whole archive r) ballot (whole_log archive log))) (sym (state_nothing rules r ballot log e))
+    (subst (λ (p : WholeOutcome S C O). OutcomeMatches archive (nothing_done O r) p)
     (sym (on_state-stays O (whole archive r) ballot (whole_log archive log)
     (ap (λ n. r.joined == ballot && (is_fetching r.role && nat_le r.committed n)) (whole_long archive log within) ∙ e)))
     (matches_nothing O archive r))
@@ -101,21 +101,21 @@ install_nothing {O = O} rules r from ballot log e g = rw (e, g) refl
 
 pub install_stays : {S C O : Type 0} (rules : Rules S C O) (archive : List C) (r : ReplicaState S C) (from ballot : ℕ) (log : Log C) → log.base ≤ length archive →
     ((nat_lt r.joined ballot || (r.joined == ballot && nat_lt r.held_in ballot)) && nat_le r.committed (places log)) ≡ false →
-    Matches {O = O} archive (on_install rules r from ballot log) (whole_on_install O (whole archive r) from ballot (whole_log archive log))
+    OutcomeMatches {O = O} archive (on_install rules r from ballot log) (whole_on_install O (whole archive r) from ballot (whole_log archive log))
 install_stays {S = S} {C = C} {O = O} rules archive r from ballot log within e = by_ballot (cases_Bool (r.joined == ballot && r.held_in == ballot))
   where
     also : ((nat_lt r.joined ballot || (r.joined == ballot && nat_lt r.held_in ballot)) && nat_le r.committed (length (whole_log archive log))) ≡ false
     also = ap (λ n. (nat_lt r.joined ballot || (r.joined == ballot && nat_lt r.held_in ballot)) && nat_le r.committed n) (whole_long archive log within) ∙ e
 
     by_ballot : ((r.joined == ballot && r.held_in == ballot) ≡ true) ⊎ ((r.joined == ballot && r.held_in == ballot) ≡ false) →
-        Matches {O = O} archive (on_install rules r from ballot log) (whole_on_install O (whole archive r) from ballot (whole_log archive log))
+        OutcomeMatches {O = O} archive (on_install rules r from ballot log) (whole_on_install O (whole archive r) from ballot (whole_log archive log))
     by_ballot (inl g) =
-        subst (λ (o : Outcome S C O). Matches archive o (whole_on_install O (whole archive r) from ballot (whole_log archive log))) (sym (install_answers rules r from ballot log e g))
-        (subst (λ (p : WholeOutcome S C O). Matches archive (record { state = r; effects = message_to O r.id (Installed ballot (places log)) from ∷ [] }) p)
+        subst (λ (o : Outcome S C O). OutcomeMatches archive o (whole_on_install O (whole archive r) from ballot (whole_log archive log))) (sym (install_answers rules r from ballot log e g))
+        (subst (λ (p : WholeOutcome S C O). OutcomeMatches archive (record { state = r; effects = message_to O r.id (Installed ballot (places log)) from ∷ [] }) p)
         (sym (on_install-answers O (whole archive r) from ballot (whole_log archive log) also g))
         (matches_all archive _ _ refl
         (ap (λ n. let x : WholeEffect C O = effects.To from (record { from = r.id; body = bodies.Installed ballot n }) in x ∷ []) (sym (whole_long archive log within)))))
     by_ballot (inr g) =
-        subst (λ (o : Outcome S C O). Matches archive o (whole_on_install O (whole archive r) from ballot (whole_log archive log))) (sym (install_nothing rules r from ballot log e g))
-        (subst (λ (p : WholeOutcome S C O). Matches archive (nothing_done O r) p)
+        subst (λ (o : Outcome S C O). OutcomeMatches archive o (whole_on_install O (whole archive r) from ballot (whole_log archive log))) (sym (install_nothing rules r from ballot log e g))
+        (subst (λ (p : WholeOutcome S C O). OutcomeMatches archive (nothing_done O r) p)
         (sym (on_install-stays O (whole archive r) from ballot (whole_log archive log) also g)) (matches_nothing O archive r))

@@ -19,7 +19,7 @@ use Rattle.agreement.specs.World.{World as WholeWorld, moved as whole_moved}
 use Rattle.agreement.proofs.Agreed.PastAgrees.{machines_replay}
 use Rattle.agreement.specs.ballot_base.Logs.{Log, places}
 use Rattle.snapshots.specs.Whole.{whole_log, whole, whole_effects, whole_input}
-use Rattle.snapshots.specs.Matches.{IsBased, Matches}
+use Rattle.snapshots.specs.Matches.{IsBased, OutcomeMatches}
 use Rattle.agreement.specs.ballot_base.declared.message.Effect.{Effect}
 use Rattle.agreement.specs.ballot_base.Losses.{Thinned}
 use Rattle.agreement.specs.ballot_base.Protocol.{Input, replica_step}
@@ -50,7 +50,7 @@ pub record TakesLog {S C O : Type 0} (rules : Rules S C O) (archive : List C) (r
   pub joined : (whole_step rules (whole archive r) (whole_input archive input)).state.joined ≡ ballot
   pub row : (took : ReplicaState S C) → taken rules r log ≡ Some took → took.id ≡ r.id → took.members ≡ r.members →
       whole archive took ≡ record (whole archive r) { log = whole_log archive log } →
-      Matches archive (replica_step rules r input) (whole_step rules (whole archive r) (whole_input archive input))
+      OutcomeMatches archive (replica_step rules r input) (whole_step rules (whole archive r) (whole_input archive input))
   pub learns : (took : ReplicaState S C) → taken rules r log ≡ Some took →
       whole archive took ≡ whole_applied_to rules (record (whole archive r) { log = whole_log archive log }) log.base →
       LearnsTo rules archive log.base (replica_step rules r input) (whole_step rules (whole archive r) (whole_input archive input))
@@ -136,7 +136,7 @@ log_goes_on {S = S} {C = C} {O = O} rules config m w earlier n r input ballot lo
         ∙ fronts_stay rules config (moment m w) earlier n W (whole_input w.archive input) came there_now runs (may_take_whole w n input may) old_long t.committed
         (subst (λ (us : List C). r.committed ≤ length us) (sym t.log_is) long)
 
-    by_match : Matches w.archive (replica_step rules r input) p →
+    by_match : OutcomeMatches w.archive (replica_step rules r input) p →
         LogWent rules config m w earlier n r input new given came
     by_match matches =
         let s = step_whole rules m w n r input new given stands runs may

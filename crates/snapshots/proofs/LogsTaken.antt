@@ -14,7 +14,7 @@ use Rattle.agreement.specs.ballot_base.declared.status.Role.TheVariants.{Backup,
 use Rattle.agreement.specs.whole.Sending.{Outcome as WholeOutcome}
 use Rattle.agreement.specs.ballot_base.Logs.{Log, places}
 use Rattle.snapshots.specs.Whole.{whole_log, whole, whole_effects}
-use Rattle.snapshots.specs.Matches.{Matches}
+use Rattle.snapshots.specs.Matches.{OutcomeMatches}
 use Rattle.agreement.specs.ballot_base.Sending.{Outcome}
 use Rattle.agreement.specs.ballot_base.Changing.{answers_installed, installs_taken, on_install, on_state}
 use Rattle.agreement.specs.ballot_base.Taking.{taken}
@@ -26,13 +26,13 @@ use Rattle.snapshots.proofs.Serving.{if_matches, matches_all, matches_nothing}
 pub state_matches : {S C O : Type 0} (rules : Rules S C O) (archive : List C) (r took : ReplicaState S C) (ballot : ℕ) (log : Log C) →
     log.base ≤ length archive → taken rules r log ≡ Some took → took.id ≡ r.id → took.members ≡ r.members →
     whole archive took ≡ record (whole archive r) { log = whole_log archive log } →
-    Matches {O = O} archive (on_state rules r ballot log) (whole_on_state O (whole archive r) ballot (whole_log archive log))
+    OutcomeMatches {O = O} archive (on_state rules r ballot log) (whole_on_state O (whole archive r) ballot (whole_log archive log))
 unfolding on_state whole_on_state
 state_matches {S = S} {C = C} {O = O} rules archive r took ballot log within is id members same =
     if_matches archive (r.joined == ballot && (is_fetching r.role && nat_le r.committed (places log)))
     (r.joined == ballot && (is_fetching r.role && nat_le r.committed (length (whole_log archive log)))) _ _ _ _
     (ap (λ n. r.joined == ballot && (is_fetching r.role && nat_le r.committed n)) (sym (whole_long archive log within)))
-    (subst (λ (o : Option (ReplicaState S C)). Matches {O = O} archive (installs_taken O r ballot o) (record { state = new; effects = whole_installs O new (others r.id r.members) })) (sym is)
+    (subst (λ (o : Option (ReplicaState S C)). OutcomeMatches {O = O} archive (installs_taken O r ballot o) (record { state = new; effects = whole_installs O new (others r.id r.members) })) (sym is)
     (matches_all archive _ _ state
     (whole_handed O archive (record took { held_in = ballot; role = Installing; lacking = others r.id r.members }) (others r.id r.members)
     ∙ ap (λ (x : WholeState S C). whole_installs O x (others r.id r.members)) state)))
@@ -47,13 +47,13 @@ state_matches {S = S} {C = C} {O = O} rules archive r took ballot log within is 
 pub install_matches : {S C O : Type 0} (rules : Rules S C O) (archive : List C) (r took : ReplicaState S C) (from ballot : ℕ) (log : Log C) →
     log.base ≤ length archive → taken rules r log ≡ Some took →
     whole archive took ≡ record (whole archive r) { log = whole_log archive log } →
-    Matches {O = O} archive (on_install rules r from ballot log) (whole_on_install O (whole archive r) from ballot (whole_log archive log))
+    OutcomeMatches {O = O} archive (on_install rules r from ballot log) (whole_on_install O (whole archive r) from ballot (whole_log archive log))
 unfolding on_install whole_on_install
 install_matches {S = S} {C = C} {O = O} rules archive r took from ballot log within is same =
     if_matches archive ((nat_lt r.joined ballot || (r.joined == ballot && nat_lt r.held_in ballot)) && nat_le r.committed (places log))
     ((nat_lt r.joined ballot || (r.joined == ballot && nat_lt r.held_in ballot)) && nat_le r.committed (length (whole_log archive log))) _ _ _ _
     (ap (λ n. (nat_lt r.joined ballot || (r.joined == ballot && nat_lt r.held_in ballot)) && nat_le r.committed n) (sym long))
-    (subst (λ (o : Option (ReplicaState S C)). Matches {O = O} archive (answers_installed O r from ballot (places log) o)
+    (subst (λ (o : Option (ReplicaState S C)). OutcomeMatches {O = O} archive (answers_installed O r from ballot (places log) o)
     (record { state = new; effects = answer (length (whole_log archive log)) ∷ [] })) (sym is)
     (matches_all archive _ _ (ap (λ (x : WholeState S C). let y : WholeState S C = record x { joined = ballot; held_in = ballot; role = Backup } in y) same)
     (ap (λ n. answer n ∷ []) (sym long))))

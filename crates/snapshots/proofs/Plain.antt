@@ -4,7 +4,7 @@ use Rattle.agreement.specs.machine.Machine.{Rules}
 use Rattle.agreement.specs.whole.Protocol.{ticked as whole_ticked, replica_step as whole_step, received as whole_received}
 use Rattle.agreement.specs.ballot_base.declared.status.Role.{Role}
 use Rattle.agreement.specs.ballot_base.declared.status.Role.TheVariants.{Backup, Fetching, Installing, Active}
-use Rattle.snapshots.specs.Matches.{IsBased, Matches}
+use Rattle.snapshots.specs.Matches.{IsBased, OutcomeMatches}
 use Rattle.agreement.specs.ballot_base.declared.message.Body.{Body}
 use Rattle.agreement.specs.ballot_base.declared.message.Body.TheVariants.{NewBallot, Join, State, Install, Installed, Activate, Activated, Superseded, Append, Held, Commit}
 use Rattle.agreement.specs.ballot_base.Replica.{ReplicaState}
@@ -25,7 +25,7 @@ IsPlain (Receives m) = IsPlainBody m.body
 IsPlain _ = Unit {0}
 
 received_matches : {S C O : Type 0} (rules : Rules S C O) (archive : List C) (r : ReplicaState S C) (from : ℕ) (body : Body C) →
-    IsBased archive r → IsPlainBody body → Matches {O = O} archive (received rules r from body) (whole_received rules (whole archive r) from (whole_body archive body))
+    IsBased archive r → IsPlainBody body → OutcomeMatches {O = O} archive (received rules r from body) (whole_received rules (whole archive r) from (whole_body archive body))
 received_matches {O = O} rules archive r from (NewBallot b members a old) based plain = new_ballot_matches O archive r b members a old
 received_matches {O = O} rules archive r from (Join b a) based plain = join_matches O archive r from b a
 received_matches rules archive r from (State b log) based plain = absurd plain
@@ -39,14 +39,14 @@ received_matches rules archive r from (Held b held) based plain = held_matches r
 received_matches rules archive r from (Commit b held) based plain = commits_match rules archive r b held based
 
 ticked_matches : {S C : Type 0} (O : Type 0) (archive : List C) (r : ReplicaState S C) (role : Role) → IsBased archive r →
-    Matches {O = O} archive (ticked O r role) (whole_ticked O (whole archive r) role)
+    OutcomeMatches {O = O} archive (ticked O r role) (whole_ticked O (whole archive r) role)
 ticked_matches O archive r Backup based = matches_nothing O archive r
 ticked_matches O archive r Fetching based = tick_fetching_matches O archive r
 ticked_matches O archive r Installing based = tick_installing_matches O archive r
 ticked_matches O archive r Active based = tick_active_matches O archive r based
 
 pub plain_matches : {S C O : Type 0} (rules : Rules S C O) (archive : List C) (r : ReplicaState S C) (input : Input C) →
-    IsBased archive r → IsPlain input → Matches {O = O} archive (replica_step rules r input) (whole_step rules (whole archive r) (whole_input archive input))
+    IsBased archive r → IsPlain input → OutcomeMatches {O = O} archive (replica_step rules r input) (whole_step rules (whole archive r) (whole_input archive input))
 plain_matches rules archive r (Receives m) based plain = received_matches rules archive r m.from m.body based plain
 plain_matches rules archive r (Proposes c) based plain = proposed_matches rules archive r c based
 plain_matches {O = O} rules archive r Ticks based plain = ticked_matches O archive r r.role based

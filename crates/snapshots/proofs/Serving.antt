@@ -18,7 +18,7 @@ use Rattle.agreement.specs.ballot_base.Serving.{least, max_places, raised, exten
 use Rattle.agreement.specs.whole.Serving.{commit as whole_commit, commit_at as whole_commit_at, added as whole_added, proposed as whole_proposed, on_append as whole_on_append, on_held as whole_on_held, on_commit as whole_on_commit, on_tick_active as whole_on_tick_active, appends_after as whole_appends_after, append_at as whole_append_at, extended as whole_extended}
 use Rattle.agreement.specs.ballot_base.Logs.{Log, command_at, part, places, pushed}
 use Rattle.snapshots.specs.Whole.{whole_log, whole, whole_body, whole_effect, whole_effects}
-use Rattle.snapshots.specs.Matches.{IsBased, Matches}
+use Rattle.snapshots.specs.Matches.{IsBased, OutcomeMatches}
 use Rattle.agreement.specs.ballot_base.declared.message.Body.{Body}
 use Rattle.agreement.specs.ballot_base.declared.message.Effect.{Effect}
 use Rattle.agreement.specs.ballot_base.Sending.{Outcome, message_to_followed, nothing_done, sent_first}
@@ -38,11 +38,11 @@ thinned_join (loses p) q = loses (thinned_join p q)
 
 -- an outcome with the same effects
 pub matches_all : {S C O : Type 0} (archive : List C) (o : Outcome S C O) (p : WholeOutcome S C O) → whole archive o.state ≡ p.state →
-    whole_effects archive o.effects ≡ p.effects → Matches archive o p
+    whole_effects archive o.effects ≡ p.effects → OutcomeMatches archive o p
 matches_all {S = S} {C = C} {O = O} archive o p e f =
     record { state = e; effects = subst (λ (us : List (WholeEffect C O)). WholeThinned us p.effects) (sym f) (thinned_same p.effects) }
 
-pub matches_nothing : {S C : Type 0} (O : Type 0) (archive : List C) (r : ReplicaState S C) → Matches archive (nothing_done O r) (whole_nothing O (whole archive r))
+pub matches_nothing : {S C : Type 0} (O : Type 0) (archive : List C) (r : ReplicaState S C) → OutcomeMatches archive (nothing_done O r) (whole_nothing O (whole archive r))
 matches_nothing O archive r = record { state = refl; effects = none }
 
 -- messages to followed members
@@ -67,7 +67,7 @@ whole_outputs {C = C} {O = O} rules archive s place (c ∷ commands) =
 
 -- places that are committed
 pub at_matches : {S C O : Type 0} (rules : Rules S C O) (archive : List C) (r : ReplicaState S C) (held : ℕ) → IsBased archive r →
-    Matches {O = O} archive (commit_at rules r held) (whole_commit_at rules (whole archive r) held)
+    OutcomeMatches {O = O} archive (commit_at rules r held) (whole_commit_at rules (whole archive r) held)
 unfolding commit_at whole_commit_at
 at_matches {S = S} {C = C} {O = O} rules archive r held b = by_order (cases_Bool (nat_lt r.committed held))
   where
@@ -75,7 +75,7 @@ at_matches {S = S} {C = C} {O = O} rules archive r held b = by_order (cases_Bool
     same = whole_part archive r.log r.committed held b.within b.low
 
     by_order : (nat_lt r.committed held ≡ true) ⊎ (nat_lt r.committed held ≡ false) →
-        Matches {O = O} archive (commit_at rules r held) (whole_commit_at rules (whole archive r) held)
+        OutcomeMatches {O = O} archive (commit_at rules r held) (whole_commit_at rules (whole archive r) held)
     by_order (inl e) =
         rw e (matches_all archive
         (record { state = applied_to rules r held; effects = outputs_to rules r held ++ message_to_followed O r.id (Commit r.joined held) r.progress })
@@ -93,15 +93,15 @@ at_matches {S = S} {C = C} {O = O} rules archive r held b = by_order (cases_Bool
     by_order (inr e) = rw e (matches_nothing O archive r)
 
 pub commit_matches : {S C O : Type 0} (rules : Rules S C O) (archive : List C) (r : ReplicaState S C) → IsBased archive r →
-    Matches {O = O} archive (commit rules r) (whole_commit rules (whole archive r))
+    OutcomeMatches {O = O} archive (commit rules r) (whole_commit rules (whole archive r))
 unfolding commit whole_commit
 commit_matches {O = O} rules archive r b =
-    subst (λ (n : ℕ). Matches {O = O} archive (commit_at rules r (least (places r.log) r.progress)) (whole_commit_at rules (whole archive r) (least n r.progress)))
+    subst (λ (n : ℕ). OutcomeMatches {O = O} archive (commit_at rules r (least (places r.log) r.progress)) (whole_commit_at rules (whole archive r) (least n r.progress)))
     (sym (whole_long archive r.log b.within)) (at_matches rules archive r (least (places r.log) r.progress) b)
 
 -- one outcome or another, by a test
 pub if_matches : {S C O : Type 0} (archive : List C) (b c : Bool) (o p : Outcome S C O) (u v : WholeOutcome S C O) → b ≡ c →
-    Matches archive o u → Matches archive p v → Matches archive (cond b o p) (cond c u v)
+    OutcomeMatches archive o u → OutcomeMatches archive p v → OutcomeMatches archive (cond b o p) (cond c u v)
 if_matches archive true true o p u v e m n = m
 if_matches archive false false o p u v e m n = n
 if_matches archive true false o p u v e m n = cc
@@ -109,7 +109,7 @@ if_matches archive false true o p u v e m n = cc
 
 -- messages in front
 sent_matches : {S C O : Type 0} (archive : List C) (xs : List (Effect C O)) (ys : List (WholeEffect C O)) (o : Outcome S C O) (p : WholeOutcome S C O) →
-    whole_effects archive xs ≡ ys → Matches archive o p → Matches archive (sent_first xs o) (whole_sent_first ys p)
+    whole_effects archive xs ≡ ys → OutcomeMatches archive o p → OutcomeMatches archive (sent_first xs o) (whole_sent_first ys p)
 sent_matches {S = S} {C = C} {O = O} archive xs ys o p e m =
     record {
       state = m.state;
@@ -120,7 +120,7 @@ sent_matches {S = S} {C = C} {O = O} archive xs ys o p e m =
 
 -- a command that is added
 pub added_matches : {S C O : Type 0} (rules : Rules S C O) (archive : List C) (r : ReplicaState S C) (c : C) → IsBased archive r →
-    Matches {O = O} archive (added rules r c) (whole_added rules (whole archive r) c)
+    OutcomeMatches {O = O} archive (added rules r c) (whole_added rules (whole archive r) c)
 unfolding added whole_added
 added_matches {S = S} {C = C} {O = O} rules archive r c b =
     sent_matches archive (message_to_followed O r.id (Append r.joined (places r.log) c) r.progress)
@@ -128,12 +128,12 @@ added_matches {S = S} {C = C} {O = O} rules archive r c b =
     (commit rules (record r { log = pushed r.log c })) (whole_commit rules (record (whole archive r) { log = whole_log archive r.log ++ c ∷ [] }))
     (whole_to_followed O archive r.id (Append r.joined (places r.log) c) r.progress
     ∙ ap (λ n. whole_followed O r.id (bodies.Append r.joined n c) r.progress) (sym (whole_long archive r.log b.within)))
-    (subst (λ (us : List C). Matches {O = O} archive (commit rules (record r { log = pushed r.log c })) (whole_commit rules (record (whole archive r) { log = us })))
+    (subst (λ (us : List C). OutcomeMatches {O = O} archive (commit rules (record r { log = pushed r.log c })) (whole_commit rules (record (whole archive r) { log = us })))
     (whole_pushed archive r.log c)
     (commit_matches rules archive (record r { log = pushed r.log c }) (record { within = b.within; low = b.low })))
 
 pub proposed_matches : {S C O : Type 0} (rules : Rules S C O) (archive : List C) (r : ReplicaState S C) (c : C) → IsBased archive r →
-    Matches {O = O} archive (proposed rules r c) (whole_proposed rules (whole archive r) c)
+    OutcomeMatches {O = O} archive (proposed rules r c) (whole_proposed rules (whole archive r) c)
 unfolding proposed whole_proposed
 proposed_matches {O = O} rules archive r c b =
     if_matches archive _ _ _ _ _ _ (ap (λ n. is_active r.role && nat_lt n max_places) (sym (whole_long archive r.log b.within)))
@@ -141,14 +141,14 @@ proposed_matches {O = O} rules archive r c b =
 
 -- Held and Commit
 pub held_matches : {S C O : Type 0} (rules : Rules S C O) (archive : List C) (r : ReplicaState S C) (from ballot held : ℕ) → IsBased archive r →
-    Matches {O = O} archive (on_held rules r from ballot held) (whole_on_held rules (whole archive r) from ballot held)
+    OutcomeMatches {O = O} archive (on_held rules r from ballot held) (whole_on_held rules (whole archive r) from ballot held)
 unfolding on_held whole_on_held
 held_matches {O = O} rules archive r from ballot held b =
     if_matches archive (leads r ballot) (leads r ballot) _ _ _ _ refl
     (commit_matches rules archive (record r { progress = raised from held r.progress }) (record { within = b.within; low = b.low })) (matches_nothing O archive r)
 
 pub commits_match : {S C O : Type 0} (rules : Rules S C O) (archive : List C) (r : ReplicaState S C) (ballot held : ℕ) → IsBased archive r →
-    Matches {O = O} archive (on_commit rules r ballot held) (whole_on_commit rules (whole archive r) ballot held)
+    OutcomeMatches {O = O} archive (on_commit rules r ballot held) (whole_on_commit rules (whole archive r) ballot held)
 unfolding on_commit whole_on_commit
 commits_match {S = S} {C = C} {O = O} rules archive r ballot held b =
     if_matches archive _ _ _ _ _ _ (ap (λ n. follows r ballot && nat_le held n) (sym (whole_long archive r.log b.within)))
@@ -177,7 +177,7 @@ extended_based {C = C} place c log n within = by (place == places log)
     by false = within
 
 pub append_matches : {S C : Type 0} (O : Type 0) (archive : List C) (r : ReplicaState S C) (from ballot place : ℕ) (c : C) → IsBased archive r →
-    Matches {O = O} archive (on_append O r from ballot place c) (whole_on_append O (whole archive r) from ballot place c)
+    OutcomeMatches {O = O} archive (on_append O r from ballot place c) (whole_on_append O (whole archive r) from ballot place c)
 unfolding on_append whole_on_append
 append_matches {S = S} {C = C} O archive r from ballot place c b =
     if_matches archive _ _ _ _ _ _ (ap (λ n. follows r ballot && nat_le place n) (sym (whole_long archive r.log b.within)))
@@ -219,7 +219,7 @@ after_thinned {C = C} O archive id ballot log (reached ∷ progress) within =
         (sym (whole_get archive log reached.held within low)) (append_at_thinned O archive id ballot reached (command_at log reached.held))
 
 pub tick_active_matches : {S C : Type 0} (O : Type 0) (archive : List C) (r : ReplicaState S C) → IsBased archive r →
-    Matches {O = O} archive (on_tick_active O r) (whole_on_tick_active O (whole archive r))
+    OutcomeMatches {O = O} archive (on_tick_active O r) (whole_on_tick_active O (whole archive r))
 unfolding on_tick_active whole_on_tick_active
 tick_active_matches {S = S} {C = C} O archive r b =
     record {

@@ -14,7 +14,7 @@ use Rattle.agreement.specs.Steps.MayHappen.{node_takes}
 use Rattle.agreement.specs.World.{World as WholeWorld, moved as whole_moved, messages as whole_messages, outputs as whole_outputs}
 use Rattle.agreement.specs.lists.Lists.{In}
 use Rattle.agreement.specs.lists.Lists.In.{here, there}
-use Rattle.snapshots.specs.Matches.{Matches}
+use Rattle.snapshots.specs.Matches.{OutcomeMatches}
 use Rattle.agreement.specs.ballot_base.declared.message.Effect.{Effect}
 use Rattle.agreement.specs.ballot_base.Sending.{Outcome}
 use Rattle.agreement.specs.ballot_base.Losses.{Thinned, Loses}
@@ -41,7 +41,7 @@ thinned_then t (loses_one u) = loses_one (thinned_then t u)
 
 -- losses
 pub whole_loses : {S C O : Type 0} (rules : Rules S C O) (archive : List C) (old : ReplicaState S C) (o : Outcome S C O) (p : WholeOutcome S C O)
-    (new : ReplicaState S C) (given : List (Effect C O)) → Matches archive o p → Loses rules old o new given →
+    (new : ReplicaState S C) (given : List (Effect C O)) → OutcomeMatches archive o p → Loses rules old o new given →
     WholeLoses rules (whole archive old) p (whole archive new) (whole_effects archive given)
 whole_loses rules archive old o p new given m (inl (e, t)) = inl (ap (whole archive) e ∙ m.state, thinned_then (whole_thinned archive t) m.effects)
 whole_loses rules archive old o p new given m (inr (inl (e, none_given))) = inr (inl (ap (whole archive) e, ap (whole_effects archive) none_given))

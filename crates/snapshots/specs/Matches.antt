@@ -13,7 +13,7 @@ pub record IsBased {S C : Type 0} (archive : List C) (r : ReplicaState S C) : Ty
 
 -- an outcome corresponds to one on whole logs, which may have more messages: a tick there repeats
 -- places that are dropped here
-pub record Matches {S C O : Type 0} (archive : List C) (o : Outcome S C O)
+pub record OutcomeMatches {S C O : Type 0} (archive : List C) (o : Outcome S C O)
     (p : WholeOutcome S C O) : Type 0 where
   pub state : whole archive o.state ≡ p.state
   pub effects : Thinned (whole_effects archive o.effects) p.effects
