@@ -11,7 +11,7 @@ use Rattle.broker_base.specs.ClientSession.{ClientSession}
 use Rattle.broker_base.specs.SessionStep.{kept_anew, kept_resumed, kept_connected, kept_by, kept_after}
 use Rattle.broker_base.specs.State.{Sessions, keyed, put_session}
 use Rattle.broker_base.specs.Step.{touches, session_after, sessions_left}
-use Rattle.broker_base.specs.StateLaws.{IsNobodys, AreApart}
+use Rattle.broker_base.specs.StateLaws.{IsNobodys, ConnectionsAreApart}
 
 -- ---- connections without a client
 
@@ -107,7 +107,7 @@ old_after w place content c old e =
     ]
 
 pub apart_keyed : (connection : Option ConnectionName) (c : Client) (o : Option ClientSession) (rows : Sessions) → OnOld connection o →
-    ((y : ConnectionName) → connection ≡ Some y → IsNobodys y rows) → AreApart rows → AreApart (keyed c o rows)
+    ((y : ConnectionName) → connection ≡ Some y → IsNobodys y rows) → ConnectionsAreApart rows → ConnectionsAreApart (keyed c o rows)
 apart_keyed connection c None rows h other k = k
 apart_keyed connection c (Some kept) rows (inl none) other k = (λ y e. absurd (let f : None ≡ Some y = sym none ∙ e in cc), k)
 apart_keyed connection c (Some kept) rows (inr same) other k = (λ y e. other y (sym same ∙ e), k)

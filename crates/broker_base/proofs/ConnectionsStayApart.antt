@@ -12,7 +12,7 @@ use Rattle.broker_base.specs.SessionStep.{kept_anew, kept_resumed, kept_connecte
 use Rattle.broker_base.specs.State.{Sessions, State, keyed, session_in, put_session, owner_in}
 use Rattle.broker_base.specs.Decisions.{connect_mark_in, mark_in}
 use Rattle.broker_base.specs.Step.{session_after, sessions_left, sessions_with}
-use Rattle.broker_base.specs.StateLaws.{AreByClient, IsNobodys, AreApart}
+use Rattle.broker_base.specs.StateLaws.{AreByClient, IsNobodys, ConnectionsAreApart}
 use Rattle.broker_spec.specs.declared.command.Command.{Command}
 use Rattle.broker_spec.specs.declared.command.Command.TheVariants as commands
 use Rattle.std.specs.List.Sorted.{IsStrictlySortedBy}
@@ -39,7 +39,7 @@ other_opens x y clean false opened a is e h = absurd (let f : None ≡ Some a = 
 
 pub apart_put : (x : ConnectionName) (c : Client) (clean : Bool) (kept : ClientSession) (w : ℕ) (place : Place) (content : RetainedTopics) (rows : Sessions) →
     ((d : Client) → accepts place.command place.mark d ≡ only_if (same_client c d) (Some (x, clean))) → kept.connection ≡ Some x →
-    AreByClient rows → AreApart rows → IsNobodys x rows → AreApart (put_session c kept (sessions_left w place content rows))
+    AreByClient rows → ConnectionsAreApart rows → IsNobodys x rows → ConnectionsAreApart (put_session c kept (sessions_left w place content rows))
 unfolding IsStrictlySortedBy
 apart_put x c clean kept w place content [] is on by_client apart nobodys = (λ y e. tt, tt)
 apart_put x c clean kept w place content (row ∷ rows) is on by_client apart nobodys =
@@ -51,34 +51,34 @@ apart_put x c clean kept w place content (row ∷ rows) is on by_client apart no
         name_same : Some x ≡ Some y → x ≡ y
         name_same f = cc
 
-    first : (others : Sessions) → ComesBefore c others → AreApart others → IsNobodys x others → AreApart (put_session c kept (sessions_left w place content others))
+    first : (others : Sessions) → ComesBefore c others → ConnectionsAreApart others → IsNobodys x others → ConnectionsAreApart (put_session c kept (sessions_left w place content others))
     first others before others_apart others_nobodys =
-        subst AreApart (sym (put_first c kept (sessions_left w place content others) (before_left c w place content others before))) (
+        subst ConnectionsAreApart (sym (put_first c kept (sessions_left w place content others) (before_left c w place content others before))) (
           λ y e. subst (λ (z : ConnectionName). IsNobodys z (sessions_left w place content others)) (own y e)
               (nobodys_kept x w place content others (none_opens x c clean place others is before) others_nobodys),
           apart_left w place content others (none_opens x c clean place others is before) others_apart,
         )
 
-    replaced : by_bytes c row.0 ≡ Equal → (o : Option ClientSession) → ComesBefore c rows → AreApart (put_session c kept (sessions_left w place content rows)) →
-        AreApart (put_session c kept (keyed row.0 o (sessions_left w place content rows)))
+    replaced : by_bytes c row.0 ≡ Equal → (o : Option ClientSession) → ComesBefore c rows → ConnectionsAreApart (put_session c kept (sessions_left w place content rows)) →
+        ConnectionsAreApart (put_session c kept (keyed row.0 o (sessions_left w place content rows)))
     replaced e None before k = k
     replaced e (Some other) before k =
-        subst (λ (o : Ordering). AreApart (match_ordering o ((c, kept) ∷ (row.0, other) ∷ sessions_left w place content rows) ((row.0, kept) ∷ sessions_left w place content rows) ((row.0, other) ∷ put_session c kept (sessions_left w place content rows)))) (sym e)
-        (subst AreApart (put_first c kept (sessions_left w place content rows) (before_left c w place content rows before)) k)
+        subst (λ (o : Ordering). ConnectionsAreApart (match_ordering o ((c, kept) ∷ (row.0, other) ∷ sessions_left w place content rows) ((row.0, kept) ∷ sessions_left w place content rows) ((row.0, other) ∷ put_session c kept (sessions_left w place content rows)))) (sym e)
+        (subst ConnectionsAreApart (put_first c kept (sessions_left w place content rows) (before_left c w place content rows before)) k)
 
-    after : by_bytes c row.0 ≡ Greater → (o : Option ClientSession) → OnOld row.1.connection o → AreApart (put_session c kept (sessions_left w place content rows)) →
-        AreApart (put_session c kept (keyed row.0 o (sessions_left w place content rows)))
+    after : by_bytes c row.0 ≡ Greater → (o : Option ClientSession) → OnOld row.1.connection o → ConnectionsAreApart (put_session c kept (sessions_left w place content rows)) →
+        ConnectionsAreApart (put_session c kept (keyed row.0 o (sessions_left w place content rows)))
     after e None old k = k
     after e (Some other) old k =
-        subst (λ (o : Ordering). AreApart (match_ordering o ((c, kept) ∷ (row.0, other) ∷ sessions_left w place content rows) ((row.0, kept) ∷ sessions_left w place content rows) ((row.0, other) ∷ put_session c kept (sessions_left w place content rows)))) (sym e)
+        subst (λ (o : Ordering). ConnectionsAreApart (match_ordering o ((c, kept) ∷ (row.0, other) ∷ sessions_left w place content rows) ((row.0, kept) ∷ sessions_left w place content rows) ((row.0, other) ∷ put_session c kept (sessions_left w place content rows)))) (sym e)
         (apart_keyed row.1.connection row.0 (Some other) (put_session c kept (sessions_left w place content rows)) old
         (λ y on_y. let apart_y : same_connection y x ≡ false = same_turned y x ∙ sym (ap (any_connection (same_connection x)) on_y) ∙ nobodys.0 in
         nobodys_put y c kept (sessions_left w place content rows) (ap (any_connection (same_connection y)) on ∙ apart_y)
         (nobodys_left y w place content rows (λ d a opens. other_opens x y clean (same_client c d) (accepts place.command place.mark d) a (is d) opens apart_y) (apart.0 y on_y)))
         k)
 
-    by : (o : Ordering) → by_bytes c row.0 ≡ o → AreApart (put_session c kept (sessions_left w place content rows)) →
-        AreApart (put_session c kept (keyed row.0 (session_after w place content row.0 row.1) (sessions_left w place content rows)))
+    by : (o : Ordering) → by_bytes c row.0 ≡ o → ConnectionsAreApart (put_session c kept (sessions_left w place content rows)) →
+        ConnectionsAreApart (put_session c kept (keyed row.0 (session_after w place content row.0 row.1) (sessions_left w place content rows)))
     by Less e more = first (row ∷ rows) (e, before_more c row.0 rows e by_client.0) apart nobodys
     by Equal e more = replaced e (session_after w place content row.0 row.1) (subst (λ (b : Client). ComesBefore b rows) (sym (equal_is c row.0 e)) by_client.0) more
     by Greater e more = after e (session_after w place content row.0 row.1)
@@ -107,8 +107,8 @@ all_none : (place : Place) (rows : Sessions) → ((c : Client) → accepts place
 all_none place [] none = tt
 all_none place (row ∷ rows) none = (none row.0, all_none place rows none)
 
-pub stays_apart : (limits : Limits) (state : State) (w : ℕ) (command : Command) (mark : Mark) → mark ≡ mark_in limits state command → AreByClient state.sessions → AreApart state.sessions →
-    AreApart (sessions_with w (record { command = command; mark = mark }) state.retained state.sessions command mark)
+pub stays_apart : (limits : Limits) (state : State) (w : ℕ) (command : Command) (mark : Mark) → mark ≡ mark_in limits state command → AreByClient state.sessions → ConnectionsAreApart state.sessions →
+    ConnectionsAreApart (sessions_with w (record { command = command; mark = mark }) state.retained state.sessions command mark)
 stays_apart limits state w (commands.Connect x c clean) Mark.Accepted e by_client apart =
     apart_put x c clean (kept_connected w (x, clean) (session_in c state.sessions)) w
     (record { command = commands.Connect x c clean; mark = Mark.Accepted }) state.retained state.sessions (λ d. refl)

@@ -6,7 +6,7 @@ use Rattle.broker_spec.specs.Place.{Place}
 use Rattle.broker_spec.specs.Past.{accepts}
 use Rattle.broker_base.specs.State.{Sessions}
 use Rattle.broker_base.specs.Step.{session_after, sessions_left}
-use Rattle.broker_base.specs.StateLaws.{IsNobodys, AreApart}
+use Rattle.broker_base.specs.StateLaws.{IsNobodys, ConnectionsAreApart}
 use Rattle.broker_base.proofs.ConnectionsOfSessions.{not_after, nobodys_keyed, old_after, apart_keyed}
 
 -- ---- if none of these opens a connection
@@ -22,7 +22,7 @@ nobodys_kept y w place content (row ∷ rows) none h =
     nobodys_keyed y row.0 (session_after w place content row.0 row.1) (sessions_left w place content rows)
     (not_after y w place content row.0 row.1 (λ a e. absurd (let f : None ≡ Some a = sym none.0 ∙ e in cc)) h.0) (nobodys_kept y w place content rows none.1 h.1)
 
-pub apart_left : (w : ℕ) (place : Place) (content : RetainedTopics) (rows : Sessions) → NoneOpens place rows → AreApart rows → AreApart (sessions_left w place content rows)
+pub apart_left : (w : ℕ) (place : Place) (content : RetainedTopics) (rows : Sessions) → NoneOpens place rows → ConnectionsAreApart rows → ConnectionsAreApart (sessions_left w place content rows)
 apart_left w place content [] none h = tt
 apart_left w place content (row ∷ rows) none h =
     apart_keyed row.1.connection row.0 (session_after w place content row.0 row.1) (sessions_left w place content rows)

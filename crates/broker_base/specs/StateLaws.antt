@@ -65,17 +65,17 @@ IsNobodys x (row ∷ rows) =
 IsNobodys x [] = Unit {0}
 
 -- a connection belongs to at most one session
-abbrev pub AreApart : Sessions → Type 0
-AreApart (row ∷ rows) =
-    ((x : ConnectionName) → row.1.connection ≡ Some x → IsNobodys x rows) × AreApart rows
-AreApart [] = Unit {0}
+abbrev pub ConnectionsAreApart : Sessions → Type 0
+ConnectionsAreApart (row ∷ rows) =
+    ((x : ConnectionName) → row.1.connection ≡ Some x → IsNobodys x rows) × ConnectionsAreApart rows
+ConnectionsAreApart [] = Unit {0}
 
 -- ---- the state
 
 -- what the sessions of a broker satisfy
 pub record IsSound (state : State) : Type 0 where
   pub by_client : AreByClient state.sessions
-  pub apart : AreApart state.sessions
+  pub apart : ConnectionsAreApart state.sessions
   pub sessions : AllSound state.sessions
 
 -- a step keeps a state sound

@@ -17,7 +17,7 @@ use Rattle.broker_spec.specs.Place.{Client, by_bytes}
 use Rattle.broker_spec.specs.Past.{any_connection}
 use Rattle.broker_base.specs.ClientSession.{ClientSession}
 use Rattle.broker_base.specs.State.{Sessions, owner_in}
-use Rattle.broker_base.specs.StateLaws.{IsNobodys, AreApart, AreByClient}
+use Rattle.broker_base.specs.StateLaws.{IsNobodys, ConnectionsAreApart, AreByClient}
 use Rattle.broker_base.proofs.ConnectionsOfSessions.{same_turned}
 use Rattle.broker_form.specs.Follows.{is_after, is_owned, row_follows}
 use Rattle.lists.proofs.Tables.{Table, Rises}
@@ -111,7 +111,7 @@ none_owned front one (row ∷ rows) apart h =
     by (Some x) (Some y) e f h =
         owned_after x front one h (ap (any_connection (same_connection x)) f ∙ same_turned x y ∙ (sym (ap (any_connection (same_connection y)) e) ∙ (apart y f).0))
 
-rows_follow_from : (front rows : Sessions) → After front rows → AreApart rows → NoneOwned front rows → AllFollow row_follows front rows
+rows_follow_from : (front rows : Sessions) → After front rows → ConnectionsAreApart rows → NoneOwned front rows → AllFollow row_follows front rows
 rows_follow_from front [] after apart none = tt
 rows_follow_from front (row ∷ rows) after apart none = (
   and_true (is_after (last_of front) row.0) (not (is_owned front row.1.connection)) after.0 (ap not none.0),
@@ -130,7 +130,7 @@ none_at_first (row ∷ rows) = (nothing row.1.connection, none_at_first rows)
     nothing (Some x) = refl
     nothing None = refl
 
-pub sessions_follow : (rows : Sessions) → AreByClient rows → AreApart rows → AllFollow row_follows [] rows
+pub sessions_follow : (rows : Sessions) → AreByClient rows → ConnectionsAreApart rows → AllFollow row_follows [] rows
 sessions_follow rows by_client apart = rows_follow_from [] rows (rows_after rows by_client) apart (none_at_first rows)
 
 -- ---- and the other way round
@@ -168,7 +168,7 @@ none_taken front (row ∷ rows) h = (
     shorter [] h = tt
     shorter (next ∷ rows) h = (less next.1.connection h.0, shorter rows h.1)
 
-apart_from : (front rows : Sessions) → AllFollow row_follows front rows → AreApart rows
+apart_from : (front rows : Sessions) → AllFollow row_follows front rows → ConnectionsAreApart rows
 apart_from front [] h = tt
 apart_from front (row ∷ rows) h = ((λ x e. nobodys x e rows (none_taken (front ++ row ∷ []) rows h.1)), apart_from (front ++ row ∷ []) rows h.1)
   where
@@ -181,5 +181,5 @@ apart_from front (row ∷ rows) h = ((λ x e. nobodys x e rows (none_taken (fron
         other (Some y) k =
             same_turned x y ∙ (sym (ap (any_connection (same_connection y)) e) ∙ (split_owned y front row k).1)
 
-pub sessions_are : (rows : Sessions) → AllFollow row_follows [] rows → AreByClient rows × AreApart rows
+pub sessions_are : (rows : Sessions) → AllFollow row_follows [] rows → AreByClient rows × ConnectionsAreApart rows
 sessions_are rows h = (rows_rise rows (clients_after [] rows h), apart_from [] rows h)

@@ -7,7 +7,7 @@ use Rattle.broker_base.specs.ClientSession.{ClientSession}
 use Rattle.broker_base.specs.State.{Sessions, State, owner_in}
 use Rattle.broker_base.specs.Decisions.{mark_in, place_in}
 use Rattle.broker_base.specs.Step.{session_after, sessions_left, sessions_with, window_after, step}
-use Rattle.broker_base.specs.StateLaws.{AreByClient, AreApart}
+use Rattle.broker_base.specs.StateLaws.{AreByClient, ConnectionsAreApart}
 use Rattle.broker_base.specs.Command.{Command}
 use Rattle.broker_base.specs.Command.TheVariants as commands
 use Rattle.broker_rows.specs.Touched.{comes_on, is_taken, is_accepted, IsMarkOf, written}
@@ -28,7 +28,7 @@ not_accepted d _ of = refl
 
 -- the owner's row is written, or goes, and every other stays
 pub owner_written : (limits : Limits) (later : ℕ) (state : State) (command : Command) (x : ConnectionName) (owner : Client × ClientSession) →
-    AreByClient state.sessions → AreApart state.sessions → comes_on command ≡ Some x → owner_in x state.sessions ≡ Some owner →
+    AreByClient state.sessions → ConnectionsAreApart state.sessions → comes_on command ≡ Some x → owner_in x state.sessions ≡ Some owner →
     is_taken (mark_in limits state command) ≡ false →
     (step limits later state command).0.sessions
     ≡ written owner.0 (session_after (window_after later command state.window) (place_in limits state command) state.retained owner.0 owner.1) state.sessions

@@ -9,7 +9,7 @@ use Rattle.broker_base.specs.Past.{any_connection}
 use Rattle.broker_base.specs.ClientSession.{ClientSession}
 use Rattle.broker_base.specs.State.{Sessions, session_in, owner_in}
 use Rattle.broker_base.proofs.SessionsStayByClient.{ComesBefore}
-use Rattle.broker_base.specs.StateLaws.{AreByClient, IsNobodys, AreApart}
+use Rattle.broker_base.specs.StateLaws.{AreByClient, IsNobodys, ConnectionsAreApart}
 use Rattle.broker_spec.proofs.ClientsInOrder.{same_self, less_turned}
 use Rattle.broker_rows.specs.Touched.{Untouched, TouchesOnly, IsOnes}
 
@@ -71,7 +71,7 @@ owner_found x owner (row ∷ rows) by_client found = by (any_connection (same_co
         ∙ later e
 
 -- and only it is changed
-pub owner_only : (place : Place) (x : ConnectionName) (owner : Client × ClientSession) (rows : Sessions) → IsOnes place x owner.0 → AreByClient rows → AreApart rows →
+pub owner_only : (place : Place) (x : ConnectionName) (owner : Client × ClientSession) (rows : Sessions) → IsOnes place x owner.0 → AreByClient rows → ConnectionsAreApart rows →
     owner_in x rows ≡ Some owner → TouchesOnly place owner.0 rows
 unfolding IsStrictlySortedBy
 owner_only place x owner [] ones by_client apart found = tt

@@ -5,7 +5,7 @@ use Rattle.broker_base.specs.Connection.{ConnectionName}
 use Rattle.broker_base.specs.Place.{Client, Limits}
 use Rattle.broker_base.specs.ClientSession.{ClientSession}
 use Rattle.broker_base.specs.State.{Sessions, State, owner_in}
-use Rattle.broker_base.specs.StateLaws.{AreByClient, AreApart}
+use Rattle.broker_base.specs.StateLaws.{AreByClient, ConnectionsAreApart}
 use Rattle.broker_base.specs.Decisions.{mark_in, place_in}
 use Rattle.broker_base.specs.Step.{session_after, window_after, step}
 use Rattle.broker_base.specs.Command.{Command}
@@ -18,7 +18,7 @@ abbrev pub OneRowIsWritten : Type 0
 OneRowIsWritten =
     (limits : Limits) → (later : ℕ) → (state : State) → (command : Command) → (x : ConnectionName) →
     (owner : Client × ClientSession) →
-    AreByClient state.sessions → AreApart state.sessions → comes_on command ≡ Some x →
+    AreByClient state.sessions → ConnectionsAreApart state.sessions → comes_on command ≡ Some x →
     owner_in x state.sessions ≡ Some owner →
     is_taken (mark_in limits state command) ≡ false →
     (step limits later state command).0.sessions

@@ -9,7 +9,7 @@ use Rattle.broker_base.specs.Connection.{ConnectionName}
 use Rattle.broker_base.specs.Place.{Client, by_bytes}
 use Rattle.broker_base.specs.ClientSession.{ClientSession}
 use Rattle.broker_base.specs.State.{Sessions, State, session_in, owner_in}
-use Rattle.broker_base.specs.StateLaws.{AreApart, IsSound}
+use Rattle.broker_base.specs.StateLaws.{ConnectionsAreApart, IsSound}
 use Rattle.broker_base.specs.StepAnswers.{connection_of}
 use Rattle.broker_rows.specs.Touched.{written}
 use Rattle.broker_rows.specs.Served.{ServesClient, left_off}
@@ -72,5 +72,5 @@ PublishingKeepsOwners =
 -- a map that is rebuilt gets each session's connection
 abbrev pub OwnersMadeAnew : Type 0
 OwnersMadeAnew =
-    (rows : Sessions) → AreApart rows → (y : ConnectionName)
+    (rows : Sessions) → ConnectionsAreApart rows → (y : ConnectionName)
     → owners_in rows y ≡ all_owned rows no_owners y

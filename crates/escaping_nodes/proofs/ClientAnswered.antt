@@ -52,7 +52,7 @@ use Rattle.escaping.proofs.ConnectProposed.{connect_is_proposed}
 use Rattle.world_nodes.specs.ExactSteps.{after_node_call}
 use Rattle.world_nodes.specs.Nodes.{NodesState, cores_of}
 use Rattle.ways_out.specs.CutDeliveries.{Delivered, after_outcome}
-use Rattle.ways_out.specs.Deliveries.{AreApart, NodeIs, numbers_from}
+use Rattle.ways_out.specs.Deliveries.{NumbersAreApart, NodeIs, numbers_from}
 use Rattle.ways_out.specs.Following.{Follows}
 use Rattle.ways_out.specs.lists.Lists.{In}
 use Rattle.ways_out.specs.Answering.{AnswersCommand, IsHeldByAll}
@@ -321,7 +321,7 @@ others_let_the_client_be_answered config a past came n new ballot index node fro
 -- and meanwhile the connection waits
 pub others_are_awaited : (config : Config) (a : Moment State Command Output) (past : List (Moment State Command Output)) → Moments rules config (a ∷ past) → (n : NodesState) (ballot index : ℕ)
     (node : CountedCore) (front : List ℕ) (last : ℕ) (port : Port) (x : ConnectionName) (list : List Command) (start now : ℕ) (piece : List ℕ) (connect : Connect) →
-    CanAsk a n ballot index node (front ++ last ∷ []) port x list start piece connect → AreApart (front ++ last ∷ []) → (In (index + 1) (front ++ last ∷ []) → ⊥) →
+    CanAsk a n ballot index node (front ++ last ∷ []) port x list start piece connect → NumbersAreApart (front ++ last ∷ []) → (In (index + 1) (front ++ last ∷ []) → ⊥) →
     ((m : ℕ) → In m (front ++ last ∷ []) → NodeIs (Follows ballot (begun list start)) (whole_moment a).world.nodes m) →
     AwaitsOthers ballot index port x (numbers_from (length n.sent) (length front + 1) ++ numbers_from (length n.sent + (length front + 1)) (length front))
     (after_node_call index node (takes (Bytes port piece now)) n)

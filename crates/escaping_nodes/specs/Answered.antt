@@ -30,7 +30,7 @@ use Rattle.escaping.specs.world_base.Core.{CountedCore, rules}
 use Rattle.escaping.specs.world_base.Step.{node_step}
 use Rattle.world_nodes.specs.ExactSteps.{after_node_call}
 use Rattle.world_nodes.specs.Nodes.{NodesState}
-use Rattle.ways_out.specs.Deliveries.{AreApart, NodeIs, numbers_from}
+use Rattle.ways_out.specs.Deliveries.{NumbersAreApart, NodeIs, numbers_from}
 use Rattle.ways_out.specs.Following.{Follows, Serves}
 use Rattle.escaping_nodes.specs.Coming.{AreCalm, Come, IsSeen}
 
@@ -94,7 +94,7 @@ OthersLetTheClientBeAnswered =
     (port : Port) (x : ConnectionName) (list : List Command) (start now : ℕ) (piece : List ℕ)
     (connect : Connect) →
     CanAsk a n ballot index node (front ++ last ∷ []) port x list start piece connect →
-    AreApart (front ++ last ∷ []) → (In (index + 1) (front ++ last ∷ []) → ⊥) →
+    NumbersAreApart (front ++ last ∷ []) → (In (index + 1) (front ++ last ∷ []) → ⊥) →
     ((m : ℕ) → In m (front ++ last ∷ []) →
     NodeIs (Follows ballot (begun list start)) (whole_moment a).world.nodes m) →
     Come (after_node_call index node (takes (Bytes port piece now)) n)

@@ -4,7 +4,7 @@ use Rattle.byte_world.specs.ballot.Config.{Config}
 use Rattle.byte_world.specs.broker_spec.Place.{Client}
 use Rattle.byte_world.specs.lists.Lists.{Each}
 use Rattle.byte_world.specs.agreement.World.{can_open}
-use Rattle.byte_world.specs.packet_world.World.{AreApart, ClientEnds, opening as opening_beside, story_of as story_beside}
+use Rattle.byte_world.specs.packet_world.World.{ClientsAreApart, ClientEnds, opening as opening_beside, story_of as story_beside}
 use Rattle.byte_world.specs.packet_world.World as model
 use Rattle.byte_world.specs.packet_world.Steps.Reached.{begins as begins_beside}
 use Rattle.byte_world.proofs.of_packet_world.Lists.{each_by}
@@ -38,7 +38,7 @@ opens_beside cs =
       same = map_twice model.new_client ends_alone cs ∙ sym (map_twice new_client pipes_alone cs);
     }
 
-opens_so : (nodes : ℕ) (config : Config) (cs : List Client) → AreApart cs → (can : can_open nodes config ≡ true) → GoesBeside nodes config cs (opening nodes config cs) (opened can)
+opens_so : (nodes : ℕ) (config : Config) (cs : List Client) → ClientsAreApart cs → (can : can_open nodes config ≡ true) → GoesBeside nodes config cs (opening nodes config cs) (opened can)
 opens_so nodes config cs apart can =
     let so = carried_at_first nodes config can in
     let holds = opens_hold nodes config cs (opened can) (λ x. (refl, refl)) in
@@ -54,7 +54,7 @@ opens_so nodes config cs apart can =
 
 -- ---- each step
 
-step_goes : {nodes : ℕ} {config : Config} {cs : List Client} → AreApart cs → (v w : World) (went : GroupTrace nodes config v.group) → GoesBeside nodes config cs v went
+step_goes : {nodes : ℕ} {config : Config} {cs : List Client} → ClientsAreApart cs → (v w : World) (went : GroupTrace nodes config v.group) → GoesBeside nodes config cs v went
     → (step : WorldStep v w) → Holds w (went_on went step) → GoesBeside nodes config cs w (went_on went step)
 step_goes apart v w went s (group_goes node_call d is_apart) holds =
     group_beside apart (record v { group = d.after }) v.group went s.so d.step (λ agreed is. s.beside agreed is) holds s.piped
@@ -69,7 +69,7 @@ step_goes apart v w went s (arrives i j c κ p piece rest has is) holds =
 step_goes apart v w went s (handles i c κ others p pipes packet left at first piped is_open cut spelled) holds =
     handles_so v went i c κ others p pipes packet left s at first piped is_open cut holds
 
-pub goes_beside : {nodes : ℕ} {config : Config} {cs : List Client} → AreApart cs → (w : World) (trail : Reached nodes config cs w) → GoesBeside nodes config cs w (trace_of trail)
+pub goes_beside : {nodes : ℕ} {config : Config} {cs : List Client} → ClientsAreApart cs → (w : World) (trail : Reached nodes config cs w) → GoesBeside nodes config cs w (trace_of trail)
 goes_beside {nodes = nodes} {config = config} {cs = cs} apart w (begins can) = opens_so nodes config cs apart can
 goes_beside apart w (goes_on {v = v} before step) =
     let s = goes_beside apart v before in step_goes apart v w (trace_of before) s step (step_holds v w (trace_of before) s.holds step)

@@ -10,7 +10,7 @@ use Rattle.byte_world.specs.lists.Lists.{Each}
 use Rattle.byte_world.proofs.of_lists.Places.{get_set}
 use Rattle.byte_world.specs.exactly_once.Sends.{put_to}
 use Rattle.byte_world.specs.exactly_once.Sides.{ClientConnection}
-use Rattle.byte_world.specs.packet_world.World.{AreApart, ClientEnds, End, World, with_client}
+use Rattle.byte_world.specs.packet_world.World.{ClientsAreApart, ClientEnds, End, World, with_client}
 use Rattle.byte_world.specs.packet_world.Steps.{HasPipe, Reached}
 use Rattle.byte_world.specs.packet_world.Steps.Goes.{reads}
 use Rattle.byte_world.specs.packet_world.Steps.Reached.{goes_on}
@@ -79,7 +79,7 @@ same_end : (e f : End) → e.read ≡ f.read → e.seen ≡ f.seen → e.put ≡
 same_end e f a b c d = rw (a, b, c, d) refl
 
 -- one end
-one_put_out : (cs : List Client) (old : List Command) (w : World) (i j : ℕ) (c : ClientEnds) (κ : ClientConnection) → AreApart cs → Reached cs w
+one_put_out : (cs : List Client) (old : List Command) (w : World) (i j : ℕ) (c : ClientEnds) (κ : ClientConnection) → ClientsAreApart cs → Reached cs w
     → HasPipe w i c j κ (end_of old κ) → length old ≤ length w.agreed → Reached cs (with_client i (record c { ends = set c.ends j (end_of w.agreed κ) }) w)
 one_put_out cs old w i j c κ apart reached pipe low =
     let given = outputs (outputs_between broker_rules w.agreed (length old) (length w.agreed)) in
@@ -93,7 +93,7 @@ one_put_out cs old w i j c κ apart reached pipe low =
     (same_end e (end_of w.agreed κ) refl refl (one.shown ∙ ap (λ l. put_to usual_limits (past_of usual_limits l) κ.name) (take_whole w.agreed)) refl) now
 
 -- each end of a client
-client_puts_out : (cs : List Client) (old : List Command) (w : World) (i : ℕ) (c : ClientEnds) → AreApart cs → Reached cs w → slice_get w.clients i ≡ Some c
+client_puts_out : (cs : List Client) (old : List Command) (w : World) (i : ℕ) (c : ClientEnds) → ClientsAreApart cs → Reached cs w → slice_get w.clients i ≡ Some c
     → length old ≤ length w.agreed → IsFull old c → Reached cs (with_client i (record c { ends = ends_of w.agreed c.connections }) w)
 client_puts_out cs old w i c apart reached at low full =
     in_turn (end_of old) (end_of w.agreed) c.connections (λ ends. Reached cs (with_client i (record c { ends = ends }) w))
@@ -109,7 +109,7 @@ abbrev pub filled : List Command → ClientEnds → ClientEnds
 filled agreed c = record c { ends = ends_of agreed c.connections }
 
 -- each client's, if they had sent what a shorter list asks for
-pub all_put_out : (cs : List Client) (old : List Command) (w : World) → AreApart cs → Reached cs w → length old ≤ length w.agreed → Each (IsFull old) w.clients
+pub all_put_out : (cs : List Client) (old : List Command) (w : World) → ClientsAreApart cs → Reached cs w → length old ≤ length w.agreed → Each (IsFull old) w.clients
     → Reached cs (record w { clients = map (filled w.agreed) w.clients })
 all_put_out cs old w apart reached low full =
     in_turn (λ c. c) (filled w.agreed) w.clients (λ l. Reached cs (record w { clients = l }))

@@ -9,7 +9,7 @@ use Rattle.byte_world.specs.lists.Lists.{Each, In, IsPrefixOf}
 use Rattle.byte_world.proofs.of_lists.Prefixes.{prefix_length}
 use Rattle.byte_world.specs.exactly_once.Sides.{ClientConnection}
 use Rattle.byte_world.specs.exactly_once.StoryCommands.{is_packet_of}
-use Rattle.byte_world.specs.packet_world.World.{AreApart, ClientEnds, End, World}
+use Rattle.byte_world.specs.packet_world.World.{ClientsAreApart, ClientEnds, End, World}
 use Rattle.byte_world.specs.packet_world.Exact.{commands_from}
 use Rattle.byte_world.specs.packet_world.Steps.{HasPipe, Reached, is_of_connection}
 use Rattle.byte_world.specs.packet_world.Served.{IsOfPipe, ServesWorld, untaken}
@@ -85,7 +85,7 @@ pub record IsOfWritten (clients : List Alone) (agreed : List Command) : Type 0 w
       IsPrefixOf (filter (of_name κ.name) agreed) (commands_from κ.name 0 κ.written)
   pub known : (command : Command) → In command agreed → is_of_connection command ≡ true → IsOfAlone clients command
 
-module _ (cs : List Client) (apart : AreApart cs) (agreed later : List Command) (clients : List Alone) (b : Beside cs agreed clients) (grown : IsPrefixOf agreed later)
+module _ (cs : List Client) (apart : ClientsAreApart cs) (agreed later : List Command) (clients : List Alone) (b : Beside cs agreed clients) (grown : IsPrefixOf agreed later)
     (of : IsOfWritten clients later) where
   -- a connection without its node
   alone_at : (i j : ℕ) (c : ClientEnds) (κ : ClientConnection) → slice_get b.world.clients i ≡ Some c → slice_get c.connections j ≡ Some κ

@@ -19,7 +19,7 @@ use Rattle.byte_world.specs.exactly_once.Sides.{ClientConnection, Side}
 use Rattle.byte_world.specs.exactly_once.Story.{StoryStep, Story}
 use Rattle.byte_world.specs.exactly_once.StoryCommands.{any_named}
 use Rattle.byte_world.proofs.of_exactly_once.publishing.Grown.{handled_grows}
-use Rattle.byte_world.specs.packet_world.World.{AreApart, ClientEnds, End, IsFresh, World, new_end, story_of, with_client}
+use Rattle.byte_world.specs.packet_world.World.{ClientsAreApart, ClientEnds, End, IsFresh, World, new_end, story_of, with_client}
 use Rattle.byte_world.specs.packet_world.Steps.{Reached, after_opening, is_call}
 use Rattle.byte_world.specs.packet_world.Steps.Goes.{calls, handles, opens}
 use Rattle.byte_world.specs.packet_world.Steps.Reached.{goes_on}
@@ -153,7 +153,7 @@ pub named_untaken : (test : ConnectionName → Bool) (connections : List ClientC
 named_untaken test [] = refl
 named_untaken test (κ ∷ connections) = ap (λ b. test κ.name || b) (named_untaken test connections)
 
-pub opens_beside : {cs : List Client} {agreed : List Command} {clients : List Alone} → AreApart cs → (b : Beside cs agreed clients) (i : ℕ) (keeper : Keeper)
+pub opens_beside : {cs : List Client} {agreed : List Command} {clients : List Alone} → ClientsAreApart cs → (b : Beside cs agreed clients) (i : ℕ) (keeper : Keeper)
     (connections : List ClientConnection) (x : ConnectionName) → slice_get clients i ≡ Some (alone keeper connections) → IsFreshAlone x clients
     → Beside cs agreed (set clients i (alone (record (lost keeper) { is_open = true }) (new_connection keeper.client x ∷ connections)))
 opens_beside {cs = cs} {agreed = agreed} {clients = clients} apart b i keeper connections x at fresh =

@@ -23,7 +23,7 @@ use Rattle.byte_world.specs.exactly_once.Sends.{put_to}
 use Rattle.byte_world.specs.exactly_once.Sides.{ClientConnection, Side}
 use Rattle.byte_world.specs.exactly_once.Story.{StoryStep, Story}
 use Rattle.byte_world.specs.exactly_once.StoryCommands.{any_named, is_packet_of}
-use Rattle.byte_world.specs.packet_world.World.{AreApart}
+use Rattle.byte_world.specs.packet_world.World.{ClientsAreApart}
 use Rattle.byte_world.specs.packet_world.Steps.{is_call, is_of_connection}
 use Rattle.byte_world.proofs.of_packet_world.Lists.{each_by, each_get, each_set, same_or_other, stands_within, there_is}
 use Rattle.byte_world.specs.node_moves.Moves.NodeCall.{takes}
@@ -184,7 +184,7 @@ module _ {nodes : ℕ} {config : Config} (v : World) (g : Group) (i : ℕ) (c : 
       by k e there (inr none) = none
       by k e there (inl some) = let z = named_at κ.name e.connections some in absurd (other_name k e z.0 z.1 there z.2 z.3)
 
-pub connects_so : {nodes : ℕ} {config : Config} {cs : List Client} → AreApart cs → (v : World) (went : GroupTrace nodes config v.group) (i n : ℕ) (c : ClientPipes) (x : ConnectionName) (port : Port) (now : ℕ)
+pub connects_so : {nodes : ℕ} {config : Config} {cs : List Client} → ClientsAreApart cs → (v : World) (went : GroupTrace nodes config v.group) (i n : ℕ) (c : ClientPipes) (x : ConnectionName) (port : Port) (now : ℕ)
     (d : DoesCall v.group (Some (n, takes (Opened port now)))) (s : GoesBeside nodes config cs v went) → slice_get v.clients i ≡ Some c
     → Holds (with_client i (after_connecting x n port c) (record v { group = d.after })) (then_went went d.step)
     → GoesBeside nodes config cs (with_client i (after_connecting x n port c) (record v { group = d.after })) (then_went went d.step)

@@ -8,7 +8,7 @@ use Rattle.byte_world.specs.broker_spec.declared.command.Command.{Command}
 use Rattle.byte_world.specs.broker_spec.Place.{Client}
 use Rattle.byte_world.specs.lists.Lists.{Each}
 use Rattle.byte_world.proofs.of_snapshots.PastsAgree.{has_agreed}
-use Rattle.byte_world.specs.packet_world.World.{AreApart}
+use Rattle.byte_world.specs.packet_world.World.{ClientsAreApart}
 use Rattle.byte_world.proofs.of_packet_world.Lists.{each_get, each_set}
 use Rattle.byte_world.proofs.of_packet_world.TakenOn.{map_set}
 use Rattle.byte_world.specs.world_base.Core.{rules}
@@ -30,7 +30,7 @@ pub record GoesBeside (nodes : ℕ) (config : Config) (cs : List Client) (w : Wo
 
 -- ---- the group continues
 
-pub group_beside : {nodes : ℕ} {config : Config} {cs : List Client} → AreApart cs → (w : World) (g : Group) (went : GroupTrace nodes config g) (so : CarriedSo went) (step : GroupStep g w.group)
+pub group_beside : {nodes : ℕ} {config : Config} {cs : List Client} → ClientsAreApart cs → (w : World) (g : Group) (went : GroupTrace nodes config g) (so : CarriedSo went) (step : GroupStep g w.group)
     → ((agreed : List Command) → IsAgreedSo so agreed → Beside cs agreed (clients_alone w)) → Holds w (then_went went step) → Each HasAllPipes w.clients
     → GoesBeside nodes config cs w (then_went went step)
 group_beside {config = config} {cs = cs} apart w g went so step beside holds piped =
@@ -57,7 +57,7 @@ pub alone_still : (clients : List ClientPipes) (i j : ℕ) (c : ClientPipes) (q 
 alone_still clients i j c q at = map_set pipes_alone clients i c (with_pipe j q c) at refl
 
 -- while the group continues
-pub pipe_beside : {nodes : ℕ} {config : Config} {cs : List Client} → AreApart cs → (v : World) (went : GroupTrace nodes config v.group) (g : Group) (i j : ℕ) (c : ClientPipes) (q : Pipe)
+pub pipe_beside : {nodes : ℕ} {config : Config} {cs : List Client} → ClientsAreApart cs → (v : World) (went : GroupTrace nodes config v.group) (g : Group) (i j : ℕ) (c : ClientPipes) (q : Pipe)
     (s : GoesBeside nodes config cs v went) (step : GroupStep v.group g) → slice_get v.clients i ≡ Some c → Holds (with_client i (with_pipe j q c) (record v { group = g })) (then_went went step)
     → GoesBeside nodes config cs (with_client i (with_pipe j q c) (record v { group = g })) (then_went went step)
 pipe_beside {cs = cs} apart v went g i j c q s step at holds =

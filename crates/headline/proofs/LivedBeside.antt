@@ -7,7 +7,7 @@ use Rattle.byte_world.specs.broker_spec.Commands.{past_of, usual_limits}
 use Rattle.byte_world.specs.broker_spec.Place.{Client}
 use Rattle.byte_world.specs.exactly_once.Lives.{Lived}
 use Rattle.byte_world.specs.exactly_once.Story.{Story}
-use Rattle.byte_world.specs.packet_world.World.{AreApart, ClientEnds, story_of}
+use Rattle.byte_world.specs.packet_world.World.{ClientsAreApart, ClientEnds, story_of}
 use Rattle.byte_world.proofs.of_packet_world.Holds.{IsTold}
 use Rattle.byte_world.proofs.of_packet_world.Lists.{each_get}
 use Rattle.byte_world.proofs.of_packet_world.WorldsExact.{reached_holds}
@@ -28,7 +28,7 @@ pub record HasLife (agreed : List Command) (c : ClientPipes) : Type 0 where
   pub keeper : story.keeper ≡ c.keeper
   pub connections : AreSameUntaken story.connections c.connections
 
-pub lived_beside : {nodes : ℕ} {config : Config} {cs : List Client} → AreApart cs → (w : World) (went : GroupTrace nodes config w.group) (s : GoesBeside nodes config cs w went)
+pub lived_beside : {nodes : ℕ} {config : Config} {cs : List Client} → ClientsAreApart cs → (w : World) (went : GroupTrace nodes config w.group) (s : GoesBeside nodes config cs w went)
     (agreed : List Command) → IsAgreedSo s.so agreed → (i : ℕ) (c : ClientPipes) → slice_get w.clients i ≡ Some c → HasLife agreed c
 lived_beside {cs = cs} apart w went s agreed is i c at = by (map_back ends_alone b.world.clients i (pipes_alone c) (ap (λ l. slice_get l i) b.same ∙ get_mapped pipes_alone w.clients i c at))
   where

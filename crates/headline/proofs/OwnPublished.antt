@@ -20,7 +20,7 @@ use Rattle.byte_world.specs.exactly_once.Sides.{ClientConnection, Side}
 use Rattle.byte_world.specs.exactly_once.Story.{StoryStep, Story}
 use Rattle.byte_world.specs.exactly_once.Story.StoryStep.{takes, others_take, receives, opens_anew, loses, disconnects, publishes_one, subscribes, unsubscribes}
 use Rattle.byte_world.proofs.of_exactly_once.carrying.Handles.{handles as handles_kept}
-use Rattle.byte_world.specs.packet_world.World.{AreApart}
+use Rattle.byte_world.specs.packet_world.World.{ClientsAreApart}
 use Rattle.byte_world.specs.packet_world.Steps.{is_call}
 use Rattle.byte_world.proofs.of_packet_world.Lists.{each_by, each_get, set_get}
 use Rattle.byte_world.specs.world_base.Core.{rules}
@@ -94,7 +94,7 @@ call_says {s = s} (unsubscribes p on id) call = sym (append-nil (publications_of
 
 -- ---- a packet
 
-packet_says : {nodes : ℕ} {config : Config} {cs : List Client} → AreApart cs → (v : World) (went : GroupTrace nodes config v.group) (s : GoesBeside nodes config cs v went) (i : ℕ)
+packet_says : {nodes : ℕ} {config : Config} {cs : List Client} → ClientsAreApart cs → (v : World) (went : GroupTrace nodes config v.group) (s : GoesBeside nodes config cs v went) (i : ℕ)
     (c : ClientPipes) (κ : ClientConnection) (packet : Packet) → slice_get v.clients i ≡ Some c
     → publications_of (all_own (handled packet (let side : Side = record { keeper = c.keeper; connection = κ } in side)).keeper) ≡ publications_of (all_own c.keeper)
 packet_says {config = config} apart v went s i c κ packet at =
@@ -128,7 +128,7 @@ becomes v clients asked j c later more are at says all i d there = by (set_get v
         all i d stood ∙ sym (append-nil (published_of i asked)) ∙ ap (λ (l : List Publication). published_of i asked ++ l) (sym (of_another i j more other))
         ∙ sym (of_both i asked (from_client j more))
 
-step_says : {nodes : ℕ} {config : Config} {cs : List Client} → AreApart cs → (v w : World) (went : GroupTrace nodes config v.group) → GoesBeside nodes config cs v went
+step_says : {nodes : ℕ} {config : Config} {cs : List Client} → ClientsAreApart cs → (v w : World) (went : GroupTrace nodes config v.group) → GoesBeside nodes config cs v went
     → (asked : List (ℕ × Publication)) → AllPublished v asked → (step : WorldStep v w) → AllPublished w (asked ++ published_in step)
 step_says apart v w went s asked all (group_goes node_call d is_apart) = still w asked all
 step_says apart v w went s asked all (calls j c t h at call spelled) = becomes v w.clients asked j c _ (published_by h) refl at (call_says h call) all
@@ -147,7 +147,7 @@ none_published cs i c at =
     (each_of_made new_client (λ (d : ClientPipes). publications_of (all_own d.keeper) ≡ []) cs (each_by (λ (d : Client). publications_of (all_own (new_client d).keeper) ≡ []) cs (λ k d there. refl))) at
 
 -- what a client published is what the steps on the way say about it
-pub own_published : {nodes : ℕ} {config : Config} {cs : List Client} → AreApart cs → (w : World) (trail : Reached nodes config cs w) (i : ℕ) (c : ClientPipes)
+pub own_published : {nodes : ℕ} {config : Config} {cs : List Client} → ClientsAreApart cs → (w : World) (trail : Reached nodes config cs w) (i : ℕ) (c : ClientPipes)
     → slice_get w.clients i ≡ Some c → publications_of (all_own c.keeper) ≡ published_of i (published_on trail)
 own_published {cs = cs} apart w (begins can) i c at = none_published cs i c at
 own_published apart w (goes_on {v = v} before step) i c at =

@@ -15,7 +15,7 @@ use Rattle.byte_world.specs.exactly_once.Unexpelled.{IsUnexpelled}
 use Rattle.byte_world.proofs.of_exactly_once.sessions.FirstSession.{unexpelled_in_step}
 use Rattle.byte_world.proofs.of_snapshots.PastsAgree.{has_agreed}
 use Rattle.byte_world.specs.packet_world.Exact.{IsExactInStep as IsExactBeside}
-use Rattle.byte_world.specs.packet_world.World.{AreApart, ClientEnds, story_of as story_beside}
+use Rattle.byte_world.specs.packet_world.World.{ClientsAreApart, ClientEnds, story_of as story_beside}
 use Rattle.byte_world.proofs.of_packet_world.Lists.{each_by, each_get}
 use Rattle.byte_world.proofs.of_packet_world.WorldsExact.{worlds_are_exact as worlds_beside_are_exact}
 use Rattle.byte_world.specs.world_base.Core.{rules}
@@ -41,7 +41,7 @@ use Rattle.headline.proofs.Untaken.{AreSameUntaken}
 use Rattle.headline.proofs.WorldsWrite.{clients_alone, pipes_alone}
 use Rattle.byte_world.specs.exactly_once.Sides.{ClientConnection}
 
-exact_by : {nodes : ℕ} {config : Config} {cs : List Client} → AreApart cs → (w : World) (went : GroupTrace nodes config w.group) (s : GoesBeside nodes config cs w went) (agreed : List Command) → IsAgreedSo s.so agreed
+exact_by : {nodes : ℕ} {config : Config} {cs : List Client} → ClientsAreApart cs → (w : World) (went : GroupTrace nodes config w.group) (s : GoesBeside nodes config cs w went) (agreed : List Command) → IsAgreedSo s.so agreed
     → IsExactBy agreed w
 exact_by {cs = cs} apart w went s agreed is =
     let exact = worlds_beside_are_exact cs b.world apart b.reached in
@@ -85,7 +85,7 @@ promise_untaken c connections others published past state same p =
     }
 
 -- what is promised for a client by what it shows
-promised : {nodes : ℕ} {config : Config} {cs : List Client} → AreApart cs → (w : World) (went : GroupTrace nodes config w.group) (s : GoesBeside nodes config cs w went) (agreed : List Command) → IsAgreedSo s.so agreed
+promised : {nodes : ℕ} {config : Config} {cs : List Client} → ClientsAreApart cs → (w : World) (went : GroupTrace nodes config w.group) (s : GoesBeside nodes config cs w went) (agreed : List Command) → IsAgreedSo s.so agreed
     → (published : List Publication) (i : ℕ) (c : ClientPipes) (state : ClientState) → slice_get w.clients i ≡ Some c → publications_of (all_own c.keeper) ≡ published → IsShownBy c state
     → Promise c.connections published agreed state
 promised apart w went s agreed is published i c state at said shown =

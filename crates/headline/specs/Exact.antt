@@ -17,7 +17,7 @@ use Rattle.byte_world.specs.exactly_once.Unexpelled.{HasOneSession, IsUnexpelled
 use Rattle.byte_world.specs.exactly_once.Sides.{ClientConnection}
 use Rattle.byte_world.specs.exactly_once.Story.{Story}
 use Rattle.byte_world.specs.snapshots.Moments.{IsAgreed}
-use Rattle.byte_world.specs.packet_world.World.{AreApart}
+use Rattle.byte_world.specs.packet_world.World.{ClientsAreApart}
 use Rattle.byte_world.specs.node_group.Group.{moment_of}
 use Rattle.byte_world.specs.node_group.Steps.{all_put, groups_of}
 use Rattle.byte_world.specs.node_group.Pasts.{HasPast}
@@ -79,5 +79,5 @@ pub record IsExact {nodes : ℕ} {config : Config} {cs : List Client} {w : World
 -- each world of clients with identifiers of their own is exact, whatever its steps
 abbrev pub WorldsAreExact : Type 0
 WorldsAreExact =
-    (nodes : ℕ) (config : Config) (cs : List Client) (w : World) → AreApart cs →
+    (nodes : ℕ) (config : Config) (cs : List Client) (w : World) → ClientsAreApart cs →
     (trail : Reached nodes config cs w) → IsExact trail

@@ -11,7 +11,7 @@ use Rattle.exactly_once.specs.Story.{Story, no_story}
 use Rattle.exactly_once.specs.StoryCommands.{count_of}
 use Rattle.exactly_once.specs.Lives.{Lived}
 use Rattle.exactly_once.specs.Lives.Lived.{opens}
-use Rattle.packet_world.specs.World.{ClientEnds, World, new_client, opening, story_of, AreApart, IsFresh, with_client}
+use Rattle.packet_world.specs.World.{ClientEnds, World, new_client, opening, story_of, ClientsAreApart, IsFresh, with_client}
 use Rattle.packet_world.proofs.Lists.{each_set}
 use Rattle.packet_world.proofs.Answers.{of_name}
 use Rattle.packet_world.proofs.Ends.{PipesHold}
@@ -48,7 +48,7 @@ all_new : (P : ClientEnds → Type 0) (cs : List Client) → ((c : Client) → P
 all_new P [] h = tt
 all_new P (c ∷ cs) h = (h c, all_new P cs h)
 
-pub opening_holds : (cs : List Client) → AreApart cs → Holds (opening cs)
+pub opening_holds : (cs : List Client) → ClientsAreApart cs → Holds (opening cs)
 opening_holds cs apart =
     record {
       told = all_new (IsTold []) cs new_told;

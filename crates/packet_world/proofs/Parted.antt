@@ -8,7 +8,7 @@ use Rattle.exactly_once.proofs.of_broker_base.ConnectionNames.{same_name}
 use Rattle.snapshots.specs.lists.Lists.{Each}
 use Rattle.snapshots.proofs.of_lists.Tests.{none_or}
 use Rattle.exactly_once.specs.StoryCommands.{any_named}
-use Rattle.packet_world.specs.World.{ClientEnds, new_client, AreApart, IsFresh}
+use Rattle.packet_world.specs.World.{ClientEnds, new_client, ClientsAreApart, IsFresh}
 use Rattle.packet_world.specs.Steps.{after_opening}
 use Rattle.packet_world.proofs.Lists.{set_get, each_get}
 
@@ -30,7 +30,7 @@ apart_at c [] k d far e = cc
 apart_at c (f ∷ cs) zero d far e = let same : new_client f ≡ d = cc in λ s. far.0 (s ∙ ap (λ (g : ClientEnds). g.keeper.client) (sym same))
 apart_at c (f ∷ cs) (suc k) d far e = apart_at c cs k d far.1 e
 
-opening_ids : (cs : List Client) → AreApart cs → (i k : ℕ) (c d : ClientEnds) → slice_get (map new_client cs) i ≡ Some c → slice_get (map new_client cs) k ≡ Some d → (i ≡ k → ⊥)
+opening_ids : (cs : List Client) → ClientsAreApart cs → (i k : ℕ) (c d : ClientEnds) → slice_get (map new_client cs) i ≡ Some c → slice_get (map new_client cs) k ≡ Some d → (i ≡ k → ⊥)
     → c.keeper.client ≡ d.keeper.client → ⊥
 opening_ids [] far i k c d a b other = cc
 opening_ids (f ∷ cs) far zero zero c d a b other = absurd (other refl)
@@ -47,7 +47,7 @@ opening_unnamed [] x i c e = cc
 opening_unnamed (f ∷ cs) x zero c e = let same : new_client f ≡ c = cc in subst (λ (g : ClientEnds). is_named_by x g ≡ false) same refl
 opening_unnamed (f ∷ cs) x (suc i) c e = opening_unnamed cs x i c e
 
-pub opening_parted : (cs : List Client) → AreApart cs → AllParted (map new_client cs)
+pub opening_parted : (cs : List Client) → ClientsAreApart cs → AllParted (map new_client cs)
 opening_parted cs far i k c d a b other = record { ids = opening_ids cs far i k c d a b other; names = λ x named. opening_unnamed cs x k d b }
 
 -- ---- one client becomes another

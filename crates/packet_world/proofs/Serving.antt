@@ -13,7 +13,7 @@ use Rattle.snapshots.proofs.of_lists.Places.{get_set, get_set_other}
 use Rattle.exactly_once.specs.client_base.Keeper.{Written}
 use Rattle.exactly_once.specs.Sides.{ClientConnection}
 use Rattle.exactly_once.specs.StoryCommands.{is_packet_of, counted_at, command_of}
-use Rattle.packet_world.specs.World.{End, ClientEnds, World, AreApart}
+use Rattle.packet_world.specs.World.{End, ClientEnds, World, ClientsAreApart}
 use Rattle.packet_world.specs.Steps.{HasPipe, Reached, is_of_connection}
 use Rattle.packet_world.specs.Steps.Goes.{agrees, agrees_else}
 use Rattle.packet_world.specs.Steps.Reached.{goes_on}
@@ -123,7 +123,7 @@ pushed xs rest y = sym (append_assoc xs (y ∷ []) rest)
 from_zero : (n : ℕ) → 0 + n ≡ n
 from_zero n = omega arith
 
-comes_to : (cs : List Client) (rest : List Command) (w : World) (later : List Command) → AreApart cs → Reached cs w → ServesWorld w later → later ≡ w.agreed ++ rest → CommandsLeadTo cs w later
+comes_to : (cs : List Client) (rest : List Command) (w : World) (later : List Command) → ClientsAreApart cs → Reached cs w → ServesWorld w later → later ≡ w.agreed ++ rest → CommandsLeadTo cs w later
 comes_to cs [] w later apart reached served is =
     record { after = w; reached = reached; agreed = sym (is ∙ append-nil w.agreed); clients = refl }
 comes_to cs (y ∷ rest) w later apart reached served is = by (cases_Bool (is_of_connection y)) (λ v. comes_to cs rest v later apart)

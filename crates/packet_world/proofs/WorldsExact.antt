@@ -7,7 +7,7 @@ use Rattle.exactly_once.proofs.of_broker_base.PacketOfNobody.{window_is_steady}
 use Rattle.snapshots.proofs.of_lists.OfEach.{each_then}
 use Rattle.exactly_once.specs.Sides.{ClientConnection}
 use Rattle.exactly_once.proofs.sessions.LivesExact.{lives_exact}
-use Rattle.packet_world.specs.World.{End, ClientEnds, World, AreApart, story_of, with_client}
+use Rattle.packet_world.specs.World.{End, ClientEnds, World, ClientsAreApart, story_of, with_client}
 use Rattle.packet_world.specs.Steps.{Goes, Reached, HasPipe}
 use Rattle.packet_world.specs.Steps.Goes.{calls, opens, handles, reads, answers, closes, agrees, agrees_else}
 use Rattle.packet_world.specs.Steps.Reached.{begins, goes_on}
@@ -39,7 +39,7 @@ holds_on v w h (closes i j c κ e pipe) = keeps_end v i j c κ e _ h pipe (end_c
 holds_on v w h (agrees i j c κ e written pipe less next) = keeps_agreed v i j c κ e written h pipe less next
 holds_on v w h (agrees_else command other) = keeps_else v command h other
 
-pub reached_holds : (cs : List Client) (w : World) → AreApart cs → Reached cs w → Holds w
+pub reached_holds : (cs : List Client) (w : World) → ClientsAreApart cs → Reached cs w → Holds w
 reached_holds cs w apart begins = opening_holds cs apart
 reached_holds cs w apart (goes_on {v = v} reached goes) = holds_on v w (reached_holds cs v apart reached) goes
 

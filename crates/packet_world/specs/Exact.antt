@@ -12,7 +12,7 @@ use Rattle.exactly_once.specs.Sides.{ClientConnection}
 use Rattle.exactly_once.specs.StoryCommands.{command_of, is_packet_of}
 use Rattle.exactly_once.specs.InStep.{IsInStep}
 use Rattle.exactly_once.specs.LivesAreExact.{ExactlyOnceOverSessions}
-use Rattle.packet_world.specs.World.{End, ClientEnds, World, story_of, AreApart}
+use Rattle.packet_world.specs.World.{End, ClientEnds, World, story_of, ClientsAreApart}
 use Rattle.packet_world.specs.Steps.{Reached}
 
 -- the commands that a connection's written packets become
@@ -53,4 +53,4 @@ pub record WorldIsExact (w : World) : Type 0 where
 
 -- each world that clients with identifiers of their own reach is exact
 abbrev pub WorldsAreExact : Type 0
-WorldsAreExact = (cs : List Client) (w : World) → AreApart cs → Reached cs w → WorldIsExact w
+WorldsAreExact = (cs : List Client) (w : World) → ClientsAreApart cs → Reached cs w → WorldIsExact w

@@ -6,7 +6,7 @@ use Rattle.exactly_once.specs.broker_spec.declared.command.Command.{Command}
 use Rattle.snapshots.specs.lists.Lists.{In, IsPrefixOf}
 use Rattle.exactly_once.specs.Sides.{ClientConnection}
 use Rattle.exactly_once.specs.StoryCommands.{is_packet_of}
-use Rattle.packet_world.specs.World.{End, ClientEnds, World, AreApart}
+use Rattle.packet_world.specs.World.{End, ClientEnds, World, ClientsAreApart}
 use Rattle.packet_world.specs.Steps.{HasPipe, Reached, is_of_connection}
 use Rattle.packet_world.specs.Exact.{commands_from}
 
@@ -45,5 +45,5 @@ pub record CommandsLeadTo (cs : List Client) (w : World) (later : List Command) 
 -- each reachable world comes to each list by which it is served
 abbrev pub WorldsAreServed : Type 0
 WorldsAreServed =
-    (cs : List Client) (w : World) (later : List Command) → AreApart cs → Reached cs w →
+    (cs : List Client) (w : World) (later : List Command) → ClientsAreApart cs → Reached cs w →
     ServesWorld w later → CommandsLeadTo cs w later

@@ -43,9 +43,9 @@ abbrev pub opening : List Client → World
 opening cs = record { agreed = []; clients = map new_client cs }
 
 -- no two are equal
-abbrev pub AreApart : List Client → Type 0
-AreApart (c ∷ cs) = Each (λ d. c ≡ d → ⊥) cs × AreApart cs
-AreApart [] = Unit {0}
+abbrev pub ClientsAreApart : List Client → Type 0
+ClientsAreApart (c ∷ cs) = Each (λ d. c ≡ d → ⊥) cs × ClientsAreApart cs
+ClientsAreApart [] = Unit {0}
 
 -- the story of one client of the world
 abbrev pub story_of : List Command → ClientEnds → Story

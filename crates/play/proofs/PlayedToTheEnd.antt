@@ -3,7 +3,7 @@
 use Rattle.std.proofs.Common.{◌≡◌, ◌<◌, ◌≤◌, ◌+◌, ℕ, List, [], ◌∷◌, Result, Ok, Err, OnOk, ◌++◌, length, take, get_or, ap, subst, refl, sym, ◌∙◌, arith}
 use Rattle.std.proofs.lemmas.List.{append-nil, append_assoc, length-take-le, take_more}
 use Rattle.world.specs.ballot.Config.{Config}
-use Rattle.world.specs.packet_world.World.{AreApart}
+use Rattle.world.specs.packet_world.World.{ClientsAreApart}
 use Rattle.script.specs.Scripts.{IsScript, lines_of}
 use Rattle.script.specs.declared.script_line.ScriptLine.{ScriptLine}
 use Rattle.script.specs.declared.reading.Script.{Script}
@@ -43,10 +43,10 @@ renamed {i = i} {script_line = script_line} {old = old} {new = new} {a = a} {b =
 
 -- the same clients by another name
 pub opened_exact : {nodes : ℕ} {config : Config} {ids clients : List (List ℕ)} {world : WorldState} → ids ≡ clients
-    → (AreApart ids → (reached : IsReached nodes config ids world) × (asked_on reached ≡ []))
-    → AreApart clients → (reached : IsReached nodes config clients world) × (asked_on reached ≡ [])
+    → (ClientsAreApart ids → (reached : IsReached nodes config ids world) × (asked_on reached ≡ []))
+    → ClientsAreApart clients → (reached : IsReached nodes config clients world) × (asked_on reached ≡ [])
 opened_exact {nodes = nodes} {config = config} {world = world} is exact =
-    subst (λ (cs : List (List ℕ)). AreApart cs → (reached : IsReached nodes config cs world) × (asked_on reached ≡ [])) is exact
+    subst (λ (cs : List (List ℕ)). ClientsAreApart cs → (reached : IsReached nodes config cs world) × (asked_on reached ≡ [])) is exact
 
 pub opened_first : {nodes : ℕ} {config : Config} {ids clients : List (List ℕ)} {world : WorldState} → ids ≡ clients
     → WorldOpens nodes config ids world → WorldOpens nodes config clients world

@@ -7,7 +7,7 @@ use Rattle.world.specs.agreement.World.{can_open}
 use Rattle.script.specs.ballot_base.LawfulConfig.{is_lawful}
 use Rattle.script.specs.Fields.{Text, fields_of}
 use Rattle.script.specs.lists.Lists.{Each}
-use Rattle.world.specs.packet_world.World.{AreApart}
+use Rattle.world.specs.packet_world.World.{ClientsAreApart}
 use Rattle.script.specs.Scripts.{IsOpening, IsScript, are_distinct, are_nodes, has, is_lawful_opening}
 use Rattle.script.specs.Scripts.IsOpening.{world}
 use Rattle.script.specs.declared.opening.Opening.{Opening}
@@ -43,7 +43,7 @@ others client (other ∷ clients) none = by (bytes_eq other client) refl (others
     by true is rest f = absurd (false≢true (sym f))
     by false is rest f = (λ same. false≢true (sym is ∙ (bytes_eq-Decides other client).1 (sym same)), rest f)
 
-are_apart : (clients : List Text) → are_distinct clients ≡ true → AreApart clients
+are_apart : (clients : List Text) → are_distinct clients ≡ true → ClientsAreApart clients
 are_apart [] e = tt
 are_apart (client ∷ clients) e =
     let (alone, more) = and_parts (not (has clients client)) (are_distinct clients) e in
@@ -53,10 +53,10 @@ are_apart (client ∷ clients) e =
     is_not true f = absurd (false≢true f)
     is_not false f = refl
 
-clients_apart : (fields : List Text) (opening : Opening) → IsOpening fields opening → AreApart opening.clients.items
+clients_apart : (fields : List Text) (opening : Opening) → IsOpening fields opening → ClientsAreApart opening.clients.items
 clients_apart _ opening (world nodes members primary clients is distinct) = are_apart opening.clients.items distinct
 
-pub script_apart : (lines : List Text) (script : Script) → IsScript lines script → AreApart script.opening.clients.items
+pub script_apart : (lines : List Text) (script : Script) → IsScript lines script → ClientsAreApart script.opening.clients.items
 script_apart [] script is = absurd is
 script_apart (first ∷ lines) script (opening, script_lines) = clients_apart (fields_of first) script.opening (opening.1)
 

@@ -2,7 +2,7 @@
 
 ghost use Rattle.std.specs.Prelude.{◌≡◌, ◌<◌, ◌++◌, ℕ, false, [], map, IfOk, OnOk, OnErr, IsErrOf};
 ghost use Rattle.world.specs.agreement.World.{can_open};
-ghost use Rattle.world.specs.packet_world.World.{AreApart};
+ghost use Rattle.world.specs.packet_world.World.{ClientsAreApart};
 ghost use Rattle.world.specs.Happening.{WorldOpens};
 ghost use Rattle.world.specs.Trace.{AreReached};
 ghost use Rattle.world.specs.StandsFor.{IsReached, asked_on};
@@ -37,7 +37,7 @@ impl PlayedWorld {
     pub(crate) fn new(alloc: Global, opening: Opening) -> Result<PlayedWorld, PlayError>
         ensures opened { IfOk result (λ played.
             AreReached opening.nodes opening.config played.world.nodes) }
-        ensures exact { AreApart opening.clients.items → IfOk result (λ played. (reached
+        ensures exact { ClientsAreApart opening.clients.items → IfOk result (λ played. (reached
             : IsReached opening.nodes opening.config opening.clients.items played.world)
             × (asked_on reached ≡ [])) }
         ensures opens { IfOk result (λ played.

@@ -17,7 +17,7 @@ use Rattle.snapshots.specs.agreement.Moments.{Moment}
 use Rattle.snapshots.specs.agreement.World.{messages, outputs}
 use Rattle.snapshots.proofs.of_agreement.Effects.{outputs_of_messages}
 use Rattle.snapshots.specs.lists.Lists.{In}
-use Rattle.ways_out.specs.Deliveries.{AreApart, Delivered, NodeIs, after_activate, numbers_from}
+use Rattle.ways_out.specs.Deliveries.{NumbersAreApart, Delivered, NodeIs, after_activate, numbers_from}
 use Rattle.ways_out.specs.Deliveries.Delivered.{to_master}
 use Rattle.ways_out.specs.Following.{Follows, Serves}
 use Rattle.ways_out.specs.Inside.{installing, known}
@@ -124,7 +124,7 @@ module _ {S C O : Type 0} (rules : Rules S C O) (b : ℕ) (log : List C) (index 
           (outputs_to rules longer (length log + 1)) (after_activate (index + 1) b a) told_sent stands runs row
           (ap (λ (l : List (Effect C O)). outputs l) given_is) joined
 
-  pub activated_all : (x : ℕ) (xs : List ℕ) → others r.id r.members ≡ x ∷ xs → AreApart (x ∷ xs) → (In (index + 1) (x ∷ xs) → ⊥) →
+  pub activated_all : (x : ℕ) (xs : List ℕ) → others r.id r.members ≡ x ∷ xs → NumbersAreApart (x ∷ xs) → (In (index + 1) (x ∷ xs) → ⊥) →
       ((m : ℕ) → In m (x ∷ xs) → NodeIs (Follows b log) a.world.nodes m) →
       IsActivated rules b (log ++ rules.start_of b ∷ []) index (x ∷ xs) config a
       (asked ∷ (asked + 1) ∷ (numbers_from (asked + 2) (length (x ∷ xs)) ++ numbers_from (asked + 2 + length (x ∷ xs)) (length (x ∷ xs))))

@@ -10,7 +10,7 @@ use Rattle.snapshots.specs.agreement.Moments.{Moment}
 use Rattle.snapshots.specs.agreement.World.{messages, outputs}
 use Rattle.snapshots.specs.lists.Lists.{In}
 use Rattle.snapshots.proofs.of_lists.Places.{get_set, get_set_other}
-use Rattle.ways_out.specs.Deliveries.{AreApart, Delivered, after_outcome, numbers_from}
+use Rattle.ways_out.specs.Deliveries.{NumbersAreApart, Delivered, after_outcome, numbers_from}
 use Rattle.ways_out.specs.Deliveries.Delivered.{all_came, to_master, to_node}
 use Rattle.ways_out.proofs.Broadcasts.{from_each}
 use Rattle.ways_out.proofs.Gathers.{Gathered, all_but_last}
@@ -90,7 +90,7 @@ module _ {S C O : Type 0} (rules : Rules S C O) (b index : ℕ) (reply : Body C)
     received rules (state came (m ∷ left)) m reply ≡ record { state = state (came ++ m ∷ []) left; effects = [] })
     (ms : List ℕ) (final : ReplicaState S C) (given : List (Effect C O)) (silent : outputs given ≡ []) (final_joined : final.joined ≡ b)
     (ends : (came : List ℕ) (m : ℕ) → ms ≡ came ++ m ∷ [] → received rules (state came (m ∷ [])) m reply ≡ record { state = final; effects = given }) where
-  pub all_come : (a : Moment S C O) (k : ℕ) → (ms ≡ [] → ⊥) → AreApart ms → StandFrom a.world.sent k (from_each (index + 1) reply ms) →
+  pub all_come : (a : Moment S C O) (k : ℕ) → (ms ≡ [] → ⊥) → NumbersAreApart ms → StandFrom a.world.sent k (from_each (index + 1) reply ms) →
       slice_get a.world.nodes index ≡ Some (state [] ms) → Taken rules b index final given a (numbers_from k (length ms))
   all_come a k some apart stand stands = by_end (ends_with_one ms some)
     where
@@ -112,7 +112,7 @@ module _ {S C O : Type 0} (rules : Rules S C O) (b index : ℕ) (reply : Body C)
 
           most : Gathered rules b index (state ([] ++ z.front) (z.last ∷ [])) a (numbers_from k (length z.front))
           most =
-              all_but_last rules b index reply state runs joined goes_on a k [] z.front z.last (subst AreApart z.is apart)
+              all_but_last rules b index reply state runs joined goes_on a k [] z.front z.last (subst NumbersAreApart z.is apart)
               (front_stands (index + 1) reply a.world.sent k z.front z.last those)
               (stands ∙ ap (λ (l : List ℕ). Some (state [] l)) z.is)
 

@@ -22,7 +22,7 @@ use Rattle.snapshots.specs.agreement.Moments.{Moment}
 use Rattle.snapshots.specs.agreement.World.{messages, outputs}
 use Rattle.snapshots.proofs.of_agreement.Agreed.PastAgrees.{machines_replay}
 use Rattle.snapshots.proofs.of_agreement.Effects.{outputs_of_messages}
-use Rattle.ways_out.specs.Deliveries.{after_outcome, AreApart, Delivered, NodeIs, numbers_from}
+use Rattle.ways_out.specs.Deliveries.{after_outcome, NumbersAreApart, Delivered, NodeIs, numbers_from}
 use Rattle.ways_out.specs.Following.{Follows, LeadsIn, Serves}
 use Rattle.ways_out.specs.Inside.{known}
 use Rattle.ways_out.specs.AnswerLaws.{AnswersCommand, CommandsAreAnswered, IsHeldByAll}
@@ -77,7 +77,7 @@ module _ {S C O : Type 0} (rules : Rules S C O) (b index : ℕ) (r : ReplicaStat
 
   -- else when the last of all others has answered
   module _ (a : Moment S C O) (stands : slice_get a.world.nodes index ≡ Some r) (front : List ℕ) (last : ℕ) (are : os ≡ front ++ last ∷ [])
-      (apart : AreApart os) (out : In (index + 1) os → ⊥) (follow : (m : ℕ) → In m os → NodeIs (Follows b log) a.world.nodes m) where
+      (apart : NumbersAreApart os) (out : In (index + 1) os → ⊥) (follow : (m : ℕ) → In m os → NodeIs (Follows b log) a.world.nodes m) where
     some : os ≡ [] → ⊥
     some none = no_list front last (sym are ∙ none)
       where
@@ -149,7 +149,7 @@ module _ {S C O : Type 0} (rules : Rules S C O) (b index : ℕ) (r : ReplicaStat
     most : Gathered rules b index (known (length log) longer front (last ∷ [])) all.after (numbers_from (length a.world.sent + length os) (length front))
     most =
         all_but_last rules b index (Held b (length log + 1)) (known (length log) longer) (λ x y. serves.leads.runs) (λ x y. serves.leads.joined)
-        (held_goes_on rules b longer log c lead log_is serves.applied) all.after (length a.world.sent + length os) [] front last (subst AreApart are apart)
+        (held_goes_on rules b longer log c lead log_is serves.applied) all.after (length a.world.sent + length os) [] front last (subst NumbersAreApart are apart)
         (front_stands (index + 1) (Held b (length log + 1)) all.after.world.sent (length a.world.sent + length os) front last answers_stand)
         (all.others index out ∙ next_stands ∙ ap (λ l. Some (known (length log) longer [] l)) are)
 

@@ -11,7 +11,7 @@ use Rattle.snapshots.specs.agreement.World.{messages, outputs}
 use Rattle.snapshots.specs.lists.Lists.{In}
 use Rattle.snapshots.specs.lists.Lists.In.{here, there}
 use Rattle.snapshots.proofs.of_lists.Places.{get_set, get_set_other}
-use Rattle.ways_out.specs.Deliveries.{AreApart, Delivered, NodeIs, after_outcome, numbers_from}
+use Rattle.ways_out.specs.Deliveries.{NumbersAreApart, Delivered, NodeIs, after_outcome, numbers_from}
 use Rattle.ways_out.specs.Deliveries.Delivered.{all_came, to_node}
 use Rattle.ways_out.proofs.Standing.{StandFrom, stand_more}
 
@@ -112,7 +112,7 @@ module _ {S C O : Type 0} (rules : Rules S C O) (b p : ℕ) (body reply : Body C
       by_each j (there i) = then_all.each j i
 
   -- all of them, in turn
-  pub all_answer : (a : Moment S C O) (k : ℕ) (ms : List ℕ) → AreApart ms → StandFrom a.world.sent k (to_each p body ms) →
+  pub all_answer : (a : Moment S C O) (k : ℕ) (ms : List ℕ) → NumbersAreApart ms → StandFrom a.world.sent k (to_each p body ms) →
       ((m : ℕ) → In m ms → NodeIs Before a.world.nodes m) → Answered rules b p reply After a (numbers_from k (length ms)) ms
   all_answer a k [] apart stand before =
       record {

@@ -38,7 +38,7 @@ use Rattle.snapshots.specs.World.NodeGoes.{takes}
 use Rattle.snapshots.proofs.PastsAgree.{agreed_grows}
 use Rattle.snapshots.proofs.PastsKept.{StandsFor, past_stands}
 use Rattle.snapshots.proofs.Views.{get_whole, outputs_whole}
-use Rattle.ways_out.specs.Deliveries.{AreApart, Delivered as WholeDelivered, NodeIs, numbers_from}
+use Rattle.ways_out.specs.Deliveries.{NumbersAreApart, Delivered as WholeDelivered, NodeIs, numbers_from}
 use Rattle.ways_out.specs.Deliveries.{after_outcome as whole_after_outcome}
 use Rattle.ways_out.specs.Following.{Follows, Serves}
 use Rattle.ways_out.specs.AnswerLaws.{AnswersCommand as WholeAnswers, IsHeldByAll as WholeHeldByAll}
@@ -142,7 +142,7 @@ module _ {S C O : Type 0} (rules : Rules S C O) (config : Config) (a : Moment S 
   same = let z = q.kept.nodes index r stands in proposed_same rules a.world.archive r c (record { within = z.0.within; low = z.1 })
 
   law : (os ≡ [] → WholeAnswers rules ballot log c [] (index + 1) ow)
-      × ((front : List ℕ) (last : ℕ) → os ≡ front ++ last ∷ [] → AreApart os → (In (index + 1) os → ⊥) →
+      × ((front : List ℕ) (last : ℕ) → os ≡ front ++ last ∷ [] → NumbersAreApart os → (In (index + 1) os → ⊥) →
       ((m : ℕ) → In m os → NodeIs (Follows ballot log) (whole_moment a).world.nodes m) → WholeHeldByAll rules (whole_moment a) index ballot W log c front last)
   law = commands_are_answered rules config (whole_moment a) q.earlier q.kept.came ballot index W log os c there_now serves room
 
@@ -269,7 +269,7 @@ module _ {S C O : Type 0} (rules : Rules S C O) (config : Config) (a : Moment S 
             each = λ m i. node_still rules ballot (Follows ballot (log ++ c ∷ [])) m h.before w.end w.like (follows_still rules ballot ballot (log ++ c ∷ []) m) (h.each m i);
           }
 
-  pub with_others : (front : List ℕ) (last : ℕ) → os ≡ front ++ last ∷ [] → AreApart os → (In (index + 1) os → ⊥) →
+  pub with_others : (front : List ℕ) (last : ℕ) → os ≡ front ++ last ∷ [] → NumbersAreApart os → (In (index + 1) os → ⊥) →
       ((m : ℕ) → In m os → NodeIs (Follows ballot log) (whole_moment a).world.nodes m) → IsHeldByAll rules a index ballot r log c front last
   with_others front last e apart out each = let h = law.1 front last e apart out each in held_by_all front last h (way front last h)
 

@@ -10,7 +10,7 @@ use Rattle.snapshots.specs.agreement.Moments.{Moment}
 use Rattle.snapshots.specs.agreement.World.{messages, outputs}
 use Rattle.snapshots.specs.lists.Lists.{In}
 use Rattle.snapshots.proofs.of_lists.Places.{get_set, get_set_other}
-use Rattle.ways_out.specs.Deliveries.{AreApart, Delivered, after_outcome, numbers_from}
+use Rattle.ways_out.specs.Deliveries.{NumbersAreApart, Delivered, after_outcome, numbers_from}
 use Rattle.ways_out.specs.Deliveries.Delivered.{all_came, to_node}
 use Rattle.ways_out.proofs.Broadcasts.{from_each}
 use Rattle.ways_out.proofs.Standing.{StandFrom, stand_in}
@@ -72,7 +72,7 @@ module _ {S C O : Type 0} (rules : Rules S C O) (b index : ℕ) (reply : Body C)
           (get_set a.world.nodes index _ _ stands ∙ ap (λ (o : Outcome S C O). Some o.state) does)
 
   -- all but the last, in turn
-  pub all_but_last : (a : Moment S C O) (k : ℕ) (came ms : List ℕ) (last : ℕ) → AreApart (ms ++ last ∷ []) →
+  pub all_but_last : (a : Moment S C O) (k : ℕ) (came ms : List ℕ) (last : ℕ) → NumbersAreApart (ms ++ last ∷ []) →
       StandFrom a.world.sent k (from_each (index + 1) reply ms) → slice_get a.world.nodes index ≡ Some (state came (ms ++ last ∷ [])) →
       Gathered rules b index (state (came ++ ms) (last ∷ [])) a (numbers_from k (length ms))
   all_but_last a k came [] last apart stand stands =

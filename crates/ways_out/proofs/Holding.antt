@@ -15,7 +15,7 @@ use Rattle.snapshots.proofs.of_agreement.Effects.{outputs-append, outputs_of_mes
 use Rattle.snapshots.specs.lists.Lists.{In}
 use Rattle.snapshots.specs.lists.Lists.In.{here, there}
 use Rattle.snapshots.proofs.of_lists.Members.{in_left, in_right}
-use Rattle.ways_out.specs.Deliveries.{AreApart, Delivered, NodeIs, numbers_from}
+use Rattle.ways_out.specs.Deliveries.{NumbersAreApart, Delivered, NodeIs, numbers_from}
 use Rattle.ways_out.specs.Following.{Follows, LeadsIn, Serves}
 use Rattle.ways_out.specs.Inside.{known}
 use Rattle.ways_out.proofs.AllCome.{Taken, all_come, then_come}
@@ -62,7 +62,7 @@ module _ {S C O : Type 0} (rules : Rules S C O) (b : ℕ) (r : ReplicaState S C)
       ∙ ap (λ (l : List Progress). messages {C = C} {O = O} (message_to_followed O r.id (Commit r.joined (length log + 1)) l)) (nothing_after (progress_at (length log + 1) os))
       ∙ messages_to_followed O r.id (length log + 1) (Commit r.joined (length log + 1)) os
 
-  pub all_hold : (a : Moment S C O) (k x : ℕ) (xs : List ℕ) → AreApart (x ∷ xs) → (In (index + 1) (x ∷ xs) → ⊥) →
+  pub all_hold : (a : Moment S C O) (k x : ℕ) (xs : List ℕ) → NumbersAreApart (x ∷ xs) → (In (index + 1) (x ∷ xs) → ⊥) →
       StandFrom a.world.sent k (to_each (index + 1) (Append b (length log) c) (x ∷ xs)) →
       slice_get a.world.nodes index ≡ Some (known (length log) r [] (x ∷ xs)) →
       ((m : ℕ) → In m (x ∷ xs) → NodeIs (Follows b log) a.world.nodes m) →

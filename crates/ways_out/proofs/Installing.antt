@@ -11,7 +11,7 @@ use Rattle.snapshots.specs.whole.Role.TheVariants.{Fetching}
 use Rattle.snapshots.specs.whole.Sending.{Outcome, master, message_to, message_to_each}
 use Rattle.snapshots.specs.agreement.Moments.{Moment}
 use Rattle.snapshots.specs.lists.Lists.{In}
-use Rattle.ways_out.specs.Deliveries.{AreApart, Delivered, NodeIs, numbers_from}
+use Rattle.ways_out.specs.Deliveries.{NumbersAreApart, Delivered, NodeIs, numbers_from}
 use Rattle.ways_out.specs.Following.{Follows}
 use Rattle.ways_out.specs.Inside.{CanTake, installing}
 use Rattle.ways_out.proofs.AllCome.{Taken, all_come, takes_one, then_come}
@@ -72,7 +72,7 @@ module _ {S C O : Type 0} (rules : Rules S C O) (b : ℕ) (log : List C) (index 
       one = takes_one rules b index k r (installing b log r []) (record { from = from; body = State b log }) _ a sent stands runs row refl joined
 
   -- and otherwise when all others have answered
-  pub with_others : (a : Moment S C O) (k from x : ℕ) (xs : List ℕ) → others r.id r.members ≡ x ∷ xs → AreApart (x ∷ xs) → (In (index + 1) (x ∷ xs) → ⊥) →
+  pub with_others : (a : Moment S C O) (k from x : ℕ) (xs : List ℕ) → others r.id r.members ≡ x ∷ xs → NumbersAreApart (x ∷ xs) → (In (index + 1) (x ∷ xs) → ⊥) →
       slice_get a.world.sent k ≡ Some (index + 1, record { from = from; body = State b log }) → slice_get a.world.nodes index ≡ Some r →
       ((m : ℕ) → In m (x ∷ xs) → NodeIs (CanTake b (length log)) a.world.nodes m) →
       IsInstalled rules b log index r (x ∷ xs) a

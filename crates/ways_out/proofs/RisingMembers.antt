@@ -9,7 +9,7 @@ use Rattle.snapshots.specs.whole.Replica.{others}
 use Rattle.snapshots.specs.lists.Lists.{In}
 use Rattle.snapshots.specs.lists.Lists.In.{here, there}
 use Rattle.snapshots.proofs.of_agreement.Changing.OtherMembers.{in_others}
-use Rattle.ways_out.specs.Deliveries.{AreApart}
+use Rattle.ways_out.specs.Deliveries.{NumbersAreApart}
 use Rattle.ways_out.proofs.Rows.{others_none}
 
 -- each member is above what comes before it
@@ -24,29 +24,29 @@ above last (x ∷ ms) m rising (there i) =
     let c = ltb-true last x b.0 in let d = above x ms m a.1 i in omega (arith, c, d)
 
 -- numbers that rise are apart
-pub rising_apart : (last : ℕ) (ms : List ℕ) → are_rising last ms ≡ true → AreApart ms
+pub rising_apart : (last : ℕ) (ms : List ℕ) → are_rising last ms ≡ true → NumbersAreApart ms
 rising_apart last [] rising = tt
 rising_apart last (x ∷ ms) rising =
     let a = and_parts (nat_lt last x && nat_le x 15) (are_rising x ms) rising in
     (λ i. let z = above x ms x a.1 i in omega (arith, z), rising_apart x ms a.1)
 
 -- those of a lawful configuration rise
-pub lawful_apart : (config : Config) → is_lawful config.members config.primary ≡ true → AreApart config.members
+pub lawful_apart : (config : Config) → is_lawful config.members config.primary ≡ true → NumbersAreApart config.members
 lawful_apart config lawful =
     rising_apart 0 config.members (and_parts (are_rising 0 config.members)
     (nat_le 1 (length config.members) && (nat_le (length config.members) 7 && list_any (λ member. member == config.primary) config.members)) lawful).0
 
 -- without one of them they are apart
-pub others_apart : (p : ℕ) (ms : List ℕ) → AreApart ms → AreApart (others p ms)
+pub others_apart : (p : ℕ) (ms : List ℕ) → NumbersAreApart ms → NumbersAreApart (others p ms)
 others_apart p [] apart = tt
 others_apart p (x ∷ ms) (out, apart) = by (others_apart p ms apart) (not (x == p))
   where
-    by : AreApart (others p ms) → (b : Bool) → AreApart (cond b (x ∷ others p ms) (others p ms))
+    by : NumbersAreApart (others p ms) → (b : Bool) → NumbersAreApart (cond b (x ∷ others p ms) (others p ms))
     by rest true = (λ i. out (in_others p ms x i), rest)
     by rest false = rest
 
 -- and they are one less
-pub others_count : (p : ℕ) (ms : List ℕ) → In p ms → AreApart ms → length (others p ms) + 1 ≡ length ms
+pub others_count : (p : ℕ) (ms : List ℕ) → In p ms → NumbersAreApart ms → length (others p ms) + 1 ≡ length ms
 others_count p [] i apart = elim i [ ]
 others_count p (x ∷ ms) here (out, apart) =
     ap (λ b. length (cond (not b) (x ∷ others p ms) (others p ms)) + 1) (eq-eqb x p refl)

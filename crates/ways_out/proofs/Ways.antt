@@ -9,7 +9,7 @@ use Rattle.snapshots.specs.whole.Replica.{ReplicaState, others}
 use Rattle.snapshots.specs.whole.Serving.{max_places}
 use Rattle.snapshots.specs.agreement.MasterState.{MasterState, assigning}
 use Rattle.snapshots.specs.agreement.Moments.{Moment}
-use Rattle.ways_out.specs.Deliveries.{AreApart, Delivered, NodeIs, asked_at, assigned_moment, numbers_from, way_out}
+use Rattle.ways_out.specs.Deliveries.{NumbersAreApart, Delivered, NodeIs, asked_at, assigned_moment, numbers_from, way_out}
 use Rattle.ways_out.specs.Following.{Follows, Serves}
 use Rattle.ways_out.specs.Inside.{CanTake, fetching}
 use Rattle.ways_out.proofs.Activating.{IsActivated, activated_alone, activated_all, with_active}
@@ -50,7 +50,7 @@ pub record IsOut {S C O : Type 0} (rules : Rules S C O) (b : ℕ) (log : List C)
 
 module _ {S C O : Type 0} (rules : Rules S C O) (silent : (s : S) (b : ℕ) → rules.gives s (rules.start_of b) ≡ []) (a : Moment S C O) (index source i : ℕ)
     (rp rs : ReplicaState S C) (os : List ℕ) (log : List C) (config : Config)
-    (first : config.primary ≡ index + 1) (out : In (index + 1) os → ⊥) (apart : AreApart os) (are : others (index + 1) config.members ≡ os)
+    (first : config.primary ≡ index + 1) (out : In (index + 1) os → ⊥) (apart : NumbersAreApart os) (are : others (index + 1) config.members ≡ os)
     (stands : slice_get a.world.nodes index ≡ Some rp) (fresh : rp.joined < a.master.given + 1) (can : CanTake (a.master.given + 1) (length log) (index + 1) rp)
     (gives_stands : slice_get a.world.nodes source ≡ Some rs) (gives : CanGive (a.master.given + 1) a.master.active log (source + 1) rs)
     (member : slice_get a.master.members i ≡ Some (source + 1))
@@ -128,7 +128,7 @@ module _ {S C O : Type 0} (rules : Rules S C O) (silent : (s : S) (b : ℕ) → 
           ∷ (numbers_from (length f.after.world.sent) (length (x ∷ xs)) ++ numbers_from (length f.after.world.sent + length (x ∷ xs)) (length (x ∷ xs))))
           (length f.after.world.sent + (length (x ∷ xs) + length (x ∷ xs)))
       g = with_others rules (a.master.given + 1) log index r1 can.runs can.id refl refl can.applied f.after (length a.world.sent + 1 + length a.master.members) (source + 1)
-          x xs (are_here ∙ some) (subst AreApart some apart) (λ j. out (subst (λ l. In (index + 1) l) (sym some) j)) f.sent f.primary
+          x xs (are_here ∙ some) (subst NumbersAreApart some apart) (λ j. out (subst (λ l. In (index + 1) l) (sym some) j)) f.sent f.primary
           (λ m j. f.each m (subst (λ l. In m l) (sym some) j))
 
       h : IsActivated rules (a.master.given + 1) (log ++ rules.start_of (a.master.given + 1) ∷ []) index (x ∷ xs) config g.after
@@ -138,7 +138,7 @@ module _ {S C O : Type 0} (rules : Rules S C O) (silent : (s : S) (b : ℕ) → 
           (length f.after.world.sent + (length (x ∷ xs) + length (x ∷ xs)) + 2 + length (x ∷ xs) + (length (x ∷ xs) + length (x ∷ xs)))
       h = activated_all rules (a.master.given + 1) log index r1 config can.runs can.id refl room (λ s. silent s (a.master.given + 1)) g.after
           (length f.after.world.sent + (length (x ∷ xs) + length (x ∷ xs))) g.asks g.last (ap (λ (m : MasterState). m.waiting) (g.master ∙ f.master_is)) g.primary
-          x xs (are_here ∙ some) (subst AreApart some apart) (λ j. out (subst (λ l. In (index + 1) l) (sym some) j)) g.each
+          x xs (are_here ∙ some) (subst NumbersAreApart some apart) (λ j. out (subst (λ l. In (index + 1) l) (sym some) j)) g.each
 
       numbers : ◌≡◌ {A = List ℕ}
           (length a.world.sent ∷ (length a.world.sent + 1 + i) ∷ (length a.world.sent + 1 + length a.master.members)

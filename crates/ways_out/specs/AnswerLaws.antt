@@ -14,7 +14,7 @@ use Rattle.snapshots.specs.whole.Sending.{Outcome}
 use Rattle.snapshots.specs.whole.Serving.{max_places}
 use Rattle.snapshots.specs.agreement.Moments.{Moment, Moments, IsAgreed}
 use Rattle.snapshots.specs.agreement.World.{outputs}
-use Rattle.ways_out.specs.Deliveries.{AreApart, Delivered, NodeIs, after_outcome, numbers_from}
+use Rattle.ways_out.specs.Deliveries.{NumbersAreApart, Delivered, NodeIs, after_outcome, numbers_from}
 use Rattle.ways_out.specs.Following.{Follows, Serves}
 
 -- all other members of the active ballot have acknowledged the whole log of its active primary
@@ -75,7 +75,7 @@ CommandsAreAnswered {S} {C} {O} rules =
     Serves ballot log others_of (index + 1) r → length log < max_places →
     (others_of ≡ [] → AnswersCommand rules ballot log c [] (index + 1)
     (replica_step rules r (Proposes c)))
-    × ((front : List ℕ) (last : ℕ) → others_of ≡ front ++ last ∷ [] → AreApart others_of →
+    × ((front : List ℕ) (last : ℕ) → others_of ≡ front ++ last ∷ [] → NumbersAreApart others_of →
     (In (index + 1) others_of → ⊥) →
     ((m : ℕ) → In m others_of → NodeIs (Follows ballot log) a.world.nodes m) →
     IsHeldByAll rules a index ballot r log c front last)

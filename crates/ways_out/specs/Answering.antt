@@ -16,7 +16,7 @@ use Rattle.snapshots.specs.ballot_base.Serving.{max_places}
 use Rattle.snapshots.specs.Moments.{Moment, Moments, whole_moment}
 use Rattle.snapshots.specs.Whole.{whole}
 use Rattle.snapshots.specs.World.{outputs}
-use Rattle.ways_out.specs.Deliveries.{AreApart, NodeIs, numbers_from}
+use Rattle.ways_out.specs.Deliveries.{NumbersAreApart, NodeIs, numbers_from}
 use Rattle.ways_out.specs.Following.{Follows, Serves}
 use Rattle.ways_out.specs.CutDeliveries.{Delivered, after_outcome}
 
@@ -70,7 +70,7 @@ CutGroupsAnswer {S} {C} {O} rules =
     Serves ballot log others_of (index + 1) (whole a.world.archive r) → length log < max_places →
     (others_of ≡ [] → AnswersCommand rules a.world.archive ballot log c [] (index + 1)
     (replica_step rules r (Proposes c)))
-    × ((front : List ℕ) (last : ℕ) → others_of ≡ front ++ last ∷ [] → AreApart others_of →
+    × ((front : List ℕ) (last : ℕ) → others_of ≡ front ++ last ∷ [] → NumbersAreApart others_of →
     (In (index + 1) others_of → ⊥) →
     ((m : ℕ) → In m others_of → NodeIs (Follows ballot log) (whole_moment a).world.nodes m) →
     IsHeldByAll rules a index ballot r log c front last)

@@ -63,9 +63,9 @@ pub record NodeIs {S C : Type 0} (P : ℕ → ReplicaState S C → Type 0)
   pub is : P m replica
 
 -- no number comes twice
-abbrev pub AreApart : List ℕ → Type 0
-AreApart [] = Unit {0}
-AreApart (m ∷ ms) = (In m ms → ⊥) × AreApart ms
+abbrev pub NumbersAreApart : List ℕ → Type 0
+NumbersAreApart [] = Unit {0}
+NumbersAreApart (m ∷ ms) = (In m ms → ⊥) × NumbersAreApart ms
 
 -- as many numbers as the second says, each one more than the one before
 abbrev pub numbers_from : ℕ → ℕ → List ℕ

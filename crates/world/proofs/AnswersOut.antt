@@ -9,7 +9,7 @@ use Rattle.headline.specs.broker_base.State.{State}
 use Rattle.escaping_client.specs.client.Core.{Core}
 use Rattle.escaping_nodes.specs.Answered.{CanAsk, begun}
 use Rattle.escaping_nodes.specs.ways_out.CutDeliveries.Delivered.{all_came}
-use Rattle.escaping_nodes.specs.ways_out.Deliveries.{AreApart, NodeIs}
+use Rattle.escaping_nodes.specs.ways_out.Deliveries.{NumbersAreApart, NodeIs}
 use Rattle.escaping_nodes.specs.ways_out.Following.{Follows}
 use Rattle.escaping_nodes.proofs.ClientAnswered.{AwaitsOthers, others_are_awaited, others_let_the_client_be_answered, sole_member_answers_the_client, waits_on}
 use Rattle.escaping_nodes.proofs.NodesFollow.{deliveries_are_followed}
@@ -77,7 +77,7 @@ module _ (name : List ℕ) (i at number place : ℕ) (core : Core) (up : List �
   -- ---- with others
 
   module _ (front : List ℕ) (last : ℕ) (can : CanAsk a w.nodes ballot place node (front ++ last ∷ []) (port_of number) x list start piece connect)
-      (apart : AreApart (front ++ last ∷ [])) (out : In (place + 1) (front ++ last ∷ []) → ⊥)
+      (apart : NumbersAreApart (front ++ last ∷ [])) (out : In (place + 1) (front ++ last ∷ []) → ⊥)
       (each : (m : ℕ) → In m (front ++ last ∷ []) → NodeIs (Follows ballot (begun list start)) (whole_moment a).world.nodes m)
       (more : List Event) (new : WorldState) where
     abbrev ks : List ℕ

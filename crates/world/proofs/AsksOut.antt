@@ -15,7 +15,7 @@ use Rattle.headline.specs.broker_base.State.{State}
 use Rattle.escaping_client.specs.client.Core.{Core}
 use Rattle.escaping_nodes.specs.Answered.{CanAsk, begun}
 use Rattle.escaping_nodes.specs.Opened.{IsOpened, first_of}
-use Rattle.escaping_nodes.specs.ways_out.Deliveries.{AreApart, NodeIs, asked_and_answered}
+use Rattle.escaping_nodes.specs.ways_out.Deliveries.{NumbersAreApart, NodeIs, asked_and_answered}
 use Rattle.escaping_nodes.specs.ways_out.Following.{Follows}
 use Rattle.headline.specs.snapshots.Moments.{Moment, Moments, whole_moment}
 use Rattle.headline.specs.node_moves.Moves.NodeCall.{takes}
@@ -65,7 +65,7 @@ module _ (name : List ℕ) (v : WorldState) (i at number place : ℕ) (core : Co
     (config : Config) (a : Moment State Command Output) (past : List (Moment State Command Output)) (came : Moments rules config (a ∷ past)) (ballot : ℕ) (os : List ℕ)
     (list : List Command) (o : IsOpened a v.nodes ballot place os (begun list ballot) (port_of number)) (room : length list + 2 ≤ max_places) (connect : Connect)
     (session : session_of (past_of usual_limits list) connect.client ≡ Some false) (is_connect : verdict up ≡ Ok (packets.Connect connect, [])) (kept : connect.clean ≡ false)
-    (count : ℕ) (many : length up ≡ count) (some : 0 < count) (apart : AreApart os) (out : In (place + 1) os → ⊥)
+    (count : ℕ) (many : length up ≡ count) (some : 0 < count) (apart : NumbersAreApart os) (out : In (place + 1) os → ⊥)
     (each : (m : ℕ) → In m os → NodeIs (Follows ballot (begun list ballot)) (whole_moment a).world.nodes m) (more : List Event) (new : WorldState) where
   asks : CanAsk a v.nodes ballot place o.node os (port_of number) (first_of ballot) list ballot up connect
   asks =
@@ -114,7 +114,7 @@ module _ (name : List ℕ) (v : WorldState) (i at number place : ℕ) (core : Co
       answers_with_others name i at number place core (drop count newest.way.up) w f.after o.node positive o.stands up gathers w_housed w_newest w_first config a past came ballot ballot
       (first_of ballot) list connect e.front e.last
       (subst (λ (xs : List ℕ). CanAsk a v.nodes ballot place o.node xs (port_of number) (first_of ballot) list ballot up connect) e.is asks)
-      (subst AreApart e.is apart) (subst (λ (xs : List ℕ). In (place + 1) xs → ⊥) e.is out)
+      (subst NumbersAreApart e.is apart) (subst (λ (xs : List ℕ). In (place + 1) xs → ⊥) e.is out)
       (subst (λ (xs : List ℕ). (m : ℕ) → In m xs → NodeIs (Follows ballot (begun list ballot)) (whole_moment a).world.nodes m) e.is each)
       more new (subst (λ (es : List Event). EventsHappen es f.after new) in_parts f.rest) f.whole
     where

@@ -5,7 +5,7 @@ use Rattle.headline.specs.ballot.Config.{Config}
 use Rattle.headline.specs.ballot.Losses.{one_more}
 use Rattle.headline.specs.broker_spec.Place.{Client}
 use Rattle.headline.proofs.WorldsExact.{worlds_are_exact}
-use Rattle.headline.specs.packet_world.World.{AreApart}
+use Rattle.headline.specs.packet_world.World.{ClientsAreApart}
 use Rattle.escaping_client.specs.session_base.declared.publication.Publication.{Publication}
 use Rattle.headline.specs.byte_world.World.{World}
 use Rattle.headline.specs.byte_world.Steps.{Reached}
@@ -124,11 +124,11 @@ world_on_join a b c one two =
 
 -- ---- what is promised
 
-pub is_reached : (nodes : ℕ) (config : Config) (cs : List Client) (m : World) (w : WorldState) → AreApart cs → Reached nodes config cs m → WorldStandsFor m w → IsReached nodes config cs w
+pub is_reached : (nodes : ℕ) (config : Config) (cs : List Client) (m : World) (w : WorldState) → ClientsAreApart cs → Reached nodes config cs m → WorldStandsFor m w → IsReached nodes config cs w
 is_reached nodes config cs m w apart trail stands =
     record { apart = apart; world = m; trail = trail; stands = stands; exact = worlds_are_exact nodes config cs m apart trail }
 
-pub is_reached_asked : (nodes : ℕ) (config : Config) (cs : List Client) (m : World) (w : WorldState) (apart : AreApart cs) (trail : Reached nodes config cs m) (stands : WorldStandsFor m w)
+pub is_reached_asked : (nodes : ℕ) (config : Config) (cs : List Client) (m : World) (w : WorldState) (apart : ClientsAreApart cs) (trail : Reached nodes config cs m) (stands : WorldStandsFor m w)
     → asked_on (is_reached nodes config cs m w apart trail stands) ≡ published_on trail
 unfolding is_reached
 is_reached_asked nodes config cs m w apart trail stands = refl

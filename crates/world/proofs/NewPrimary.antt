@@ -15,7 +15,7 @@ use Rattle.headline.specs.broker_spec.Place.{Client}
 use Rattle.headline.specs.broker_base.State.{State}
 use Rattle.escaping_nodes.specs.Answered.{begun}
 use Rattle.escaping_nodes.specs.Opened.{CanOpen}
-use Rattle.escaping_nodes.specs.ways_out.Deliveries.{AreApart, NodeIs}
+use Rattle.escaping_nodes.specs.ways_out.Deliveries.{NumbersAreApart, NodeIs}
 use Rattle.escaping_nodes.specs.ways_out.Following.{Follows, Serves}
 use Rattle.escaping_nodes.proofs.LedOut.{low_before}
 use Rattle.escaping_nodes.proofs.of_ways_out.RisingMembers.{rising_apart}
@@ -51,19 +51,19 @@ pub record IsNewPrimary (b : Moment State Command Output) (ballot : ℕ) (log : 
   pub number : first ≡ suc index
   pub node : CountedCore
   pub can : CanOpen b w.nodes ballot index node os log (port_of (suc (length w.connections)))
-  pub apart : AreApart os
+  pub apart : NumbersAreApart os
   pub out : In (index + 1) os → ⊥
   pub each : (k : ℕ) → In k os → NodeIs (Follows ballot log) (whole_moment b).world.nodes k
 
 -- ---- the members but the first
 
 module _ (first : ℕ) (os : List ℕ) (lawful : is_lawful (first ∷ os) first ≡ true) where
-  members_apart : AreApart (first ∷ os)
+  members_apart : NumbersAreApart (first ∷ os)
   members_apart =
       rising_apart 0 (first ∷ os) (and_parts (are_rising 0 (first ∷ os))
       (nat_le 1 (length (first ∷ os)) && (nat_le (length (first ∷ os)) 7 && list_any (λ member. member == first) (first ∷ os))) lawful).0
 
-  rest_apart : AreApart os
+  rest_apart : NumbersAreApart os
   rest_apart = members_apart.1
 
   not_among : In first os → ⊥

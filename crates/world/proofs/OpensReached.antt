@@ -6,7 +6,7 @@ use Rattle.std.proofs.lemmas.Option.{none-some}
 use Rattle.headline.specs.ballot.Config.{Config}
 use Rattle.headline.specs.agreement.World.{can_open}
 use Rattle.headline.specs.broker_spec.Place.{Client}
-use Rattle.headline.specs.packet_world.World.{AreApart}
+use Rattle.headline.specs.packet_world.World.{ClientsAreApart}
 use Rattle.headline.specs.node_group.Group.{opening_group}
 use Rattle.headline.specs.world_base.declared.Port.{Port}
 use Rattle.headline.specs.byte_world.World.{ClientPipes, Pipe, new_client, opening}
@@ -71,7 +71,7 @@ housed_none clients ids all =
 -- ---- the world
 
 pub opens_reached : (nodes : ℕ) (config : Config) (ids : List Client) (w : WorldState) → can_open nodes config ≡ true → NodesStand (opening_group nodes config) w.nodes
-    → ClientsStand w.clients (map new_client ids) → AreApart ids → (reached : IsReached nodes config ids w) × (asked_on reached ≡ [])
+    → ClientsStand w.clients (map new_client ids) → ClientsAreApart ids → (reached : IsReached nodes config ids w) × (asked_on reached ≡ [])
 opens_reached nodes config ids w can stands clients apart =
     let so : WorldStandsFor (opening nodes config ids) w = record { nodes = stands; clients = clients } in
     (is_reached nodes config ids (opening nodes config ids) w apart (begins can) so, is_reached_asked nodes config ids (opening nodes config ids) w apart (begins can) so)

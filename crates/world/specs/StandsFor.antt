@@ -2,7 +2,7 @@
 use Rattle.std.specs.Prelude.{◌≡◌, ℕ, List, [], ◌∷◌, ◌++◌, map, Option, Some, None, slice_get}
 use Rattle.headline.specs.ballot.Config.{Config}
 use Rattle.headline.specs.broker_spec.Place.{Client}
-use Rattle.headline.specs.packet_world.World.{AreApart}
+use Rattle.headline.specs.packet_world.World.{ClientsAreApart}
 use Rattle.escaping_client.specs.session_base.declared.publication.Publication.{Publication}
 use Rattle.headline.specs.exactly_once.Sides.{ClientConnection}
 use Rattle.headline.specs.Exact.{IsExact}
@@ -67,7 +67,7 @@ FollowsModel old new = FollowsModelAsking [] old new
 -- holds for each client, by the list on which its nodes agree.
 pub record IsReached (nodes : ℕ) (config : Config) (cs : List Client)
     (w : WorldState) : Type 0 where
-  pub apart : AreApart cs
+  pub apart : ClientsAreApart cs
   pub world : World
   pub trail : Reached nodes config cs world
   pub stands : WorldStandsFor world w

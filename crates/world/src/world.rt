@@ -4,7 +4,7 @@ ghost use Rattle.std.specs.Prelude.{ℕ, List, [], ◌≡◌, ◌≤◌, ◌<◌
 ghost use Rattle.escaping_client.specs.session_base.declared.publication.Publication.{Publication};
 ghost use Rattle.headline.specs.agreement.World.{can_open};
 ghost use Rattle.headline.specs.ballot.Losses.{greatest_count, one_more};
-ghost use Rattle.headline.specs.packet_world.World.{AreApart};
+ghost use Rattle.headline.specs.packet_world.World.{ClientsAreApart};
 ghost use Rattle.headline.specs.byte_world.World.{new_client};
 ghost use Rattle.world_events.specs.world_pipes.StandsFor.{ClientStandsFor};
 ghost use Rattle.world.specs.Trace.{AgreedGrows, AreReached, CountsOnce, StaysReached, KeepsGroup};
@@ -90,7 +90,7 @@ impl World {
         clients: &[ClientId],
     ) -> Result<World, OpeningError>
         // If each client has an identifier of its own, each is exact; none was asked to publish.
-        ensures exact { AreApart clients.now → IfOk result
+        ensures exact { ClientsAreApart clients.now → IfOk result
             (λ world. (reached : IsReached nodes config clients.now world)
             × (asked_on reached ≡ [])) }
         ensures clients { IfOk result (λ world. identifiers world.clients ≡ clients.now) }

@@ -7,7 +7,7 @@ use Rattle.broker_base.specs.Place.{Client, same_client}
 use Rattle.broker_base.specs.Past.{any_connection}
 use Rattle.broker_base.specs.ClientSession.{ClientSession}
 use Rattle.broker_base.specs.State.{Sessions, session_in}
-use Rattle.broker_base.specs.StateLaws.{AreByClient, IsNobodys, AreApart}
+use Rattle.broker_base.specs.StateLaws.{AreByClient, IsNobodys, ConnectionsAreApart}
 use Rattle.broker_rows.specs.Touched.{written}
 use Rattle.broker_rows.specs.Owners.{owners_in, without_owner}
 use Rattle.broker_rows.specs.ExpelLaws.{ExpelRemovesTheOwner, ExpelDropsTheClient}
@@ -32,7 +32,7 @@ on_there x c kept (row ∷ rows) found on nobodys = by (same_client c row.0) fou
     by false e later = later e on nobodys.1
 
 -- a row before it is on another
-off_before : (x : ConnectionName) (c : Client) (kept : ClientSession) (row : Client × ClientSession) (rows : Sessions) → session_in c rows ≡ Some kept → kept.connection ≡ Some x → AreApart (row ∷ rows)
+off_before : (x : ConnectionName) (c : Client) (kept : ClientSession) (row : Client × ClientSession) (rows : Sessions) → session_in c rows ≡ Some kept → kept.connection ≡ Some x → ConnectionsAreApart (row ∷ rows)
     → any_connection (same_connection x) row.1.connection ≡ false
 off_before x c kept row rows found on apart = by (any_connection (same_connection x) row.1.connection) refl
   where
@@ -41,19 +41,19 @@ off_before x c kept row rows found on apart = by (any_connection (same_connectio
     by true e = absurd (on_there x c kept rows found on (apart.0 x (on_is x row.1.connection e)))
 
 -- of the client's own row
-here_expelled : (o : Option ConnectionName) (y : ConnectionName) (row : Client × ClientSession) (rows : Sessions) → row.1.connection ≡ o → AreApart (row ∷ rows)
+here_expelled : (o : Option ConnectionName) (y : ConnectionName) (row : Client × ClientSession) (rows : Sessions) → row.1.connection ≡ o → ConnectionsAreApart (row ∷ rows)
     → owners_in rows y ≡ without_owner o (owners_in (row ∷ rows)) y
 here_expelled None y row rows on apart = sym (owners_row y row rows ∙ ap (λ connection. if any_connection (same_connection y) connection then Some row.0 else owners_in rows y) on)
 here_expelled (Some x) y row rows on apart = here_leaves x y row rows on (apart.0 x on)
 
 -- of one before it
 after_expelled : (o : Option ConnectionName) (y : ConnectionName) (c : Client) (kept : ClientSession) (row : Client × ClientSession) (rows : Sessions) → session_in c rows ≡ Some kept → kept.connection ≡ o
-    → AreApart (row ∷ rows) → owners_in (written c None rows) y ≡ without_owner o (owners_in rows) y → owners_in (row ∷ written c None rows) y ≡ without_owner o (owners_in (row ∷ rows)) y
+    → ConnectionsAreApart (row ∷ rows) → owners_in (written c None rows) y ≡ without_owner o (owners_in rows) y → owners_in (row ∷ written c None rows) y ≡ without_owner o (owners_in (row ∷ rows)) y
 after_expelled None y c kept row rows found on apart more =
     owners_row y row (written c None rows) ∙ ap (λ o. if any_connection (same_connection y) row.1.connection then Some row.0 else o) more ∙ sym (owners_row y row rows)
 after_expelled (Some x) y c kept row rows found on apart more = after_leaves x y row rows (written c None rows) (off_before x c kept row rows found on apart) more
 
-owner_expelled : (c : Client) (kept : ClientSession) (rows : Sessions) (y : ConnectionName) → AreByClient rows → AreApart rows → session_in c rows ≡ Some kept
+owner_expelled : (c : Client) (kept : ClientSession) (rows : Sessions) (y : ConnectionName) → AreByClient rows → ConnectionsAreApart rows → session_in c rows ≡ Some kept
     → owners_in (written c None rows) y ≡ without_owner kept.connection (owners_in rows) y
 unfolding IsStrictlySortedBy
 owner_expelled c kept [] y by_client apart found = absurd (cc)

@@ -9,7 +9,7 @@ use Rattle.broker_base.specs.Connection.{ConnectionName, same_connection}
 use Rattle.broker_base.specs.Place.{Client, same_client}
 use Rattle.broker_base.specs.Past.{any_connection}
 use Rattle.broker_base.specs.State.{Sessions, session_in}
-use Rattle.broker_base.specs.StateLaws.{AllSound, AreByClient, AreApart}
+use Rattle.broker_base.specs.StateLaws.{AllSound, AreByClient, ConnectionsAreApart}
 use Rattle.broker_base.proofs.ClientsInOrder.{same_is}
 use Rattle.broker_base.proofs.ConnectionsOfSessions.{same_turned}
 use Rattle.broker_base.proofs.SessionsStayByClient.{ComesBefore}
@@ -96,7 +96,7 @@ owned_at None c owners y = refl
 owned_at (Some x) c owners y = ap (λ b. if b then Some c else owners y) (same_turned x y)
 
 -- what all sessions' make
-all_owned_at : (rows : Sessions) (owners : Owners) (y : ConnectionName) → AreApart rows → all_owned rows owners y ≡ first_of (owners_in rows y) (owners y)
+all_owned_at : (rows : Sessions) (owners : Owners) (y : ConnectionName) → ConnectionsAreApart rows → all_owned rows owners y ≡ first_of (owners_in rows y) (owners y)
 all_owned_at [] owners y apart = refl
 all_owned_at (row ∷ rows) owners y apart =
     all_owned_at rows (owned_by row.1.connection row.0 owners) y apart.1

@@ -11,7 +11,7 @@ use Rattle.broker_base.specs.Past.{any_connection}
 use Rattle.broker_base.specs.ClientSession.{ClientSession}
 use Rattle.broker_base.specs.State.{Sessions, session_in, put_session}
 use Rattle.broker_base.specs.StepAnswers.{connection_of}
-use Rattle.broker_base.specs.StateLaws.{AreByClient, IsNobodys, AreApart}
+use Rattle.broker_base.specs.StateLaws.{AreByClient, IsNobodys, ConnectionsAreApart}
 use Rattle.broker_base.proofs.ClientsInOrder.{equal_is}
 use Rattle.broker_base.proofs.ConnectionsOfSessions.{same_turned}
 use Rattle.broker_base.proofs.SessionsStayByClient.{before_more}
@@ -83,7 +83,7 @@ put_after x y c row rows rest had off other more =
 
 -- the owners if the session is put
 put_owns : (x : ConnectionName) (c : Client) (kept : ClientSession) (rows : Sessions) (y : ConnectionName) → kept.connection ≡ Some x → IsNobodys x rows →
-    AreByClient rows → AreApart rows →
+    AreByClient rows → ConnectionsAreApart rows →
     owners_in (put_session c kept rows) y
     ≡ (if same_connection x y then Some c else if any_connection (same_connection y) (connection_of (session_in c rows)) then None else owners_in rows y)
 unfolding IsStrictlySortedBy

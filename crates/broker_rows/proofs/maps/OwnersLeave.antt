@@ -8,7 +8,7 @@ use Rattle.broker_base.specs.Place.{Client}
 use Rattle.broker_base.specs.Past.{any_connection}
 use Rattle.broker_base.specs.ClientSession.{ClientSession}
 use Rattle.broker_base.specs.State.{Sessions, keyed, owner_in}
-use Rattle.broker_base.specs.StateLaws.{AreByClient, IsNobodys, AreApart}
+use Rattle.broker_base.specs.StateLaws.{AreByClient, IsNobodys, ConnectionsAreApart}
 use Rattle.broker_base.proofs.ClientsInOrder.{same_self, less_turned}
 use Rattle.broker_base.proofs.ConnectionsOfSessions.{same_turned}
 use Rattle.broker_rows.specs.Touched.{written}
@@ -73,7 +73,7 @@ after_leaves x y row rows rest off more =
     by false e = refl
 
 -- the owner's row is written without a connection, or goes
-owner_leaves : (x : ConnectionName) (owner : Client × ClientSession) (o : Option ClientSession) (rows : Sessions) (y : ConnectionName) → AreByClient rows → AreApart rows →
+owner_leaves : (x : ConnectionName) (owner : Client × ClientSession) (o : Option ClientSession) (rows : Sessions) (y : ConnectionName) → AreByClient rows → ConnectionsAreApart rows →
     owner_in x rows ≡ Some owner → IsAway o → owners_in (written owner.0 o rows) y ≡ without_owner (Some x) (owners_in rows) y
 unfolding IsStrictlySortedBy
 owner_leaves x owner o [] y by_client apart found away = absurd (cc)
