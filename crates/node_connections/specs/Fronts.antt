@@ -9,9 +9,9 @@ use Rattle.node_connections.specs.declared.connection.Connection.{Connection}
 use Rattle.node_connections.specs.Connections.{is_first}
 
 -- a fault of the bytes
-abbrev pub IsFault : Result (Packet × List ℕ) Stop → Type 0
-IsFault (Err (stops.Malformed kind)) = Unit {0}
-IsFault _ = ⊥
+abbrev pub IsFaultOfBytes : Result (Packet × List ℕ) Stop → Type 0
+IsFaultOfBytes (Err (stops.Malformed kind)) = Unit {0}
+IsFaultOfBytes _ = ⊥
 
 -- a CONNECT that is refused with a code is at the front of a connection's bytes
 abbrev pub FrontIsRefused : Connection → Type 0
@@ -19,7 +19,7 @@ FrontIsRefused c = (code : RefusalCode) × (verdict c.unread ≡ Err (stops.Refu
 
 -- no packet is at the front: the bytes have a fault, or a CONNECT that is not the first is refused
 abbrev pub HasNoPacket : Connection → Type 0
-HasNoPacket c = IsFault (verdict c.unread) ⊎ ((is_first c.stage ≡ false) × FrontIsRefused c)
+HasNoPacket c = IsFaultOfBytes (verdict c.unread) ⊎ ((is_first c.stage ≡ false) × FrontIsRefused c)
 
 -- memory may run out for what is at the front: for reading it, or for the answer to a first CONNECT
 -- that is refused with a code

@@ -8,7 +8,7 @@ use Rattle.node_connections.specs.declared.front.Front.{Front}
 use Rattle.node_connections.specs.declared.front.Front.TheVariants as fronts
 use Rattle.node_connections.specs.Connections.{is_first}
 use Rattle.node_connections.specs.ConnectionChanges.{left_with, closed}
-use Rattle.node_connections.specs.Fronts.{IsFault, FrontNeedsMemory}
+use Rattle.node_connections.specs.Fronts.{IsFaultOfBytes, FrontNeedsMemory}
 use Rattle.node_connections.specs.Refusing.{refused}
 
 -- what is at the front of the bytes of a connection, and what is left of them
@@ -16,7 +16,7 @@ abbrev pub ReadsFront : List ℕ → Front → List ℕ → Type 0
 ReadsFront bytes fronts.More left = (verdict bytes ≡ Err stops.More) × (left ≡ bytes)
 ReadsFront bytes (fronts.Packet packet) left = (verdict bytes ≡ Ok (packet, left)) × IsSized packet
 ReadsFront bytes (fronts.Refused code) left = verdict bytes ≡ Err (stops.Refused code)
-ReadsFront bytes fronts.Fault left = IsFault (verdict bytes)
+ReadsFront bytes fronts.Fault left = IsFaultOfBytes (verdict bytes)
 ReadsFront bytes fronts.OutOfMemory left = MayNeedMemory bytes × (left ≡ bytes)
 
 -- what reading the next packet at this time does to a connection
@@ -28,5 +28,5 @@ TakesFront now old (fronts.Packet packet) new =
 TakesFront now old (fronts.Refused code) new =
     (verdict old.unread ≡ Err (stops.Refused code))
     × (new ≡ (if is_first old.stage then refused code old else closed old))
-TakesFront now old fronts.Fault new = IsFault (verdict old.unread) × (new ≡ closed old)
+TakesFront now old fronts.Fault new = IsFaultOfBytes (verdict old.unread) × (new ≡ closed old)
 TakesFront now old fronts.OutOfMemory new = FrontNeedsMemory old × (new ≡ closed old)

@@ -22,7 +22,7 @@ use Rattle.node_connections.specs.declared.connection.Connection.{Connection}
 use Rattle.node_connections.specs.Connections.{is_first, is_proposed, is_open_at}
 use Rattle.node_connections.specs.ConnectionChanges.{changed, closed, left_with}
 use Rattle.world_base.specs.Core.{CoreState, StepOutcome}
-use Rattle.node_connections.specs.Fronts.{IsFault}
+use Rattle.node_connections.specs.Fronts.{IsFaultOfBytes}
 use Rattle.node_connections.specs.Inside.{TakesFront}
 use Rattle.world_base.specs.Inside.{Running, DoesOutcome}
 use Rattle.world_base.specs.Reading.{takes_first_packet, changes, loses, open_at, reads, reads_next, refused, proposes_packet}
@@ -156,7 +156,7 @@ fault_there now port c new a b r x y found did is turns = by (verdict c.unread) 
         turns_after a b r x y (changes port closed a.core) (Told c)
         (is ∙ ap (λ (k : CoreState). record a { core = k }) (becomes_same port a.core c new closed found did.1)) turns
 
-    by : (v : Result (Packet × List ℕ) Stop) → verdict c.unread ≡ v → IsFault v → DoesOutcome a r x y (reads_next now port a.core)
+    by : (v : Result (Packet × List ℕ) Stop) → verdict c.unread ≡ v → IsFaultOfBytes v → DoesOutcome a r x y (reads_next now port a.core)
     by (Err stops.More) e fault = absurd fault
     by (Err (stops.Malformed kind)) e fault = subst (λ (t : StepOutcome). DoesOutcome a r x y t) (reads_by now port a.core c _ found e) lost
     by (Err (stops.Refused code)) e fault = absurd fault
