@@ -11,7 +11,7 @@ use Rattle.world.specs.World.{WorldState}
 use Rattle.world.specs.world_nodes.Agreed.{AgreeOnSoMany}
 use Rattle.play.specs.declared.played_world.Recipient.{Recipient}
 use Rattle.play.specs.Events.{asked_in, event_of}
-use Rattle.play.specs.Transcripts.{EventComesTo, IsAskedIn, IsLine, Played, ScriptStep}
+use Rattle.play.specs.Transcripts.{EventComesTo, IsAskedIn, IsEventLine, Played, ScriptStep}
 use Rattle.play.specs.AcceptedLines.{accepted_in, lines_after}
 
 -- what a line asks of a client, whatever waits on connections
@@ -32,7 +32,7 @@ pub record LineComesTo (line : ScriptLine) (old : WorldState) (result : Result (
 pub record Written (index : ℕ) (result : Result (Unit {0}) Idle) (world : WorldState)
     (old new : List ℕ) : Type 0 where
   pub line : List ℕ
-  pub is_line : IsLine index result world line
+  pub is_line : IsEventLine index result world line
   pub is : new ≡ old ++ line
 
 -- the last line was

@@ -32,9 +32,9 @@ IsAskedIn (Some event) old result asked new = EventAsks event old result asked n
 
 -- the line of event `index`: it was idle, or the line counts the messages sent so far and the
 -- agreed commands
-abbrev pub IsLine : ℕ → Result (Unit {0}) Idle → WorldState → List ℕ → Type 0
-IsLine index (Err idle) new line = line ≡ idle_line index
-IsLine index (Ok done) new line =
+abbrev pub IsEventLine : ℕ → Result (Unit {0}) Idle → WorldState → List ℕ → Type 0
+IsEventLine index (Err idle) new line = line ≡ idle_line index
+IsEventLine index (Ok done) new line =
     (agreed : ℕ) × AgreeOnSoMany new.nodes agreed
     × (line ≡ done_line index (length new.nodes.sent) agreed)
 
@@ -46,7 +46,7 @@ pub record ScriptStep (clients : List (List ℕ)) (index : ℕ) (script_line : S
   pub result : Result (Unit {0}) Idle
   pub comes : EventComesTo (asked_in old script_line) old result new
   pub line : List ℕ
-  pub is_line : IsLine index result new line
+  pub is_line : IsEventLine index result new line
   pub whole : lines ≡ line ++ new_lines clients old new
   pub goes : KeepsGroup old new
   pub reached : StaysReached old.nodes new.nodes
