@@ -8,7 +8,7 @@ use Rattle.script.specs.declared.error.ScriptFault.TheVariants as errors
 use Rattle.script.specs.declared.opening.Opening.{Opening}
 use Rattle.script.specs.declared.script_line.ScriptLine.{ScriptLine}
 use Rattle.script.specs.Fields.{Text, texts}
-use Rattle.script.specs.Scripts.{AreLines, HasForm, IsFirstBad, IsOpeningLine, IsOtherLine, Refuses}
+use Rattle.script.specs.Scripts.{AreLines, HasSomeForm, IsFirstBad, IsOpeningLine, IsOtherLine, Refuses}
 
 push_line : (ts : List Text) (os : List ScriptLine) (t : Text) (o : ScriptLine) → AreLines ts os → IsOtherLine t o
     → AreLines (ts ++ t ∷ []) (os ++ o ∷ [])
@@ -37,7 +37,7 @@ lines_all lines i os end before =
     subst (λ ts. AreLines ts os) (take_all i (texts lines) (omega (arith, length-map lines (λ (b : Bor Text). b.now)))) before
 
 first_bad_at : (ts : List Text) (i : ℕ) (d : Text) (os : List ScriptLine) → i < length ts → AreLines (take i ts) os
-    → (HasForm (get_or ts i d) → ⊥) → IsFirstBad ts i
+    → (HasSomeForm (get_or ts i d) → ⊥) → IsFirstBad ts i
 first_bad_at [] i d os within before bad = absurd (omega arith)
 first_bad_at (t ∷ ts) zero d os within before bad = bad
 first_bad_at (t ∷ ts) (suc i) d [] within before bad = absurd before
@@ -56,11 +56,11 @@ one_number x a b one other = sym (ap number_in other) ∙ ap number_in one
 
 -- the first line without its form
 pub first_bad : (lines : List (Bor Text)) (i : ℕ) (d : Bor Text) (os : List ScriptLine) → i < length lines
-    → AreLines (take i (texts lines)) os → (HasForm (get_or lines i d).now → ⊥) → IsFirstBad (texts lines) i
+    → AreLines (take i (texts lines)) os → (HasSomeForm (get_or lines i d).now → ⊥) → IsFirstBad (texts lines) i
 first_bad lines i d os within before bad =
     let here : get_or (texts lines) i d.now ≡ (get_or lines i d).now = get_or-map (λ (b : Bor Text). b.now) lines i d in
     first_bad_at (texts lines) i d.now os (omega (arith, length-map lines (λ (b : Bor Text). b.now))) before
-    (λ has. bad (subst HasForm here has))
+    (λ has. bad (subst HasSomeForm here has))
 
 -- a line after the first is refused by its number
 pub bad_after : {T : Type 0} (first : Text) (rest : List Text) (error : ScriptFault) (o : Opening) → IsOpeningLine first o

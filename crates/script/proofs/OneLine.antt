@@ -6,7 +6,7 @@ use Rattle.std.proofs.lemmas.Bool.{false≢true}
 use Rattle.script.specs.declared.error.FieldFault.{FieldFault}
 use Rattle.script.specs.declared.script_line.ScriptLine.{ScriptLine}
 use Rattle.script.specs.Fields.{Text, fields_of}
-use Rattle.script.specs.Scripts.{HasForm, IsOtherLine}
+use Rattle.script.specs.Scripts.{HasSomeForm, IsOtherLine}
 use Rattle.script.specs.Inside.LineReading.{line_of}
 use Rattle.script.proofs.OneForm.{is_read, says}
 
@@ -19,6 +19,6 @@ line_said line text fields (Err e) same formed are read = tt
 
 -- a line of which nothing was read
 pub line_missing : (line text : Text) (fields : List Text) → text ≡ line
-    → fields ≡ fields_of text → line_of fields ≡ None → HasForm line → ⊥
+    → fields ≡ fields_of text → line_of fields ≡ None → HasSomeForm line → ⊥
 line_missing line text fields same are none has =
     false≢true (ap is_some (sym none ∙ ap line_of (are ∙ ap fields_of same) ∙ is_read (fields_of line) has.0 has.1.1))

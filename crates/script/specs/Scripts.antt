@@ -71,8 +71,8 @@ IsScript (first ∷ lines) script =
     IsOpeningLine first script.opening × AreLines lines script.lines.items
 
 -- a line has one of the other forms
-abbrev pub HasForm : Text → Type 0
-HasForm line = (script_line : ScriptLine) × IsOtherLine line script_line
+abbrev pub HasSomeForm : Text → Type 0
+HasSomeForm line = (script_line : ScriptLine) × IsOtherLine line script_line
 
 -- a line is a first line, which opens some world
 abbrev pub HasOpening : Text → Type 0
@@ -81,8 +81,8 @@ HasOpening line = (opening : Opening) × IsOpeningLine line opening
 -- the line of this index is the first without its form
 abbrev pub IsFirstBad : List Text → ℕ → Type 0
 IsFirstBad [] index = ⊥
-IsFirstBad (line ∷ lines) zero = ¬ (HasForm line)
-IsFirstBad (line ∷ lines) (suc index) = HasForm line × IsFirstBad lines index
+IsFirstBad (line ∷ lines) zero = ¬ (HasSomeForm line)
+IsFirstBad (line ∷ lines) (suc index) = HasSomeForm line × IsFirstBad lines index
 
 -- lines are refused by the number of the first without its form, or because memory ran out
 abbrev pub Refuses : List Text → ScriptFault → Type 0

@@ -4,7 +4,7 @@ ghost use Rattle.std.specs.Prelude.{◌≡◌, ◌+◌, ◌∷◌, ℕ, Some, No
 ghost use Rattle.script.specs.declared.opening.Opening.{Opening};
 ghost use Rattle.script.specs.declared.script_line.ScriptLine.{ScriptLine};
 ghost use Rattle.script.specs.Fields.{texts};
-ghost use Rattle.script.specs.Scripts.{AreLines, HasForm, HasOpening, IsFirstBad, IsOpeningLine, IsOtherLine, IsScript, Refuses, lines_of};
+ghost use Rattle.script.specs.Scripts.{AreLines, HasSomeForm, HasOpening, IsFirstBad, IsOpeningLine, IsOtherLine, IsScript, Refuses, lines_of};
 
 use crate::error::{FieldFault, ScriptFault};
 use crate::fields::fields_of;
@@ -76,7 +76,7 @@ fn opening_line(alloc: Global, line: &[u8]) -> Result<Opening, FieldFault>
 // Returns what one of the other lines says.
 fn other_line(alloc: Global, line: &[u8]) -> Result<ScriptLine, FieldFault>
     ensures value { IfOk result (IsOtherLine line.now) }
-    ensures form { IsErrOf result FieldFault.Form → HasForm line.now → ⊥ }
+    ensures form { IsErrOf result FieldFault.Form → HasSomeForm line.now → ⊥ }
 {
     let Ok(line) = str::from_utf8(line) else {
         return Err(FieldFault::Form);
