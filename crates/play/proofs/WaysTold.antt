@@ -9,7 +9,7 @@ use Rattle.script.specs.declared.reading.Script.{Script}
 use Rattle.world.specs.world_events.declared.event.Event.{Event}
 use Rattle.world.specs.world_events.declared.escape_error.EscapeError.{EscapeError}
 use Rattle.world.specs.world_events.declared.escape_error.EscapeError.TheVariants as escapes
-use Rattle.world.specs.Escaping.{CanEscape, LeadsOut}
+use Rattle.world.specs.Escaping.{CanEscape, LeadsClientOut}
 use Rattle.world.specs.Happening.{WorldOpens}
 use Rattle.world.specs.World.{WorldState}
 use Rattle.play.specs.declared.error.PlayError.{PlayError}
@@ -66,7 +66,7 @@ ends_in text old new script first last clients script_lines is opens named all o
 -- ---- its way out
 
 pub tells_way : {E : Type 0} (result : Result (Unit {0}) E) (text members client old new : List ℕ) (last : WorldState) (events written : List Event) → EndsIn text last → CanEscape members client last →
-    LeadsOut client last events → written ≡ events → OnOk result (new ≡ old ++ event_lines written) → OnOk result (TellsWay text members client old new)
+    LeadsClientOut client last events → written ≡ events → OnOk result (new ≡ old ++ event_lines written) → OnOk result (TellsWay text members client old new)
 tells_way (Ok done) text members client old new last events written ends can leads same is =
     record { last = last; ends = ends; can = can; events = events; leads = leads; is = is ∙ ap (λ (l : List Event). old ++ event_lines l) same }
 tells_way (Err error) text members client old new last events written ends can leads same is = is

@@ -5,7 +5,7 @@ use Rattle.script.specs.Scripts.{IsScript, lines_of}
 use Rattle.script.specs.declared.reading.Script.{Script}
 use Rattle.world.specs.world_events.declared.event.Event.{Event}
 use Rattle.world.specs.world_events.declared.event.Event.TheVariants as events
-use Rattle.world.specs.Escaping.{CanEscape, LeadsOut}
+use Rattle.world.specs.Escaping.{CanEscape, LeadsClientOut}
 use Rattle.world.specs.Happening.{WorldOpens}
 use Rattle.world.specs.World.{WorldState}
 use Rattle.play.specs.Transcripts.{Played}
@@ -68,7 +68,7 @@ pub record TellsWay (text members : List ℕ) (client : List ℕ) (old new : Lis
   pub ends : EndsIn text last
   pub can : CanEscape members client last
   pub events : List Event
-  pub leads : LeadsOut client last events
+  pub leads : LeadsClientOut client last events
   pub is : new ≡ old ++ event_lines events
 
 -- there is no way out

@@ -30,7 +30,7 @@ use Rattle.world_events.specs.declared.event.Event.{Event}
 use Rattle.world_events.specs.declared.event.Event.TheVariants as events
 use Rattle.world.specs.Found.{is_named, port_of}
 use Rattle.world.specs.Gathering.{Gathers}
-use Rattle.world.specs.Trace.{LosesNothing, NodesGo}
+use Rattle.world.specs.Trace.{WorldLosesNothing, NodesGo}
 use Rattle.world.specs.Happening.{EventsHappen}
 use Rattle.world.specs.SlotsAreValid.{SlotsAreValid, leads_of}
 use Rattle.world.specs.World.{WorldState}
@@ -93,7 +93,7 @@ module _ (name : List ℕ) (i at number place : ℕ) (core : Core) (up : List �
     newest = own_waits i at number place core up x (with_nodes taken w) after awaits.waits.node positive awaits.waits.stands awaits.waits.waits gathers housed s
 
     -- all but the last answer
-    others_answer : EventsHappen (map events.Deliver ks ++ events.Deliver index ∷ more) after new → LosesNothing after new →
+    others_answer : EventsHappen (map events.Deliver ks ++ events.Deliver index ∷ more) after new → WorldLosesNothing after new →
         BeforeLast ks i at number place core up index more (with_nodes taken w) new
     others_answer run none =
         let t = in_two (map events.Deliver ks) (events.Deliver index ∷ more) after new run none in
@@ -108,7 +108,7 @@ module _ (name : List ℕ) (i at number place : ℕ) (core : Core) (up : List �
           whole = t.whole_last;
         }
 
-    pub answers_with_others : EventsHappen (map events.Deliver ks ++ events.Deliver index ∷ more) after new → LosesNothing after new → AnsweredTo name i at number place core w.nodes more new
+    pub answers_with_others : EventsHappen (map events.Deliver ks ++ events.Deliver index ∷ more) after new → WorldLosesNothing after new → AnsweredTo name i at number place core w.nodes more new
     answers_with_others run none =
         let b = others_answer run none in
         let f = deliveries_are_followed ballot awaits.moment awaits.before ks awaits.delivered taken b.mid.nodes b.passes.come awaits.seen awaits.calm in

@@ -31,7 +31,7 @@ use Rattle.world_events.specs.declared.event.Event.{Event}
 use Rattle.world_events.specs.declared.event.Event.TheVariants as events
 use Rattle.world.specs.Found.{is_named, port_of}
 use Rattle.world.specs.Gathering.{Gathers}
-use Rattle.world.specs.Trace.{LosesNothing}
+use Rattle.world.specs.Trace.{WorldLosesNothing}
 use Rattle.world.specs.Happening.{EventsHappen}
 use Rattle.world.specs.SlotsAreValid.{SlotsAreValid, leads_of}
 use Rattle.world.specs.World.{WorldState}
@@ -135,7 +135,7 @@ module _ (name : List ℕ) (v : WorldState) (i at number place : ℕ) (core : Co
           ∙ ap (λ (es : List Event). es ++ more) (map-append events.Deliver before (index ∷ []))
           ∙ append_assoc (map events.Deliver before) (events.Deliver index ∷ []) more
 
-  pub answers_out : EventsHappen (events.CarryUp number count ∷ asked) v new → LosesNothing v new → AnsweredTo name i at number place core v.nodes more new
+  pub answers_out : EventsHappen (events.CarryUp number count ∷ asked) v new → WorldLosesNothing v new → AnsweredTo name i at number place core v.nodes more new
   answers_out run none =
       let f = first_done (events.CarryUp number count) asked v new run none
       (can_come_up i at number place core up v newest positive o.node o.stands count many o.serves.leads.runs some) in

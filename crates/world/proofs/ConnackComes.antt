@@ -22,7 +22,7 @@ use Rattle.world.specs.declared.connection_slot.ConnectionSlot.{ConnectionSlot}
 use Rattle.world.specs.declared.world.WorldClient.{WorldClient}
 use Rattle.world.specs.Doing.{DoesEvent}
 use Rattle.world.specs.Found.{core_named, is_named, with_piped}
-use Rattle.world.specs.Trace.{LosesNothing}
+use Rattle.world.specs.Trace.{WorldLosesNothing}
 use Rattle.world.specs.Happening.{EventsHappen}
 use Rattle.world.specs.World.{WorldState}
 use Rattle.world.proofs.ConnectSpelled.{connack_long, connack_read}
@@ -106,7 +106,7 @@ module _ (name : List ℕ) (i at number node : ℕ) (core : Core) (up down : Lis
           ∙ ap (λ (p : ConnectionSlot). with_piped p.client c.client piped w) (place_is i at number node core up down b w s positive c)
           ∙ ap (λ (d : WorldClient). with_piped i d piped w) (client_is i at number node core up down b w s positive c)
 
-  pub connack_comes : (new : WorldState) → is_open core.state.stage ≡ true → EventsHappen (events.CarryDown number 4 ∷ []) w new → LosesNothing w new → IsOnline name w new
+  pub connack_comes : (new : WorldState) → is_open core.state.stage ≡ true → EventsHappen (events.CarryDown number 4 ∷ []) w new → WorldLosesNothing w new → IsOnline name w new
   connack_comes new holding run none =
       let f = first_done (events.CarryDown number 4) [] w new run none (can_come_down i at number node core up down b w s positive 4 holding (omega arith) four) in
       subst (IsOnline name w) (sym f.rest) (come f.after f.does)

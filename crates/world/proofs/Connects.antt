@@ -17,7 +17,7 @@ use Rattle.headline.specs.byte_world.ClientSteps.{after_connecting}
 use Rattle.headline.specs.byte_world.Steps.WorldStep.{connects}
 use Rattle.escaping_nodes.specs.world_nodes.ExactSteps.{NodeDoesCall}
 use Rattle.escaping_nodes.specs.world_nodes.Running.{node_of}
-use Rattle.escaping_nodes.specs.world_nodes.Nodes.{NodesState, NodesStandFor as NodesStand}
+use Rattle.escaping_nodes.specs.world_nodes.Nodes.{NodesState, NodesStandFor}
 use Rattle.world_events.specs.world_pipes.declared.way.Way.{Way}
 use Rattle.world_events.specs.world_pipes.Following.{ConnectingFollows}
 use Rattle.world_events.specs.world_pipes.StandsFor.{AreWays}
@@ -105,7 +105,7 @@ connects_goes i node old new housed one nodes config cs m trail s = by node refl
           steps = goes_on rests step;
           asked_is = refl;
           stands = record {
-            nodes = subst (λ (z : NodesState). NodesStand d.does.after z) (sym (ap (λ (w : WorldState). w.nodes) one.is)) d.stands;
+            nodes = subst (λ (z : NodesState). NodesStandFor d.does.after z) (sym (ap (λ (w : WorldState). w.nodes) one.is)) d.stands;
             clients = subst (λ (l : List WorldClient). ClientsStand l after.clients) (sym (ap (λ (w : WorldState). w.clients) one.is))
                 (stand_set old.clients m.clients i (record one.client { piped = one.piped }) (after_connecting end.0.name n port c.c) s.clients follows.0);
           };

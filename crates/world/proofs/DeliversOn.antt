@@ -30,7 +30,7 @@ use Rattle.world_events.specs.declared.event.Event.TheVariants as events
 use Rattle.world.specs.Cannot.{CannotHappen}
 use Rattle.world.specs.Doing.{DoesEvent, receiver_of}
 use Rattle.world.specs.Gathering.{Gathers}
-use Rattle.world.specs.Trace.{LosesNothing}
+use Rattle.world.specs.Trace.{WorldLosesNothing}
 use Rattle.world.specs.Happening.{EventsHappen}
 use Rattle.world.specs.SlotsAreValid.{SlotsAreValid, leads_of}
 use Rattle.world.specs.World.{WorldState}
@@ -145,7 +145,7 @@ module _ (a : Moment State Command Output) (w : WorldState) (seen : IsSeen a w.n
 -- ---- one after another
 
 pub walk : (ballot : ℕ) (a b : Moment State Command Output) (ks : List ℕ) → Delivered rules ballot a ks b → (old new : WorldState) → EventsHappen (map events.Deliver ks) old new →
-    LosesNothing old new → IsSeen a old.nodes → AreCalm ballot old.nodes → SlotsAreValid (leads_of old.clients) old.connections → Passes ks old new
+    WorldLosesNothing old new → IsSeen a old.nodes → AreCalm ballot old.nodes → SlotsAreValid (leads_of old.clients) old.connections → Passes ks old new
 walk ballot a b ks all_came old new run none seen calm housed = subst (Passes [] old) (sym run) (passes_rest old housed)
 walk ballot a b ks (to_node {ks = rest} k at r m sent stands runs silent joined d) old new run none seen calm housed =
     let f = first_done (events.Deliver k) (map events.Deliver rest) old new run none (can_reach a old seen k at r m sent stands runs) in

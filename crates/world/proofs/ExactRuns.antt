@@ -4,7 +4,7 @@ use Rattle.escaping_nodes.specs.master.declared.event.Idle.{Idle}
 use Rattle.world_events.specs.declared.event.Event.{Event}
 use Rattle.world.specs.Cannot.{CannotHappen}
 use Rattle.world.specs.Doing.{DoesEvent}
-use Rattle.world.specs.Trace.{LosesNothing}
+use Rattle.world.specs.Trace.{WorldLosesNothing}
 use Rattle.world.specs.Happening.{EventHappens, EventsHappen}
 use Rattle.world.specs.World.{WorldState}
 use Rattle.world.proofs.Joined.{worlds_split}
@@ -28,7 +28,7 @@ run_rises (event ∷ events) old new low r =
     let more = run_rises events r.0 new one.1 r.3 in
     let x = one.0 in let y = more.0 in (omega (arith, x, y), more.1)
 
-low_count : (old new : WorldState) → LosesNothing old new → old.losses ≤ 2 ^ 64 - 1
+low_count : (old new : WorldState) → WorldLosesNothing old new → old.losses ≤ 2 ^ 64 - 1
 low_count old new none = let low = none.1 in omega (arith, low)
 
 -- the first event was done exactly, and the others lose nothing
@@ -36,13 +36,13 @@ pub record First (event : Event) (events : List Event) (old new : WorldState) : 
   pub after : WorldState
   pub does : DoesEvent true event old after
   pub rest : EventsHappen events after new
-  pub whole : LosesNothing after new
+  pub whole : WorldLosesNothing after new
 
-pub first_done : (event : Event) (events : List Event) (old new : WorldState) → EventsHappen (event ∷ events) old new → LosesNothing old new → (CannotHappen event old → ⊥) →
+pub first_done : (event : Event) (events : List Event) (old new : WorldState) → EventsHappen (event ∷ events) old new → WorldLosesNothing old new → (CannotHappen event old → ⊥) →
     First event events old new
 first_done event events old new r none can = by r.1 r.2
   where
-    split : LosesNothing old r.0 × LosesNothing r.0 new
+    split : WorldLosesNothing old r.0 × WorldLosesNothing r.0 new
     split =
         let one = happens_rises event old r.1 r.0 (low_count old new none) r.2 in
         worlds_split old r.0 new one.0 (run_rises events r.0 new one.1 r.3).0 none
@@ -66,11 +66,11 @@ run_split (x ∷ xs) ys old new r =
 pub record WholeInTwo (xs ys : List Event) (old new : WorldState) : Type 0 where
   pub mid : WorldState
   pub first : EventsHappen xs old mid
-  pub whole_first : LosesNothing old mid
+  pub whole_first : WorldLosesNothing old mid
   pub last : EventsHappen ys mid new
-  pub whole_last : LosesNothing mid new
+  pub whole_last : WorldLosesNothing mid new
 
-pub in_two : (xs ys : List Event) (old new : WorldState) → EventsHappen (xs ++ ys) old new → LosesNothing old new → WholeInTwo xs ys old new
+pub in_two : (xs ys : List Event) (old new : WorldState) → EventsHappen (xs ++ ys) old new → WorldLosesNothing old new → WholeInTwo xs ys old new
 in_two xs ys old new r none =
     let s = run_split xs ys old new r in
     let one = run_rises xs old s.mid (low_count old new none) s.first in

@@ -15,7 +15,7 @@ use Rattle.headline.specs.node_group.Group.{Group}
 use Rattle.headline.specs.byte_world.World.{World}
 use Rattle.headline.specs.byte_world.Steps.{is_apart}
 use Rattle.headline.specs.byte_world.Steps.WorldStep.{goes_on as group_goes}
-use Rattle.escaping_nodes.specs.world_nodes.Nodes.{NodesState, NodesStandFor as NodesStand}
+use Rattle.escaping_nodes.specs.world_nodes.Nodes.{NodesState, NodesStandFor}
 use Rattle.escaping_nodes.specs.world_nodes.ExactSteps.{NodeDoesCall, GoesBy}
 use Rattle.escaping_nodes.specs.world_nodes.Steps.{nodes_with_loss}
 use Rattle.escaping_nodes.specs.world_nodes.GroupSteps.{ActsOrRests, ComesOrRests, MasterGoesOrRests, MasterHears}
@@ -35,9 +35,9 @@ with_nodes nodes w = record w { nodes = nodes }
 -- a call in which connections have no part, or nothing
 pub data GoesApart (old new : NodesState) : Type 0 where
   stays : NodesStay old new → GoesApart old new
-  acts : (node_call : Option (ℕ × NodeCall)) → is_apart node_call ≡ true → ((g : Group) → NodesStand g old → GoesBy node_call g new) → GoesApart old new
+  acts : (node_call : Option (ℕ × NodeCall)) → is_apart node_call ≡ true → ((g : Group) → NodesStandFor g old → GoesBy node_call g new) → GoesApart old new
 
-pub acts_go : (node_call : Option (ℕ × NodeCall)) (old new : NodesState) → ((g : Group) → NodesStand g old → GoesBy node_call g new) → NodesGo old new
+pub acts_go : (node_call : Option (ℕ × NodeCall)) (old new : NodesState) → ((g : Group) → NodesStandFor g old → GoesBy node_call g new) → NodesGo old new
 acts_go node_call old new by g s = let d = by g s in record { after = d.does.after; goes = then_goes stands_still d.does.step; stands = d.stands }
 
 nodes_go : (old new : NodesState) → GoesApart old new → NodesGo old new
@@ -75,7 +75,7 @@ pub call_goes : {X : Type 0} (r : Result X Idle) (old new : NodesState) (at : �
 call_goes (Ok x) old new at node_call rises does same = record { rises = rises; goes = acts_go (Some (at, node_call)) old new does }
 call_goes (Err e) old new at node_call rises does same = nodes_rest old new same
 
-acts_or_stays : (node_call : Option (ℕ × NodeCall)) (old new : NodesState) → is_apart node_call ≡ true → ((g : Group) → NodesStand g old → GoesBy node_call g new) ⊎ (new ≡ nodes_with_loss old) → GoesApart old new
+acts_or_stays : (node_call : Option (ℕ × NodeCall)) (old new : NodesState) → is_apart node_call ≡ true → ((g : Group) → NodesStandFor g old → GoesBy node_call g new) ⊎ (new ≡ nodes_with_loss old) → GoesApart old new
 acts_or_stays node_call old new apart (inl does) = acts node_call apart does
 acts_or_stays node_call old new apart (inr forgets) = stays (nodes_forget old new forgets)
 

@@ -14,7 +14,7 @@ use Rattle.headline.specs.world_base.declared.item.Item.TheVariants.{Bytes, Cras
 use Rattle.escaping_nodes.specs.world_nodes.ExactSteps.{MessageArrives, ComesToNobody, CutsExactly, TakesExactly}
 use Rattle.escaping_nodes.specs.world_nodes.Running.{cutting, proposing, running}
 use Rattle.escaping_nodes.specs.world_nodes.Nodes.{NodesState}
-use Rattle.escaping_nodes.specs.world_nodes.Steps.{ComesIn, CutsIn, ExpelsIn, GivesIn, LosesNothing as NodesLoseNothing, TakesIn}
+use Rattle.escaping_nodes.specs.world_nodes.Steps.{ComesIn, CutsIn, ExpelsIn, GivesIn, NodesLoseNothing, TakesIn}
 use Rattle.world_events.specs.world_pipes.declared.way.Way.{Way}
 use Rattle.world_events.specs.world_pipes.Piped.{Piped, is_holding}
 use Rattle.world_events.specs.declared.event.Event.{Event}

@@ -11,8 +11,8 @@ use Rattle.headline.specs.byte_world.World.{World}
 use Rattle.headline.specs.byte_world.Steps.{Reached}
 use Rattle.headline.specs.byte_world.Steps.Reached.{goes_on as reached_more}
 use Rattle.headline.specs.byte_world.Published.{published_in, published_on}
-use Rattle.escaping_nodes.specs.world_nodes.Nodes.{NodesState, NodesStandFor as NodesStand}
-use Rattle.world.specs.Trace.{LosesNothing, KeepsGroup}
+use Rattle.escaping_nodes.specs.world_nodes.Nodes.{NodesState, NodesStandFor}
+use Rattle.world.specs.Trace.{WorldLosesNothing, KeepsGroup}
 use Rattle.world.specs.Inside.Steps.{IsTrace, IsTraceAsking}
 use Rattle.world.specs.declared.world.WorldClient.{WorldClient}
 use Rattle.world.specs.StandsFor.{ClientsStand, ModelStepsTo, IsReached, KeepsReached, WorldStandsFor, WorldSteps, FollowsModel, FollowsModelAsking, asked_on, published_along}
@@ -49,7 +49,7 @@ reached_asked trail (goes_on steps step) =
 pub stands_as : (m : World) (a b : WorldState) → b.nodes ≡ a.nodes → b.clients ≡ a.clients → WorldStandsFor m a → WorldStandsFor m b
 stands_as m a b nodes clients s =
     record {
-      nodes = subst (λ (n : NodesState). NodesStand m.group n) (sym nodes) s.nodes;
+      nodes = subst (λ (n : NodesState). NodesStandFor m.group n) (sym nodes) s.nodes;
       clients = subst (λ (cs : List WorldClient). ClientsStand cs m.clients) (sym clients) s.clients;
     }
 
@@ -74,7 +74,7 @@ pub world_goes_join : (a b c : WorldState) → FollowsModel a b → FollowsModel
 world_goes_join a b c one two = asked_goes_join [] [] a b c one two
 
 -- if nothing is lost from end to end, nothing is on the way
-pub worlds_split : (a b c : WorldState) → a.losses ≤ b.losses → b.losses ≤ c.losses → LosesNothing a c → LosesNothing a b × LosesNothing b c
+pub worlds_split : (a b c : WorldState) → a.losses ≤ b.losses → b.losses ≤ c.losses → WorldLosesNothing a c → WorldLosesNothing a b × WorldLosesNothing b c
 worlds_split a b c x y none =
     let same = none.0 in let low = none.1 in (
       ((let e : b.losses ≡ a.losses = omega (arith, x, y, same) in e), low),
@@ -82,7 +82,7 @@ worlds_split a b c x y none =
     )
 
 -- a loss is counted
-pub counted_loss : (old new : WorldState) (losses : ℕ) → old.losses ≤ losses → new.losses ≡ one_more losses → LosesNothing old new → ⊥
+pub counted_loss : (old new : WorldState) (losses : ℕ) → old.losses ≤ losses → new.losses ≡ one_more losses → WorldLosesNothing old new → ⊥
 counted_loss old new losses rises is none = let same = none.0 in let low = none.1 in omega (arith, rises, is, same, low)
 
 -- ---- parts of a step

@@ -28,9 +28,9 @@ use Rattle.world_events.specs.declared.event.Event.{Event}
 use Rattle.world_events.specs.declared.event.Event.TheVariants as events
 use Rattle.world.specs.declared.connection_slot.ConnectionSlot.{ConnectionSlot}
 use Rattle.world.specs.Opening.{next_number}
-use Rattle.world.specs.Escaping.{CanEscape, HasEscaped, LeadsOut}
+use Rattle.world.specs.Escaping.{CanEscape, HasEscaped, LeadsClientOut}
 use Rattle.world.specs.Found.{port_of}
-use Rattle.world.specs.Trace.{AreReached, LosesNothing, NodesGo}
+use Rattle.world.specs.Trace.{AreReached, WorldLosesNothing, NodesGo}
 use Rattle.world.specs.Happening.{EventsHappen}
 use Rattle.world.specs.SlotsAreValid.{SlotsAreValid, leads_of}
 use Rattle.world_events.specs.EscapeEvents.{answer_events, client_events, leaving}
@@ -123,7 +123,7 @@ module _ (name : Client) (w : WorldState) (housed : SlotsAreValid (leads_of w.cl
 
     -- from the world in which the connection was opened
     module _ (v : WorldState) (h : HasOpened name left.before.state b ballot p.index os log number left.after v)
-        (run : EventsHappen (asking (sent_then w (length os))) v new) (none : LosesNothing v new) where
+        (run : EventsHappen (asking (sent_then w (length os))) v new) (none : WorldLosesNothing v new) where
       sent_is : sent_then w (length os) ≡ length v.nodes.sent
       sent_is =
           let all = l.way.sent in
@@ -178,7 +178,7 @@ module _ (name : Client) (w : WorldState) (housed : SlotsAreValid (leads_of w.cl
         let o = opens_out name left.before b ballot p.index p.node os log left.after left.there can_open left.housed (asking (sent_then w (length os))) new left.closed left.rest left.whole in
         escaped o.after (subst (λ (k : ℕ). HasOpened name left.before.state b ballot p.index os log k left.after o.after) same_number o.has) o.rest o.whole
 
-  leads : EventsHappen (escaping_events w (first ∷ os) can.index holds name bytes) w new → LosesNothing w new → HasEscaped name w new
+  leads : EventsHappen (escaping_events w (first ∷ os) can.index holds name bytes) w new → WorldLosesNothing w new → HasEscaped name w new
   leads run none =
       let l = led_to config g past came w r.stands.nodes housed (first ∷ os) name can more new run none in
       let lawful_is = lawful config g past came w r.stands.nodes housed (first ∷ os) name can more new in
@@ -189,6 +189,6 @@ module _ (name : Client) (w : WorldState) (housed : SlotsAreValid (leads_of w.cl
 
 -- whichever members they are
 pub escaping_leads_out : (members : List ℕ) (name : Client) (w : WorldState) (can : CanEscape members name w) (holds : Bool) → holds ≡ is_open can.core.state.stage →
-    SlotsAreValid (leads_of w.clients) w.connections → LeadsOut name w (escaping_events w members can.index holds name (14 + length can.core.state.client))
+    SlotsAreValid (leads_of w.clients) w.connections → LeadsClientOut name w (escaping_events w members can.index holds name (14 + length can.core.state.client))
 escaping_leads_out [] name w can holds held housed nodes config cs new r run none = absurd (none-some bad_members (sym can.granted))
 escaping_leads_out (first ∷ os) name w can holds held housed nodes config cs new r run none = leads name w housed first os can holds held nodes config cs r new run none

@@ -12,7 +12,7 @@ use Rattle.world.specs.declared.world.WorldClient.{WorldClient}
 use Rattle.world.specs.Cannot.{HoldsNone}
 use Rattle.world.specs.Doing.{DoesEvent}
 use Rattle.world.specs.Found.{core_named, with_piped}
-use Rattle.world.specs.Trace.{LosesNothing}
+use Rattle.world.specs.Trace.{WorldLosesNothing}
 use Rattle.world.specs.Happening.{EventsHappen}
 use Rattle.world.specs.SlotsAreValid.{SlotsAreValid, leads, leads_of}
 use Rattle.world_events.specs.EscapeEvents.{leaving}
@@ -35,7 +35,7 @@ pub record HasLeft (name : List ℕ) (core : Core) (more : List Event) (old new 
   pub connections : after.connections ≡ old.connections
   pub housed : SlotsAreValid (leads_of after.clients) after.connections
   pub rest : EventsHappen more after new
-  pub whole : LosesNothing after new
+  pub whole : WorldLosesNothing after new
 
 module _ (name : List ℕ) (core : Core) (more : List Event) (old new : WorldState) (there : core_named name old.clients ≡ Some core)
     (housed : SlotsAreValid (leads_of old.clients) old.connections) where
@@ -75,7 +75,7 @@ module _ (name : List ℕ) (core : Core) (more : List Event) (old new : WorldSta
           mine : c.client.piped.core ≡ core
           mine = same_Some c.client.piped.core core (sym (core_found name old.clients c.at c.client c.first c.stands) ∙ there)
 
-  pub leaves : (holds : Bool) → holds ≡ is_open core.state.stage → EventsHappen (leaving holds name ++ more) old new → LosesNothing old new → HasLeft name core more old new
+  pub leaves : (holds : Bool) → holds ≡ is_open core.state.stage → EventsHappen (leaving holds name ++ more) old new → WorldLosesNothing old new → HasLeft name core more old new
   leaves true held run none = lost (first_done (events.Abandon name) more old new run none (holds_one (sym held)))
   leaves false held run none =
       record {

@@ -22,12 +22,12 @@ use Rattle.headline.specs.snapshots.Moments.{Moment, Moments}
 use Rattle.headline.specs.world_base.Core.{rules}
 use Rattle.escaping_nodes.specs.world_nodes.Asking.{log_of}
 use Rattle.escaping_nodes.specs.world_nodes.ExactSteps.{after_giving}
-use Rattle.escaping_nodes.specs.world_nodes.Nodes.{NodesState, NodesStandFor as NodesStand}
+use Rattle.escaping_nodes.specs.world_nodes.Nodes.{NodesState, NodesStandFor}
 use Rattle.escaping_nodes.proofs.of_world_nodes.MasterActs.{gives_exactly}
 use Rattle.world_events.specs.declared.event.Event.{Event}
 use Rattle.world_events.specs.declared.event.Event.TheVariants as events
 use Rattle.world.specs.Escaping.{CanEscape, configuration_of}
-use Rattle.world.specs.Trace.{LosesNothing, NodesGo}
+use Rattle.world.specs.Trace.{WorldLosesNothing, NodesGo}
 use Rattle.world.specs.Happening.{EventsHappen}
 use Rattle.world.specs.SlotsAreValid.{SlotsAreValid, leads_of}
 use Rattle.world.specs.StandsFor.{FollowsModel}
@@ -53,7 +53,7 @@ pub record LedTo (config : Config) (g : Group) (past : List (Moment State Comman
   pub clients : map seen_of mid.clients ≡ map seen_of w.clients
   pub many : length mid.connections ≡ length w.connections
   pub rest : EventsHappen more mid new
-  pub whole : LosesNothing mid new
+  pub whole : WorldLosesNothing mid new
 
 -- of the group's events with these after them
 abbrev pub group_events : WorldState → List ℕ → ℕ → List Event
@@ -61,7 +61,7 @@ group_events w members index =
     events.Assign (configuration_of members)
     ∷ map events.Deliver (way_out (length w.nodes.sent) (length w.nodes.master.members) index (length (configuration_of members).members - 1))
 
-module _ (config : Config) (g : Group) (past : List (Moment State Command Output)) (came : Moments rules config (moment_of g ∷ past)) (w : WorldState) (s : NodesStand g w.nodes)
+module _ (config : Config) (g : Group) (past : List (Moment State Command Output)) (came : Moments rules config (moment_of g ∷ past)) (w : WorldState) (s : NodesStandFor g w.nodes)
     (housed : SlotsAreValid (leads_of w.clients) w.connections) (members : List ℕ) (name : Client) (can : CanEscape members name w) (more : List Event) (new : WorldState) where
   abbrev conf : Config
   conf = configuration_of members
@@ -79,13 +79,13 @@ module _ (config : Config) (g : Group) (past : List (Moment State Command Output
   same = ap (λ (l : List (ℕ × Message Command)). way_out (length l) (length g.master.members) can.index (length conf.members - 1)) s.sent
       ∙ ap (λ (m : MasterState). way_out (length w.nodes.sent) (length m.members) can.index (length conf.members - 1)) s.master
 
-  pub led_to : EventsHappen (group_events w members can.index ++ more) w new → LosesNothing w new → LedTo config g past members can.index (log_of w.nodes can.source) more w new
+  pub led_to : EventsHappen (group_events w members can.index ++ more) w new → WorldLosesNothing w new → LedTo config g past members can.index (log_of w.nodes can.source) more w new
   led_to run none =
       let f = first_done (events.Assign conf) (map events.Deliver numbers ++ more) w new run none (λ cannot. cannot can.granted) in
       let given : WorldState = with_nodes (after_giving conf w.nodes) w in
       let is : f.after ≡ given = f.does.2 ∙ ap (λ (n : NodesState). with_nodes n w) f.does.1 in
       let rest : EventsHappen (map events.Deliver numbers ++ more) given new = subst (λ (v : WorldState). EventsHappen (map events.Deliver numbers ++ more) v new) is f.rest in
-      let whole : LosesNothing given new = subst (λ (v : WorldState). LosesNothing v new) is f.whole in
+      let whole : WorldLosesNothing given new = subst (λ (v : WorldState). WorldLosesNothing v new) is f.whole in
       let on = goes_apart w (after_giving conf w.nodes) (omega arith) (goes_by None refl (λ h t. (gives_exactly w.nodes conf can.granted h t).0)) in
       let t = in_two (map events.Deliver numbers) more given new rest whole in
       let calm : AreCalm (g.master.given + 1) given.nodes = λ at node there. inr (low_before config (moment_of g) past came w.nodes seen at node there) in

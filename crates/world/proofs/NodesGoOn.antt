@@ -8,7 +8,7 @@ use Rattle.headline.specs.node_group.Steps.{GroupTrace}
 use Rattle.headline.specs.node_group.Steps.GroupTrace.{then_went}
 use Rattle.headline.proofs.of_node_group.Ordered.{groups_keep_the_order}
 use Rattle.escaping_nodes.specs.world_nodes.Nodes.{NodesState, NodesStandFor}
-use Rattle.escaping_nodes.specs.world_nodes.Steps.{LosesNothing as NodesLoseNothing, nodes_with_loss}
+use Rattle.escaping_nodes.specs.world_nodes.Steps.{NodesLoseNothing, nodes_with_loss}
 use Rattle.world.specs.Trace.{AreReached, StepsOfGroup, NodesGo, NodesGoOn, StaysReached}
 use Rattle.world.specs.Trace.StepsOfGroup.{rests, goes_on}
 use Rattle.world.specs.Inside.Steps.{NodesStay}

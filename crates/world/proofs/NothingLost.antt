@@ -15,7 +15,7 @@ use Rattle.headline.specs.world_base.declared.item.Item.TheVariants.{Cut, Expel,
 use Rattle.headline.specs.world_base.declared.Port.{Port}
 use Rattle.escaping_nodes.specs.world_nodes.ExactSteps.{after_node_call}
 use Rattle.escaping_nodes.specs.world_nodes.Nodes.{NodesState}
-use Rattle.escaping_nodes.specs.world_nodes.Steps.{ActsWithLosses, ComesIn, CutsIn, CutsWithLosses, ExpelsIn, HearsIn, LosesNothing as NodesLoseNothing, TakesIn, nodes_with_loss}
+use Rattle.escaping_nodes.specs.world_nodes.Steps.{ActsWithLosses, ComesIn, CutsIn, CutsWithLosses, ExpelsIn, HearsIn, NodesLoseNothing, TakesIn, nodes_with_loss}
 use Rattle.escaping_nodes.proofs.of_world_nodes.Exactly.{exactly}
 use Rattle.world.specs.Found.{slot_numbered, port_of}
 use Rattle.world.specs.Gathering.{GatheredWhere, Gathers, GathersAmong, HandsOverBytes, MayBeGathered, TakesItem, is_open_at}

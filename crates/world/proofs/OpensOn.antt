@@ -16,7 +16,7 @@ use Rattle.headline.specs.byte_world.Steps.WorldStep.{is_taken_back}
 use Rattle.escaping_nodes.specs.world_nodes.ExactSteps.{NodeDoesCall}
 use Rattle.escaping_nodes.specs.world_nodes.Running.{node_of}
 use Rattle.escaping_nodes.specs.world_nodes.Nodes.{NodesState}
-use Rattle.escaping_nodes.specs.world_nodes.Steps.{LosesNothing as NodesLoseNothing}
+use Rattle.escaping_nodes.specs.world_nodes.Steps.{NodesLoseNothing}
 use Rattle.world_events.specs.world_pipes.Following.{FollowsAll}
 use Rattle.world_events.specs.world_pipes.Piped.{Piped, is_holding}
 use Rattle.world.specs.Trace.{NodesGoOn}

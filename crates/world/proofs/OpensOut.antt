@@ -38,7 +38,7 @@ use Rattle.world.specs.Cannot.{CannotOpen, is_serving}
 use Rattle.world.specs.Opening.{OpensOne, OpensUnless, has_no_name_left, next_number, with_connection}
 use Rattle.world.specs.Found.{Named, core_named, is_named, port_of}
 use Rattle.world.specs.Gathering.{Gathers}
-use Rattle.world.specs.Trace.{LosesNothing, NodesGo}
+use Rattle.world.specs.Trace.{WorldLosesNothing, NodesGo}
 use Rattle.world.specs.Happening.{EventsHappen}
 use Rattle.world.specs.SlotsAreValid.{SlotsAreValid, leads_of}
 use Rattle.world.specs.World.{WorldState}
@@ -192,9 +192,9 @@ module _ (name : List ℕ) (before : Core) (a : Moment State Command Output) (ba
     pub after : WorldState
     pub has : HasOpened name before.state a ballot place os log (next_number old) old after
     pub rest : EventsHappen more after new
-    pub whole : LosesNothing after new
+    pub whole : WorldLosesNothing after new
 
-  pub opens_out : (more : List Event) (new : WorldState) → is_open before.state.stage ≡ false → EventsHappen (events.Open name (suc place) ∷ more) old new → LosesNothing old new → OpenedTo more new
+  pub opens_out : (more : List Event) (new : WorldState) → is_open before.state.stage ≡ false → EventsHappen (events.Open name (suc place) ∷ more) old new → WorldLosesNothing old new → OpenedTo more new
   opens_out more new closed run none =
       let f = first_done (events.Open name (suc place)) more old new run none (can_open_there closed) in
       let does = subst (λ (full : Bool). OpensUnless full true name (suc place) old f.after) has_name f.does in

@@ -11,9 +11,9 @@ use Rattle.headline.specs.node_group.Group.{opening_group}
 use Rattle.headline.specs.world_base.declared.Port.{Port}
 use Rattle.headline.specs.byte_world.World.{ClientPipes, Pipe, new_client, opening}
 use Rattle.headline.specs.byte_world.Steps.Reached.{begins}
-use Rattle.escaping_nodes.specs.world_nodes.Nodes.{NodesStandFor as NodesStand}
+use Rattle.escaping_nodes.specs.world_nodes.Nodes.{NodesStandFor}
 use Rattle.world_events.specs.world_pipes.declared.way.Way.{Way}
-use Rattle.world_events.specs.world_pipes.StandsFor.{ClientStandsFor as ClientStands}
+use Rattle.world_events.specs.world_pipes.StandsFor.{ClientStandsFor}
 use Rattle.world.specs.declared.world.WorldClient.{WorldClient}
 use Rattle.world.specs.Happening.{new_world_client}
 use Rattle.world.specs.SlotsAreValid.{SlotsAreValid, leads, leads_of}
@@ -26,7 +26,7 @@ use Rattle.world.proofs.WaysStand.{pipe_at}
 
 -- ---- its clients
 
-one_more : (made : List WorldClient) (cs : List ClientPipes) (one : WorldClient) (c : ClientPipes) → ClientsStand made cs → ClientStands one.piped c
+one_more : (made : List WorldClient) (cs : List ClientPipes) (one : WorldClient) (c : ClientPipes) → ClientsStand made cs → ClientStandsFor one.piped c
     → ClientsStand (made ++ one ∷ []) (cs ++ c ∷ [])
 one_more [] [] one c all stands = (stands, tt)
 one_more [] (d ∷ cs) one c all stands = absurd all
@@ -38,7 +38,7 @@ abbrev pub AreMade : List WorldClient → List Client → Type 0
 AreMade made ids = ClientsStand made (map new_client ids) × (identifiers made ≡ ids) × (made ≡ map new_world_client ids)
 
 pub made_more : (made later : List WorldClient) (ids : List Client) (i : ℕ) (one : WorldClient) (id : Client) → i < length ids → id ≡ get_or ids i id
-    → ClientStands one.piped (new_client id) → one.name ≡ id → one ≡ new_world_client id → later ≡ made ++ one ∷ [] → AreMade made (take i ids) → AreMade later (take (i + 1) ids)
+    → ClientStandsFor one.piped (new_client id) → one.name ≡ id → one ≡ new_world_client id → later ≡ made ++ one ∷ [] → AreMade made (take i ids) → AreMade later (take (i + 1) ids)
 made_more made later ids i one id below is stands named new pushed are =
     subst (λ (l : List WorldClient). AreMade l (take (i + 1) ids)) (sym pushed)
     (subst (λ (l : List Client). AreMade (made ++ one ∷ []) l) (sym (take_more ids i id below ∙ ap (λ (c : Client). take i ids ++ c ∷ []) (sym is))) (
@@ -70,7 +70,7 @@ housed_none clients ids all =
 
 -- ---- the world
 
-pub opens_reached : (nodes : ℕ) (config : Config) (ids : List Client) (w : WorldState) → can_open nodes config ≡ true → NodesStand (opening_group nodes config) w.nodes
+pub opens_reached : (nodes : ℕ) (config : Config) (ids : List Client) (w : WorldState) → can_open nodes config ≡ true → NodesStandFor (opening_group nodes config) w.nodes
     → ClientsStand w.clients (map new_client ids) → ClientsAreApart ids → (reached : IsReached nodes config ids w) × (asked_on reached ≡ [])
 opens_reached nodes config ids w can stands clients apart =
     let so : WorldStandsFor (opening nodes config ids) w = record { nodes = stands; clients = clients } in

@@ -26,7 +26,7 @@ use Rattle.world_events.specs.declared.event.Event.{Event}
 use Rattle.world_events.specs.declared.event.Event.TheVariants as events
 use Rattle.world.specs.Found.{is_named, port_of}
 use Rattle.world.specs.Gathering.{Gathers, is_told_open, put_out}
-use Rattle.world.specs.Trace.{LosesNothing, NodesGo}
+use Rattle.world.specs.Trace.{WorldLosesNothing, NodesGo}
 use Rattle.world.specs.Happening.{EventsHappen}
 use Rattle.world.specs.SlotsAreValid.{SlotsAreValid, leads_of}
 use Rattle.world.specs.World.{WorldState}
@@ -56,7 +56,7 @@ pub record AnsweredTo (name : List ℕ) (i at number place : ℕ) (core : Core) 
   pub after : WorldState
   pub is : IsAnswered name i at number place core old after.nodes after
   pub rest : EventsHappen more after new
-  pub whole : LosesNothing after new
+  pub whole : WorldLosesNothing after new
 
 -- handing bytes over does nothing to the master
 pub master_stays : (n new : NodesState) → Come n [] new → new.master ≡ n.master
@@ -110,7 +110,7 @@ pub record BeforeLast (ks : List ℕ) (i at number place : ℕ) (core : Core) (u
   pub passes : Passes ks old mid
   pub newest : IsNewest i at number (suc place) core up [] true mid
   pub rest : EventsHappen (events.Deliver index ∷ more) mid new
-  pub whole : LosesNothing mid new
+  pub whole : WorldLosesNothing mid new
 
 module _ (name : List ℕ) (ks : List ℕ) (i at number place : ℕ) (core : Core) (up : List ℕ) (index last ballot : ℕ) (log : List Command) (more : List Event) (w new : WorldState)
     (positive : 0 < number) (b : BeforeLast ks i at number place core up index more w new) (p : PutsOutAtLast place index (port_of number) (last_held last ballot log) b.mid.nodes)

@@ -2,11 +2,11 @@
 use Rattle.std.proofs.Common.{inl, inr, ap, arith}
 use Rattle.std.specs.Prelude.{Ok}
 use Rattle.world_events.specs.declared.event.Event.{Event}
-use Rattle.world.specs.Trace.{LosesNothing}
+use Rattle.world.specs.Trace.{WorldLosesNothing}
 use Rattle.world.specs.Happening.{EventHappens, HappensExactly}
 use Rattle.world.specs.World.{WorldState}
 use Rattle.world.proofs.Joined.{counted_loss}
 
-pub uncounted_is_exact : (event : Event) (old new : WorldState) → EventHappens event old (Ok tt) new → LosesNothing old new → HappensExactly event old new
+pub uncounted_is_exact : (event : Event) (old new : WorldState) → EventHappens event old (Ok tt) new → WorldLosesNothing old new → HappensExactly event old new
 uncounted_is_exact event old new (inl exact) none = exact
 uncounted_is_exact event old new (inr losing) none = absurd (counted_loss old new old.losses (omega arith) (ap (λ (w : WorldState). w.losses) losing.counted) none)

@@ -34,7 +34,7 @@ use Rattle.escaping_nodes.specs.world_nodes.Nodes.{NodesState}
 use Rattle.world_events.specs.declared.event.Event.TheVariants as events
 use Rattle.world.specs.Found.{port_of}
 use Rattle.world.specs.Gathering.{Gathers, is_more, is_told_open, put_out}
-use Rattle.world.specs.Trace.{LosesNothing}
+use Rattle.world.specs.Trace.{WorldLosesNothing}
 use Rattle.world.specs.Happening.{EventsHappen}
 use Rattle.world.specs.SlotsAreValid.{SlotsAreValid, leads_of}
 use Rattle.world.specs.World.{WorldState}
@@ -120,7 +120,7 @@ module _ (ballot place : ℕ) (x : ConnectionName) (i at number : ℕ) (core : C
           (newest_with i at number (suc place) core up [] true old after s)
 
   pub walk_waiting : (a b : Moment State Command Output) (ks : List ℕ) → Delivered rules ballot a ks b → (old new : WorldState) → EventsHappen (map events.Deliver ks) old new →
-      LosesNothing old new → IsSeen a old.nodes → AreCalm ballot old.nodes → SlotsAreValid (leads_of old.clients) old.connections →
+      WorldLosesNothing old new → IsSeen a old.nodes → AreCalm ballot old.nodes → SlotsAreValid (leads_of old.clients) old.connections →
       StillWaits ballot place (port_of number) x old.nodes → IsNewest i at number (suc place) core up [] true old → Waits ballot place x i at number core up ks old new
   walk_waiting a b ks all_came old new run none seen calm housed w s =
       subst (Waits ballot place x i at number core up [] old) (sym run) (record { passes = passes_rest old housed; waits = w; newest = s })

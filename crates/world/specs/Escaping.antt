@@ -18,7 +18,7 @@ use Rattle.escaping_nodes.specs.world_nodes.Asking.{log_of}
 use Rattle.escaping_nodes.specs.world_nodes.Running.{is_running, node_of}
 use Rattle.world_events.specs.declared.event.Event.{Event}
 use Rattle.world.specs.Found.{core_named}
-use Rattle.world.specs.Trace.{LosesNothing}
+use Rattle.world.specs.Trace.{WorldLosesNothing}
 use Rattle.world.specs.Happening.{EventsHappen}
 use Rattle.world.specs.StandsFor.{IsReached}
 use Rattle.world.specs.World.{WorldState}
@@ -65,8 +65,8 @@ pub record HasEscaped (name : Client) (old new : WorldState) : Type 0 where
   pub present : core.state.present ≡ true
 
 -- whatever happened before, if none of these events loses anything
-abbrev pub LeadsOut : Client → WorldState → List Event → Type 0
-LeadsOut name w events =
+abbrev pub LeadsClientOut : Client → WorldState → List Event → Type 0
+LeadsClientOut name w events =
     (nodes : ℕ) (config : Config) (clients : List Client) (new : WorldState) →
-    IsReached nodes config clients w → EventsHappen events w new → LosesNothing w new →
+    IsReached nodes config clients w → EventsHappen events w new → WorldLosesNothing w new →
     HasEscaped name w new

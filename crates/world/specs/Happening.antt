@@ -6,7 +6,7 @@ use Rattle.headline.specs.broker_spec.Place.{Client}
 use Rattle.headline.specs.node_group.Group.{opening_group}
 use Rattle.escaping_nodes.specs.master.declared.event.Idle.{Idle}
 use Rattle.escaping_nodes.specs.world_nodes.Nodes.{NodesStandFor}
-use Rattle.escaping_nodes.specs.world_nodes.Steps.{LosesNothing as NodesLoseNothing}
+use Rattle.escaping_nodes.specs.world_nodes.Steps.{NodesLoseNothing}
 use Rattle.world_events.specs.world_pipes.Piped.{new_piped}
 use Rattle.world_events.specs.declared.event.Event.{Event}
 use Rattle.world.specs.declared.world.WorldClient.{WorldClient}

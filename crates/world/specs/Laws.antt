@@ -7,7 +7,7 @@ use Rattle.escaping_nodes.specs.world_nodes.Running.{node_of}
 use Rattle.world_events.specs.declared.event.Event.{Event}
 use Rattle.world_events.specs.declared.event.Event.TheVariants as events
 use Rattle.world.specs.Opening.{has_no_name_left}
-use Rattle.world.specs.Trace.{LosesNothing}
+use Rattle.world.specs.Trace.{WorldLosesNothing}
 use Rattle.world.specs.Happening.{EventHappens, HappensExactly}
 use Rattle.world.specs.World.{WorldState}
 
@@ -16,7 +16,7 @@ use Rattle.world.specs.World.{WorldState}
 abbrev pub UncountedIsExact : Type 0
 UncountedIsExact =
     (event : Event) (old new : WorldState) → EventHappens event old (Ok tt) new →
-    LosesNothing old new →
+    WorldLosesNothing old new →
     HappensExactly event old new
 
 -- an Open at a node that gave a connection the last number of its ballot changes nothing

@@ -9,21 +9,21 @@ use Rattle.headline.specs.Exact.{IsExact}
 use Rattle.headline.specs.byte_world.World.{ClientPipes, World}
 use Rattle.headline.specs.byte_world.Steps.{Reached, WorldStep}
 use Rattle.headline.specs.byte_world.Published.{published_in, published_on}
-use Rattle.escaping_nodes.specs.world_nodes.Nodes.{NodesStandFor as NodesStand}
-use Rattle.world_events.specs.world_pipes.StandsFor.{ClientStandsFor as ClientStands}
+use Rattle.escaping_nodes.specs.world_nodes.Nodes.{NodesStandFor}
+use Rattle.world_events.specs.world_pipes.StandsFor.{ClientStandsFor}
 use Rattle.world.specs.World.{WorldState}
 use Rattle.world.specs.declared.world.WorldClient.{WorldClient}
 
 -- each client corresponds to the model's client at its index
 abbrev pub ClientsStand : List WorldClient → List ClientPipes → Type 0
-ClientsStand (client ∷ clients) (c ∷ cs) = ClientStands client.piped c × ClientsStand clients cs
+ClientsStand (client ∷ clients) (c ∷ cs) = ClientStandsFor client.piped c × ClientsStand clients cs
 ClientsStand [] [] = Unit {0}
 ClientsStand _ _ = ⊥
 
 -- A world in code corresponds to one of the model: its nodes to the group, its clients to the
 -- clients. What was written, handled and agreed before is history: no field keeps it.
 pub record WorldStandsFor (m : World) (w : WorldState) : Type 0 where
-  pub nodes : NodesStand m.group w.nodes
+  pub nodes : NodesStandFor m.group w.nodes
   pub clients : ClientsStand w.clients m.clients
 
 -- ---- how it moves

@@ -40,8 +40,8 @@ pub record NodesGoOn (old new : NodesState) : Type 0 where
 -- ---- worlds
 
 -- the count is exact as long as it is below its greatest number
-abbrev pub LosesNothing : WorldState → WorldState → Type 0
-LosesNothing old new = (new.losses ≡ old.losses) × (old.losses < greatest_count)
+abbrev pub WorldLosesNothing : WorldState → WorldState → Type 0
+WorldLosesNothing old new = (new.losses ≡ old.losses) × (old.losses < greatest_count)
 
 -- the count rises by one, or not at all
 abbrev pub CountsOnce : WorldState → WorldState → Type 0

@@ -10,7 +10,7 @@ ghost use Rattle.world_events.specs.EscapeEvents.{connect_bytes};
 ghost use Rattle.world_events.specs.world_pipes.Piped.{is_holding};
 ghost use Rattle.world.specs.declared.world.WorldClient.{WorldClient};
 ghost use Rattle.escaping_nodes.specs.world_nodes.Running.{is_running, node_of};
-ghost use Rattle.world.specs.Escaping.{CanEscape, LeadsOut, configuration_of, held_in};
+ghost use Rattle.world.specs.Escaping.{CanEscape, LeadsClientOut, configuration_of, held_in};
 ghost use Rattle.world.specs.Inside.Escaping.{IsFetchedFrom, escaping_events};
 
 use crate::world::World;
@@ -42,7 +42,8 @@ impl World {
     /// [`EscapeError::Memory`] comes if memory runs out.
     pub fn escape(&self, members: &[u8], client: &ClientId) -> Result<Vec<Event>, EscapeError>
         ensures short { IfOk result (λ events. length events.items ≤ 6 * length members.now + 5) }
-        ensures leads_out { IfOk result (λ events. LeadsOut client.now self.now events.items) }
+        ensures leads_out { IfOk result
+            (λ events. LeadsClientOut client.now self.now events.items) }
 
         // Unless memory runs out, `Idle` comes exactly if there is no way out.
         ensures idle { IsErrOf result EscapeError.Idle → CanEscape members.now client.now self.now →

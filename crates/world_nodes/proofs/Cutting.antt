@@ -21,7 +21,7 @@ use Rattle.world_nodes.specs.Nodes.{NodesState, cores_of}
 use Rattle.world_nodes.specs.ExactSteps.{CutsExactly, after_node_call}
 use Rattle.world_nodes.specs.Running.{cutting, unless_stopped, unless_whole}
 use Rattle.world_nodes.specs.Inside.{HaveCounted, TookItem}
-use Rattle.world_nodes.specs.Steps.{CutsIn, CutsWithLosses, LosesNothing, nodes_with_loss, recorded_if_cut}
+use Rattle.world_nodes.specs.Steps.{CutsIn, CutsWithLosses, NodesLoseNothing, nodes_with_loss, recorded_if_cut}
 use Rattle.world_nodes.proofs.Acts.{after_turn_with, core_in, not_one_more, same_core, whole_turn}
 use Rattle.world_nodes.proofs.AgreedCounted.{within_at}
 
@@ -168,7 +168,7 @@ rests_counting n archive losses told next is c =
     }
 
 -- if nothing is counted it was a cut
-pub cuts_exactly : (node : ℕ) (old new : NodesState) → CutsIn node old new → LosesNothing old new → CutsExactly node old new
+pub cuts_exactly : (node : ℕ) (old new : NodesState) → CutsIn node old new → NodesLoseNothing old new → CutsExactly node old new
 cuts_exactly node old new t none = by t.way
   where
     never : (later : NodesState) → new ≡ later → later.losses ≡ one_more old.losses → ⊥

@@ -7,12 +7,12 @@ use Rattle.byte_world.specs.world_base.declared.item.Item.TheVariants.{Expel}
 use Rattle.byte_world.specs.node_moves.Moves.NodeCall.{takes}
 use Rattle.world_nodes.specs.Nodes.{NodesState}
 use Rattle.world_nodes.specs.ExactSteps.{NodeDoesCall, TakesExactly}
-use Rattle.world_nodes.specs.Steps.{ExpelsIn, LosesNothing, TakesIn, nodes_with_loss}
+use Rattle.world_nodes.specs.Steps.{ExpelsIn, NodesLoseNothing, TakesIn, nodes_with_loss}
 use Rattle.world_nodes.specs.GroupSteps.{ActsOrRests}
 use Rattle.world_nodes.proofs.Exactly.{exactly}
 use Rattle.world_nodes.proofs.MasterActs.{counts}
 
-expels_exactly : (client : Client) (node : ℕ) (old new : NodesState) → ExpelsIn client node old new → LosesNothing old new → TakesExactly node (Expel client) old new
+expels_exactly : (client : Client) (node : ℕ) (old new : NodesState) → ExpelsIn client node old new → NodesLoseNothing old new → TakesExactly node (Expel client) old new
 expels_exactly client node old new (inl took) none = exactly node (Expel client) old new took none
 expels_exactly client node old new (inr is) none = absurd (counts (nodes_with_loss old) old new refl is none)
 
@@ -23,7 +23,7 @@ pub expels_on : {X : Type 0} (r : Result X Idle) (client copy : Client) (node : 
 expels_on (Ok x) client copy node old new same took = inl (subst (λ (z : Client). TakesIn node (Expel z) old new) same took)
 expels_on (Err e) client copy node old new same took = tt
 
-pub proposes_on : {X : Type 0} (r : Result X Idle) (client : Client) (node : ℕ) (old new : NodesState) → OnOk r (ExpelsIn client node old new) → LosesNothing old new
+pub proposes_on : {X : Type 0} (r : Result X Idle) (client : Client) (node : ℕ) (old new : NodesState) → OnOk r (ExpelsIn client node old new) → NodesLoseNothing old new
     → OnOk r (TakesExactly node (Expel client) old new)
 proposes_on (Ok x) client node old new expels none = expels_exactly client node old new expels none
 proposes_on (Err e) client node old new expels none = tt

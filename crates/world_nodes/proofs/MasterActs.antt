@@ -21,7 +21,7 @@ use Rattle.byte_world.specs.node_group.Steps.GroupStep.{master_assigns, master_h
 use Rattle.byte_world.specs.Steps.{DoesCall, IsFaithful, node_call_of}
 use Rattle.world_nodes.specs.Nodes.{NodesState, NodesStandFor}
 use Rattle.world_nodes.specs.ExactSteps.{NodeDoesCall, MessageArrives, GoesBy, HeardByMaster, after_answer, after_giving}
-use Rattle.world_nodes.specs.Steps.{ComesIn, GivesIn, HearsIn, LosesNothing, TakesIn, nodes_with_loss, unheard}
+use Rattle.world_nodes.specs.Steps.{ComesIn, GivesIn, HearsIn, NodesLoseNothing, TakesIn, nodes_with_loss, unheard}
 use Rattle.world_nodes.specs.GroupSteps.{ActsOrRests, ComesOrRests, MasterGoes, MasterHears}
 use Rattle.master.specs.Inside.{asks_for}
 use Rattle.master.specs.declared.event.Idle.{Idle}
@@ -155,15 +155,15 @@ answers_ballot old from ballot state body more told losses state_is body_is kept
     told_or_counted old _ state from body _ more told losses state_is body_is kept lost count
 
 -- what is counted is counted
-pub counts : (n old new : NodesState) → n.losses ≡ one_more old.losses → new ≡ n → LosesNothing old new → ⊥
+pub counts : (n old new : NodesState) → n.losses ≡ one_more old.losses → new ≡ n → NodesLoseNothing old new → ⊥
 counts n old new more is none = not_one_more old.losses none.1 (sym more ∙ sym (ap (λ (n : NodesState). n.losses) is) ∙ none.0)
 
-pub gives_where : (config : Config) (old new : NodesState) → GivesIn config old new → LosesNothing old new → new ≡ after_giving config old
+pub gives_where : (config : Config) (old new : NodesState) → GivesIn config old new → NodesLoseNothing old new → new ≡ after_giving config old
 gives_where config old new (inl is) none = is
 gives_where config old new (inr (inl is)) none = absurd (counts (unheard (after_giving config old) old) old new refl is none)
 gives_where config old new (inr (inr is)) none = absurd (counts (nodes_with_loss old) old new refl is none)
 
-pub answers_where : (from ballot : ℕ) (old new : NodesState) → HearsIn from (Activate ballot) old new → LosesNothing old new → new ≡ after_answer from ballot old
+pub answers_where : (from ballot : ℕ) (old new : NodesState) → HearsIn from (Activate ballot) old new → NodesLoseNothing old new → new ≡ after_answer from ballot old
 answers_where from ballot old new (inl is) none = is
 answers_where from ballot old new (inr is) none = absurd (counts (unheard (after_answer from ballot old) old) old new refl is none)
 
@@ -261,7 +261,7 @@ pub not_heard : (from : ℕ) (body : Body Command) (old new : NodesState) → as
 not_heard from (Activate b) old new e same = cc
 not_heard from body old new e same = same
 
-heard_exactly : (from : ℕ) (body : Body Command) (old new : NodesState) → HearsIn from body old new → LosesNothing old new → HeardByMaster from body old new
+heard_exactly : (from : ℕ) (body : Body Command) (old new : NodesState) → HearsIn from body old new → NodesLoseNothing old new → HeardByMaster from body old new
 heard_exactly from (Activate b) old new hears none = answers_where from b old new hears none
 heard_exactly from body old new same none = same
 
@@ -303,7 +303,7 @@ came_to_node o (suc at, message) m old new found positive same took =
     (subst (λ (z : Message Command). TakesIn (suc at) (Peer z) old new ⊎ (new ≡ nodes_with_loss old)) same took)
 
 -- if nothing is counted it came
-pub comes_exactly : (o : Option (ℕ × Message Command)) (old new : NodesState) → ComesIn o old new → LosesNothing old new → MessageArrives o old new
+pub comes_exactly : (o : Option (ℕ × Message Command)) (old new : NodesState) → ComesIn o old new → NodesLoseNothing old new → MessageArrives o old new
 comes_exactly None old new came none = came
 comes_exactly (Some (zero, message)) old new came none = heard_exactly message.from message.body old new came none
 comes_exactly (Some (suc at, message)) old new (inl took) none = exactly (suc at) (Peer message) old new took none
@@ -320,7 +320,7 @@ pub may_come_on : {X : Type 0} (r : Result X Idle) (o : Option (ℕ × Message C
 may_come_on (Ok y) o x m old new found positive same acts = comes_to_node o x m old new found positive same (inl acts)
 may_come_on (Err e) o x m old new found positive same acts = tt
 
-pub comes_on : {X : Type 0} (r : Result X Idle) (o : Option (ℕ × Message Command)) (old new : NodesState) → OnOk r (ComesIn o old new) → LosesNothing old new
+pub comes_on : {X : Type 0} (r : Result X Idle) (o : Option (ℕ × Message Command)) (old new : NodesState) → OnOk r (ComesIn o old new) → NodesLoseNothing old new
     → OnOk r (MessageArrives o old new)
 comes_on (Ok y) o old new came none = comes_exactly o old new came none
 comes_on (Err e) o old new came none = tt

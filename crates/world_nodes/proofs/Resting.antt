@@ -34,7 +34,7 @@ use Rattle.world_nodes.specs.Nodes.{NodesState}
 use Rattle.world_nodes.specs.ExactSteps.{NodeDoesCall, MessageArrives, HeardByMaster, TakesExactly, after_node_call}
 use Rattle.world_nodes.specs.Running.{running}
 use Rattle.world_nodes.specs.Quiet.{ComesUnheeded, IsUnheeded, RestsAt}
-use Rattle.world_nodes.specs.Steps.{ComesIn, LosesNothing, TakesIn}
+use Rattle.world_nodes.specs.Steps.{ComesIn, NodesLoseNothing, TakesIn}
 use Rattle.world_nodes.specs.GroupSteps.{ActsOrRests, ComesOrRests}
 use Rattle.world_nodes.specs.Inside.{HaveCounted, IsPassedOver, KeepsMessages, RunsAt, TookItem}
 use Rattle.world_nodes.proofs.Acts.{after_turn_of, not_one_more, same_core, took_by, whole_turn}

@@ -19,8 +19,8 @@ use Rattle.world_nodes.specs.Running.{cutting, running}
 use Rattle.world_nodes.specs.Nodes.{NodesState}
 
 -- the count is exact as long as it is below its greatest number
-abbrev pub LosesNothing : NodesState → NodesState → Type 0
-LosesNothing old new = (new.losses ≡ old.losses) × (old.losses < greatest_count)
+abbrev pub NodesLoseNothing : NodesState → NodesState → Type 0
+NodesLoseNothing old new = (new.losses ≡ old.losses) × (old.losses < greatest_count)
 
 -- nothing happened, except that one loss more is counted
 abbrev pub nodes_with_loss : NodesState → NodesState

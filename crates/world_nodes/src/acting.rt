@@ -10,7 +10,7 @@ ghost use Rattle.byte_world.specs.node_moves.Moves.NodeCall.{takes};
 ghost use Rattle.world_nodes.specs.ExactSteps.{NodeDoesCall, MessageArrives, CutsExactly, TakesExactly};
 ghost use Rattle.world_nodes.specs.Running.{running};
 ghost use Rattle.world_nodes.specs.Quiet.{ComesUnheeded, RestsAt};
-ghost use Rattle.world_nodes.specs.Steps.{ComesIn, CutsIn, GivesIn, HearsIn, LosesNothing, TakesIn, nodes_with_loss};
+ghost use Rattle.world_nodes.specs.Steps.{ComesIn, CutsIn, GivesIn, HearsIn, NodesLoseNothing, TakesIn, nodes_with_loss};
 ghost use Rattle.world_nodes.specs.GroupSteps.{ActsOrRests, ComesOrRests, MasterGoes};
 ghost use Rattle.byte_world.specs.world_base.Core.{CountedCore};
 ghost use Rattle.world_nodes.specs.Inside.{IsPassedOver, RunsAt, WasSent};
@@ -25,7 +25,7 @@ impl Nodes {
     pub(crate) fn act(&mut self, node: u8, item: Item) -> Result<(), Idle>
         requires { WasSent node item self.old.sent }
         ensures lossy { OnOk result (TakesIn node item self.old self.new) }
-        ensures exact { LosesNothing self.old self.new →
+        ensures exact { NodesLoseNothing self.old self.new →
             OnOk result (TakesExactly node item self.old self.new) }
         ensures acts { OnOk result (NodeDoesCall (node - 1) (takes item) self.old self.new) }
         ensures quiet { RestsAt node item self.old →
@@ -50,7 +50,7 @@ impl Nodes {
     pub(crate) fn pass_over(&mut self, at: usize, number: usize)
         requires { IsPassedOver at number self.old }
         ensures lossy { ComesIn (slice_get self.old.sent number) self.old self.new }
-        ensures exact { LosesNothing self.old self.new →
+        ensures exact { NodesLoseNothing self.old self.new →
             MessageArrives (slice_get self.old.sent number) self.old self.new }
         ensures acts { ComesOrRests (slice_get self.old.sent number) self.old self.new }
         ensures quiet { ComesUnheeded (slice_get self.old.sent number) self.old →
@@ -70,7 +70,8 @@ impl Nodes {
         requires { (core : CountedCore) × (slice_get self.old.nodes at ≡ Some core)
             × (can_cut core.core.replica.state ≡ true) }
         ensures lossy { CutsIn (at + 1) self.old self.new }
-        ensures exact { LosesNothing self.old self.new → CutsExactly (at + 1) self.old self.new }
+        ensures exact { NodesLoseNothing self.old self.new →
+            CutsExactly (at + 1) self.old self.new }
         ensures acts { ActsOrRests at (takes Item.Cut) self.old self.new }
         ensures rises { self.old.losses ≤ self.new.losses }
     {

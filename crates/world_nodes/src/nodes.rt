@@ -10,7 +10,7 @@ ghost use Rattle.world_nodes.specs.Nodes.{NodesState, NodesStandFor};
 ghost use Rattle.world_nodes.specs.ExactSteps.{NodeDoesCall, AnswersFor, MessageArrives, ComesToNobody, CutsExactly, GivesExactly, HandsOver, TakesExactly, after_giving};
 ghost use Rattle.world_nodes.specs.Running.{cutting, is_running, node_of, proposing, running};
 ghost use Rattle.world_nodes.specs.Quiet.{ComesUnheeded, RestsAt, WaitsAtNone};
-ghost use Rattle.world_nodes.specs.Steps.{ComesIn, CutsIn, ExpelsIn, GivesIn, LosesNothing, TakesIn};
+ghost use Rattle.world_nodes.specs.Steps.{ComesIn, CutsIn, ExpelsIn, GivesIn, NodesLoseNothing, TakesIn};
 ghost use Rattle.world_nodes.specs.HandingOver.{HandsIn};
 ghost use Rattle.world_nodes.specs.GroupSteps.{ActsOrRests, ComesOrRests, MasterGoesOrRests};
 
@@ -111,7 +111,7 @@ impl Nodes {
     /// a primary that no ballot may have, and after the last ballot.
     pub fn assign(&mut self, config: &Config) -> Result<(), Idle>
         ensures lossy { OnOk result (GivesIn config.now self.old self.new) }
-        ensures exact { LosesNothing self.old self.new →
+        ensures exact { NodesLoseNothing self.old self.new →
             OnOk result (self.new ≡ after_giving config.now self.old) }
         ensures acts { OnOk result (MasterGoesOrRests self.old self.new) }
         ensures rises { self.old.losses ≤ self.new.losses }
@@ -131,7 +131,7 @@ impl Nodes {
     /// its receiver is unknown or has stopped. One that its receiver ignores takes no memory.
     pub fn deliver(&mut self, number: u64) -> Result<(), Idle>
         ensures lossy { OnOk result (ComesIn (slice_get self.old.sent number) self.old self.new) }
-        ensures exact { LosesNothing self.old self.new →
+        ensures exact { NodesLoseNothing self.old self.new →
             OnOk result (MessageArrives (slice_get self.old.sent number) self.old self.new) }
         ensures acts { OnOk result
             (ComesOrRests (slice_get self.old.sent number) self.old self.new) }
@@ -170,7 +170,7 @@ impl Nodes {
     /// has stopped.
     pub fn tick(&mut self, node: u8) -> Result<(), Idle>
         ensures lossy { OnOk result (TakesIn node (Item.Tick 0) self.old self.new) }
-        ensures exact { LosesNothing self.old self.new →
+        ensures exact { NodesLoseNothing self.old self.new →
             OnOk result (TakesExactly node (Item.Tick 0) self.old self.new) }
         ensures acts { OnOk result
             (NodeDoesCall (node - 1) (takes (Item.Tick 0)) self.old self.new) }
@@ -187,7 +187,7 @@ impl Nodes {
     /// unknown or has stopped, or has applied nothing since it last cut its log.
     pub fn cut(&mut self, node: u8) -> Result<(), Idle>
         ensures lossy { OnOk result (CutsIn node self.old self.new) }
-        ensures exact { LosesNothing self.old self.new →
+        ensures exact { NodesLoseNothing self.old self.new →
             OnOk result (CutsExactly node self.old self.new) }
         ensures acts { OnOk result (ActsOrRests (node - 1) (takes Item.Cut) self.old self.new) }
         ensures rises { self.old.losses ≤ self.new.losses }
@@ -208,7 +208,7 @@ impl Nodes {
     /// stopped, if it does not serve clients, and if its log is full.
     pub fn expel(&mut self, node: u8, client: &ClientId) -> Result<(), Idle>
         ensures lossy { OnOk result (ExpelsIn client.now node self.old self.new) }
-        ensures exact { LosesNothing self.old self.new →
+        ensures exact { NodesLoseNothing self.old self.new →
             OnOk result (TakesExactly node (Item.Expel client.now) self.old self.new) }
         ensures acts { OnOk result
             (ActsOrRests (node - 1) (takes (Item.Expel client.now)) self.old self.new) }
@@ -234,7 +234,7 @@ impl Nodes {
     /// Stops a node for good. Idle if it is unknown or has stopped.
     pub fn crash(&mut self, node: u8) -> Result<(), Idle>
         ensures lossy { OnOk result (TakesIn node Item.Crash self.old self.new) }
-        ensures exact { LosesNothing self.old self.new →
+        ensures exact { NodesLoseNothing self.old self.new →
             OnOk result (TakesExactly node Item.Crash self.old self.new) }
         ensures acts { OnOk result (NodeDoesCall (node - 1) (takes Item.Crash) self.old self.new) }
         ensures quiet { RestsAt node Item.Crash self.old →
@@ -249,7 +249,7 @@ impl Nodes {
     /// Opens a stream at a node, at this time. Idle if the node is unknown or has stopped.
     pub fn opened(&mut self, node: u8, port: Port, now: u64) -> Result<(), Idle>
         ensures lossy { OnOk result (TakesIn node (Item.Opened port now) self.old self.new) }
-        ensures exact { LosesNothing self.old self.new →
+        ensures exact { NodesLoseNothing self.old self.new →
             OnOk result (TakesExactly node (Item.Opened port now) self.old self.new) }
         ensures acts { OnOk result
             (NodeDoesCall (node - 1) (takes (Item.Opened port now)) self.old self.new) }
@@ -265,7 +265,7 @@ impl Nodes {
     /// Gives bytes to a stream of a node, at time 0. Idle if the node is unknown or has stopped.
     pub fn give_bytes(&mut self, node: u8, port: Port, piece: Piece) -> Result<(), Idle>
         ensures lossy { OnOk result (TakesIn node (Item.Bytes port piece 0) self.old self.new) }
-        ensures exact { LosesNothing self.old self.new →
+        ensures exact { NodesLoseNothing self.old self.new →
             OnOk result (TakesExactly node (Item.Bytes port piece 0) self.old self.new) }
         ensures acts { OnOk result
             (NodeDoesCall (node - 1) (takes (Item.Bytes port piece 0)) self.old self.new) }
@@ -281,7 +281,7 @@ impl Nodes {
     /// Ends a stream of a node. Idle if the node is unknown or has stopped.
     pub fn ended(&mut self, node: u8, port: Port) -> Result<(), Idle>
         ensures lossy { OnOk result (TakesIn node (Item.Ended port) self.old self.new) }
-        ensures exact { LosesNothing self.old self.new →
+        ensures exact { NodesLoseNothing self.old self.new →
             OnOk result (TakesExactly node (Item.Ended port) self.old self.new) }
         ensures acts { OnOk result
             (NodeDoesCall (node - 1) (takes (Item.Ended port)) self.old self.new) }
@@ -298,11 +298,11 @@ impl Nodes {
     /// come. Idle if the node is unknown. If memory runs out, nothing is appended, more may come,
     /// and the step is counted; it does not run out if nothing was queued.
     pub fn hand_over(&mut self, node: u8, port: Port, out: &mut Vec<u8>) -> Result<Handed, Idle>
-        ensures exact { LosesNothing self.old self.new →
+        ensures exact { NodesLoseNothing self.old self.new →
             OnOk result (GivesExactly node port self.old self.new) }
-        ensures bytes { LosesNothing self.old self.new →
+        ensures bytes { NodesLoseNothing self.old self.new →
             OnOk result (HandsOver node port self.old out.old.items out.new.items) }
-        ensures answer { LosesNothing self.old self.new →
+        ensures answer { NodesLoseNothing self.old self.new →
             IfOk result (λ handed. AnswersFor node port self.old handed) }
         ensures lossy { IfOk result (λ handed.
             HandsIn node port self.old self.new out.old.items out.new.items handed) }

@@ -11,7 +11,7 @@ use Rattle.headline.specs.node_moves.Moves.NodeCall.{takes}
 use Rattle.escaping_nodes.specs.world_nodes.ExactSteps.{NodeDoesCall}
 use Rattle.escaping_nodes.specs.world_nodes.Running.{node_of}
 use Rattle.escaping_nodes.specs.world_nodes.Nodes.{NodesState}
-use Rattle.escaping_nodes.specs.world_nodes.Steps.{LosesNothing as NodesLoseNothing, TakesIn}
+use Rattle.escaping_nodes.specs.world_nodes.Steps.{NodesLoseNothing, TakesIn}
 use Rattle.world_events.specs.world_pipes.Following.{ConnectingFollows, FollowsAll}
 use Rattle.world_events.specs.world_pipes.Piped.{SendsConnect as Opens, Piped}
 use Rattle.world.specs.declared.world.WorldClient.{WorldClient}

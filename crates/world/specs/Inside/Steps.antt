@@ -4,8 +4,8 @@ use Rattle.headline.specs.ballot.Losses.{greatest_count, one_more}
 use Rattle.escaping_nodes.specs.master.declared.event.Idle.{Idle}
 use Rattle.headline.specs.node_group.Group.{Group}
 use Rattle.escaping_client.specs.session_base.declared.publication.Publication.{Publication}
-use Rattle.escaping_nodes.specs.world_nodes.Nodes.{NodesState, NodesStandFor as NodesStand}
-use Rattle.escaping_nodes.specs.world_nodes.Steps.{LosesNothing as NodesLoseNothing}
+use Rattle.escaping_nodes.specs.world_nodes.Nodes.{NodesState, NodesStandFor}
+use Rattle.escaping_nodes.specs.world_nodes.Steps.{NodesLoseNothing}
 use Rattle.world_events.specs.declared.event.Event.{Event}
 use Rattle.world.specs.Asking.{EventAsks}
 use Rattle.world.specs.Trace.{NodesGoOn}
@@ -35,7 +35,7 @@ pub record PublishesAsked (event : Event) (old : WorldState) (result : Result (U
 
 -- each group that corresponds to the nodes before still corresponds to them
 abbrev pub NodesStay : NodesState → NodesState → Type 0
-NodesStay old new = (g : Group) → NodesStand g old → NodesStand g new
+NodesStay old new = (g : Group) → NodesStandFor g old → NodesStandFor g new
 
 -- an event was done, or nothing happened: it was done exactly, unless the nodes counted a loss
 pub record EventIsDone (event : Event) (old new : WorldState) : Type 0 where

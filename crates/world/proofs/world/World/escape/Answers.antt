@@ -9,7 +9,7 @@ use Rattle.escaping_nodes.specs.world_nodes.Asking.{log_of}
 use Rattle.escaping_nodes.specs.world_nodes.Running.{is_running}
 use Rattle.world_events.specs.world_pipes.Piped.{is_holding}
 use Rattle.world_events.specs.declared.event.Event.{Event}
-use Rattle.world.specs.Escaping.{CanEscape, LeadsOut}
+use Rattle.world.specs.Escaping.{CanEscape, LeadsClientOut}
 use Rattle.world.specs.Inside.Escaping.{escaping_events}
 use Rattle.world.proofs.LeadsOut.{escaping_leads_out}
 use Rattle.world.proofs.WaysWritten.{can_escape, its_members, short_way, some_members}
@@ -50,7 +50,7 @@ returns-clause-short c =
 
 pub returns-clause-leads_out : goal.returns-clause-leads_out
 returns-clause-leads_out c =
-    subst (LeadsOut c.args.client.now c.args.self.now) (sym (written c))
+    subst (LeadsClientOut c.args.client.now c.args.self.now) (sym (written c))
     (escaping_leads_out c.args.members.now c.args.client.now c.args.self.now (can c) (is_holding c.index.result.now.piped) refl (rw (← c.self.view_is) c.self.invariant.0))
 
 pub returns-clause-can : goal.returns-clause-can
