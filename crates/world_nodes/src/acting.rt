@@ -16,7 +16,7 @@ ghost use Rattle.byte_world.specs.world_base.Core.{CountedCore};
 ghost use Rattle.world_nodes.specs.Inside.{IsPassedOver, RunsAt, WasSent};
 
 use crate::nodes::Nodes;
-use crate::turning::{cut_back, pass_over, step_node};
+use crate::stepping::{cut_back, pass_over, step_node};
 use master::{Idle, answer_of, config_of, counted, record, send};
 use world_base::{Body, BrokerMachine, Command, Config, Item, Members, Memory, Message};
 

@@ -7,7 +7,7 @@ mod asking;
 mod counters;
 mod keeping;
 mod nodes;
-mod turning;
+mod stepping;
 
 pub use master::Idle;
 pub use nodes::Nodes;

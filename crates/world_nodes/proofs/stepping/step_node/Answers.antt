@@ -1,7 +1,7 @@
 use Rattle.std.proofs.Common.{Bool, ◌&&◌, sym, ap, subst, ◌∙◌}
 use Rattle.world_nodes.specs.Inside.{TookItem}
 use Rattle.world_nodes.proofs.Resting.{took_in}
-use Rattle.world_nodes.proofs.turning.step_node.Goals as goal
+use Rattle.world_nodes.proofs.stepping.step_node.Goals as goal
 
 pub returns-else-keep_all : goal.returns-else-keep_all
 returns-else-keep_all c =

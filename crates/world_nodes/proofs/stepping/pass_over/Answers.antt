@@ -6,7 +6,7 @@ use Rattle.master.proofs.Counting.{get_there}
 use Rattle.byte_world.specs.world_base.declared.item.Item.TheVariants.{Peer}
 use Rattle.world_nodes.specs.Inside.{TookItem}
 use Rattle.world_nodes.proofs.Resting.{took_in}
-use Rattle.world_nodes.proofs.turning.pass_over.Goals as goal
+use Rattle.world_nodes.proofs.stepping.pass_over.Goals as goal
 
 pub returns-else-keep_all : goal.returns-else-keep_all
 returns-else-keep_all c =

@@ -1,4 +1,4 @@
-// The turn of one node.
+// The step of one node.
 
 ghost use Rattle.std.specs.Prelude.{◌≡◌, ◌<◌, true, take, length, slice_get, if◌then◌else◌, IfSome};
 ghost use Rattle.master.specs.ballot.Losses.{greatest_count};
