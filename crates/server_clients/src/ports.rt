@@ -6,7 +6,7 @@ use std::alloc::Global;
 use std::net::{Net, TcpListener, TcpStream};
 use streams::Listener;
 
-/// Returns ballot 1 of these members, the first of whom is the primary.
+/// Returns ballot 1 of these members; node 1 is its primary.
 pub fn opening(alloc: Global, members: &[u8]) -> Result<Config, Memory> {
     Ok(Config {
         members: Members::from_slice(alloc, members)?,
