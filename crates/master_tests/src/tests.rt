@@ -6,4 +6,3 @@ mod idle;
 mod memory;
 mod stories;
 mod takeovers;
-mod twins;

@@ -1,7 +1,6 @@
 // Two groups with the same events, except that one of them cuts its logs: nothing else differs.
 
-use super::groups::{agrees, config, counts, group};
-use ballot::{Body, Effect};
+use ballot::{Body, Config, Effect, Members};
 use machine::{Tally, TallyCommand};
 use master::{Event, Group};
 use std::alloc::Global;
@@ -80,8 +79,8 @@ impl Twins {
             first.saturating_add(3),
         ];
         let primary = first.saturating_add(1).saturating_add(small(self.draw(3)));
-        let change = config(alloc, &members, primary).ok()?;
-        Some(Event::Assign(change))
+        let members = Members::from_slice(alloc, &members).ok()?;
+        Some(Event::Assign(Config { members, primary }))
     }
 
     // The message that comes next, an earlier one again, or one that is not sent yet.
@@ -118,12 +117,19 @@ impl Twins {
         }
     }
 
-    // Says whether an event has the same result in both, and both have sent as many messages,
-    // returned as many outputs and agreed on as many commands.
+    // Says whether both have sent as many messages, returned as many outputs and agreed on as many
+    // commands.
+    fn count_alike(&self) -> bool {
+        self.cutting.sent().len() == self.keeping.sent().len()
+            && self.cutting.left().len() == self.keeping.left().len()
+            && self.cutting.agreed_len() == self.keeping.agreed_len()
+    }
+
+    // Says whether an event has the same result in both, and both count alike then.
     fn happens(&mut self, event: &Event<TallyCommand>) -> bool {
         let one = self.cutting.step(event).is_ok();
         let other = self.keeping.step(event).is_ok();
-        one == other && counts(&self.cutting) == counts(&self.keeping)
+        one == other && self.count_alike()
     }
 
     // A node cuts its log now and then. Whether nothing is seen of it.
@@ -134,7 +140,7 @@ impl Twins {
                 self.cuts = self.cuts.saturating_add(1);
             }
         }
-        counts(&self.cutting) == counts(&self.keeping)
+        self.count_alike()
     }
 
     // Finds the first event that has not the same result in both.
@@ -150,11 +156,20 @@ impl Twins {
         None
     }
 
+    // Says whether both have the same agreed list. The group that cuts nothing keeps all of it.
+    fn agree(&self) -> bool {
+        let (recorded, rest) = self.cutting.agreed();
+        let (none, kept) = self.keeping.agreed();
+        match kept.split_at_checked(recorded.len()) {
+            Some((front, after)) => none.is_empty() && front == recorded && after == rest,
+            None => false,
+        }
+    }
+
     // Returns the first of these that is not so at the end: both have the same agreed list and the
     // same outputs, and nothing is lost.
     fn fault_at_the_end(&self) -> Option<Fault> {
-        let (recorded, kept) = self.keeping.agreed();
-        if !recorded.is_empty() || !agrees(&self.cutting, kept) {
+        if !self.agree() {
             Some(Fault::End("both have the same agreed list"))
         } else if !gave_the_same(self.cutting.left(), self.keeping.left()) {
             Some(Fault::End("both have the same outputs"))
@@ -212,11 +227,21 @@ fn snapshots_sent(group: &Group<Tally>) -> usize {
         .count()
 }
 
-// Two groups of seven nodes with the same members, once all happened to them.
+// Returns a group of seven nodes, of which 1 to 3 are members and 1 is the first primary.
+fn opened(alloc: Global) -> Option<Group<Tally>> {
+    let members = Members::from_slice(alloc, &[1, 2, 3]).ok()?;
+    let config = Config {
+        members,
+        primary: 1,
+    };
+    Group::opening(alloc, NODES, config).ok()
+}
+
+// Returns two such groups, to which nothing has happened.
 fn made(alloc: Global) -> Option<Twins> {
     Some(Twins {
-        cutting: group(alloc, NODES, &[1, 2, 3]).ok()?,
-        keeping: group(alloc, NODES, &[1, 2, 3]).ok()?,
+        cutting: opened(alloc)?,
+        keeping: opened(alloc)?,
         next: 0,
         drawn: 1,
         cuts: 0,
