@@ -2,7 +2,7 @@
 // between them.
 
 use super::hand::does;
-use super::orders::{PRINTED, Served, free_port};
+use super::orders::{Served, free_port};
 use std::io::{BufReader, PipeReader, PipeWriter, Write};
 use std::net::{Net, TcpListener, TcpStream};
 use std::rt::Files;
@@ -15,6 +15,9 @@ use std::{fs, io, mem, thread};
 const ORDERS: &str = "assign 2 2\ncrash 1\ncrash 1\n";
 
 const ANSWERS: &str = "ballot 2\ncrashed 1\nrefused 24\nbye\n";
+
+// What the subscriber prints of what the publisher publishes.
+const PRINTED: &str = "2 0 t/1 x\n";
 
 // How long the nodes and then the subscriber get to come, in milliseconds.
 const COMING_MILLIS: u64 = 3_000;

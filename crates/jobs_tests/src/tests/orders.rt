@@ -1,4 +1,4 @@
-// Orders to the nodes of a server, while its two clients run.
+// Orders to the nodes of a server, before and after its two clients run.
 
 use super::expels::talks;
 use super::hand::text_of;
@@ -31,8 +31,9 @@ const ANSWERS: &str = "refused 24\n\
     refused 24\n\
     bye\n";
 
-/// What the subscriber prints of what the publisher publishes.
-pub(super) const PRINTED: &str = "2 0 t/1 x\n";
+// What the subscriber prints of what the publisher had the server keep: a new subscription gets it
+// with RETAIN 1 (MQTT 3.3.1.3).
+const KEPT: &str = "2 1 t/1 x\n";
 
 /// A table of two nodes, of which the first serves on an address, and that address.
 #[derive(Drop)]
@@ -137,7 +138,7 @@ where
     }
 }
 
-// Has `pub` publish, once the subscriber may have come, and takes down its fault.
+// Has `pub` publish what the server is to keep, and takes down its fault.
 fn publishes<R>(rt: &R, address: &str, told: &mut Vec<u8>)
 where
     R: Clock + AllocGlobal + Net<Stream = TcpStream>,
@@ -152,37 +153,31 @@ where
         topic: "t/1",
         qos: QoS::ExactlyOnce,
         message: "x",
-        retain: false,
+        retain: true,
         tries: 10,
         addresses,
     };
-    thread::sleep(rt, Duration::from_millis(1_500));
     if let Err(fault) = publish(rt, &job) {
         print_fault(told, &fault);
     }
 }
 
-// Has both clients talk, and takes down what they write.
+// Has `pub` publish, once the nodes may have answered, and has `sub` come after its end. Takes down
+// what they write.
 fn talk<R>(rt: &R, address: &str, written: &mut Written)
 where
-    R: Threads + Clock + Sync + AllocGlobal,
-    R: Net<Listener = TcpListener, Stream = TcpStream>,
+    R: Clock + AllocGlobal + Net<Stream = TcpStream>,
 {
-    let (heard, told) = (&mut written.heard, &mut written.told);
     thread::sleep(rt, Duration::from_millis(500));
-    thread::join(
-        rt,
-        || hears(rt, address, heard),
-        || publishes(rt, address, told),
-    );
+    publishes(rt, address, &mut written.told);
+    hears(rt, address, &mut written.heard);
 }
 
 // Gives the orders, by a pipe that then ends, and has the clients talk between them. Says whether
 // the orders are given.
 fn order_all<R>(rt: &R, orders: PipeWriter, address: &str, written: &mut Written) -> bool
 where
-    R: Threads + Clock + Sync + AllocGlobal,
-    R: Net<Listener = TcpListener, Stream = TcpStream>,
+    R: Clock + AllocGlobal + Net<Stream = TcpStream>,
 {
     let mut orders = orders;
     if orders.write_all(FIRST.as_bytes()).is_err() {
@@ -195,7 +190,7 @@ where
 /// Which orders are given, and what clients do meanwhile.
 #[derive(Clone, Copy)]
 pub(super) enum Given {
-    /// Those of `orders_are_answered`, while two clients talk.
+    /// Those of `orders_are_answered`, between which two clients talk.
     Orders,
     /// Those that end sessions, while one client waits.
     Expels,
@@ -274,5 +269,5 @@ fn orders_are_answered(rt: HostRuntime) {
         text_of(written.told.as_slice()),
     );
     assert_eq!(rt; missed, None, "{came:?}");
-    assert_eq!(rt; came, (ANSWERS, PRINTED, ""));
+    assert_eq!(rt; came, (ANSWERS, KEPT, ""));
 }
