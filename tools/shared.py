@@ -1,4 +1,6 @@
-"""What several tools need: lines of a file, how a function begins, the toolchain as a module."""
+"""What several tools need: lines of a file, how a function begins, where the way of an import
+leads, the toolchain as a module."""
+import functools
 import importlib.machinery
 import importlib.util
 import os
@@ -9,11 +11,81 @@ import sys
 # The indent of a function, its `pub` if it has one, its name.
 FUNCTION = re.compile(r"( *)(pub(?:\([^)]*\))? )?(?:const )?(?:unsafe )?fn (\w+)")
 
+# What comes before and after the name in a definition of specs or proofs, and in one of code.
+DEFINITION = {
+    ".antt": (
+        r"(?:(?:abbrev|data|instance|lemma|macro|opaque|pattern|private|pub|record|tactic"
+        r"|unfoldable) +)*",
+        r"(?= *[:({]| +[^\W\d_]| *$)",
+    ),
+    ".rt": (r"(?:pub(?:\(\w+\))? )?(?:const|enum|struct|trait) ", r"\b"),
+}
+# What a file of specs hands up of another one: its path, and words of it or a name for it.
+HANDED_UP = re.compile(r"(?m)^pub use Rattle\.([\w.]+?)(?:\.\{([^}]*)\})?(?: as (\w+))?\s*$")
+
 
 def lines_of(file):
     """Returns the lines of a file."""
     with open(file, encoding="utf-8") as it:
         return it.read().split("\n")[:-1]
+
+
+@functools.cache
+def text_of(file):
+    """Returns the text of a file; none of one that is not there."""
+    if not os.path.isfile(file):
+        return ""
+    with open(file, encoding="utf-8") as it:
+        return it.read()
+
+
+@functools.cache
+def handed_up(crate, part):
+    """Returns what the specs or the proofs of a crate hand up: a path for each name."""
+    found = HANDED_UP.finditer(text_of(f"crates/{crate}/{part}/Lib.antt"))
+    return {it[3] or it[1].split(".")[-1]: it[1] for it in found if it[2] is None}
+
+
+def led_to(path):
+    """Returns the file to which a path of specs or proofs leads that begins with a crate, through
+    what crates hand up, and the words that follow in the path. The file is None if there is none,
+    and one of code for `specs.declared`. Returns None outside of this repository.
+    """
+    crate, *parts = path.split(".")
+    if not os.path.isdir(f"crates/{crate}") or not parts or parts[0] not in ("specs", "proofs"):
+        return None
+    part, *rest = parts
+    handed = handed_up(crate, part)
+    if rest and rest[0] in handed:
+        return led_to(".".join([handed[rest[0]], *rest[1:]]))
+    is_code = rest[:1] == ["declared"]
+    folder, end = (f"crates/{crate}/src", ".rt") if is_code else (f"crates/{crate}/{part}", ".antt")
+    rest = rest[is_code:]
+    for count in range(len(rest), 0, -1):
+        file = f"{folder}/{'/'.join(rest[:count])}{end}"
+        if os.path.isfile(file):
+            return file, rest[count:]
+    return f"{folder}/lib.rt" if is_code else None, rest
+
+
+def defined_in(file, word, most=3):
+    """Returns where a file defines a word, or the file does of which it hands the word up: file and
+    number of the line. Returns None if there is none.
+    """
+    end, text = os.path.splitext(file)[1], text_of(file)
+    before, after = DEFINITION[end]
+    inside = r"[ \t│|]+" + (before if end == ".antt" else "")
+    for begin in (before, inside):
+        found = re.search(rf"(?m)^{begin}{re.escape(word)}{after}", text)
+        if found:
+            return file, text.count("\n", 0, found.end()) + 1
+    for path, words, _ in HANDED_UP.findall(text) if most else []:
+        there = led_to(path)
+        may_have = word in re.split(r"[,\s]+", words) if words else there and not there[1]
+        at = defined_in(there[0], word, most - 1) if may_have and there and there[0] else None
+        if at:
+            return at
+    return None
 
 
 def toolchain():
