@@ -6,7 +6,8 @@ use Rattle.node.specs.Output.{Output}
 use Rattle.node.specs.Effect.{Effect}
 use Rattle.node.specs.Effect.TheVariants.{To, Out}
 use Rattle.node.specs.Message.{Message}
-use Rattle.post.specs.Queuing.{Addressed, QueuesAll, messages_of}
+use Rattle.outbox.specs.Given.{Addressed}
+use Rattle.post.specs.Queuing.{QueuesAll, messages_of}
 use Rattle.post.specs.Queuing.QueuesAll.{none, one_more}
 
 -- the messages of joined effects are the joined messages

@@ -5,11 +5,7 @@ use Rattle.node.specs.Output.{Output}
 use Rattle.node.specs.Effect.{Effect}
 use Rattle.node.specs.Effect.TheVariants.{To, Out}
 use Rattle.node.specs.Message.{Message}
-
--- a message, and the number of the node that it is for; 0 is the master
-pub record Addressed : Type 0 where
-  pub receiver : ℕ
-  pub message : Message Command
+use Rattle.outbox.specs.Given.{Addressed}
 
 -- the messages among effects, in order
 abbrev pub messages_of : List (Effect Command Output) → List Addressed

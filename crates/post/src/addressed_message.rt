@@ -4,14 +4,13 @@ ghost use Rattle.std.specs.Prelude.{◌≡◌, ◌++◌, ◌∷◌, [], false, t
 ghost use Rattle.master.specs.lists.Lists.{has_id};
 ghost use Rattle.node.specs.Effect.TheVariants.{To};
 ghost use Rattle.node.specs.declared.Item.TheVariants.{Peer};
-ghost use Rattle.post.specs.Queued.{WasGiven};
-ghost use Rattle.post.specs.Mastering.{answer_to, master_after, message_if};
-ghost use Rattle.post.specs.Superseding.{still_waiting};
+ghost use Rattle.outbox.specs.Queued.{WasGiven};
+ghost use Rattle.outbox.specs.Mastering.{answer_to, master_after, message_if};
+ghost use Rattle.outbox.specs.Superseding.{still_waiting};
 
 use crate::cluster::Cluster;
-use crate::messaging_master::{Answer, MessagingMaster};
-use crate::outbox::Outbox;
 use node::{Command, Item, Message};
+use outbox::{Answer, MessagingMaster, Outbox};
 use std::marker::Model;
 
 /// A message that a step of a node gave, and the number of the node that it is for; 0 is the
@@ -24,8 +23,7 @@ pub struct AddressedMessage {
 
 impl Model for AddressedMessage {
     ghost use Rattle.node.specs.Effect.TheVariants.{To};
-    ghost use Rattle.post.specs.Queuing.{Addressed};
-    ghost use Rattle.post.specs.Given.{WasGiven};
+    ghost use Rattle.outbox.specs.Given.{Addressed, WasGiven};
 
     ghost Value = { Addressed };
 

@@ -3,18 +3,17 @@
 ghost use Rattle.std.specs.Prelude.{◌≡◌, ◌&&◌, IfOk, IfSome, IsErrOf, IsOk, None, Ok, OnOk, OnSome, false, is_some, length, nat_lt, true};
 ghost use Rattle.master.specs.ballot_base.LawfulConfig.{is_lawful};
 ghost use Rattle.master.specs.lists.Lists.{has_id};
-ghost use Rattle.post.specs.Mastering.{MayGet};
+ghost use Rattle.outbox.specs.Mastering.{MayGet};
 ghost use Rattle.post.specs.Numbers.{are_nodes, is_node, numbers_of};
 
 use crate::addressed_message::AddressedMessage;
 use crate::choosing::{Shown, primary_of};
-use crate::messaging_master::{Answer, MessagingMaster};
-use crate::order_error::OrderError;
 use crate::peer::Peer;
 use crate::queuing::{Given, Receivers, queue_all};
 use ballot::MASTER;
 use master::{AssignError, config_of};
 use node::{Config, Memory, NodeNaming, NodeState, OpeningError, Status};
+use outbox::{Answer, MessagingMaster, OrderError};
 use packet::ClientId;
 use std::alloc::Global;
 use std::marker::Model;
@@ -235,8 +234,15 @@ impl Cluster {
     fn queue_answer<R: Wait>(&self, rt: &R, answer: Answer) {
         match self.node(answer.receiver()) {
             Some(node) => node.queue_answer(rt, answer),
-            None => answer.lose(self),
+            None => self.lose(answer),
         }
+    }
+
+    // Loses an answer of the master: no node has the number of its receiver.
+    fn lose(&self, answer: Answer)
+        requires { has_id answer.receiver self.now ≡ false }
+    {
+        let _lost = answer.into_message();
     }
 }
 

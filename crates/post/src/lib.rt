@@ -6,20 +6,12 @@
 mod addressed_message;
 mod choosing;
 mod cluster;
-mod laws;
-mod messaging_master;
-mod order_error;
-mod outbox;
 mod peer;
 mod queuing;
-mod superseding;
-mod waker;
-mod waking;
 
 pub use addressed_message::AddressedMessage;
 pub use cluster::Cluster;
-pub use laws::{later_commits_suffice, later_counts_suffice};
 pub use master::Idle;
-pub use order_error::OrderError;
+pub use outbox::{OrderError, later_commits_suffice, later_counts_suffice};
 pub use peer::{Entering, Peer};
 pub use queuing::{Given, Receivers, queue_all};

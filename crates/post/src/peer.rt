@@ -3,17 +3,13 @@
 ghost use Rattle.std.specs.Prelude.{◌≡◌, ◌≤◌, IfOk, IfSome, IsErrOf, false, true};
 ghost use Rattle.master.specs.ballot_base.LawfulConfig.{is_lawful};
 ghost use Rattle.node.specs.Lists.{Each};
-ghost use Rattle.post.specs.Mastering.{MayGet};
-ghost use Rattle.post.specs.Queued.{IsPosted, IsQueued};
+ghost use Rattle.outbox.specs.Mastering.{MayGet};
+ghost use Rattle.outbox.specs.Queued.{IsPosted, IsQueued};
 
 use crate::addressed_message::AddressedMessage;
-use crate::messaging_master::{Answer, MessagingMaster};
-use crate::order_error::OrderError;
-use crate::outbox::Outbox;
-use crate::waker::Waker;
-use crate::waking::is_urgent;
 use master::AssignError;
 use node::{Config, Intake, Item, Memory, PIECE_BYTES, Status};
+use outbox::{Answer, MessagingMaster, OrderError, Outbox, Waker, is_urgent};
 use packet::ClientId;
 use std::alloc::Global;
 use std::marker::Model;

@@ -3,7 +3,7 @@
 ghost use Rattle.std.specs.Prelude.{◌≡◌, [], ◌∷◌};
 ghost use Rattle.node.specs.Lists.{Each};
 ghost use Rattle.post.specs.Queuing.{QueuesAll, messages_of};
-ghost use Rattle.post.specs.Queued.{WasGiven};
+ghost use Rattle.outbox.specs.Queued.{WasGiven};
 
 use crate::addressed_message::AddressedMessage;
 use node::{Command, Effect, Output};
@@ -24,7 +24,7 @@ impl Model for Given {
     ghost use Rattle.node.specs.Output.{Output};
     ghost use Rattle.node.specs.Effect.{Effect};
     ghost use Rattle.node.specs.Lists.{Each};
-    ghost use Rattle.post.specs.Given.{WasGiven};
+    ghost use Rattle.outbox.specs.Given.{WasGiven};
 
     ghost Value = { List (Effect Command Output) };
 

@@ -2,7 +2,8 @@ use Rattle.std.proofs.Common.{[], ◌∷◌, sym, subst}
 use Rattle.node.specs.Command.{Command}
 use Rattle.node.specs.Output.{Output}
 use Rattle.node.specs.Effect.{Effect}
-use Rattle.post.specs.Queuing.{Addressed, QueuesAll, messages_of}
+use Rattle.outbox.specs.Given.{Addressed}
+use Rattle.post.specs.Queuing.{QueuesAll, messages_of}
 use Rattle.post.specs.Queuing.QueuesAll.{none, one_more}
 use Rattle.post.proofs.queuing.queue_one.Goals as goal
 

@@ -1,7 +1,7 @@
 use Rattle.std.proofs.Common.{ℕ, ◌∙◌, ap, subst}
 use Rattle.node.specs.Effect.TheVariants.{To}
-use Rattle.post.specs.Queuing.{Addressed}
-use Rattle.post.specs.Queued.{WasGiven}
+use Rattle.outbox.specs.Given.{Addressed}
+use Rattle.outbox.specs.Queued.{WasGiven}
 use Rattle.post.proofs.addressed_message.AddressedMessage.ask.Goals as goal
 
 pub answer-requires : goal.answer-requires

@@ -2,7 +2,7 @@ use Rattle.std.proofs.Common.{◌∙◌, ap, refl, sym}
 use Rattle.std.proofs.lemmas.Bool.{and_from, and_left, and_right}
 use Rattle.master.specs.ballot_base.LawfulConfig.{is_lawful}
 use Rattle.post.specs.Numbers.{are_nodes}
-use Rattle.post.proofs.MayBeGiven.{stranger}
+use Rattle.post.proofs.RefusedByConfig.{stranger}
 use Rattle.post.proofs.cluster.Cluster.assign.Goals as goal
 
 pub returns-then-not-has_all-clause-bad : goal.returns-then-not-has_all-clause-bad

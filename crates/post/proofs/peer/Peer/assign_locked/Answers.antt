@@ -1,5 +1,5 @@
 use Rattle.master.specs.ballot_base.LawfulConfig.{is_lawful}
-use Rattle.post.proofs.MayBeGiven.{bad_by, spent_by}
+use Rattle.post.proofs.RefusedByConfig.{bad_by, spent_by}
 use Rattle.post.proofs.peer.Peer.assign_locked.Goals as goal
 
 pub returns-clause-bad : goal.returns-clause-bad

@@ -1,4 +1,4 @@
-use Rattle.post.specs.Queued.IsPosted.{order}
+use Rattle.outbox.specs.Queued.IsPosted.{order}
 use Rattle.post.proofs.peer.Peer.queue_crash.Goals as goal
 
 pub queue-requires : goal.queue-requires

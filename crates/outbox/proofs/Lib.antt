@@ -1,0 +1,4 @@
+mod CountsStand
+mod MasterIsReachable
+mod MayBeGiven
+mod OutboxKept

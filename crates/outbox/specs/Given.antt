@@ -1,0 +1,48 @@
+-- What a step of a node gave for others.
+use Rattle.std.specs.Prelude.{◌≡◌, ℕ, List}
+use Rattle.node.specs.Command.{Command}
+use Rattle.node.specs.Output.{Output}
+use Rattle.node.specs.Effect.{Effect}
+use Rattle.node.specs.Message.{Message}
+use Rattle.node.specs.declared.Config.{Config}
+use Rattle.node.specs.declared.Item.{Item}
+use Rattle.node.specs.Core.{CountedCore, opening_core}
+use Rattle.node.specs.Losses.{NodeStepped}
+use Rattle.node.specs.Lists.{In}
+use Rattle.node.specs.State.{Replays}
+
+-- a message, and the number of the node that it is for; 0 is the master
+pub record Addressed : Type 0 where
+  pub receiver : ℕ
+  pub message : Message Command
+
+-- a node that has just opened, under some number in some configuration of ballot 1
+pub record IsNewNode (core : CountedCore) : Type 0 where
+  pub number : ℕ
+  pub config : Config
+  pub is : core ≡ record { core = opening_core number config; losses = 0 }
+
+-- whatever its inbox's number, a node began as one that opens
+abbrev pub EachOpens : (ℕ → CountedCore) → Type 0
+EachOpens first_of = (inbox : ℕ) → ∥ IsNewNode (first_of inbox) ∥₁
+
+-- the node of each inbox's number began as the node of that number in this configuration of ballot
+-- 1
+abbrev pub EachOpensAs : Config → (ℕ → CountedCore) → Type 0
+EachOpensAs config first_of =
+    (inbox : ℕ) → first_of inbox ≡ record { core = opening_core inbox config; losses = 0 }
+
+-- A step of a node gave this. Before that step the node was what it became, from its opening on, by
+-- one step for each item that it took.
+pub record WasGiven (effect : Effect Command Output) : Type 0 where
+  pub first : CountedCore
+  pub opens : ∥ IsNewNode first ∥₁
+  pub history : List (ℕ × Item)
+  pub core : CountedCore
+  pub replays : Replays first history core
+  pub item : Item
+  pub next : CountedCore
+  pub before : List (Effect Command Output)
+  pub after : List (Effect Command Output)
+  pub step : NodeStepped core item next before after
+  pub gives : In effect step.given

@@ -1,0 +1,155 @@
+// The master, whose answers are messages.
+
+ghost use Rattle.std.specs.Prelude.{◌≡◌, ◌+◌, ◌↔◌, None, Some, false, IfOk, IsErrOf, OnErr, OnOk};
+ghost use Rattle.master.specs.agreement.MasterState.{opening_master, refusal};
+ghost use Rattle.master.specs.agreement.MasterState.AssignRefusal.{bad_members, ballots_spent};
+ghost use Rattle.master.specs.ballot_base.LawfulConfig.{is_lawful};
+ghost use Rattle.master.specs.snapshots.Masters.{assigned};
+ghost use Rattle.node.specs.Command.{Command};
+ghost use Rattle.node.specs.Effect.TheVariants.{To};
+ghost use Rattle.outbox.specs.Queued.{WasAnswered, WasGiven};
+ghost use Rattle.outbox.specs.Mastering.{MayGet, answer_to, master_after, message_if, message_of};
+
+use crate::order_error::OrderError;
+use crate::outbox::Outbox;
+use ballot::MASTER;
+use master::{AssignError, Master, answer_of};
+use node::{Body, Command, Config, Members, Message};
+use std::alloc::Global;
+use std::marker::Model;
+
+/// A message of the master with the number of its receiver. Only a [`MessagingMaster`] makes one.
+/// It cannot be dropped: it ends in an outbox of its receiver, or is lost if no node has that
+/// number.
+pub struct Answer {
+    receiver: u8,
+    message: Message<Command>,
+}
+
+impl Model for Answer {
+    ghost use Rattle.outbox.specs.Given.{Addressed};
+    ghost use Rattle.outbox.specs.Queued.{WasAnswered};
+
+    ghost Value = { Addressed };
+
+    ghost view = { λ answer. record { receiver = answer.receiver; message = answer.message } };
+
+    ghost invariant = { λ answer. WasAnswered answer.receiver answer.message };
+}
+
+impl Answer {
+    /// Returns the number of the node that gets it.
+    pub fn receiver(&self) -> u8
+        ensures { result ≡ self.now.receiver }
+    {
+        self.receiver
+    }
+
+    /// Loses the answer: `outbox` is not of its receiver.
+    pub fn lose_at(self, outbox: &Outbox)
+        requires { outbox.now.number ≡ self.receiver → ⊥ }
+    {
+        let _ = outbox;
+        let Answer {
+            receiver: _receiver,
+            message: _message,
+        } = self;
+    }
+
+    /// Returns the message, for an outbox, or to lose it where no node has the receiver's number.
+    pub fn into_message(self) -> Message<Command>
+        ensures is { result ≡ self.message }
+        ensures answered { WasAnswered self.receiver result }
+    {
+        let Answer {
+            receiver: _receiver,
+            message,
+        } = self;
+        message
+    }
+}
+
+/// The master, whose answers are messages. Whatever calls come, its state is one that its own
+/// answers lead to.
+#[derive(Drop)]
+pub struct MessagingMaster {
+    master: Master,
+}
+
+impl Model for MessagingMaster {
+    ghost use Rattle.master.specs.agreement.MasterState.{MasterState};
+    ghost use Rattle.outbox.specs.Mastering.{IsReachable};
+
+    ghost Value = { MasterState };
+
+    ghost view = { λ it. it.master };
+
+    ghost invariant = { λ it. IsReachable it.master };
+}
+
+impl MessagingMaster {
+    /// Makes a master whose ballot 1 has this configuration. The only error is
+    /// [`AssignError::BadMembers`].
+    pub fn new(config: Config) -> Result<MessagingMaster, AssignError>
+        ensures ok { IfOk result (λ master. master ≡ opening_master config) }
+        ensures bad { IsErrOf result AssignError.BadMembers
+            ↔ (is_lawful config.members config.primary ≡ false) }
+        ensures spent { IsErrOf result AssignError.BallotsSpent → ⊥ }
+    {
+        match Master::new(config) {
+            Ok(master) => Ok(MessagingMaster { master }),
+            Err(error) => Err(error),
+        }
+    }
+
+    /// Gives the next ballot to a configuration. Returns the ballot, and the message to its
+    /// primary.
+    pub fn assign(&mut self, alloc: Global, config: Config) -> Result<(u64, Answer), OrderError>
+        ensures ballot { IfOk result (λ r. r.0 ≡ self.old.given + 1) }
+        ensures given { IfOk result (λ r. MayGet config r.0) }
+        ensures answer { IfOk result (λ r. r.1 ≡ message_of (assigned Command self.old config)) }
+        ensures state { OnOk result (self.new ≡ (assigned Command self.old config).state) }
+        ensures taken { OnOk result (refusal self.old config ≡ None) }
+        ensures bad { IsErrOf result (OrderError.Refused AssignError.BadMembers)
+            → refusal self.old config ≡ Some bad_members }
+        ensures spent { IsErrOf result (OrderError.Refused AssignError.BallotsSpent)
+            → refusal self.old config ≡ Some ballots_spent }
+
+        // If it is refused, or memory runs out, nothing changes.
+        ensures same { OnErr result (self.new ≡ self.old) }
+    {
+        let primary = config.primary;
+        let members = Members::from_slice(alloc, config.members.as_slice())?;
+        let (previous, of_previous) = self.master.active();
+        let previous_members = Members::from_slice(alloc, of_previous)?;
+        let ballot = match self.master.assign(config) {
+            Ok(ballot) => ballot,
+            Err(error) => return Err(OrderError::Refused(error)),
+        };
+        let body = Body::NewBallot(ballot, members, previous, previous_members);
+        Ok((
+            ballot,
+            Answer {
+                receiver: primary,
+                message: Message { from: MASTER, body },
+            },
+        ))
+    }
+
+    /// Answers a message of a node, if it asks for a ballot to become the active one.
+    pub fn answer(&mut self, asked: Message<Command>) -> Option<Answer>
+        requires { WasGiven (To 0 asked) }
+        ensures answer { result ≡ message_if (answer_to self.old asked.from asked.body) }
+        ensures state { self.new
+            ≡ master_after self.old (answer_to self.old asked.from asked.body) }
+    {
+        let Body::Activate(ballot) = asked.body else {
+            return None;
+        };
+        let body = answer_of(self.master.activate(ballot), ballot);
+        Some(Answer {
+            receiver: asked.from,
+            message: Message { from: MASTER, body },
+        })
+    }
+}
