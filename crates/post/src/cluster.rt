@@ -191,6 +191,7 @@ impl Cluster {
     /// for a number that no node has is lost. A message of a node wakes nobody: the caller has it
     /// taken, or calls [`Cluster::wake_urgent`], once it has released the lock.
     pub fn queue_given<J: NodeNaming, R: Wait>(&self, rt: &R, giver: &NodeState<J>, given: Given) {
+        // Evidence alone: nothing of it is read.
         let _ = giver;
         queue_all(rt, &mut NodesAndMaster { cluster: self }, given);
     }
@@ -246,8 +247,8 @@ impl Cluster {
     }
 }
 
-// Waits until a node has stopped, but not for long. On a busy machine a sleep takes longer than it
-// is asked to, so the time counts and not the looks.
+// Waits until a node has stopped, but not for long. Each look sleeps a millisecond, and on a busy
+// machine longer, so mostly the time ends the waiting before the looks do.
 fn await_stop<R: Wait + Clock>(rt: &R, node: &Peer) {
     let Ok(start) = Instant::now(rt) else {
         return;

@@ -67,8 +67,8 @@ impl Peer {
         }
     }
 
-    /// Queues an item for the node, and wakes it if the item asks for that. Returns whether there
-    /// was memory for it; if not, it is lost.
+    /// Queues an item for the node, and wakes it if the item asks for that. Returns whether it was
+    /// queued; it is lost if memory runs out, or if the outbox were another node's (see `Outbox`).
     pub(crate) fn queue<R: Wait>(&self, rt: &R, item: Item) -> bool
         requires { IsPosted self.now.number item }
     {
