@@ -493,7 +493,7 @@ fn flow(options: &Options) -> Result<String, Fault> {
     thread::sleep(options.seconds());
     flow.is_over.store(true, Relaxed);
     let (took, spent) = (began.elapsed().as_secs_f64(), processor_seconds(options) - before);
-    let resident = resident_megabytes(options);
+    let resident = resident_mebibytes(options);
     let sent = joined(publishing)?;
     let all: u64 = sent.iter().map(|it| it.0).sum();
     for (at, due) in flow.due.iter().enumerate() {
@@ -509,7 +509,7 @@ fn flow(options: &Options) -> Result<String, Fault> {
         "{{\"per_second\": {:.0}, \"sent\": {all}, \"missing\": {}, \
          \"doubled\": {doubled}, \"disordered\": {disordered}, \
          \"way_ms\": {}, \"answer_ms\": {}, \"processor_us\": {:.3}, \
-         \"resident_mb\": {resident:.1}}}",
+         \"resident_mib\": {resident:.1}}}",
         within as f64 / took,
         (all * copies).saturating_sub(count),
         Times::of_all(came.into_iter().map(|it| it.times)).shares(),
@@ -599,7 +599,7 @@ fn processor_seconds(options: &Options) -> f64 {
     (ticks(11) + ticks(12)) / 100.0
 }
 
-fn resident_megabytes(options: &Options) -> f64 {
+fn resident_mebibytes(options: &Options) -> f64 {
     let text = std::fs::read_to_string(format!("/proc/{}/statm", options.get("pid", 0)))
         .unwrap_or_default();
     text.split_whitespace().nth(1).and_then(|it| it.parse::<f64>().ok()).unwrap_or(0.0) * 4.0
