@@ -3,7 +3,6 @@
 
 mod answers;
 mod connecting;
-mod cutting;
 mod faults;
 mod fields;
 mod listing;
