@@ -1,7 +1,7 @@
 // A node crashes after an event of a script, each node after each event, and the script continues.
 
 use crate::tests::hand::text_of;
-use crate::tests::scripts::SCRIPTS;
+use example_scripts::SCRIPTS;
 use play::{PlayError, play};
 use std::alloc::Global;
 

@@ -3,7 +3,7 @@
 
 use crate::tests::crashes::transcript_with;
 use crate::tests::hand::text_of;
-use crate::tests::scripts::{PRIMARY_CRASHES, STALE_PRIMARY};
+use example_scripts::{PRIMARY_CRASHES, STALE_PRIMARY};
 use std::alloc::Global;
 
 // A cut of each node.

@@ -1,7 +1,7 @@
 // Memory that is refused, in the script `answer_waits_for_the_backup`. Run with each allocation
 // failing in turn: it is played as usual, or reported to have run out of memory.
 
-use crate::tests::scripts::ANSWER_WAITS_FOR_THE_BACKUP;
+use example_scripts::ANSWER_WAITS_FOR_THE_BACKUP;
 use play::{PlayError, play};
 use std::alloc::Global;
 

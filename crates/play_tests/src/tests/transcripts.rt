@@ -1,7 +1,7 @@
 // Whole scripts, and their transcripts.
 
 use crate::tests::hand::{text_of, transcript_of};
-use crate::tests::scripts::SCRIPTS;
+use example_scripts::SCRIPTS;
 
 // The messages of an answer come again in the reverse order: the backup acknowledges the place once
 // more, and nothing else happens.

@@ -1,7 +1,7 @@
 // Ways out, as lines that may follow a script.
 
 use crate::tests::hand::{text_of, transcript_of};
-use crate::tests::scripts::{
+use example_scripts::{
     ANSWER_WAITS_FOR_THE_BACKUP, CLIENT_IS_EXPELLED, PRIMARY_CRASHES, SNAPSHOT_TRAVELS,
 };
 use packet::ClientId;

@@ -1,7 +1,7 @@
 // Whole scripts, which are read line by line as they are written.
 
 use crate::tests::reading::read_back;
-use crate::tests::scripts::{
+use example_scripts::{
     ANSWER_WAITS_FOR_THE_BACKUP, BALLOT_IS_SUPERSEDED, CONFIGURATION_CHANGES, PRIMARY_CRASHES,
     STALE_PRIMARY,
 };
