@@ -57,7 +57,7 @@ impl<'a, J: NodeNaming, S: Stated<J>, G: Gate> ServedNode<'a, J, S, G> {
     // Writes what another node queued for its connections, and waits for no socket.
     fn write_for<R: Wait>(&self, rt: &R, node: &ServedNode<'a, J, S, G>) {
         if node.shared.context.peer.number != self.shared.context.peer.number {
-            node.shared.write_busy(rt, 0, false);
+            node.shared.writer().write_busy(rt, 0, false);
         }
     }
 }

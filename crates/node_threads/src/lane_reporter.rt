@@ -44,7 +44,7 @@ impl<'e, 'a, J: NodeNaming, S: Stated<J>, G: Gate> Hearer for LaneReporter<'e, '
         shared.send_and_take(rt, &mut self.lane, item);
         shared.context.peer.count_taken(rt, entering);
         served.help(rt, all);
-        shared.write_busy(rt, index, true);
+        shared.writer().write_busy(rt, index, true);
     }
 
     // Lists the connection for writing, and says whether it may be read. A port that is not yet

@@ -6,7 +6,6 @@
 #![tactic(auto)]
 
 mod admitting;
-mod blocked_writer;
 mod helping;
 mod lane_reporter;
 mod laws;
@@ -19,7 +18,6 @@ mod serving;
 mod shared;
 mod turns;
 mod working;
-mod writing;
 
 pub use laws::ports_differ;
 pub use node_context::NodeContexts;

@@ -46,7 +46,7 @@ impl<'a, J: NodeNaming, S: Stated<J>, G: Gate> ServedNode<'a, J, S, G> {
             }
             let latest = self.do_own_turn(rt, last);
             shared.context.cluster.wake_urgent(rt);
-            shared.write_busy(rt, 0, false);
+            shared.writer().write_busy(rt, 0, false);
             if latest.time > last.time {
                 shared.end_overdue(rt, latest.time);
             }

@@ -16,9 +16,10 @@ use std::alloc::Global;
 use std::mem;
 use std::net::{Net, TcpStream};
 use std::sync::{Mutex, Wait};
-use std::thread::{Parker, Threads};
+use std::thread::Threads;
 use std::time::Clock;
-use streams::{Closed, MAX_CONNECTIONS};
+use streams::Closed;
+use writer::BlockedLinks;
 
 /// A node that serves: what its threads share, and their lanes.
 #[derive(Drop)]
@@ -70,7 +71,7 @@ impl<'a, J: NodeNaming, G: Gate> ServedNode<'a, J, NodeState<J>, G> {
         let (receiver, lanes) = inbox.named::<J>(number, LANES)?;
         let (own, lane_slots) = lane_slots_of(alloc, number, lanes)?;
         let node = Node::start(alloc, NodeState::new(receiver, core), gate)?;
-        let blocked = Mutex::new(Vec::with_capacity(alloc, usize::from(MAX_CONNECTIONS))?);
+        let blocked = BlockedLinks::new(alloc)?;
         Ok(ServedNode {
             number,
             shared: Shared {
@@ -79,7 +80,6 @@ impl<'a, J: NodeNaming, G: Gate> ServedNode<'a, J, NodeState<J>, G> {
                 context,
                 config,
                 blocked,
-                blocked_waker: Parker::new(),
             },
             own: Mutex::new(own),
             lane_slots: Mutex::new(lane_slots),

@@ -9,9 +9,8 @@ use crate::node_context::NodeContext;
 use mailbox::Lane;
 use node::{Config, Gate, Item, Memory, Node, NodeNaming, NodeState, Report, Stated};
 use std::alloc::Global;
-use std::sync::{Mutex, Wait};
-use std::thread::Parker;
-use streams::Blocked;
+use std::sync::Wait;
+use writer::{BlockedLinks, Writer};
 
 /// What the threads of a node share. No thread holds one of the locks while it waits, except its
 /// turn at a gate.
@@ -23,9 +22,7 @@ pub(crate) struct Shared<'a, J: NodeNaming, S: Stated<J>, G: Gate> {
     /// The configuration in which all nodes opened.
     pub(crate) config: &'a Config,
     /// The connections whose sockets were full.
-    pub(crate) blocked: Mutex<Vec<Blocked>>,
-    /// The thread that continues with them sleeps on this.
-    pub(crate) blocked_waker: Parker,
+    pub(crate) blocked: BlockedLinks,
     pub(crate) ghost opens: { EachOpensAs config.now J.first_of },
     pub(crate) ghost named: { node.number ≡ context.listener.now.number },
 }
@@ -53,5 +50,20 @@ impl<'a, J: NodeNaming, G: Gate> Shared<'a, J, NodeState<J>, G> {
             return Err(Memory);
         }
         Ok(node.close(rt, lanes))
+    }
+}
+
+impl<'a, J: NodeNaming, S: Stated<J>, G: Gate> Shared<'a, J, S, G> {
+    /// Returns what writes to the node's connections.
+    pub(crate) fn writer(&self) -> Writer<'_, 'a, J, S, G>
+        ensures { result.listener.now.number ≡ self.now.context.listener.now.number }
+    {
+        Writer {
+            alloc: self.alloc,
+            node: &self.node,
+            listener: self.context.listener,
+            config: self.config,
+            blocked: &self.blocked,
+        }
     }
 }

@@ -11,12 +11,8 @@ use mailbox::Lane;
 use node::{Gate, Item, NodeNaming, NodeState, Permit, Stated};
 use post::Given;
 use std::alloc::Global;
-use std::sync::{Arc, Wait};
+use std::sync::Wait;
 use std::time::Clock;
-use streams::{IdleLanes, Link, MAX_CONNECTIONS};
-
-/// How many connections are written to in most turns.
-const BUSY_CAPACITY: usize = 8;
 
 impl<'a, J: NodeNaming, S: Stated<J>, G: Gate> Shared<'a, J, S, G> {
     /// Sends an item by a lane, and then takes what waits in the inbox, including that item. Once
@@ -48,28 +44,6 @@ impl<'a, J: NodeNaming, S: Stated<J>, G: Gate> Shared<'a, J, S, G> {
             self.take_all(rt, lane);
         }
         unreachable!()
-    }
-
-    /// Writes what the node queued for its connections, to the one at this index first. `waits`
-    /// says whether it waits for a full socket, for a short time.
-    pub(crate) fn write_busy<R: Wait>(&self, rt: &R, first: usize, waits: bool) {
-        let busy = self.busy_links(rt, first);
-        for link in &busy {
-            self.flush(rt, link, waits);
-        }
-    }
-
-    // Returns the connections for which something may have been queued. The one at this index is
-    // first. Capacity is allocated before a lock is taken. If memory runs out, idle ones are among
-    // them, or some are missing.
-    fn busy_links<R: Wait>(&self, rt: &R, first: usize) -> Vec<Arc<Link, Global>> {
-        let mut idle = list_with_capacity(self.alloc, usize::from(MAX_CONNECTIONS));
-        let mut busy = list_with_capacity(self.alloc, BUSY_CAPACITY);
-        let _ = self.node.lock(rt).state().idle_ports(&mut idle);
-        self.context
-            .listener
-            .add_busy(rt, IdleLanes::of(&idle), first, &mut busy);
-        busy
     }
 
     /// Takes items until the inbox is empty, with all that this lane sent.
@@ -152,14 +126,4 @@ fn take_up_to<J: NodeNaming, R: Wait>(
         }
     }
     (true, Given::new(effects))
-}
-
-// Returns a list with capacity for this many, or without capacity if memory runs out.
-fn list_with_capacity<T: Drop>(alloc: Global, count: usize) -> Vec<T>
-    ensures { result.items ≡ [] }
-{
-    match Vec::with_capacity(alloc, count) {
-        Ok(list) => list,
-        Err(_) => Vec::new(alloc),
-    }
 }

@@ -121,7 +121,7 @@ impl<'a, J: NodeNaming, S: Stated<J>, G: Gate> ServedNode<'a, J, S, G> {
         if index == 0 {
             self.run_own_thread(rt)
         } else {
-            self.shared.write_blocked(rt)
+            self.shared.writer().write_blocked(rt)
         }
     }
 }

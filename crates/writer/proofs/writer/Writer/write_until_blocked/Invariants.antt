@@ -1,6 +1,6 @@
 use Rattle.std.specs.Arc.{arc_value}
 use Rattle.streams.specs.WriteTokens.{IsTokenOf}
-use Rattle.node_threads.proofs.shared.Shared.write_until_blocked.Given as goal
+use Rattle.writer.proofs.writer.Writer.write_until_blocked.Given as goal
 
 abbrev pub invariant-loop : goal.invariant-loop
 invariant-loop g l = record {

@@ -4,7 +4,7 @@ ghost use Rattle.std.specs.Prelude.{◌≡◌, ◌<◌, ◌≤◌, ◌*◌, IfSo
 ghost use Rattle.std.specs.Arc.{arc_value};
 ghost use Rattle.streams.specs.WriteTokens.{IsTokenOf};
 
-use crate::shared::Shared;
+use crate::writer::Writer;
 use node::{Gate, NodeNaming, Standing, Stated};
 use std::alloc::Global;
 use std::mem;
@@ -22,21 +22,21 @@ const FIRST_PAUSE_MILLIS: u64 = 1;
 /// How long it sleeps at most before it tries them again, in milliseconds.
 const MAX_PAUSE_MILLIS: u64 = 16;
 
-impl<'a, J: NodeNaming, S: Stated<J>, G: Gate> Shared<'a, J, S, G> {
+impl<'e, 'a, J: NodeNaming, S: Stated<J>, G: Gate> Writer<'e, 'a, J, S, G> {
     /// Goes on with connections whose sockets were full until it sees the listener closed. Returns
     /// the witness. No thread waits for this one, and it waits for no socket: between its tries it
     /// sleeps, longer each time while all stay full.
-    pub(crate) fn write_blocked<R: Wait>(&self, rt: &R) -> Closed
-        ensures { result ≡ self.now.context.listener.now.number }
+    pub fn write_blocked<R: Wait>(&self, rt: &R) -> Closed
+        ensures { result ≡ self.now.listener.now.number }
     {
         let mut pause = FIRST_PAUSE_MILLIS;
         for _ in rt.forever() {
-            if let Some(closed) = self.context.listener.closed(rt) {
+            if let Some(closed) = self.listener.closed(rt) {
                 return closed;
             }
             let (tried, left) = self.write_each_blocked(rt);
             pause = next_pause(pause, tried, left);
-            self.blocked_waker.park_timeout(
+            self.blocked.waker.park_timeout(
                 rt,
                 Duration::from_millis(if left == 0 { CLOSED_LOOK_MILLIS } else { pause }),
             );
@@ -49,7 +49,7 @@ impl<'a, J: NodeNaming, S: Stated<J>, G: Gate> Shared<'a, J, S, G> {
         requires { IsTokenOf (arc_value link.now).port token }
     {
         if self.keep_blocked(rt, link, token) {
-            self.blocked_waker.unpark();
+            self.blocked.waker.unpark();
         }
     }
 
@@ -60,7 +60,12 @@ impl<'a, J: NodeNaming, S: Stated<J>, G: Gate> Shared<'a, J, S, G> {
     {
         match Arc::try_clone(link) {
             Ok(own) => {
-                let kept = self.blocked.lock(rt).push(Blocked::new(own, token)).is_ok();
+                let kept = self
+                    .blocked
+                    .links
+                    .lock(rt)
+                    .push(Blocked::new(own, token))
+                    .is_ok();
                 if !kept {
                     link.shut();
                 }
@@ -76,7 +81,7 @@ impl<'a, J: NodeNaming, S: Stated<J>, G: Gate> Shared<'a, J, S, G> {
     // Goes over the connections whose sockets were full. Returns how many there were, and how many
     // are still full.
     fn write_each_blocked<R: Wait>(&self, rt: &R) -> (usize, usize) {
-        let blocked = mem::replace(&mut *self.blocked.lock(rt), Vec::new(self.alloc));
+        let blocked = mem::replace(&mut *self.blocked.links.lock(rt), Vec::new(self.alloc));
         let tried = blocked.len();
         let mut left = 0usize;
         for one in blocked {

@@ -4,7 +4,7 @@ ghost use Rattle.std.specs.Prelude.{◌≡◌, IfSome};
 ghost use Rattle.std.specs.Arc.{arc_value};
 ghost use Rattle.streams.specs.WriteTokens.{HasWholeStream, IsTokenOf};
 
-use crate::shared::Shared;
+use crate::writer::Writer;
 use connection::{Flow, Outlet};
 use node::{Gate, Handed, Memory, NodeNaming, Stated};
 use std::alloc::Global;
@@ -14,7 +14,7 @@ use streams::{Link, PortTap, WriteToken};
 // The node under its lock, which queued bytes for its connections.
 #[derive(Drop)]
 struct Source<'e, 'a, J: NodeNaming, S: Stated<J>, G: Gate> {
-    shared: &'e Shared<'a, J, S, G>,
+    writer: &'e Writer<'e, 'a, J, S, G>,
 }
 
 impl<'e, 'a, J: NodeNaming, S: Stated<J>, G: Gate> Outlet<PortTap> for Source<'e, 'a, J, S, G> {
@@ -24,12 +24,12 @@ impl<'e, 'a, J: NodeNaming, S: Stated<J>, G: Gate> Outlet<PortTap> for Source<'e
         tap: &mut PortTap,
         out: &mut Vec<u8>,
     ) -> Result<Handed, Memory> {
-        let shared = self.shared;
-        tap.hand_over(shared.node.lock(rt).state(), out)
+        let writer = self.writer;
+        tap.hand_over(writer.node.lock(rt).state(), out)
     }
 }
 
-impl<'a, J: NodeNaming, S: Stated<J>, G: Gate> Shared<'a, J, S, G> {
+impl<'e, 'a, J: NodeNaming, S: Stated<J>, G: Gate> Writer<'e, 'a, J, S, G> {
     /// Writes what the node queued for a connection, unless another thread writes there: then that
     /// one will look again. What a full socket does not take is left to the blocked writer. The
     /// node's own thread does not wait for it.
@@ -103,7 +103,7 @@ impl<'a, J: NodeNaming, S: Stated<J>, G: Gate> Shared<'a, J, S, G> {
         ensures whole { HasWholeStream token.new }
         ensures port { IsTokenOf token.old.tap.port token.new }
     {
-        let mut source = Source { shared: self };
+        let mut source = Source { writer: self };
         token.write(rt, &mut source)
     }
 }

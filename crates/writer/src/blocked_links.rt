@@ -1,0 +1,25 @@
+// The connections of a node whose sockets were full.
+
+use std::alloc::{AllocError, Global};
+use std::sync::Mutex;
+use std::thread::Parker;
+use streams::{Blocked, MAX_CONNECTIONS};
+
+/// The connections of a node whose sockets were full, each with its token.
+#[derive(Drop)]
+pub struct BlockedLinks {
+    pub(crate) links: Mutex<Vec<Blocked>>,
+    /// The thread that continues with them sleeps on this.
+    pub(crate) waker: Parker,
+}
+
+impl BlockedLinks {
+    /// Returns a list without connections, with capacity for all that a node serves. The error is
+    /// that memory ran out.
+    pub fn new(alloc: Global) -> Result<BlockedLinks, AllocError> {
+        Ok(BlockedLinks {
+            links: Mutex::new(Vec::with_capacity(alloc, usize::from(MAX_CONNECTIONS))?),
+            waker: Parker::new(),
+        })
+    }
+}

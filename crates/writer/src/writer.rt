@@ -1,0 +1,64 @@
+// What writes to the connections of a node, and which of them it writes to.
+
+ghost use Rattle.std.specs.Prelude.{◌≡◌, []};
+ghost use Rattle.node.specs.Core.{opening_core};
+
+use crate::blocked_links::BlockedLinks;
+use node::{Config, Gate, Node, NodeNaming, Stated};
+use std::alloc::Global;
+use std::sync::{Arc, Wait};
+use streams::{IdleLanes, Link, Listener, MAX_CONNECTIONS};
+
+/// How many connections are written to in most turns.
+const BUSY_CAPACITY: usize = 8;
+
+/// What writes to the connections of a node. It holds no lock while it writes or sleeps.
+#[derive(Drop)]
+pub struct Writer<'e, 'a, J: NodeNaming, S: Stated<J>, G: Gate> {
+    /// Where its lists are allocated.
+    pub alloc: Global,
+    /// The node, which queues bytes for its connections.
+    pub node: &'e Node<'a, J, S, G>,
+    /// The listener of the node, which has the table of its connections.
+    pub listener: &'e Listener,
+    /// The configuration in which the node opened.
+    pub config: &'e Config,
+    /// The connections whose sockets were full.
+    pub blocked: &'e BlockedLinks,
+    /// The node of each inbox's number began as the one of that number in this configuration.
+    pub ghost opens: { (inbox : ℕ) → J.first_of inbox
+        ≡ record { core = opening_core inbox config.now; losses = 0 } },
+}
+
+impl<'e, 'a, J: NodeNaming, S: Stated<J>, G: Gate> Writer<'e, 'a, J, S, G> {
+    /// Writes what the node queued for its connections, to the one at this index first. `waits`
+    /// says whether it waits for a full socket, for a short time.
+    pub fn write_busy<R: Wait>(&self, rt: &R, first: usize, waits: bool) {
+        let busy = self.busy_links(rt, first);
+        for link in &busy {
+            self.flush(rt, link, waits);
+        }
+    }
+
+    // Returns the connections for which something may have been queued. The one at this index is
+    // first. Capacity is allocated before a lock is taken. If memory runs out, idle ones are among
+    // them, or some are missing.
+    fn busy_links<R: Wait>(&self, rt: &R, first: usize) -> Vec<Arc<Link, Global>> {
+        let mut idle = list_with_capacity(self.alloc, usize::from(MAX_CONNECTIONS));
+        let mut busy = list_with_capacity(self.alloc, BUSY_CAPACITY);
+        let _ = self.node.lock(rt).state().idle_ports(&mut idle);
+        self.listener
+            .add_busy(rt, IdleLanes::of(&idle), first, &mut busy);
+        busy
+    }
+}
+
+// Returns a list with capacity for this many, or without capacity if memory runs out.
+fn list_with_capacity<T: Drop>(alloc: Global, count: usize) -> Vec<T>
+    ensures { result.items ≡ [] }
+{
+    match Vec::with_capacity(alloc, count) {
+        Ok(list) => list,
+        Err(_) => Vec::new(alloc),
+    }
+}
