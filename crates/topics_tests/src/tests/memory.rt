@@ -9,19 +9,17 @@ use topics::{Filter, MalformedKind, TopicName, matches};
 
 // One allocation fails at most, so the second try finds memory.
 
-fn filter_of(alloc: Global, text: &str) -> Option<Filter> {
+fn filter_of(alloc: Global, text: &str) -> Result<Filter, MalformedKind> {
     match Filter::new(alloc, text) {
-        Ok(filter) => Some(filter),
-        Err(MalformedKind::Memory) => Filter::new(alloc, text).ok(),
-        Err(_) => None,
+        Err(MalformedKind::Memory) => Filter::new(alloc, text),
+        made => made,
     }
 }
 
-fn topic_of(alloc: Global, text: &str) -> Option<TopicName> {
+fn topic_of(alloc: Global, text: &str) -> Result<TopicName, MalformedKind> {
     match TopicName::new(alloc, text) {
-        Ok(topic) => Some(topic),
-        Err(MalformedKind::Memory) => TopicName::new(alloc, text).ok(),
-        Err(_) => None,
+        Err(MalformedKind::Memory) => TopicName::new(alloc, text),
+        made => made,
     }
 }
 
@@ -30,18 +28,24 @@ fn are_copied(filter: &Filter, topic: &TopicName) -> bool {
         && (topic.clone().is_ok() || topic.clone().is_ok())
 }
 
-// Says whether a filter is made and copied, and matches a topic.
-fn is_match(alloc: Global, filter: &str, topic: &str) -> bool {
+// Returns whether a filter matches a topic, both of which are made and copied; or why one is not.
+fn matched(alloc: Global, filter: &str, topic: &str) -> Result<bool, MalformedKind> {
     match (&filter_of(alloc, filter), &topic_of(alloc, topic)) {
-        (Some(filter), Some(topic)) => are_copied(filter, topic) && matches(filter, topic),
-        _ => false,
+        (Ok(filter), Ok(topic)) => {
+            if are_copied(filter, topic) {
+                Ok(matches(filter, topic))
+            } else {
+                Err(MalformedKind::Memory)
+            }
+        }
+        (Err(kind), _) | (_, Err(kind)) => Err(*kind),
     }
 }
 
 #[test]
 fn a_text_is_made_or_memory_is_answered(rt: HostRuntime) {
     for (filter, topic) in [("t/#", "t/1/2/3"), ("+/+/é", "/a/é")] {
-        assert!(rt; is_match(rt.alloc(), filter, topic), "{filter}");
+        assert_eq!(rt; matched(rt.alloc(), filter, topic), Ok(true), "{filter}");
     }
 }
 
