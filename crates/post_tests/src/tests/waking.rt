@@ -1,0 +1,181 @@
+// Which of two nodes is woken, and by what. An order to give a ballot queues a message for its
+// primary, and wakes it.
+
+use node::{Config, Members, Memory};
+use post::{Cluster, Peer};
+use std::alloc::Global;
+use std::sync::Wait;
+use std::test::Fail;
+use std::time::{Clock, Duration, Instant};
+
+// What is done, to the node of a number.
+#[derive(Clone, Copy)]
+enum Act {
+    // Nothing.
+    Look,
+    // It is the primary of the next ballot.
+    Assign(u8),
+    // Its thread is about to sleep, and finds work or not.
+    Doze(u8, bool),
+    // It is woken.
+    Wake(u8),
+    // All are woken for which something urgent waits.
+    WakeUrgent,
+    // All that waits for it is taken.
+    Take(u8),
+}
+
+// Whether something waits for a node, and whether another thread should do its turn.
+type Shown = (bool, bool);
+
+const IDLE: Shown = (false, false);
+
+const AWAKE: Shown = (true, false);
+
+const ASLEEP: Shown = (true, true);
+
+// What a row shows; what is done; and what nodes 1 and 2 show then.
+const ROWS: &[(&str, Act, (Shown, Shown))] = &[
+    ("nothing waits", Act::Look, (IDLE, IDLE)),
+    ("node 1 finds nothing", Act::Doze(1, false), (IDLE, IDLE)),
+    ("a message wakes node 1", Act::Assign(1), (AWAKE, IDLE)),
+    ("node 1 finds it", Act::Doze(1, true), (ASLEEP, IDLE)),
+    ("node 2 has one", Act::Assign(2), (ASLEEP, AWAKE)),
+    ("node 2 finds it", Act::Doze(2, true), (ASLEEP, ASLEEP)),
+    ("node 2 alone is woken", Act::Wake(2), (ASLEEP, AWAKE)),
+    ("node 2 dozes again", Act::Doze(2, true), (ASLEEP, ASLEEP)),
+    ("both are woken", Act::WakeUrgent, (AWAKE, AWAKE)),
+    ("node 1 dozes again", Act::Doze(1, true), (ASLEEP, AWAKE)),
+    ("its messages are taken", Act::Take(1), (IDLE, AWAKE)),
+];
+
+// Returns the configuration of nodes 1 and 2 with this primary.
+fn config_by(alloc: Global, primary: u8) -> Result<Config, Memory> {
+    Ok(Config {
+        members: Members::from_slice(alloc, &[1, 2])?,
+        primary,
+    })
+}
+
+// Returns nodes 1 and 2.
+fn two_nodes(alloc: Global) -> Result<Cluster, Fail> {
+    let config = config_by(alloc, 1)?;
+    Ok(Cluster::new(alloc, &[1, 2], &config)?)
+}
+
+// Says whether a message is queued for this node: that of the ballot of which it is the primary.
+fn assigns<R: Wait>(rt: &R, alloc: Global, cluster: &Cluster, node: u8) -> bool {
+    match config_by(alloc, node) {
+        Ok(config) => cluster.assign(rt, config).is_ok(),
+        Err(_) => false,
+    }
+}
+
+// Says whether it is done, with the result of the row.
+fn does<R: Wait>(rt: &R, alloc: Global, cluster: &Cluster, act: Act) -> bool {
+    match act {
+        Act::Look => true,
+        Act::Assign(node) => assigns(rt, alloc, cluster, node),
+        Act::WakeUrgent => {
+            cluster.wake_urgent(rt);
+            true
+        }
+        Act::Doze(node, _) | Act::Wake(node) | Act::Take(node) => match cluster.node(node) {
+            Some(peer) => does_at(rt, alloc, peer, act),
+            None => false,
+        },
+    }
+}
+
+// Says whether it is done to this node.
+fn does_at<R: Wait>(rt: &R, alloc: Global, peer: &Peer, act: Act) -> bool {
+    match act {
+        Act::Doze(_, finds) => peer.doze(rt) == finds,
+        Act::Wake(_) => {
+            peer.wake(rt);
+            true
+        }
+        Act::Take(_) => !peer.take_waiting(rt, alloc).is_empty(),
+        _ => false,
+    }
+}
+
+// Returns what a node shows.
+fn shown<R: Wait>(rt: &R, cluster: &Cluster, node: u8) -> Option<Shown> {
+    let peer = cluster.node(node)?;
+    Some((peer.is_wanted(rt), peer.wants_help(rt)))
+}
+
+// What is told of a row: what it shows, whether that was done, and what the nodes show.
+type Told = (&'static str, bool, Option<Shown>, Option<Shown>);
+
+// Returns what is told of the first row that is not so.
+fn first_other<R: Wait>(rt: &R, alloc: Global, cluster: &Cluster) -> Option<Told> {
+    for (words, act, (first, second)) in ROWS {
+        let told = (
+            *words,
+            does(rt, alloc, cluster, *act),
+            shown(rt, cluster, 1),
+            shown(rt, cluster, 2),
+        );
+        if told != (*words, true, Some(*first), Some(*second)) {
+            return Some(told);
+        }
+    }
+    None
+}
+
+#[test]
+fn a_node_that_sleeps_is_woken(rt: HostRuntime) -> Result<(), Fail> {
+    let cluster = two_nodes(rt.alloc())?;
+    assert_eq!(rt; first_other(&rt, rt.alloc(), &cluster), None);
+    Ok(())
+}
+
+// So long a thread sleeps that nobody wakes: a test that fails takes as long.
+const SLEEP_SECONDS: u64 = 30;
+
+// Says whether the thread of a node that dozes is woken: its sleep ends before its time.
+fn is_woken<R: Wait + Clock>(rt: &R, peer: &Peer) -> Option<bool> {
+    let start = Instant::now(rt).ok()?;
+    peer.sleep(rt, Duration::from_secs(SLEEP_SECONDS));
+    Some(start.elapsed(rt).ok()?.as_secs() < SLEEP_SECONDS)
+}
+
+// Queues seventeen messages for node 1, which dozes then. Returns whether a thread that queued one
+// should do the node's turn, and whether the node's own thread is woken.
+fn helped<R: Wait + Clock>(rt: &R, alloc: Global, cluster: &Cluster) -> Option<(bool, bool)> {
+    let peer = cluster.node(1)?;
+    for _ in 0..17u8 {
+        if !assigns(rt, alloc, cluster, 1) {
+            return None;
+        }
+    }
+    peer.doze(rt);
+    let helps = peer.wants_help(rt);
+    Some((helps, is_woken(rt, peer)?))
+}
+
+// Seventeen items are more than another thread takes.
+#[test]
+fn a_node_with_much_to_do_is_woken(rt: HostRuntime) -> Result<(), Fail> {
+    let cluster = two_nodes(rt.alloc())?;
+    assert_eq!(rt; helped(&rt, rt.alloc(), &cluster), Some((false, true)));
+    Ok(())
+}
+
+// A wake between the last look and the sleep is not lost.
+#[test]
+fn a_wake_before_the_sleep_ends_it(rt: HostRuntime) -> Result<(), Fail> {
+    let cluster = two_nodes(rt.alloc())?;
+    let woken = match cluster.node(1) {
+        Some(peer) => {
+            peer.doze(&rt);
+            peer.wake(&rt);
+            is_woken(&rt, peer)
+        }
+        None => None,
+    };
+    assert_eq!(rt; woken, Some(true));
+    Ok(())
+}
