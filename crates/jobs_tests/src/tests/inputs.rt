@@ -36,7 +36,7 @@ const WHOLE: &[(&str, &str)] = &[
 ];
 
 #[test]
-fn the_end_of_input_prints_bye(rt: HostRuntime) {
+fn lines_are_answered_until_quit_or_the_end(rt: HostRuntime) {
     for (text, printed) in WHOLE {
         let mut input = text.as_bytes();
         let mut output = Vec::new(rt.alloc());
