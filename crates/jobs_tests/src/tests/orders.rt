@@ -115,10 +115,11 @@ impl Written {
     }
 }
 
-/// Has `sub` wait for a publication, and takes down what it prints and its fault.
-pub(super) fn hears<R>(rt: &R, address: &str, heard: &mut Vec<u8>)
+/// Has `sub` wait for this many publications, and takes down what it prints and its fault.
+pub(super) fn hears<R, O>(rt: &R, address: &str, count: u32, heard: &mut O)
 where
     R: Clock + AllocGlobal + Net<Stream = TcpStream>,
+    O: Write + Drop,
 {
     let mut addresses = Vec::new(rt.alloc());
     if addresses.push(address).is_err() {
@@ -129,7 +130,7 @@ where
         id: "meter",
         filter: "t/#",
         qos: QoS::ExactlyOnce,
-        count: 1,
+        count,
         tries: 10,
         addresses,
     };
@@ -138,8 +139,8 @@ where
     }
 }
 
-// Has `pub` publish what the server is to keep, and takes down its fault.
-fn publishes<R>(rt: &R, address: &str, told: &mut Vec<u8>)
+/// Has `pub` publish what the server is to keep, and takes down its fault.
+pub(super) fn publishes<R>(rt: &R, address: &str, told: &mut Vec<u8>)
 where
     R: Clock + AllocGlobal + Net<Stream = TcpStream>,
 {
@@ -170,7 +171,7 @@ where
 {
     thread::sleep(rt, Duration::from_millis(500));
     publishes(rt, address, &mut written.told);
-    hears(rt, address, &mut written.heard);
+    hears(rt, address, 1, &mut written.heard);
 }
 
 // Gives the orders, by a pipe that then ends, and has the clients talk between them. Says whether
@@ -200,12 +201,12 @@ impl Given {
     // Says whether the orders are given.
     fn is_done<R>(self, rt: &R, orders: PipeWriter, address: &str, written: &mut Written) -> bool
     where
-        R: Threads + Clock + Sync + AllocGlobal,
+        R: Threads + Wait + Clock + Sync + AllocGlobal,
         R: Net<Listener = TcpListener, Stream = TcpStream>,
     {
         match self {
             Given::Orders => order_all(rt, orders, address, written),
-            Given::Expels => talks(rt, orders, address, &mut written.heard),
+            Given::Expels => talks(rt, orders, address, written),
         }
     }
 }
