@@ -125,16 +125,17 @@ fn bad_members_are_given_no_ballot(rt: HostRuntime) {
     assert_eq!(rt; first_fault(rt.alloc(), Task::RefusesAll), None);
 }
 
-// Says whether no master opens with none of its members as primary.
-fn is_no_primary(alloc: Global) -> bool {
-    match config(alloc, &[2], 1) {
-        Ok(config) => Master::new(config).is_err(),
-        Err(_) => false,
+// Returns why no master opens with this primary; none if one opens, or there was no memory for it.
+fn refusal_of(alloc: Global, members: &[u8], primary: u8) -> Option<AssignError> {
+    match config(alloc, members, primary) {
+        Ok(config) => Master::new(config).err(),
+        Err(_) => None,
     }
 }
 
 // No master opens with none of its members as primary.
 #[test]
 fn a_primary_is_a_member(rt: HostRuntime) {
-    assert!(rt; is_no_primary(rt.alloc()), "no master opens so");
+    let refusal = refusal_of(rt.alloc(), &[2], 1);
+    assert_eq!(rt; refusal, Some(AssignError::BadMembers));
 }

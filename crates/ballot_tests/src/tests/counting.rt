@@ -1,7 +1,7 @@
 // The machine that counts, as worked examples: no clause says that its calls succeed while there is
 // memory.
 
-use machine::{Machine, Tally, TallyCommand};
+use machine::{Machine, Tally, TallyCommand, ThawFault};
 use std::alloc::Global;
 use std::test::*;
 
@@ -43,37 +43,17 @@ fn a_tally_adds_up_and_starts_give_nothing(rt: HostRuntime) {
     assert_eq!(rt; other_row_of_fresh(rt.alloc()), None);
 }
 
-// Says whether these bytes thaw to the machine.
-fn is_thawed(alloc: Global, tally: &Tally, bytes: &[u8]) -> bool {
-    match Tally::thaw(alloc, bytes) {
-        Ok(thawed) => thawed == *tally,
-        Err(_) => false,
-    }
-}
-
-// Says whether the machine is frozen to the bytes of 258, thaws from them, and does not thaw
-// without the first byte.
-fn is_frozen(alloc: Global, tally: &Tally) -> bool {
-    let mut bytes = Vec::new(alloc);
-    tally.freeze(&mut bytes).is_ok()
-        && bytes.as_slice() == [0, 0, 0, 0, 0, 0, 1, 2].as_slice()
-        && is_thawed(alloc, tally, bytes.as_slice())
-        && Tally::thaw(alloc, &bytes.as_slice()[1..]).is_err()
-}
-
-// Says whether the counting machine is frozen to its total and thawed from it.
-fn freezes(alloc: Global) -> bool {
-    match Tally::fresh(alloc) {
-        Ok(mut tally) => {
-            gives(alloc, &mut tally, &TallyCommand::Add(258), &[258]) && is_frozen(alloc, &tally)
-        }
-        Err(_) => false,
-    }
-}
-
 // The frozen machine is its total, most significant byte first; nothing else thaws.
 #[test]
-fn a_tally_is_frozen_to_its_total(rt: HostRuntime) {
-    assert!(rt; freezes(rt.alloc()), "258 is frozen and thawed");
+fn a_tally_is_frozen_to_its_total(rt: HostRuntime) -> Result<(), Fail> {
+    let (mut out, mut bytes) = (Vec::new(rt.alloc()), Vec::new(rt.alloc()));
+    let mut tally = Tally::fresh(rt.alloc())?;
+    tally.apply(&TallyCommand::Add(258), &mut out)?;
+    tally.freeze(&mut bytes)?;
+    assert_eq!(rt; bytes.as_slice(), [0, 0, 0, 0, 0, 0, 1, 2].as_slice());
+    assert_eq!(rt; Tally::thaw(rt.alloc(), bytes.as_slice()), Ok(tally));
+    let shorter = Tally::thaw(rt.alloc(), &bytes.as_slice()[1..]);
+    assert_eq!(rt; shorter, Err(ThawFault::Shape));
     assert_eq!(rt; Tally::start(7), TallyCommand::Start(7));
+    Ok(())
 }

@@ -85,29 +85,31 @@ fn a_command_is_taken_or_refused_whole(rt: HostRuntime) {
     assert_eq!(rt; missed_by(rt.alloc(), &[1, 2]), None);
 }
 
-// Says whether bytes of no machine are refused only for that.
-fn is_no_machine(alloc: Global) -> bool {
-    Tally::thaw(alloc, &[0; 7]).err() == Some(ThawFault::Shape)
-}
+// How many numbers a machine gives, the first of them, and to how many bytes it is frozen.
+type Came = (usize, Option<u64>, usize);
 
-// Says whether a machine that finds no memory leaves what it was to append to as it was.
-fn is_whole_or_free(alloc: Global, tally: &mut Tally) -> bool {
+// What comes if there is no memory to give a number, and what comes otherwise.
+const NOTHING: Came = (0, None, 0);
+
+const WHOLE: Came = (1, Some(258), 8);
+
+// Returns what comes of a machine that adds 258. It is frozen again if it found no memory and
+// appended nothing.
+fn came_of(alloc: Global, tally: &mut Tally) -> Came {
     let mut out = Vec::new(alloc);
     let mut bytes = Vec::new(alloc);
-    if tally.apply(&TallyCommand::Add(258), &mut out).is_err() {
-        return out.is_empty();
+    let is_taken = tally.apply(&TallyCommand::Add(258), &mut out).is_ok();
+    if is_taken && tally.freeze(&mut bytes).is_err() && bytes.is_empty() {
+        let _ = tally.freeze(&mut bytes);
     }
-    let is_frozen = tally.freeze(&mut bytes).is_ok()
-        || (bytes.is_empty() && tally.freeze(&mut bytes).is_ok());
-    is_frozen && out.as_slice() == [258].as_slice() && bytes.len() == 8 && is_no_machine(alloc)
+    (out.len(), out.first().copied(), bytes.len())
 }
 
 #[test]
 fn a_machine_is_whole_or_gives_nothing(rt: HostRuntime) {
     if let Ok(mut tally) = Tally::fresh(rt.alloc()) {
-        assert!(rt;
-            is_whole_or_free(rt.alloc(), &mut tally),
-            "a part of it came"
-        );
+        let came = came_of(rt.alloc(), &mut tally);
+        assert!(rt; came == NOTHING || came == WHOLE, "{came:?}");
     }
+    assert_eq!(rt; Tally::thaw(rt.alloc(), &[0; 7]), Err(ThawFault::Shape));
 }

@@ -3,12 +3,12 @@ use ballot::OpeningError;
 use ballot_replicas::made;
 use std::alloc::Global;
 
-// Says whether node 1 does not open, for its members.
-fn is_refused(alloc: Global, members: &[u8], primary: u8) -> bool {
-    matches!(
-        &made(alloc, 1, members, primary),
-        Err(OpeningError::BadMembers)
-    )
+// Returns why node 1 does not open; none if it opens.
+fn refusal_of(alloc: Global, members: &[u8], primary: u8) -> Option<OpeningError> {
+    match &made(alloc, 1, members, primary) {
+        Ok(_) => None,
+        Err(error) => Some(*error),
+    }
 }
 
 const BAD: &[(&[u8], u8)] = &[
@@ -25,8 +25,12 @@ const BAD: &[(&[u8], u8)] = &[
 #[test]
 fn bad_members_are_refused(rt: HostRuntime) {
     for (members, primary) in BAD {
-        let is_refused = is_refused(rt.alloc(), members, *primary);
-        assert!(rt; is_refused, "{members:?}, {primary}");
+        let refusal = refusal_of(rt.alloc(), members, *primary);
+        assert_eq!(rt;
+            refusal,
+            Some(OpeningError::BadMembers),
+            "{members:?}, {primary}"
+        );
     }
 }
 
