@@ -1,12 +1,17 @@
--- Why the front of a connection's bytes may end it: there is no packet, or no memory.
-use Rattle.std.specs.Prelude.{◌≡◌, ◌⊎◌, true, false, List, ℕ, Result, Err}
+-- What is at the front of a connection's bytes, and what reading it does.
+use Rattle.std.specs.Prelude.{◌≡◌, ◌⊎◌, true, false, if◌then◌else◌, List, ℕ, Result, Ok, Err}
 use Rattle.cutter.specs.packet.Stop.{Stop}
 use Rattle.cutter.specs.packet.Stop.TheVariants as stops
 use Rattle.cutter.specs.packet.declared.packet.Packet.{Packet}
 use Rattle.cutter.specs.packet.RefusalCode.{RefusalCode}
 use Rattle.cutter.specs.packet.Verdict.{verdict, MayNeedMemory}
+use Rattle.broker_spec.specs.Sized.{IsSized}
 use Rattle.node_connections.specs.declared.connection.Connection.{Connection}
+use Rattle.node_connections.specs.declared.front.Front.{Front}
+use Rattle.node_connections.specs.declared.front.Front.TheVariants as fronts
 use Rattle.node_connections.specs.Connections.{is_first}
+use Rattle.node_connections.specs.ConnectionChanges.{left_with, closed}
+use Rattle.node_connections.specs.Refusing.{refused}
 
 -- a fault of the bytes
 abbrev pub IsFaultOfBytes : Result (Packet × List ℕ) Stop → Type 0
@@ -25,3 +30,23 @@ HasNoPacket c = IsFaultOfBytes (verdict c.unread) ⊎ ((is_first c.stage ≡ fal
 -- that is refused with a code
 abbrev pub FrontNeedsMemory : Connection → Type 0
 FrontNeedsMemory c = MayNeedMemory c.unread ⊎ ((is_first c.stage ≡ true) × FrontIsRefused c)
+
+-- what is at the front of the bytes of a connection, and what is left of them
+abbrev pub ReadsFront : List ℕ → Front → List ℕ → Type 0
+ReadsFront bytes fronts.More left = (verdict bytes ≡ Err stops.More) × (left ≡ bytes)
+ReadsFront bytes (fronts.Packet packet) left = (verdict bytes ≡ Ok (packet, left)) × IsSized packet
+ReadsFront bytes (fronts.Refused code) left = verdict bytes ≡ Err (stops.Refused code)
+ReadsFront bytes fronts.Fault left = IsFaultOfBytes (verdict bytes)
+ReadsFront bytes fronts.OutOfMemory left = MayNeedMemory bytes × (left ≡ bytes)
+
+-- what reading the next packet at this time does to a connection
+abbrev pub TakesFront : ℕ → Connection → Front → Connection → Type 0
+TakesFront now old fronts.More new = (verdict old.unread ≡ Err stops.More) × (new ≡ old)
+TakesFront now old (fronts.Packet packet) new =
+    (rest : List ℕ) × (verdict old.unread ≡ Ok (packet, rest)) × IsSized packet
+    × (new ≡ left_with now rest old)
+TakesFront now old (fronts.Refused code) new =
+    (verdict old.unread ≡ Err (stops.Refused code))
+    × (new ≡ (if is_first old.stage then refused code old else closed old))
+TakesFront now old fronts.Fault new = IsFaultOfBytes (verdict old.unread) × (new ≡ closed old)
+TakesFront now old fronts.OutOfMemory new = FrontNeedsMemory old × (new ≡ closed old)

@@ -1,7 +1,6 @@
 pub mod Connections
 pub mod ConnectionChanges
 pub mod Fronts
-pub mod Inside
 pub mod Pending
 pub mod Refusing
 pub mod Silent

@@ -4,7 +4,7 @@ ghost use Rattle.std.specs.Prelude.{◌≡◌, ◌++◌, [], false, true, IsOk, 
 ghost use Rattle.node_connections.specs.Connections.{fresh, has_failed, is_at, is_first, is_listed, is_open_at, is_open_named, is_over, is_proposed, is_silent};
 ghost use Rattle.node_connections.specs.ConnectionChanges.{noted_proposed, closed, failing, put_out, handed, holding, putting};
 ghost use Rattle.node_connections.specs.Pending.{answer_of, is_idle};
-ghost use Rattle.node_connections.specs.Inside.{TakesFront};
+ghost use Rattle.node_connections.specs.Fronts.{TakesFront};
 ghost use Rattle.node_connections.specs.Stands.{standing_of};
 ghost use Rattle.cutter.specs.packet.Spelling.{spelling};
 ghost use Rattle.node_connections.specs.Refusing.{refused};

@@ -1,7 +1,7 @@
 // The bytes of a connection that came and are not read yet.
 
 ghost use Rattle.std.specs.Prelude.{◌≡◌, ◌++◌, [], length, OnErr, OnOk};
-ghost use Rattle.node_connections.specs.Inside.{ReadsFront};
+ghost use Rattle.node_connections.specs.Fronts.{ReadsFront};
 
 use crate::front::Front;
 use cutter::{CutError, Cutter, Memory, Piece};

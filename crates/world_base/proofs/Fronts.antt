@@ -23,7 +23,7 @@ use Rattle.node_connections.specs.Connections.{is_first, is_proposed, is_open_at
 use Rattle.node_connections.specs.ConnectionChanges.{changed, closed, left_with}
 use Rattle.world_base.specs.Core.{CoreState, StepOutcome}
 use Rattle.node_connections.specs.Fronts.{IsFaultOfBytes}
-use Rattle.node_connections.specs.Inside.{TakesFront}
+use Rattle.node_connections.specs.Fronts.{TakesFront}
 use Rattle.world_base.specs.Inside.{Running, DoesOutcome}
 use Rattle.world_base.specs.Reading.{takes_first_packet, changes, loses, open_at, reads, reads_next, refused, proposes_packet}
 use Rattle.world_base.specs.Effects.{proposes, without_messages}

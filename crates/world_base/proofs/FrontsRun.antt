@@ -19,7 +19,7 @@ use Rattle.node_connections.specs.Connections.{is_first, is_proposed}
 use Rattle.node_connections.specs.ConnectionChanges.{noted_proposed, closed, left_with}
 use Rattle.world_base.specs.Core.{CoreState}
 use Rattle.node_connections.specs.Fronts.{FrontNeedsMemory, HasNoPacket}
-use Rattle.node_connections.specs.Inside.{TakesFront}
+use Rattle.node_connections.specs.Fronts.{TakesFront}
 use Rattle.world_base.specs.Inside.{TakesPacket, Ran, ReportsLost}
 use Rattle.world_base.specs.Lossy.{without_effects}
 use Rattle.world_base.specs.LossyReading.{TakesFirstPacket, ProposesConnect, EndsConnection, MayEnd, ReadsNext, ProposesPacket}
