@@ -101,7 +101,7 @@ impl ConnectionTable {
     }
 
     /// Returns the first connection that is listed at this index or after it, and the index after
-    /// that.
+    /// that. There is none either if `Arc::try_clone` fails for that connection.
     pub(crate) fn link_from<R: Wait>(
         &self,
         rt: &R,

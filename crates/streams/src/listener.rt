@@ -140,7 +140,7 @@ impl Listener {
     }
 
     /// Returns the first connection that is listed at this index or after it, and the index after
-    /// that.
+    /// that. There is none either if `Arc::try_clone` fails for that connection.
     pub fn link_from<R: Wait>(&self, rt: &R, first: usize) -> Option<(usize, Arc<Link, Global>)>
         ensures from { IfSome result (λ found. first < found.0) }
         ensures within { IfSome result (λ found. found.0 ≤ MAX_CONNECTIONS) }
