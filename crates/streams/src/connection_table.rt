@@ -79,7 +79,7 @@ impl ConnectionTable {
         self.links.lock(rt).list(link);
     }
 
-    /// Frees an index, whose connection is listed no more.
+    /// Frees an index. The connection that was listed there is listed no more.
     pub(crate) fn free<R: Wait>(&self, rt: &R, index: TakenIndex) {
         self.links.lock(rt).free(index);
     }

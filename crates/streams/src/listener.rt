@@ -119,7 +119,7 @@ impl Listener {
         self.connections.list(rt, link);
     }
 
-    /// Frees an index, whose connection is listed no more.
+    /// Frees an index. The connection that was listed there is listed no more.
     pub fn free<R: Wait>(&self, rt: &R, index: TakenIndex) {
         self.connections.free(rt, index);
     }
