@@ -12,7 +12,8 @@ use crate::listener::MAX_CONNECTIONS;
 use std::alloc::{AllocError, Global};
 use std::sync::{Arc, Mutex, Wait};
 
-/// The connections that a node serves, each at an index of its own, and whether it serves any.
+/// The connections that a node serves, each at an index of its own. Besides, how many threads wait
+/// for a client, and whether more connections are admitted.
 #[derive(Drop)]
 pub(crate) struct ConnectionTable {
     waiting: Mutex<Waiting>,
