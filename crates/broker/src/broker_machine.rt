@@ -79,6 +79,8 @@ impl Machine for BrokerMachine {
         command.ensure_ranges();
         let mut given = Vec::new(*out.allocator());
         if self.tables.apply(command, &mut given).is_err() {
+            // The tables may be half changed, and empty ones meet the invariant. No session is lost
+            // by this: a replica that was halted does not use its machine again.
             self.tables = Tables::new(*out.allocator());
             return Err(Halted);
         }
