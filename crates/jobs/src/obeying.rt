@@ -215,7 +215,7 @@ fn print_refusal<O: Write>(output: &mut O, number: u8) {
     let _ = writeln!(output, "refused {number}");
 }
 
-// Prints the status of each node, in the order of their numbers.
+// Prints the status of each node that is served, in the order of their numbers.
 fn print_all<R, O>(rt: &R, cluster: &Cluster, nodes: &[ListeningNode], output: &mut O)
 where
     R: Wait + Clock,
