@@ -16,7 +16,7 @@ use subs::{SubIndex, TreeIndex};
 /// The sessions by client, and the retained publications. The map of connections and the index of
 /// subscriptions contain nothing new: they find a row without a walk over all.
 pub struct Tables {
-    /// How many entries of a session are in flight at once.
+    /// How many entries of a session may be in flight at once.
     pub window: Window,
     /// By client.
     pub sessions: BTreeMap<ClientId, ClientRow>,
