@@ -11,7 +11,7 @@ pub enum Front {
     Packet(Packet),
     /// A CONNECT that is refused with a code.
     Refused(RefusalCode),
-    /// No packet.
+    /// Bytes that begin no packet that this broker accepts. The connection is closed (MQTT 4.8).
     Fault,
     /// There was no memory to read it.
     OutOfMemory,
