@@ -80,7 +80,8 @@ impl<'a, J: NodeNaming, S: Stated<J>, G: Gate> Shared<'a, J, S, G> {
         last
     }
 
-    /// Takes what was queued for the node up to now, by the node's own lane.
+    /// Takes what was queued for the node up to now, by the node's own lane. It only calls
+    /// `take_queued`: what it requires shows that the lane keeps its invariant.
     pub(crate) fn take_queued_by<R: Wait + Clock>(&self, rt: &R, own: &mut OwnLane<J>)
         requires { own.old.number ≡ self.now.context.peer.now.number }
     {
@@ -156,7 +157,8 @@ impl<'a, J: NodeNaming, S: Stated<J>, G: Gate> Shared<'a, J, S, G> {
         self.take_all(rt, lane);
     }
 
-    // Sends what was queued for the node by its lane.
+    // Sends what was queued for the node by its lane. It only calls `send`: what it requires shows
+    // which items the lane sends.
     fn send_queued<R: Wait + Clock>(&self, rt: &R, lane: &mut Lane<Item, J>, item: Item)
         requires { IsQueued self.now.context.peer.now.number item }
         ensures { SendsOwn self.now.context.peer.now.number lane.old.sent lane.new.sent }
