@@ -14,7 +14,8 @@ const ADMIT_LOOK_MILLIS: u64 = 1;
 
 impl<'a, J: NodeNaming, S: Stated<J>, G: Gate> Shared<'a, J, S, G> {
     /// Waits until the node takes this many more bytes from its clients, and counts them as in
-    /// transit. None count if there is only one node, or the node has closed the connection.
+    /// transit. None count if there is only one node, the node has closed the connection, or the
+    /// listener is closed.
     pub(crate) fn admit<R: Wait + Clock>(&self, rt: &R, port: Port, bytes: u64) -> Option<Entering>
         requires { bytes ≤ PIECE_BYTES }
         ensures all { IfSome result (λ entering. entering ≡ bytes) }
@@ -36,7 +37,7 @@ impl<'a, J: NodeNaming, S: Stated<J>, G: Gate> Shared<'a, J, S, G> {
         unreachable!()
     }
 
-    // Says whether nothing more is needed of a connection.
+    // Says whether the listener or the port's connection is closed.
     fn is_over<R: Wait>(&self, rt: &R, port: Port) -> bool {
         self.context.listener.is_closed(rt)
             || self.node.lock(rt).state().standing(port) == Standing::Closed
