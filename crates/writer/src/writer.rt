@@ -9,7 +9,8 @@ use std::alloc::Global;
 use std::sync::{Arc, Wait};
 use streams::{IdleLanes, Link, Listener, MAX_CONNECTIONS};
 
-/// How many connections are written to in most turns.
+/// For how many connections to write to memory is allocated before a lock is taken. If there are
+/// more, the list grows under the lock of the connections.
 const BUSY_CAPACITY: usize = 8;
 
 /// What writes to the connections of a node. It holds no lock while it writes or sleeps.
