@@ -47,6 +47,8 @@ fn gather_filters(
     ensures rows { OnOk result
         (gathered (groups_of groups.new.entries)
         ≡ filters_set client.now filters.now.entries (gathered (groups_of groups.old.entries))) }
+
+    // This is what going over the map shows of it. `gather` needs it.
     ensures ordered { IsOrdered (slice_cmp nat_cmp) filters.now }
 {
     for (filter, qos) in filters {
