@@ -81,7 +81,8 @@ impl Model for ClientCore {
 impl ClientCore {
     /// Returns a client with this identifier that was never connected. The server closes its
     /// connections after one and a half times the keep alive, in seconds, without a packet; 0 means
-    /// never.
+    /// never. No call sends PINGREQ: a caller that may send nothing for longer than the keep alive
+    /// passes 0 (MQTT-3.1.2-23).
     pub fn new(alloc: Global, client: ClientId, keep_alive: u16) -> ClientCore
         ensures { result ≡ new_core client keep_alive }
     {
