@@ -116,3 +116,25 @@ fn empty_levels_case_and_spaces_count(rt: HostRuntime) {
         assert_eq!(rt; came, Some(*wanted), "{filter}, {topic}");
     }
 }
+
+const NO_BREAK_SPACES: &[Row<'static>] = &[
+    ("\u{FEFF}a", "\u{FEFF}a", true),
+    ("a", "\u{FEFF}a", false),
+    ("\u{FEFF}a", "a", false),
+    ("a/\u{FEFF}", "a/\u{FEFF}", true),
+    ("a/", "a/\u{FEFF}", false),
+    ("a/\u{FEFF}", "a/", false),
+    ("a/+", "a/\u{FEFF}", true),
+    ("+", "\u{FEFF}", true),
+    ("#", "\u{FEFF}$a", true),
+    ("$a/#", "\u{FEFF}$a/b", false),
+];
+
+// MQTT 1.5.3: U+FEFF is a character as any other, wherever it stands.
+#[test]
+fn a_no_break_space_counts(rt: HostRuntime) {
+    for (filter, topic, wanted) in NO_BREAK_SPACES {
+        let came = answer(rt.alloc(), filter, topic);
+        assert_eq!(rt; came, Some(*wanted), "{filter:?}, {topic:?}");
+    }
+}
