@@ -78,9 +78,16 @@ fn a_changed_connect_is_malformed(rt: HostRuntime) {
     assert_eq!(rt; other_answer(rt.alloc(), NO_FLAGS), None);
 }
 
+// MQTT 3.1.2: level 3; then connect flags whose fields are not there. They are a user name, a Will,
+// a Will QoS without Will, Will QoS 3, Will Retain without Will, a password without a user name.
 const REFUSED_CHANGES: &[Change] = &[
     (8, 0x03, Answer::Refused(RefusalCode::ProtocolVersion)),
     (9, 0x80, Answer::Refused(RefusalCode::NotAuthorized)),
+    (9, 0x04, Answer::Refused(RefusalCode::NotAuthorized)),
+    (9, 0x08, Answer::Refused(RefusalCode::NotAuthorized)),
+    (9, 0x1C, Answer::Refused(RefusalCode::NotAuthorized)),
+    (9, 0x20, Answer::Refused(RefusalCode::NotAuthorized)),
+    (9, 0x40, Answer::Refused(RefusalCode::NotAuthorized)),
 ];
 
 const NO_CLIENT: &[Row<'static>] = &[(

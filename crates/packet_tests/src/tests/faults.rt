@@ -95,6 +95,11 @@ const FAULTS: &[Row<'static>] = &[
         Answer::Malformed(MalformedKind::Text),
     ),
     (
+        "a text with a surrogate: ED A0 80, U+D800 (1.5.3)",
+        &[0x30, 0x05, 0x00, 0x03, 0xED, 0xA0, 0x80],
+        Answer::Malformed(MalformedKind::Text),
+    ),
+    (
         "an empty Topic Name (4.7.3)",
         &[0x30, 0x02, 0x00, 0x00],
         Answer::Malformed(MalformedKind::Topic),
@@ -181,9 +186,26 @@ const FAULTS: &[Row<'static>] = &[
     ),
 ];
 
+const FLAGS: Answer = Answer::Malformed(MalformedKind::Flags);
+
+const QOS: Answer = Answer::Malformed(MalformedKind::Qos);
+
+// Flags that are those of another type (2.2.2, 3.8.1, 3.10.1, 3.14.1), and reserved bits of the QoS
+// byte of a filter (3.8.3).
+const RESERVED: &[Row<'static>] = &[
+    ("SUBSCRIBE", &[0x80, 6, 0, 1, 0, 1, 0x61, 0], FLAGS),
+    ("UNSUBSCRIBE", &[0xA0, 5, 0, 1, 0, 1, 0x61], FLAGS),
+    ("DISCONNECT", &[0xE1, 0], FLAGS),
+    ("PUBACK", &[0x41, 2, 0, 1], FLAGS),
+    ("PINGREQ", &[0xC1, 0], FLAGS),
+    ("QoS byte 4", &[0x82, 6, 0, 1, 0, 1, 0x61, 4], QOS),
+    ("QoS byte 0x81", &[0x82, 6, 0, 1, 0, 1, 0x61, 0x81], QOS),
+];
+
 #[test]
 fn each_fault_of_decode_has_its_kind(rt: HostRuntime) {
     assert_eq!(rt; other_answer(rt.alloc(), FAULTS), None);
+    assert_eq!(rt; other_answer(rt.alloc(), RESERVED), None);
 }
 
 // Prefixes of packets, which more bytes may complete.

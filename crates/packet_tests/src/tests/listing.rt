@@ -17,6 +17,11 @@ const LISTS: &[Spelling<'static>] = &[
         ],
     ),
     (
+        "SUBSCRIBE to a filter with U+FEFF, which is not stripped off (1.5.3)",
+        Made::Subscribe(&[("\u{FEFF}a", QoS::AtMostOnce)]),
+        &[0x82, 0x09, 0, 10, 0, 4, 0xEF, 0xBB, 0xBF, 0x61, 0],
+    ),
+    (
         "SUBACK",
         Made::Suback(&[
             SubackCode::Granted(QoS::AtMostOnce),
