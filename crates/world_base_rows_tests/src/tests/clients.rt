@@ -67,13 +67,61 @@ const REFUSED: &[Row<'static>] = &[
         &[0x20, 0x02, 0x00, 0x02],
         false,
     ),
-    (0, 4, Act::Open, NOTHING, true),
-    (0, 4, Act::Bytes(&[0xC0, 0x00]), NOTHING, false),
 ];
 
 #[test]
 fn connect_is_refused(rt: HostRuntime) {
     assert_eq!(rt; first_fault(rt.alloc(), REFUSED), None);
+}
+
+// A PINGREQ, and a SUBSCRIBE, before any CONNECT (MQTT 3.1).
+const NO_CONNECT: &[Row<'static>] = &[
+    (0, 1, Act::Open, NOTHING, true),
+    (0, 1, Act::Bytes(&[0xC0, 0x00]), NOTHING, false),
+    (0, 2, Act::Open, NOTHING, true),
+    (0, 2, Act::Bytes(SUBSCRIBE), NOTHING, false),
+];
+
+#[test]
+fn a_first_packet_has_to_be_connect(rt: HostRuntime) {
+    assert_eq!(rt; first_fault(rt.alloc(), NO_CONNECT), None);
+}
+
+// `LEVEL_3` and `SUBSCRIBE` in one piece, and `CONNECT_B` and `SUBSCRIBE`.
+const LEVEL_3_SUBSCRIBE: &[u8] = &[
+    0x10, 0x0D, 0x00, 0x04, 0x4D, 0x51, 0x54, 0x54, 0x03, 0x00, 0x00, 0x3C, 0x00, 0x01, 0x61, 0x82,
+    0x08, 0x00, 0x01, 0x00, 0x03, 0x74, 0x2F, 0x23, 0x02,
+];
+
+const CONNECT_B_SUBSCRIBE: &[u8] = &[
+    0x10, 0x0D, 0x00, 0x04, 0x4D, 0x51, 0x54, 0x54, 0x04, 0x00, 0x00, 0x3C, 0x00, 0x01, 0x62, 0x82,
+    0x08, 0x00, 0x01, 0x00, 0x03, 0x74, 0x2F, 0x23, 0x02,
+];
+
+// What comes behind a CONNECT before its CONNACK is not processed if that refuses, and is answered
+// after it otherwise (MQTT 3.1.4).
+const BEHIND: &[Row<'static>] = &[
+    (0, 1, Act::Open, NOTHING, true),
+    (
+        0,
+        1,
+        Act::Bytes(LEVEL_3_SUBSCRIBE),
+        &[0x20, 0x02, 0x00, 0x01],
+        false,
+    ),
+    (0, 2, Act::Open, NOTHING, true),
+    (
+        0,
+        2,
+        Act::Bytes(CONNECT_B_SUBSCRIBE),
+        &[0x20, 0x02, 0x00, 0x00, 0x90, 0x03, 0x00, 0x01, 0x02],
+        true,
+    ),
+];
+
+#[test]
+fn packets_behind_a_connect_wait_for_its_answer(rt: HostRuntime) {
+    assert_eq!(rt; first_fault(rt.alloc(), BEHIND), None);
 }
 
 // QoS 2 with a repeat before PUBREL, and PUBREL twice.
@@ -198,6 +246,8 @@ fn requests_are_answered_and_violations_close(rt: HostRuntime) {
 pub const TABLES: &[&[Row<'static>]] = &[
     TAKEN_OVER,
     REFUSED,
+    NO_CONNECT,
+    BEHIND,
     REPEATED,
     RETAINED,
     TWO_FILTERS,
