@@ -174,7 +174,7 @@ impl SessionQueue {
         out: &mut Vec<Packet>,
     ) -> Result<(), AllocError>
         requires { IsReleasedFirst self.old.in_flight }
-        ensures ok { OnOk result
+        ensures state { OnOk result
             (self.new ≡ with_flights (on_pubrec id self.old.in_flight) self.old) }
         ensures sends { OnOk result
             (out.new.items ≡ out.old.items ++ pubrec_sends id (on_pubrec id self.old.in_flight)) }
