@@ -1,5 +1,5 @@
 -- The tables of a broker: the state that they represent, and how they correspond to each other.
-use Rattle.std.specs.Prelude.{◌≡◌, List}
+use Rattle.std.specs.Prelude.{◌≡◌, List, ◌++◌}
 use Rattle.std.specs.declared.cmp.Ordering.{Ordering}
 use Rattle.std.specs.Ordering.{nat_cmp, ordering_then}
 use Rattle.std.specs.BTreeMap.{is_at}
@@ -50,3 +50,10 @@ pub record IsConsistent (tables : Tables) : Type 0 where
 -- the state after a command, and its answers
 unfoldable pub stepped : Tables → Command → State × List Output
 stepped tables command = step usual_limits wide_window (state_in tables) command
+
+-- The command was done: the state after it is that of the step, and the answers of the step come
+-- after what was sent before (docs/MODEL.md, *The step*).
+pub record DoesCommand (old new : Tables) (before after : List Output) (command : Command)
+    : Type 0 where
+  pub state : state_in new ≡ (stepped old command).0
+  pub outputs : after ≡ before ++ (stepped old command).1

@@ -1,7 +1,7 @@
 // One command of the log.
 
-ghost use Rattle.std.specs.Prelude.{◌≡◌, ◌++◌, OnOk};
-ghost use Rattle.broker_tables.specs.Tables.{IsConsistent, IsTied, state_in, stepped};
+ghost use Rattle.std.specs.Prelude.{OnOk};
+ghost use Rattle.broker_tables.specs.Tables.{DoesCommand, IsConsistent, IsTied};
 
 use crate::tables::Tables;
 use broker_spec::{Command, Output};
@@ -12,9 +12,8 @@ impl Tables {
     /// may then be half changed, and are not used again.
     pub fn apply(&mut self, command: &Command, out: &mut Vec<Output>) -> Result<(), Halted>
         requires { IsConsistent self.old }
-        ensures state { OnOk result (state_in self.new ≡ (stepped self.old command.now).0) }
-        ensures outputs { OnOk result
-            (out.new.items ≡ out.old.items ++ (stepped self.old command.now).1) }
+        ensures step { OnOk result
+            (DoesCommand self.old self.new out.old.items out.new.items command.now) }
         ensures tied { OnOk result (IsTied self.new) }
     {
         match command {

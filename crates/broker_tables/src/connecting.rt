@@ -11,7 +11,7 @@ ghost use Rattle.broker_session.specs.broker_base.State.{session_in};
 ghost use Rattle.broker_session.specs.broker_base.StepAnswers.{connection_of};
 ghost use Rattle.broker_session.specs.broker_rows.Owners.{owners_in, with_owner, without_owner};
 ghost use Rattle.broker_session.specs.broker_rows.ConnectLaws.{may_have_session, begins_in};
-ghost use Rattle.broker_tables.specs.Tables.{IsConsistent, IsTied, owners_at, state_in, stepped};
+ghost use Rattle.broker_tables.specs.Tables.{DoesCommand, IsConsistent, IsTied, owners_at, state_in};
 ghost use Rattle.broker_session.specs.broker_rows.Published.{changed};
 ghost use Rattle.broker_tables.specs.Inside.{HasOthersOf, HasOthersThanOwners};
 ghost use Rattle.broker_tables.specs.Connecting.{connect_outcome, TakesOver};
@@ -49,12 +49,9 @@ impl Tables {
         out: &mut Vec<Output>,
     ) -> Result<(), Halted>
         requires { IsConsistent self.old }
-        ensures state { OnOk result
-            (state_in self.new
-            ≡ (stepped self.old (commands.Connect connection client.now clean)).0) }
-        ensures outputs { OnOk result
-            (out.new.items ≡ out.old.items
-            ++ (stepped self.old (commands.Connect connection client.now clean)).1) }
+        ensures step { OnOk result
+            (DoesCommand self.old self.new out.old.items out.new.items
+            (commands.Connect connection client.now clean)) }
         ensures tied { OnOk result (IsTied self.new) }
     {
         if self.owners.contains_key(&connection) {
@@ -105,12 +102,9 @@ impl Tables {
         requires nobodys { owners_in self.old.sessions.entries connection ≡ None }
         requires room { may_have_session usual_limits (state_in self.old) client.now ≡ true }
         requires begins { begins_in (state_in self.old) client.now clean ≡ true }
-        ensures state { OnOk result
-            (state_in self.new
-            ≡ (stepped self.old (commands.Connect connection client.now clean)).0) }
-        ensures outputs { OnOk result
-            (out.new.items ≡ out.old.items
-            ++ (stepped self.old (commands.Connect connection client.now clean)).1) }
+        ensures step { OnOk result
+            (DoesCommand self.old self.new out.old.items out.new.items
+            (commands.Connect connection client.now clean)) }
         ensures tied { OnOk result (IsTied self.new) }
     {
         self.take_client_over(connection, client, false, out)?;
@@ -163,12 +157,9 @@ impl Tables {
         requires consistent { IsConsistent self.old }
         requires nobodys { owners_in self.old.sessions.entries connection ≡ None }
         requires resumes { begins_in (state_in self.old) client.now clean ≡ false }
-        ensures state { OnOk result
-            (state_in self.new
-            ≡ (stepped self.old (commands.Connect connection client.now clean)).0) }
-        ensures outputs { OnOk result
-            (out.new.items ≡ out.old.items
-            ++ (stepped self.old (commands.Connect connection client.now clean)).1) }
+        ensures step { OnOk result
+            (DoesCommand self.old self.new out.old.items out.new.items
+            (commands.Connect connection client.now clean)) }
         ensures tied { OnOk result (IsTied self.new) }
     {
         self.take_client_over(connection, client, true, out)?;

@@ -1,8 +1,8 @@
 // An Expel: an administrator ends a client's session.
 
-ghost use Rattle.std.specs.Prelude.{◌≡◌, ◌++◌, OnOk, OnErr};
+ghost use Rattle.std.specs.Prelude.{◌≡◌, OnOk, OnErr};
 ghost use Rattle.broker_session.specs.broker_spec.declared.command.Command.TheVariants as commands;
-ghost use Rattle.broker_tables.specs.Tables.{IsConsistent, IsTied, state_in, stepped};
+ghost use Rattle.broker_tables.specs.Tables.{DoesCommand, IsConsistent, IsTied};
 
 use crate::leaving::{push_close, remove_owner};
 use crate::tables::Tables;
@@ -17,10 +17,9 @@ impl Tables {
     /// if there is none for it, all stays as it was.
     pub(crate) fn expel(&mut self, client: &ClientId, out: &mut Vec<Output>) -> Result<(), Halted>
         requires { IsConsistent self.old }
-        ensures state { OnOk result
-            (state_in self.new ≡ (stepped self.old (commands.Expel client.now)).0) }
-        ensures outputs { OnOk result
-            (out.new.items ≡ out.old.items ++ (stepped self.old (commands.Expel client.now)).1) }
+        ensures step { OnOk result
+            (DoesCommand self.old self.new out.old.items out.new.items
+            (commands.Expel client.now)) }
         ensures tied { OnOk result (IsTied self.new) }
         ensures stays { OnErr result (self.new ≡ self.old) }
         ensures unsent { OnErr result (out.new.items ≡ out.old.items) }

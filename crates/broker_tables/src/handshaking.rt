@@ -1,11 +1,11 @@
 // The steps of handshakes: PUBACK, PUBREC, PUBREL and PUBCOMP (MQTT 3.4 to 3.7). Each changes only
 // its sender's session, and answers it.
 
-ghost use Rattle.std.specs.Prelude.{◌≡◌, ◌++◌, OnOk, Some, true};
+ghost use Rattle.std.specs.Prelude.{◌≡◌, OnOk, Some, true};
 ghost use Rattle.broker_session.specs.broker_spec.declared.command.Command.TheVariants as commands;
 ghost use Rattle.broker_session.specs.broker_rows.Owners.{owners_in};
 ghost use Rattle.broker_session.specs.OneSession.{is_handshake};
-ghost use Rattle.broker_tables.specs.Tables.{IsConsistent, IsTied, state_in, stepped};
+ghost use Rattle.broker_tables.specs.Tables.{DoesCommand, IsConsistent, IsTied};
 
 use crate::tables::Tables;
 use broker_session::{do_handshake, send_all};
@@ -25,11 +25,9 @@ impl Tables {
         requires consistent { IsConsistent self.old }
         requires served { owners_in self.old.sessions.entries connection ≡ Some client.now }
         requires kind { is_handshake packet.now ≡ true }
-        ensures state { OnOk result
-            (state_in self.new ≡ (stepped self.old (commands.Packet connection packet.now)).0) }
-        ensures outputs { OnOk result
-            (out.new.items
-            ≡ out.old.items ++ (stepped self.old (commands.Packet connection packet.now)).1) }
+        ensures step { OnOk result
+            (DoesCommand self.old self.new out.old.items out.new.items
+            (commands.Packet connection packet.now)) }
         ensures tied { OnOk result (IsTied self.new) }
     {
         let row = self.sessions.get_mut(client).unwrap();

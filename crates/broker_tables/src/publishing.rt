@@ -6,7 +6,7 @@ ghost use Rattle.broker_session.specs.packet.declared.packet.Packet.TheVariants 
 ghost use Rattle.broker_session.specs.broker_spec.declared.command.Command.TheVariants as commands;
 ghost use Rattle.broker_session.specs.broker_rows.Owners.{owners_in};
 ghost use Rattle.broker_session.specs.broker_rows.PublishLaws.{is_refused_in, HaveRoomInTurn};
-ghost use Rattle.broker_tables.specs.Tables.{IsConsistent, IsTied, state_in, stepped};
+ghost use Rattle.broker_tables.specs.Tables.{DoesCommand, IsConsistent, IsTied, state_in};
 ghost use Rattle.broker_tables.specs.Inside.{HasOthersOf};
 ghost use Rattle.broker_session.specs.broker_spec.Answers.{acknowledged};
 ghost use Rattle.broker_session.specs.broker_spec.Commands.{usual_limits};
@@ -41,12 +41,9 @@ impl Tables {
     ) -> Result<(), Halted>
         requires consistent { IsConsistent self.old }
         requires served { owners_in self.old.sessions.entries connection ≡ Some client.now }
-        ensures state { OnOk result
-            (state_in self.new
-            ≡ (stepped self.old (commands.Packet connection (packets.Publish publish.now))).0) }
-        ensures outputs { OnOk result
-            (out.new.items ≡ out.old.items
-            ++ (stepped self.old (commands.Packet connection (packets.Publish publish.now))).1) }
+        ensures step { OnOk result
+            (DoesCommand self.old self.new out.old.items out.new.items
+            (commands.Packet connection (packets.Publish publish.now))) }
         ensures tied { OnOk result (IsTied self.new) }
     {
         if repeats(&self.sessions[client], publish.delivery) {

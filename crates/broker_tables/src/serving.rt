@@ -1,11 +1,11 @@
 // Packets, and the clients that are served on the connections on which they come.
 
-ghost use Rattle.std.specs.Prelude.{◌≡◌, ◌++◌, Some, IfOk, OnOk};
+ghost use Rattle.std.specs.Prelude.{◌≡◌, Some, IfOk, OnOk};
 ghost use Rattle.broker_session.specs.broker_spec.declared.command.Command.TheVariants as commands;
 ghost use Rattle.broker_session.specs.broker_rows.Owners.{owners_in};
 ghost use Rattle.broker_session.specs.OneSession.{is_handshake};
 ghost use Rattle.broker_tables.specs.Inside.{ends_connection};
-ghost use Rattle.broker_tables.specs.Tables.{IsConsistent, IsTied, state_in, stepped};
+ghost use Rattle.broker_tables.specs.Tables.{DoesCommand, IsConsistent, IsTied};
 
 use crate::tables::Tables;
 use broker_session::is_handshake;
@@ -24,11 +24,9 @@ impl Tables {
         out: &mut Vec<Output>,
     ) -> Result<(), Halted>
         requires { IsConsistent self.old }
-        ensures state { OnOk result
-            (state_in self.new ≡ (stepped self.old (commands.Packet connection packet.now)).0) }
-        ensures outputs { OnOk result
-            (out.new.items
-            ≡ out.old.items ++ (stepped self.old (commands.Packet connection packet.now)).1) }
+        ensures step { OnOk result
+            (DoesCommand self.old self.new out.old.items out.new.items
+            (commands.Packet connection packet.now)) }
         ensures tied { OnOk result (IsTied self.new) }
     {
         match self.owner_of(connection)? {
@@ -48,11 +46,9 @@ impl Tables {
     ) -> Result<(), Halted>
         requires consistent { IsConsistent self.old }
         requires served { owners_in self.old.sessions.entries connection ≡ Some client.now }
-        ensures state { OnOk result
-            (state_in self.new ≡ (stepped self.old (commands.Packet connection packet.now)).0) }
-        ensures outputs { OnOk result
-            (out.new.items
-            ≡ out.old.items ++ (stepped self.old (commands.Packet connection packet.now)).1) }
+        ensures step { OnOk result
+            (DoesCommand self.old self.new out.old.items out.new.items
+            (commands.Packet connection packet.now)) }
         ensures tied { OnOk result (IsTied self.new) }
     {
         if is_handshake(packet) {

@@ -1,6 +1,6 @@
 // SUBSCRIBE: a client subscribes (MQTT 3.8).
 
-ghost use Rattle.std.specs.Prelude.{◌≡◌, ◌++◌, Some, OnOk, IfOk, map};
+ghost use Rattle.std.specs.Prelude.{◌≡◌, Some, OnOk, IfOk, map};
 ghost use Rattle.broker_session.specs.packet.declared.packet.Packet.TheVariants as packets;
 ghost use Rattle.broker_session.specs.subs_base.ListIndex.{content_of};
 ghost use Rattle.broker_session.specs.broker_spec.Answers.{codes_of};
@@ -8,7 +8,7 @@ ghost use Rattle.broker_session.specs.broker_spec.Subscriptions.{as_granted, gra
 ghost use Rattle.broker_session.specs.broker_spec.declared.command.Command.TheVariants as commands;
 ghost use Rattle.broker_session.specs.broker_rows.Indexed.{all_set};
 ghost use Rattle.broker_session.specs.broker_rows.Owners.{owners_in};
-ghost use Rattle.broker_tables.specs.Tables.{IsConsistent, IsTied, state_in, stepped};
+ghost use Rattle.broker_tables.specs.Tables.{DoesCommand, IsConsistent, IsTied};
 
 use crate::tables::Tables;
 use broker_session::{grant_all, send_all};
@@ -30,12 +30,9 @@ impl Tables {
     ) -> Result<(), Halted>
         requires consistent { IsConsistent self.old }
         requires served { owners_in self.old.sessions.entries connection ≡ Some client.now }
-        ensures state { OnOk result
-            (state_in self.new
-            ≡ (stepped self.old (commands.Packet connection (packets.Subscribe subscribe.now))).0) }
-        ensures outputs { OnOk result
-            (out.new.items ≡ out.old.items ++ (stepped self.old
-            (commands.Packet connection (packets.Subscribe subscribe.now))).1) }
+        ensures step { OnOk result
+            (DoesCommand self.old self.new out.old.items out.new.items
+            (commands.Packet connection (packets.Subscribe subscribe.now))) }
         ensures tied { OnOk result (IsTied self.new) }
     {
         let filters = subscribe.filters.as_slice();

@@ -1,6 +1,6 @@
 // UNSUBSCRIBE: a client unsubscribes (MQTT 3.10).
 
-ghost use Rattle.std.specs.Prelude.{◌≡◌, ◌++◌, Some, OnOk};
+ghost use Rattle.std.specs.Prelude.{◌≡◌, Some, OnOk};
 ghost use Rattle.broker_session.specs.packet.declared.packet.Packet.TheVariants as packets;
 ghost use Rattle.broker_session.specs.session_base.Subscriptions.{without_filters};
 ghost use Rattle.broker_session.specs.session_base.Session.{with_filters};
@@ -8,7 +8,7 @@ ghost use Rattle.broker_session.specs.subs_base.ListIndex.{content_of};
 ghost use Rattle.broker_session.specs.broker_spec.declared.command.Command.TheVariants as commands;
 ghost use Rattle.broker_session.specs.broker_rows.Indexed.{all_cleared};
 ghost use Rattle.broker_session.specs.broker_rows.Owners.{owners_in};
-ghost use Rattle.broker_tables.specs.Tables.{IsConsistent, IsTied, state_in, stepped};
+ghost use Rattle.broker_tables.specs.Tables.{DoesCommand, IsConsistent, IsTied};
 
 use crate::tables::Tables;
 use broker_spec::{ConnectionName, Output};
@@ -29,12 +29,9 @@ impl Tables {
     ) -> Result<(), Halted>
         requires consistent { IsConsistent self.old }
         requires served { owners_in self.old.sessions.entries connection ≡ Some client.now }
-        ensures state { OnOk result
-            (state_in self.new ≡ (stepped self.old
-            (commands.Packet connection (packets.Unsubscribe unsubscribe.now))).0) }
-        ensures outputs { OnOk result
-            (out.new.items ≡ out.old.items ++ (stepped self.old
-            (commands.Packet connection (packets.Unsubscribe unsubscribe.now))).1) }
+        ensures step { OnOk result
+            (DoesCommand self.old self.new out.old.items out.new.items
+            (commands.Packet connection (packets.Unsubscribe unsubscribe.now))) }
         ensures tied { OnOk result (IsTied self.new) }
     {
         let row = self.sessions.get_mut(client).unwrap();

@@ -14,7 +14,7 @@ invariant_of-self-else-is_err c =
     let t = c.self.inside.tables in
     let done : is_err c.apply.result ≡ false = sym c.is_err.ensures.value ∙ c.if-is_err.false in
     let is : state_in c.apply.new.self ≡ (step usual_limits 64 (state_in t) c.args.command.now).0
-    = at_ok c.apply.result done c.apply.ensures.state ∙ ap (λ p. p.0) (stepped_is t c.args.command.now) in (
+    = (at_ok c.apply.result done c.apply.ensures.step).state ∙ ap (λ p. p.0) (stepped_is t c.args.command.now) in (
       subst IsUsualState (sym is) (stays_usual (state_in t) c.args.command.now c.self.invariant.0 c.ensure_ranges.ensures),
       at_ok c.apply.result done c.apply.ensures.tied,
     )
@@ -23,7 +23,7 @@ pub returns-clause-state : goal.returns-clause-state
 returns-clause-state c =
     let t = c.self.inside.tables in
     let done : is_err c.apply.result ≡ false = sym c.is_err.ensures.value ∙ c.if-is_err.false in
-    at_ok c.apply.result done c.apply.ensures.state ∙ ap (λ p. p.0) (stepped_is t c.args.command.now)
+    (at_ok c.apply.result done c.apply.ensures.step).state ∙ ap (λ p. p.0) (stepped_is t c.args.command.now)
     ∙ ap (λ s. (step usual_limits 64 s c.args.command.now).0) c.self.view_is
 
 pub returns-clause-outputs : goal.returns-clause-outputs
@@ -32,7 +32,7 @@ returns-clause-outputs c =
     let done : is_err c.apply.result ≡ false = sym c.is_err.ensures.value ∙ c.if-is_err.false in
     c.in_ok-append.ensures.items
     ∙ ap (λ given. c.args.out.now.items ++ given)
-    (at_ok c.apply.result done c.apply.ensures.outputs
+    ((at_ok c.apply.result done c.apply.ensures.step).outputs
     ∙ ap (λ front. front ++ (stepped t c.args.command.now).1) c.new-given.ensures.items
     ∙ ap (λ p. p.1) (stepped_is t c.args.command.now)
     ∙ ap (λ s. (step usual_limits 64 s c.args.command.now).1) c.self.view_is)

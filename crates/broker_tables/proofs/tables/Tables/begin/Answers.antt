@@ -6,25 +6,23 @@ use Rattle.broker_session.specs.broker_spec.Place.{by_bytes}
 use Rattle.broker_tables.proofs.Connects.{beginning_of, ties_of_beginning}
 use Rattle.broker_tables.proofs.tables.Tables.begin.Goals as goal
 
-pub returns-clause-state : goal.returns-clause-state
-returns-clause-state c =
+pub returns-clause-step : goal.returns-clause-step
+returns-clause-step c =
     let t = c.args.self.now in
-    (λ i. record {
-      window = c.in_ok-take_client_over.ensures.others.window i;
-      sessions = (c.in_ok-insert.ensures.entries
-          ∙ (λ j. insert_entry by_bytes (c.in_ok-take_client_over.ensures.others.sessions j) (c.in_ok-clone.ensures.cases j) (c.new-row.ensures j))) i;
-      retained = c.in_ok-take_client_over.ensures.others.retained i;
-    })
-    ∙ sym (ap (λ p. p.0)
-    (beginning_of t c.args.connection c.args.client.now c.args.clean c.requires.consistent c.requires.nobodys c.requires.room c.requires.begins))
-
-pub returns-clause-outputs : goal.returns-clause-outputs
-returns-clause-outputs c =
-    let t = c.args.self.now in
-    c.in_ok-take_client_over.ensures.outputs
-    ∙ ap (λ given. c.args.out.now.items ++ given)
-    (sym (ap (λ p. p.1)
-    (beginning_of t c.args.connection c.args.client.now c.args.clean c.requires.consistent c.requires.nobodys c.requires.room c.requires.begins)))
+    record {
+      state = (λ i. record {
+        window = c.in_ok-take_client_over.ensures.others.window i;
+        sessions = (c.in_ok-insert.ensures.entries
+            ∙ (λ j. insert_entry by_bytes (c.in_ok-take_client_over.ensures.others.sessions j) (c.in_ok-clone.ensures.cases j) (c.new-row.ensures j))) i;
+        retained = c.in_ok-take_client_over.ensures.others.retained i;
+      })
+          ∙ sym (ap (λ p. p.0)
+          (beginning_of t c.args.connection c.args.client.now c.args.clean c.requires.consistent c.requires.nobodys c.requires.room c.requires.begins));
+      outputs = c.in_ok-take_client_over.ensures.outputs
+          ∙ ap (λ given. c.args.out.now.items ++ given)
+          (sym (ap (λ p. p.1)
+          (beginning_of t c.args.connection c.args.client.now c.args.clean c.requires.consistent c.requires.nobodys c.requires.room c.requires.begins)));
+    }
 
 pub returns-clause-tied : goal.returns-clause-tied
 returns-clause-tied c =

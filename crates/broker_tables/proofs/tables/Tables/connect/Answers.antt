@@ -4,34 +4,32 @@ use Rattle.broker_tables.specs.Tables.{state_in}
 use Rattle.broker_tables.proofs.Connects.{begins_so, further_by, full_of, not_there, resumes_so, turned_so}
 use Rattle.broker_tables.proofs.tables.Tables.connect.Goals as goal
 
-pub returns-then-contains_key-clause-state : goal.returns-then-contains_key-clause-state
-returns-then-contains_key-clause-state c =
-    c.in_ok-close.ensures.state
-    ∙ sym (ap (λ p. p.0)
-    (further_by c.args.self.now c.args.connection c.args.client.now c.args.clean c.requires (sym c.contains_key.ensures ∙ c.if-contains_key.true)))
+pub returns-then-contains_key-clause-step : goal.returns-then-contains_key-clause-step
+returns-then-contains_key-clause-step c =
+    record {
+      state = c.in_ok-close.ensures.state
+          ∙ sym (ap (λ p. p.0)
+          (further_by c.args.self.now c.args.connection c.args.client.now c.args.clean c.requires (sym c.contains_key.ensures ∙ c.if-contains_key.true)));
+      outputs = c.in_ok-close.ensures.outputs
+          ∙ ap (λ given. c.args.out.now.items ++ given)
+          (sym (ap (λ p. p.1)
+          (further_by c.args.self.now c.args.connection c.args.client.now c.args.clean c.requires (sym c.contains_key.ensures ∙ c.if-contains_key.true))));
+    }
 
-pub returns-then-contains_key-clause-outputs : goal.returns-then-contains_key-clause-outputs
-returns-then-contains_key-clause-outputs c =
-    c.in_ok-close.ensures.outputs
-    ∙ ap (λ given. c.args.out.now.items ++ given)
-    (sym (ap (λ p. p.1)
-    (further_by c.args.self.now c.args.connection c.args.client.now c.args.clean c.requires (sym c.contains_key.ensures ∙ c.if-contains_key.true))))
-
-pub returns-in_ok-turn_away-in-TurnedAway-clause-state : goal.returns-in_ok-turn_away-in-TurnedAway-clause-state
-returns-in_ok-turn_away-in-TurnedAway-clause-state c =
-    sym (ap (λ p. p.0)
-    (full_of c.args.self.now c.args.connection c.args.client.now c.args.clean c.requires
-    (not_there c.args.self.now c.args.connection c.requires (sym c.contains_key.ensures ∙ c.if-contains_key.false))
-    (turned_so (state_in c.args.self.now) c.args.client.now c.args.clean (sym c.outcome_of.ensures ∙ c.in-TurnedAway.is))))
-
-pub returns-in_ok-turn_away-in-TurnedAway-clause-outputs : goal.returns-in_ok-turn_away-in-TurnedAway-clause-outputs
-returns-in_ok-turn_away-in-TurnedAway-clause-outputs c =
-    c.in_ok-turn_away-in-TurnedAway.ensures
-    ∙ ap (λ given. c.args.out.now.items ++ given)
-    (sym (ap (λ p. p.1)
-    (full_of c.args.self.now c.args.connection c.args.client.now c.args.clean c.requires
-    (not_there c.args.self.now c.args.connection c.requires (sym c.contains_key.ensures ∙ c.if-contains_key.false))
-    (turned_so (state_in c.args.self.now) c.args.client.now c.args.clean (sym c.outcome_of.ensures ∙ c.in-TurnedAway.is)))))
+pub returns-in_ok-turn_away-in-TurnedAway-clause-step : goal.returns-in_ok-turn_away-in-TurnedAway-clause-step
+returns-in_ok-turn_away-in-TurnedAway-clause-step c =
+    record {
+      state = sym (ap (λ p. p.0)
+          (full_of c.args.self.now c.args.connection c.args.client.now c.args.clean c.requires
+          (not_there c.args.self.now c.args.connection c.requires (sym c.contains_key.ensures ∙ c.if-contains_key.false))
+          (turned_so (state_in c.args.self.now) c.args.client.now c.args.clean (sym c.outcome_of.ensures ∙ c.in-TurnedAway.is))));
+      outputs = c.in_ok-turn_away-in-TurnedAway.ensures
+          ∙ ap (λ given. c.args.out.now.items ++ given)
+          (sym (ap (λ p. p.1)
+          (full_of c.args.self.now c.args.connection c.args.client.now c.args.clean c.requires
+          (not_there c.args.self.now c.args.connection c.requires (sym c.contains_key.ensures ∙ c.if-contains_key.false))
+          (turned_so (state_in c.args.self.now) c.args.client.now c.args.clean (sym c.outcome_of.ensures ∙ c.in-TurnedAway.is)))));
+    }
 
 pub begin-requires-clause-room : goal.begin-requires-clause-room
 begin-requires-clause-room c = (begins_so (state_in c.args.self.now) c.args.client.now c.args.clean (sym c.outcome_of.ensures ∙ c.in-Begins.is)).1

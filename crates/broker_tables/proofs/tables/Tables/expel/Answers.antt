@@ -7,26 +7,25 @@ use Rattle.broker_session.specs.broker_base.StepAnswers.{connection_of}
 use Rattle.broker_tables.proofs.Expulsions.{expelled, nobody_expelled, ties_expelled}
 use Rattle.broker_tables.proofs.tables.Tables.expel.Goals as goal
 
-pub returns-in_default-clause-state : goal.returns-in_default-clause-state
-returns-in_default-clause-state c = sym (ap (λ p. p.0) (nobody_expelled c.args.self.now c.args.client.now (sym c.in_default.ensures.value)))
+pub returns-in_default-clause-step : goal.returns-in_default-clause-step
+returns-in_default-clause-step c =
+    record {
+      state = sym (ap (λ p. p.0) (nobody_expelled c.args.self.now c.args.client.now (sym c.in_default.ensures.value)));
+      outputs = sym (append-nil c.args.out.now.items)
+          ∙ ap (λ given. c.args.out.now.items ++ given) (sym (ap (λ p. p.1) (nobody_expelled c.args.self.now c.args.client.now (sym c.in_default.ensures.value))));
+    }
 
-pub returns-in_default-clause-outputs : goal.returns-in_default-clause-outputs
-returns-in_default-clause-outputs c =
-    sym (append-nil c.args.out.now.items)
-    ∙ ap (λ given. c.args.out.now.items ++ given) (sym (ap (λ p. p.1) (nobody_expelled c.args.self.now c.args.client.now (sym c.in_default.ensures.value))))
-
-pub returns-clause-state : goal.returns-clause-state
-returns-clause-state c =
-    let t = c.args.self.now in
-    ap (λ (rows : Sessions). record { window = t.window; sessions = rows; retained = t.retained }) c.remove.ensures.entries
-    ∙ sym (ap (λ p. p.0) (expelled t c.args.client.now c.in-Some._row.now c.requires (sym c.in-Some.ensures.value)))
-
-pub returns-clause-outputs : goal.returns-clause-outputs
-returns-clause-outputs c =
-    c.in_ok-push_close.ensures.closes
-    ∙ ap (λ given. c.args.out.now.items ++ given)
-    (ap closed (c.connection_of.ensures ∙ ap connection_of (sym c.in-Some.ensures.value))
-    ∙ sym (ap (λ p. p.1) (expelled c.args.self.now c.args.client.now c.in-Some._row.now c.requires (sym c.in-Some.ensures.value))))
+pub returns-clause-step : goal.returns-clause-step
+returns-clause-step c =
+    record {
+      state = let t = c.args.self.now in
+          ap (λ (rows : Sessions). record { window = t.window; sessions = rows; retained = t.retained }) c.remove.ensures.entries
+          ∙ sym (ap (λ p. p.0) (expelled t c.args.client.now c.in-Some._row.now c.requires (sym c.in-Some.ensures.value)));
+      outputs = c.in_ok-push_close.ensures.closes
+          ∙ ap (λ given. c.args.out.now.items ++ given)
+          (ap closed (c.connection_of.ensures ∙ ap connection_of (sym c.in-Some.ensures.value))
+          ∙ sym (ap (λ p. p.1) (expelled c.args.self.now c.args.client.now c.in-Some._row.now c.requires (sym c.in-Some.ensures.value))));
+    }
 
 pub returns-clause-tied : goal.returns-clause-tied
 returns-clause-tied c =

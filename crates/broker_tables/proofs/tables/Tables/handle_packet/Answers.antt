@@ -4,12 +4,11 @@ use Rattle.std.proofs.lemmas.List.{append-nil}
 use Rattle.broker_tables.proofs.Packets.{nobodys_of}
 use Rattle.broker_tables.proofs.tables.Tables.handle_packet.Goals as goal
 
-pub returns-in-None-clause-state : goal.returns-in-None-clause-state
-returns-in-None-clause-state c =
-    sym (ap (λ p. p.0) (nobodys_of c.args.self.now c.args.connection c.args.packet.now (sym c.in_ok-client.ensures ∙ c.in-None.is)))
-
-pub returns-in-None-clause-outputs : goal.returns-in-None-clause-outputs
-returns-in-None-clause-outputs c =
-    sym (append-nil c.args.out.now.items)
-    ∙ ap (λ given. c.args.out.now.items ++ given)
-    (sym (ap (λ p. p.1) (nobodys_of c.args.self.now c.args.connection c.args.packet.now (sym c.in_ok-client.ensures ∙ c.in-None.is))))
+pub returns-in-None-clause-step : goal.returns-in-None-clause-step
+returns-in-None-clause-step c =
+    record {
+      state = sym (ap (λ p. p.0) (nobodys_of c.args.self.now c.args.connection c.args.packet.now (sym c.in_ok-client.ensures ∙ c.in-None.is)));
+      outputs = sym (append-nil c.args.out.now.items)
+          ∙ ap (λ given. c.args.out.now.items ++ given)
+          (sym (ap (λ p. p.1) (nobodys_of c.args.self.now c.args.connection c.args.packet.now (sym c.in_ok-client.ensures ∙ c.in-None.is))));
+    }

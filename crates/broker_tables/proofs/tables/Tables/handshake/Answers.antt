@@ -21,35 +21,30 @@ unwrap-row-requires c =
     let there = has_session c.args.self.now c.args.connection c.args.client.now c.requires.consistent c.requires.served in
     search (rules, there, c.get_mut.ensures.value)
 
-pub returns-clause-state : goal.returns-clause-state
-returns-clause-state c =
+pub returns-clause-step : goal.returns-clause-step
+returns-clause-step c =
     let t = c.args.self.now in
     let kept = c.unwrap-row.result.now in
     let held : session_in c.args.client.now t.sessions.entries ≡ Some kept
     = sym c.get_mut.ensures.value ∙ ap option_copied_mut c.unwrap-row.ensures in
-    ap (λ (rows : Sessions). record { window = t.window; sessions = rows; retained = t.retained })
-    ((c.get_mut.follows.holds _).0
-    ∙ ap (λ (s : ClientSession). set_value (is_at (by_bytes c.args.client.now)) t.sessions.entries s)
-    (ap (λ s. record { clean = c.row.inside.clean; connection = c.row.inside.connection; state = s }) c.in_ok-do_handshake.ensures.state
-    ∙ ap (λ (k : ClientSession). holding (handled_state t.window c.args.packet.now k.state) k) c.row.view_is))
-    ∙ sym (ap (λ p. p.0)
-    (handshake_step t c.args.connection c.args.client.now kept c.args.packet.now
-    (is_served t c.args.connection c.args.client.now kept c.requires.consistent c.requires.served held) c.requires.kind))
-
-pub returns-clause-outputs : goal.returns-clause-outputs
-returns-clause-outputs c =
-    let t = c.args.self.now in
-    let kept = c.unwrap-row.result.now in
-    let held : session_in c.args.client.now t.sessions.entries ≡ Some kept
-    = sym c.get_mut.ensures.value ∙ ap option_copied_mut c.unwrap-row.ensures in
-    c.in_ok-send_all.ensures
-    ∙ ap (λ sent. c.args.out.now.items ++ map (outputs.Send c.args.connection) sent)
-    (c.in_ok-do_handshake.ensures.sends ∙ ap (λ front. front ++ handshake_sends t.window c.args.packet.now c.row.inside.state) c.new-sent.ensures.items
-    ∙ ap (λ (k : ClientSession). handshake_sends t.window c.args.packet.now k.state) c.row.view_is)
-    ∙ ap (λ sent. c.args.out.now.items ++ sent)
-    (sym (ap (λ p. p.1)
-    (handshake_step t c.args.connection c.args.client.now kept c.args.packet.now
-    (is_served t c.args.connection c.args.client.now kept c.requires.consistent c.requires.served held) c.requires.kind)))
+    record {
+      state = ap (λ (rows : Sessions). record { window = t.window; sessions = rows; retained = t.retained })
+          ((c.get_mut.follows.holds _).0
+          ∙ ap (λ (s : ClientSession). set_value (is_at (by_bytes c.args.client.now)) t.sessions.entries s)
+          (ap (λ s. record { clean = c.row.inside.clean; connection = c.row.inside.connection; state = s }) c.in_ok-do_handshake.ensures.state
+          ∙ ap (λ (k : ClientSession). holding (handled_state t.window c.args.packet.now k.state) k) c.row.view_is))
+          ∙ sym (ap (λ p. p.0)
+          (handshake_step t c.args.connection c.args.client.now kept c.args.packet.now
+          (is_served t c.args.connection c.args.client.now kept c.requires.consistent c.requires.served held) c.requires.kind));
+      outputs = c.in_ok-send_all.ensures
+          ∙ ap (λ sent. c.args.out.now.items ++ map (outputs.Send c.args.connection) sent)
+          (c.in_ok-do_handshake.ensures.sends ∙ ap (λ front. front ++ handshake_sends t.window c.args.packet.now c.row.inside.state) c.new-sent.ensures.items
+          ∙ ap (λ (k : ClientSession). handshake_sends t.window c.args.packet.now k.state) c.row.view_is)
+          ∙ ap (λ sent. c.args.out.now.items ++ sent)
+          (sym (ap (λ p. p.1)
+          (handshake_step t c.args.connection c.args.client.now kept c.args.packet.now
+          (is_served t c.args.connection c.args.client.now kept c.requires.consistent c.requires.served held) c.requires.kind)));
+    }
 
 pub returns-clause-tied : goal.returns-clause-tied
 returns-clause-tied c =

@@ -17,81 +17,65 @@ use Rattle.broker_tables.proofs.tables.Tables.publish.Goals as goal
 pub index-requires : goal.index-requires
 index-requires c = has_session c.args.self.now c.args.connection c.args.client.now c.requires.consistent c.requires.served
 
-pub returns-then-repeats-clause-state : goal.returns-then-repeats-clause-state
-returns-then-repeats-clause-state c =
+pub returns-then-repeats-clause-step : goal.returns-then-repeats-clause-step
+returns-then-repeats-clause-step c =
     let t = c.args.self.now in
     let kept = c.index.result.now in
     let served = is_served t c.args.connection c.args.client.now kept c.requires.consistent c.requires.served c.index.ensures in
-    sym (ap (λ p. p.0)
-    (repeat_of t c.args.connection c.args.client.now kept served c.args.publish.now (sym c.repeats.ensures ∙ c.if-repeats.true)))
+    record {
+      state = sym (ap (λ p. p.0)
+          (repeat_of t c.args.connection c.args.client.now kept served c.args.publish.now (sym c.repeats.ensures ∙ c.if-repeats.true)));
+      outputs = c.in_ok-acknowledge.ensures
+          ∙ ap (λ given. c.args.out.now.items ++ given)
+          (sym (ap (λ p. p.1)
+          (repeat_of t c.args.connection c.args.client.now kept served c.args.publish.now (sym c.repeats.ensures ∙ c.if-repeats.true))));
+    }
 
-pub returns-then-repeats-clause-outputs : goal.returns-then-repeats-clause-outputs
-returns-then-repeats-clause-outputs c =
-    let t = c.args.self.now in
-    let kept = c.index.result.now in
-    let served = is_served t c.args.connection c.args.client.now kept c.requires.consistent c.requires.served c.index.ensures in
-    c.in_ok-acknowledge.ensures
-    ∙ ap (λ given. c.args.out.now.items ++ given)
-    (sym (ap (λ p. p.1)
-    (repeat_of t c.args.connection c.args.client.now kept served c.args.publish.now (sym c.repeats.ensures ∙ c.if-repeats.true))))
-
-pub returns-then-refuses-clause-state : goal.returns-then-refuses-clause-state
-returns-then-refuses-clause-state c =
+pub returns-then-refuses-clause-step : goal.returns-then-refuses-clause-step
+returns-then-refuses-clause-step c =
     let t = c.args.self.now in
     let kept = c.index.result.now in
     let served = is_served t c.args.connection c.args.client.now kept c.requires.consistent c.requires.served c.index.ensures in
     let refused : is_refused_in usual_limits (state_in t) (publication_of c.args.publish.now) ≡ true
     = ap (is_refused_in usual_limits (state_in t)) (sym c.in_ok-publication.ensures) ∙ sym c.refuses.ensures ∙ c.if-refuses.true in
-    c.in_ok-close.ensures.state
-    ∙ sym (ap (λ p. p.0)
-    (refused_of t c.args.connection c.args.client.now kept served c.args.publish.now (sym c.repeats.ensures ∙ c.if-repeats.false) refused))
+    record {
+      state = c.in_ok-close.ensures.state
+          ∙ sym (ap (λ p. p.0)
+          (refused_of t c.args.connection c.args.client.now kept served c.args.publish.now (sym c.repeats.ensures ∙ c.if-repeats.false) refused));
+      outputs = c.in_ok-close.ensures.outputs
+          ∙ ap (λ given. c.args.out.now.items ++ given)
+          (sym (ap (λ p. p.1)
+          (refused_of t c.args.connection c.args.client.now kept served c.args.publish.now (sym c.repeats.ensures ∙ c.if-repeats.false) refused)));
+    }
 
-pub returns-then-refuses-clause-outputs : goal.returns-then-refuses-clause-outputs
-returns-then-refuses-clause-outputs c =
-    let t = c.args.self.now in
-    let kept = c.index.result.now in
-    let served = is_served t c.args.connection c.args.client.now kept c.requires.consistent c.requires.served c.index.ensures in
-    let refused : is_refused_in usual_limits (state_in t) (publication_of c.args.publish.now) ≡ true
-    = ap (is_refused_in usual_limits (state_in t)) (sym c.in_ok-publication.ensures) ∙ sym c.refuses.ensures ∙ c.if-refuses.true in
-    c.in_ok-close.ensures.outputs
-    ∙ ap (λ given. c.args.out.now.items ++ given)
-    (sym (ap (λ p. p.1)
-    (refused_of t c.args.connection c.args.client.now kept served c.args.publish.now (sym c.repeats.ensures ∙ c.if-repeats.false) refused)))
-
-pub returns-clause-state : goal.returns-clause-state
-returns-clause-state c =
+pub returns-clause-step : goal.returns-clause-step
+returns-clause-step c =
     let t = c.args.self.now in
     let kept = c.index.result.now in
     let served = is_served t c.args.connection c.args.client.now kept c.requires.consistent c.requires.served c.index.ensures in
     let taken : is_refused_in usual_limits (state_in t) (publication_of c.args.publish.now) ≡ false
     = ap (is_refused_in usual_limits (state_in t)) (sym c.in_ok-publication.ensures) ∙ sym c.refuses.ensures ∙ c.if-refuses.false in
-    (λ i. record {
-      window = c.in_ok-note_received.ensures.others.window i;
-      sessions = (c.in_ok-deliver_all.ensures.state
-          ∙ (λ j. all_delivered (c.in_ok-note_received.ensures.others.window j) (c.in_ok-publication.ensures j) (c.deref-2.ensures.value j) (c.in_ok-note_received.ensures.sessions j))) i;
-      retained = (c.in_ok-retain.ensures ∙ (λ j. retains (c.in_ok-publication.ensures j) (c.in_ok-note_received.ensures.others.retained j))) i;
-    })
-    ∙ sym (ap (λ p. p.0)
-    (taken_of t c.args.connection c.args.client.now kept served c.args.publish.now (sym c.repeats.ensures ∙ c.if-repeats.false) taken
-    c.in_ok-granted.granted.items c.in_ok-granted.ensures))
-
-pub returns-clause-outputs : goal.returns-clause-outputs
-returns-clause-outputs c =
-    let t = c.args.self.now in
-    let kept = c.index.result.now in
-    let served = is_served t c.args.connection c.args.client.now kept c.requires.consistent c.requires.served c.index.ensures in
-    let taken : is_refused_in usual_limits (state_in t) (publication_of c.args.publish.now) ≡ false
-    = ap (is_refused_in usual_limits (state_in t)) (sym c.in_ok-publication.ensures) ∙ sym c.refuses.ensures ∙ c.if-refuses.false in
-    c.in_ok-deliver_all.ensures.outputs
-    ∙ (λ i. c.in_ok-acknowledge-2.ensures i
-    ++ answered_in_turn (c.in_ok-note_received.ensures.others.window i) (c.in_ok-publication.ensures i) (c.deref-2.ensures.value i) (c.in_ok-note_received.ensures.sessions i))
-    ∙ append_assoc c.args.out.now.items (acknowledged c.args.connection c.args.publish.now.delivery)
-    (answered_in_turn t.window (publication_of c.args.publish.now) c.in_ok-granted.granted.items
-    (changed c.args.client.now (received_on c.args.publish.now.delivery) t.sessions.entries))
-    ∙ ap (λ given. c.args.out.now.items ++ given)
-    (sym (ap (λ p. p.1)
-    (taken_of t c.args.connection c.args.client.now kept served c.args.publish.now (sym c.repeats.ensures ∙ c.if-repeats.false) taken
-    c.in_ok-granted.granted.items c.in_ok-granted.ensures)))
+    record {
+      state = (λ i. record {
+        window = c.in_ok-note_received.ensures.others.window i;
+        sessions = (c.in_ok-deliver_all.ensures.state
+            ∙ (λ j. all_delivered (c.in_ok-note_received.ensures.others.window j) (c.in_ok-publication.ensures j) (c.deref-2.ensures.value j) (c.in_ok-note_received.ensures.sessions j))) i;
+        retained = (c.in_ok-retain.ensures ∙ (λ j. retains (c.in_ok-publication.ensures j) (c.in_ok-note_received.ensures.others.retained j))) i;
+      })
+          ∙ sym (ap (λ p. p.0)
+          (taken_of t c.args.connection c.args.client.now kept served c.args.publish.now (sym c.repeats.ensures ∙ c.if-repeats.false) taken
+          c.in_ok-granted.granted.items c.in_ok-granted.ensures));
+      outputs = c.in_ok-deliver_all.ensures.outputs
+          ∙ (λ i. c.in_ok-acknowledge-2.ensures i
+          ++ answered_in_turn (c.in_ok-note_received.ensures.others.window i) (c.in_ok-publication.ensures i) (c.deref-2.ensures.value i) (c.in_ok-note_received.ensures.sessions i))
+          ∙ append_assoc c.args.out.now.items (acknowledged c.args.connection c.args.publish.now.delivery)
+          (answered_in_turn t.window (publication_of c.args.publish.now) c.in_ok-granted.granted.items
+          (changed c.args.client.now (received_on c.args.publish.now.delivery) t.sessions.entries))
+          ∙ ap (λ given. c.args.out.now.items ++ given)
+          (sym (ap (λ p. p.1)
+          (taken_of t c.args.connection c.args.client.now kept served c.args.publish.now (sym c.repeats.ensures ∙ c.if-repeats.false) taken
+          c.in_ok-granted.granted.items c.in_ok-granted.ensures)));
+    }
 
 pub returns-clause-tied : goal.returns-clause-tied
 returns-clause-tied c =

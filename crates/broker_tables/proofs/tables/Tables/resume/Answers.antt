@@ -13,30 +13,29 @@ use Rattle.broker_tables.specs.Tables.{owners_at}
 use Rattle.broker_tables.proofs.Connects.{resuming_of, ties_of_resuming}
 use Rattle.broker_tables.proofs.tables.Tables.resume.Goals as goal
 
-pub returns-clause-state : goal.returns-clause-state
-returns-clause-state c =
-    (λ i. record {
-      window = (c.in_ok-resume_row.ensures.others.window ∙ c.in_ok-take_client_over.ensures.others.window) i;
-      sessions = (c.in_ok-resume_row.ensures.sessions
-          ∙ (λ j. changed c.args.client.now (kept_resumed (c.in_ok-take_client_over.ensures.others.window j) (c.args.connection, false)) (c.in_ok-take_client_over.ensures.others.sessions j))) i;
-      retained = (c.in_ok-resume_row.ensures.others.retained ∙ c.in_ok-take_client_over.ensures.others.retained) i;
-    })
-    ∙ sym (ap (λ p. p.0)
-    (resuming_of c.args.self.now c.args.connection c.args.client.now c.args.clean c.requires.consistent c.requires.nobodys c.requires.resumes))
-
-pub returns-clause-outputs : goal.returns-clause-outputs
-returns-clause-outputs c =
-    let t = c.args.self.now in
-    let closes = closed (connection_of (session_in c.args.client.now t.sessions.entries)) in
-    let sent = map (outputs.Send c.args.connection) (sent_to_resumed t.window (session_in c.args.client.now t.sessions.entries)) in
-    c.in_ok-resume_row.ensures.sends
-    ∙ (λ i. c.in_ok-take_client_over.ensures.outputs i
-    ++ map (outputs.Send c.args.connection) (sent_to_resumed (c.in_ok-take_client_over.ensures.others.window i) (session_in c.args.client.now (c.in_ok-take_client_over.ensures.others.sessions i))))
-    ∙ append_assoc c.args.out.now.items (closes ++ welcome c.args.connection true ∷ []) sent
-    ∙ ap (λ given. c.args.out.now.items ++ given)
-    (append_assoc closes (welcome c.args.connection true ∷ []) sent
-    ∙ sym (ap (λ p. p.1)
-    (resuming_of t c.args.connection c.args.client.now c.args.clean c.requires.consistent c.requires.nobodys c.requires.resumes)))
+pub returns-clause-step : goal.returns-clause-step
+returns-clause-step c =
+    record {
+      state = (λ i. record {
+        window = (c.in_ok-resume_row.ensures.others.window ∙ c.in_ok-take_client_over.ensures.others.window) i;
+        sessions = (c.in_ok-resume_row.ensures.sessions
+            ∙ (λ j. changed c.args.client.now (kept_resumed (c.in_ok-take_client_over.ensures.others.window j) (c.args.connection, false)) (c.in_ok-take_client_over.ensures.others.sessions j))) i;
+        retained = (c.in_ok-resume_row.ensures.others.retained ∙ c.in_ok-take_client_over.ensures.others.retained) i;
+      })
+          ∙ sym (ap (λ p. p.0)
+          (resuming_of c.args.self.now c.args.connection c.args.client.now c.args.clean c.requires.consistent c.requires.nobodys c.requires.resumes));
+      outputs = let t = c.args.self.now in
+          let closes = closed (connection_of (session_in c.args.client.now t.sessions.entries)) in
+          let sent = map (outputs.Send c.args.connection) (sent_to_resumed t.window (session_in c.args.client.now t.sessions.entries)) in
+          c.in_ok-resume_row.ensures.sends
+          ∙ (λ i. c.in_ok-take_client_over.ensures.outputs i
+          ++ map (outputs.Send c.args.connection) (sent_to_resumed (c.in_ok-take_client_over.ensures.others.window i) (session_in c.args.client.now (c.in_ok-take_client_over.ensures.others.sessions i))))
+          ∙ append_assoc c.args.out.now.items (closes ++ welcome c.args.connection true ∷ []) sent
+          ∙ ap (λ given. c.args.out.now.items ++ given)
+          (append_assoc closes (welcome c.args.connection true ∷ []) sent
+          ∙ sym (ap (λ p. p.1)
+          (resuming_of t c.args.connection c.args.client.now c.args.clean c.requires.consistent c.requires.nobodys c.requires.resumes)));
+    }
 
 pub returns-clause-tied : goal.returns-clause-tied
 returns-clause-tied c =

@@ -6,20 +6,19 @@ use Rattle.broker_tables.specs.Tables.{stepped}
 use Rattle.broker_tables.proofs.Packets.{violation_of, pingreq_of, only_pingreq}
 use Rattle.broker_tables.proofs.tables.Tables.serve.Goals as goal
 
-pub returns-then-ends_connection-clause-state : goal.returns-then-ends_connection-clause-state
-returns-then-ends_connection-clause-state c =
-    c.in_ok-close.ensures.state
-    ∙ sym (ap (λ p. p.0)
-    (violation_of c.args.self.now c.args.connection c.args.client.now c.args.packet.now c.requires.consistent c.requires.served
-    (sym c.ends_connection.ensures ∙ c.if-ends_connection.true)))
-
-pub returns-then-ends_connection-clause-outputs : goal.returns-then-ends_connection-clause-outputs
-returns-then-ends_connection-clause-outputs c =
-    c.in_ok-close.ensures.outputs
-    ∙ ap (λ given. c.args.out.now.items ++ given)
-    (sym (ap (λ p. p.1)
-    (violation_of c.args.self.now c.args.connection c.args.client.now c.args.packet.now c.requires.consistent c.requires.served
-    (sym c.ends_connection.ensures ∙ c.if-ends_connection.true))))
+pub returns-then-ends_connection-clause-step : goal.returns-then-ends_connection-clause-step
+returns-then-ends_connection-clause-step c =
+    record {
+      state = c.in_ok-close.ensures.state
+          ∙ sym (ap (λ p. p.0)
+          (violation_of c.args.self.now c.args.connection c.args.client.now c.args.packet.now c.requires.consistent c.requires.served
+          (sym c.ends_connection.ensures ∙ c.if-ends_connection.true)));
+      outputs = c.in_ok-close.ensures.outputs
+          ∙ ap (λ given. c.args.out.now.items ++ given)
+          (sym (ap (λ p. p.1)
+          (violation_of c.args.self.now c.args.connection c.args.client.now c.args.packet.now c.requires.consistent c.requires.served
+          (sym c.ends_connection.ensures ∙ c.if-ends_connection.true))));
+    }
 
 pub returns-in_ok-push-in_default : goal.returns-in_ok-push-in_default
 returns-in_ok-push-in_default c =
@@ -29,7 +28,9 @@ returns-in_ok-push-in_default c =
     let is = ap (λ packet. stepped c.args.self.now (commands.Packet c.args.connection packet)) ping
     ∙ pingreq_of c.args.self.now c.args.connection c.args.client.now c.requires.consistent c.requires.served in
     record {
-      state = sym (ap (λ p. p.0) is);
-      outputs = c.in_ok-push-in_default.ensures.items ∙ ap (λ given. c.args.out.now.items ++ given) (sym (ap (λ p. p.1) is));
+      step = record {
+        state = sym (ap (λ p. p.0) is);
+        outputs = c.in_ok-push-in_default.ensures.items ∙ ap (λ given. c.args.out.now.items ++ given) (sym (ap (λ p. p.1) is));
+      };
       tied = c.requires.consistent.tied;
     }

@@ -26,51 +26,49 @@ unwrap-row-requires c =
     let there = has_session c.args.self.now c.args.connection c.args.client.now c.requires.consistent c.requires.served in
     search (rules, there, c.get_mut.ensures.value)
 
-pub returns-clause-state : goal.returns-clause-state
-returns-clause-state c =
+pub returns-clause-step : goal.returns-clause-step
+returns-clause-step c =
     let t = c.args.self.now in
-    let kept = c.unwrap-row.result.now in
-    let held : session_in c.args.client.now t.sessions.entries ≡ Some kept
-    = sym c.get_mut.ensures.value ∙ ap option_copied_mut c.unwrap-row.ensures in
-    ap (λ (rows : Sessions). record { window = t.window; sessions = rows; retained = t.retained })
-    ((c.get_mut.follows.holds _).0
-    ∙ ap (λ (s : ClientSession). set_value (is_at (by_bytes c.args.client.now)) t.sessions.entries s)
-    (ap (λ s. record { clean = c.row.inside.clean; connection = c.row.inside.connection; state = s })
-    (c.in_ok-which.ensures.state
-    ∙ ap (λ filters. subscribed_in_turn usual_limits t.window t.retained c.row.inside.state filters) c.as_slice-filters.ensures)
-    ∙ ap (λ (k : ClientSession). holding (subscribed_in_turn usual_limits t.window t.retained k.state c.args.subscribe.now.filters) k) c.row.view_is))
-    ∙ sym (ap (λ p. p.0)
-    (subscribe_of t c.args.connection c.args.client.now kept c.args.subscribe.now
-    (is_served t c.args.connection c.args.client.now kept c.requires.consistent c.requires.served held)))
-
-pub returns-clause-outputs : goal.returns-clause-outputs
-returns-clause-outputs c =
-    let t = c.args.self.now in
-    let s = c.args.subscribe.now in
-    let kept = c.unwrap-row.result.now in
-    let held : session_in c.args.client.now t.sessions.entries ≡ Some kept
-    = sym c.get_mut.ensures.value ∙ ap option_copied_mut c.unwrap-row.ensures in
-    let state : c.row.inside.state ≡ kept.state = ap (λ (k : ClientSession). k.state) c.row.view_is in
-    let which : c.in_ok-which.which.items ≡ granted_in_turn usual_limits t.window t.retained kept.state s.filters
-    = c.in_ok-which.ensures.which ∙ (λ i. granted_in_turn usual_limits t.window t.retained (state i) (c.as_slice-filters.ensures i)) in
-    let codes : c.in_ok-codes_of.field-0.items ≡ codes_of s.filters (granted_in_turn usual_limits t.window t.retained kept.state s.filters)
-    = c.in_ok-codes_of.ensures ∙ (λ i. codes_of (c.as_slice-filters.ensures i) ((c.deref-2.ensures.value ∙ which) i)) in
-    let sent : c.grant_all.new.sent.items ≡ sent_in_turn usual_limits t.window t.retained kept.state s.filters
-    = c.in_ok-which.ensures.sends
-    ∙ (λ i. c.new-sent.ensures.items i ++ sent_in_turn usual_limits t.window t.retained (state i) (c.as_slice-filters.ensures i)) in
-    c.in_ok-send_all.ensures
-    ∙ (λ i. c.in_ok-push.ensures.items i ++ map (outputs.Send c.args.connection) (sent i))
-    ∙ append_assoc c.args.out.now.items
-    (outputs.Send c.args.connection (packets.Suback (record { id = s.id; codes = c.new.result })) ∷ [])
-    (map (outputs.Send c.args.connection) (sent_in_turn usual_limits t.window t.retained kept.state s.filters))
-    ∙ ap (λ list. c.args.out.now.items
-    ++ outputs.Send c.args.connection (packets.Suback (record { id = s.id; codes = list }))
-    ∷ map (outputs.Send c.args.connection) (sent_in_turn usual_limits t.window t.retained kept.state s.filters))
-    (c.new.ensures ∙ codes)
-    ∙ ap (λ given. c.args.out.now.items ++ given)
-    (sym (ap (λ p. p.1)
-    (subscribe_of t c.args.connection c.args.client.now kept s
-    (is_served t c.args.connection c.args.client.now kept c.requires.consistent c.requires.served held))))
+    record {
+      state = let kept = c.unwrap-row.result.now in
+          let held : session_in c.args.client.now t.sessions.entries ≡ Some kept
+          = sym c.get_mut.ensures.value ∙ ap option_copied_mut c.unwrap-row.ensures in
+          ap (λ (rows : Sessions). record { window = t.window; sessions = rows; retained = t.retained })
+          ((c.get_mut.follows.holds _).0
+          ∙ ap (λ (s : ClientSession). set_value (is_at (by_bytes c.args.client.now)) t.sessions.entries s)
+          (ap (λ s. record { clean = c.row.inside.clean; connection = c.row.inside.connection; state = s })
+          (c.in_ok-which.ensures.state
+          ∙ ap (λ filters. subscribed_in_turn usual_limits t.window t.retained c.row.inside.state filters) c.as_slice-filters.ensures)
+          ∙ ap (λ (k : ClientSession). holding (subscribed_in_turn usual_limits t.window t.retained k.state c.args.subscribe.now.filters) k) c.row.view_is))
+          ∙ sym (ap (λ p. p.0)
+          (subscribe_of t c.args.connection c.args.client.now kept c.args.subscribe.now
+          (is_served t c.args.connection c.args.client.now kept c.requires.consistent c.requires.served held)));
+      outputs = let s = c.args.subscribe.now in
+          let kept = c.unwrap-row.result.now in
+          let held : session_in c.args.client.now t.sessions.entries ≡ Some kept
+          = sym c.get_mut.ensures.value ∙ ap option_copied_mut c.unwrap-row.ensures in
+          let state : c.row.inside.state ≡ kept.state = ap (λ (k : ClientSession). k.state) c.row.view_is in
+          let which : c.in_ok-which.which.items ≡ granted_in_turn usual_limits t.window t.retained kept.state s.filters
+          = c.in_ok-which.ensures.which ∙ (λ i. granted_in_turn usual_limits t.window t.retained (state i) (c.as_slice-filters.ensures i)) in
+          let codes : c.in_ok-codes_of.field-0.items ≡ codes_of s.filters (granted_in_turn usual_limits t.window t.retained kept.state s.filters)
+          = c.in_ok-codes_of.ensures ∙ (λ i. codes_of (c.as_slice-filters.ensures i) ((c.deref-2.ensures.value ∙ which) i)) in
+          let sent : c.grant_all.new.sent.items ≡ sent_in_turn usual_limits t.window t.retained kept.state s.filters
+          = c.in_ok-which.ensures.sends
+          ∙ (λ i. c.new-sent.ensures.items i ++ sent_in_turn usual_limits t.window t.retained (state i) (c.as_slice-filters.ensures i)) in
+          c.in_ok-send_all.ensures
+          ∙ (λ i. c.in_ok-push.ensures.items i ++ map (outputs.Send c.args.connection) (sent i))
+          ∙ append_assoc c.args.out.now.items
+          (outputs.Send c.args.connection (packets.Suback (record { id = s.id; codes = c.new.result })) ∷ [])
+          (map (outputs.Send c.args.connection) (sent_in_turn usual_limits t.window t.retained kept.state s.filters))
+          ∙ ap (λ list. c.args.out.now.items
+          ++ outputs.Send c.args.connection (packets.Suback (record { id = s.id; codes = list }))
+          ∷ map (outputs.Send c.args.connection) (sent_in_turn usual_limits t.window t.retained kept.state s.filters))
+          (c.new.ensures ∙ codes)
+          ∙ ap (λ given. c.args.out.now.items ++ given)
+          (sym (ap (λ p. p.1)
+          (subscribe_of t c.args.connection c.args.client.now kept s
+          (is_served t c.args.connection c.args.client.now kept c.requires.consistent c.requires.served held))));
+    }
 
 pub returns-clause-tied : goal.returns-clause-tied
 returns-clause-tied c =

@@ -22,33 +22,28 @@ unwrap-row-requires c =
     let there = has_session c.args.self.now c.args.connection c.args.client.now c.requires.consistent c.requires.served in
     search (rules, there, c.get_mut.ensures.value)
 
-pub returns-clause-state : goal.returns-clause-state
-returns-clause-state c =
+pub returns-clause-step : goal.returns-clause-step
+returns-clause-step c =
     let t = c.args.self.now in
     let kept = c.unwrap-row.result.now in
     let held : session_in c.args.client.now t.sessions.entries ≡ Some kept
     = sym c.get_mut.ensures.value ∙ ap option_copied_mut c.unwrap-row.ensures in
-    ap (λ (rows : Sessions). record { window = t.window; sessions = rows; retained = t.retained })
-    ((c.get_mut.follows.holds _).0
-    ∙ ap (λ (s : ClientSession). set_value (is_at (by_bytes c.args.client.now)) t.sessions.entries s)
-    (ap (λ s. record { clean = c.row.inside.clean; connection = c.row.inside.connection; state = s })
-    (c.unsubscribe_all.ensures ∙ ap (λ filters. with_filters (without_filters filters c.row.inside.state.subscriptions) c.row.inside.state) c.as_slice.ensures)
-    ∙ ap (λ (k : ClientSession). holding (handled_state t.window (packets.Unsubscribe c.args.unsubscribe.now) k.state) k) c.row.view_is))
-    ∙ sym (ap (λ p. p.0)
-    (unsubscribe_of t c.args.connection c.args.client.now kept c.args.unsubscribe.now
-    (is_served t c.args.connection c.args.client.now kept c.requires.consistent c.requires.served held)))
-
-pub returns-clause-outputs : goal.returns-clause-outputs
-returns-clause-outputs c =
-    let t = c.args.self.now in
-    let kept = c.unwrap-row.result.now in
-    let held : session_in c.args.client.now t.sessions.entries ≡ Some kept
-    = sym c.get_mut.ensures.value ∙ ap option_copied_mut c.unwrap-row.ensures in
-    c.in_ok-push.ensures.items
-    ∙ ap (λ given. c.args.out.now.items ++ given)
-    (sym (ap (λ p. p.1)
-    (unsubscribe_of t c.args.connection c.args.client.now kept c.args.unsubscribe.now
-    (is_served t c.args.connection c.args.client.now kept c.requires.consistent c.requires.served held))))
+    record {
+      state = ap (λ (rows : Sessions). record { window = t.window; sessions = rows; retained = t.retained })
+          ((c.get_mut.follows.holds _).0
+          ∙ ap (λ (s : ClientSession). set_value (is_at (by_bytes c.args.client.now)) t.sessions.entries s)
+          (ap (λ s. record { clean = c.row.inside.clean; connection = c.row.inside.connection; state = s })
+          (c.unsubscribe_all.ensures ∙ ap (λ filters. with_filters (without_filters filters c.row.inside.state.subscriptions) c.row.inside.state) c.as_slice.ensures)
+          ∙ ap (λ (k : ClientSession). holding (handled_state t.window (packets.Unsubscribe c.args.unsubscribe.now) k.state) k) c.row.view_is))
+          ∙ sym (ap (λ p. p.0)
+          (unsubscribe_of t c.args.connection c.args.client.now kept c.args.unsubscribe.now
+          (is_served t c.args.connection c.args.client.now kept c.requires.consistent c.requires.served held)));
+      outputs = c.in_ok-push.ensures.items
+          ∙ ap (λ given. c.args.out.now.items ++ given)
+          (sym (ap (λ p. p.1)
+          (unsubscribe_of t c.args.connection c.args.client.now kept c.args.unsubscribe.now
+          (is_served t c.args.connection c.args.client.now kept c.requires.consistent c.requires.served held))));
+    }
 
 pub returns-clause-tied : goal.returns-clause-tied
 returns-clause-tied c =
