@@ -2,10 +2,10 @@ mod AllLanesByIndex
 mod CountsAreKept
 mod EachView
 pub mod ItemsOfALane
-mod LanesSettle
 mod MeetingKeepsTheRule
 mod PassesKeepTheRule
 mod Rights
 mod PassNumbers
+mod RestIsTaken
 mod StepsKeepTheRule
 mod TellingKeepsTheRule

@@ -142,7 +142,7 @@ impl<T: Drop, J: Naming> Receiver<T, J> {
     /// Takes all that is left, once the lanes send no more: `counts` gets how many items of each
     /// lane were taken before, and `left` those that are left over, in order. Takes no memory: both
     /// have their capacity beforehand.
-    pub fn settle<R: Wait>(
+    pub fn take_rest<R: Wait>(
         &mut self,
         rt: &R,
         lanes: &mut [Lane<T, J>],

@@ -270,7 +270,7 @@ impl<J: NodeNaming> NodeState<J> {
         let mut report = report;
         report.base = core.snapshot().0;
         report.gate_missed = gate_missed;
-        receiver.settle(rt, lanes, report.taken.as_mut_slice(), &mut report.left);
+        receiver.take_rest(rt, lanes, report.taken.as_mut_slice(), &mut report.left);
         report
     }
 }

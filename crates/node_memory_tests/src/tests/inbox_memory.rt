@@ -46,7 +46,7 @@ fn settles<J: Naming, R: Wait>(
     if !receiver.has_all(lanes) {
         return Some(false);
     }
-    receiver.settle(rt, lanes, counted.as_mut_slice(), &mut over);
+    receiver.take_rest(rt, lanes, counted.as_mut_slice(), &mut over);
     Some(counted.as_slice() == [1, 1].as_slice() && over.as_slice() == [(1, 21)].as_slice())
 }
 

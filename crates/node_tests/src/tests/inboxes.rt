@@ -88,7 +88,7 @@ fn settles<J: Naming, R: Wait>(
     if !receiver.has_all(lanes) {
         return false;
     }
-    receiver.settle(rt, lanes, counted.as_mut_slice(), &mut over);
+    receiver.take_rest(rt, lanes, counted.as_mut_slice(), &mut over);
     counted.as_slice() == counts && over.as_slice() == left
 }
 

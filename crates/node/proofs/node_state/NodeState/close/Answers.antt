@@ -11,23 +11,23 @@ use Rattle.node.proofs.node_state.NodeState.close.Goals as goal
 
 pub returns-clause-whole : goal.returns-clause-whole
 returns-clause-whole g c =
-    subst (λ counts. All (ArrivesWhole counts c.settle.new.left.items) c.settle.new.lanes)
-    (sym (written_back c.args.report.taken.len c.settle.new.counts c.args.report.taken.items (omega (arith, c.as_mut_slice.ensures.len))))
-    c.settle.ensures.whole
+    subst (λ counts. All (ArrivesWhole counts c.take_rest.new.left.items) c.take_rest.new.lanes)
+    (sym (written_back c.args.report.taken.len c.take_rest.new.counts c.args.report.taken.items (omega (arith, c.as_mut_slice.ensures.len))))
+    c.take_rest.ensures.whole
 
 pub returns-clause-counted : goal.returns-clause-counted
 returns-clause-counted g c =
     subst (λ counts. EachIndex counts (λ lane. slice_index counts lane ≡ length (items_of lane c.args.self.taker.taken)))
-    (sym (written_back c.args.report.taken.len c.settle.new.counts c.args.report.taken.items (omega (arith, c.as_mut_slice.ensures.len))))
-    (subst (λ (s : Seen). EachIndex c.settle.new.counts (λ lane. slice_index c.settle.new.counts lane ≡ length (items_of lane s.taker.taken)))
-    c.self.view_is c.settle.ensures.counted)
+    (sym (written_back c.args.report.taken.len c.take_rest.new.counts c.args.report.taken.items (omega (arith, c.as_mut_slice.ensures.len))))
+    (subst (λ (s : Seen). EachIndex c.take_rest.new.counts (λ lane. slice_index c.take_rest.new.counts lane ≡ length (items_of lane s.taker.taken)))
+    c.self.view_is c.take_rest.ensures.counted)
 
 pub returns-clause-all : goal.returns-clause-all
 returns-clause-all g c =
-    subst (λ (s : Seen). All (ReportsAll s.taker.taken c.settle.new.left.items) c.settle.new.lanes)
+    subst (λ (s : Seen). All (ReportsAll s.taker.taken c.take_rest.new.left.items) c.take_rest.new.lanes)
     c.self.view_is
     (λ place other within.
-    let lane : ℕ = (slice_index_or c.settle.new.lanes place other).lane in
-    sym (items_of-append lane _ c.settle.new.left.items)
-    ∙ sym (ap (λ (r : Taker Item). items_of lane r.taken) c.settle.ensures.taken)
-    ∙ c.settle.ensures.arrived place other within)
+    let lane : ℕ = (slice_index_or c.take_rest.new.lanes place other).lane in
+    sym (items_of-append lane _ c.take_rest.new.left.items)
+    ∙ sym (ap (λ (r : Taker Item). items_of lane r.taken) c.take_rest.ensures.taken)
+    ∙ c.take_rest.ensures.arrived place other within)

@@ -1,6 +1,6 @@
 use Rattle.std.proofs.Common.{◌≡◌, ◌++◌, map}
 use Rattle.mailbox.specs.Ends.{unmet}
-use Rattle.mailbox.proofs.receiver.Receiver.settle.Given as goal
+use Rattle.mailbox.proofs.receiver.Receiver.take_rest.Given as goal
 
 abbrev pub invariant-loop : goal.invariant-loop
 invariant-loop g l = record {

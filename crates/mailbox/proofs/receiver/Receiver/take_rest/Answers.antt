@@ -1,8 +1,8 @@
 use Rattle.std.proofs.Common.{◌≡◌, ◌<◌, ◌∙◌, ◌++◌, length, sym, ap, append_assoc, refl, arith}
 use Rattle.std.specs.Prelude.{slice_index}
 use Rattle.mailbox.specs.Delivery.{items_of}
-use Rattle.mailbox.proofs.LanesSettle.{of_all_lanes, still_all_lanes, settled}
-use Rattle.mailbox.proofs.receiver.Receiver.settle.Goals as goal
+use Rattle.mailbox.proofs.RestIsTaken.{of_all_lanes, still_all_lanes, all_arrives}
+use Rattle.mailbox.proofs.receiver.Receiver.take_rest.Goals as goal
 
 pub meets_all-requires : goal.meets_all-requires
 meets_all-requires g c =
@@ -15,7 +15,7 @@ returns-then-meets_all-clause-whole g c =
     let drained = c.drain.ensures in
     let lanes = ap (λ r. r.lanes) c.self.view_is in
     let taken = ap (λ r. r.taken) c.self.view_is in
-    settled c.copy_from_slice.new.self c.args.self.now.taken c.drain.new.self.taken c.drain.new.left.items c.args.self.now _
+    all_arrives c.copy_from_slice.new.self c.args.self.now.taken c.drain.new.self.taken c.drain.new.left.items c.args.self.now _
     (ap (λ r. r.taken) drained.history
     ∙ ap (λ l. l ++ drained.more) (ap (λ r. r.taken) c.loop.invariant.receiver)
     ∙ append_assoc c.args.self.now.taken _ drained.more

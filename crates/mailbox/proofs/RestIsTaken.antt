@@ -91,13 +91,13 @@ module _ {T : Type 0} where
       let sent : s.sent ≡ a ++ b = sym all ∙ ap (items_of s.lane) is ∙ items_of-append s.lane before left in
       (λ i. take (counted i) (sent i) ++ b) ∙ ap (λ l. l ++ b) (take-append_seam a b) ∙ sym sent
 
-  pub settled : (counts : List ℕ) (before now left : List (ℕ × T)) (r : Taker T) (lanes : List (Sender T))
+  pub all_arrives : (counts : List ℕ) (before now left : List (ℕ × T)) (r : Taker T) (lanes : List (Sender T))
       → now ≡ before ++ left
       → ((k : ℕ) → k < r.lanes → slice_index counts k ≡ length (items_of k before))
       → AreAllLanes r lanes
       → All (IsDrained now) lanes
       → All (ArrivesWhole counts left) lanes
-  settled counts before now left r lanes is counted are all k d within =
+  all_arrives counts before now left r lanes is counted are all k d within =
       arrives counts before now left (slice_index_or lanes k d) is
       (of_all_lanes (λ s. slice_index counts s.lane ≡ length (items_of s.lane before)) r lanes are counted k d within)
       (all k d within)
