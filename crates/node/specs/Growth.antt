@@ -16,7 +16,7 @@ use Rattle.world_base.specs.declared.item.Item.TheVariants.{Peer, Bytes, Cut}
 abbrev pub bytes_of_packet : Packet → ℕ
 bytes_of_packet (packets.Publish publish) = length publish.topic + length publish.payload
 bytes_of_packet (packets.Subscribe subscribe) =
-    sum_by (λ (wish : Subscription). length wish.filter) subscribe.filters
+    sum_by (λ (subscription : Subscription). length subscription.filter) subscribe.filters
 bytes_of_packet (packets.Unsubscribe unsubscribe) =
     sum_by (λ (filter : List ℕ). length filter) unsubscribe.filters
 bytes_of_packet _ = 0

@@ -86,13 +86,13 @@ fn add_packet(bytes: u64, packet: &Packet) -> u64
 
 // Adds the bytes of the filters that a client subscribes to.
 fn add_subscribe(bytes: u64, subscribe: &Subscribe) -> u64
-    ensures { result
-        ≡ counted (bytes + sum_by (λ (wish : _). length wish.filter) subscribe.now.filters) }
+    ensures { result ≡ counted (bytes
+        + sum_by (λ (subscription : _). length subscription.filter) subscribe.now.filters) }
 {
-    let wishes = subscribe.filters.as_slice();
+    let subscriptions = subscribe.filters.as_slice();
     let mut bytes = bytes;
-    for wish in wishes {
-        bytes = add(bytes, wish.filter.as_str().len());
+    for subscription in subscriptions {
+        bytes = add(bytes, subscription.filter.as_str().len());
     }
     bytes
 }

@@ -4,7 +4,7 @@ use Rattle.world_base.specs.packet.declared.subscribe.Subscription.{Subscription
 use Rattle.node.specs.Growth.{counted}
 use Rattle.node.proofs.growth.add_subscribe.Given as goal
 
-abbrev pub invariant-loop-wish : goal.invariant-loop-wish
-invariant-loop-wish l =
+abbrev pub invariant-loop-subscription : goal.invariant-loop-subscription
+invariant-loop-subscription l =
     l.bytes
-    ≡ counted (l.initial.bytes + sum_by (λ (wish : Subscription). length wish.filter) (take l.wish-index l.wishes))
+    ≡ counted (l.initial.bytes + sum_by (λ (subscription : Subscription). length subscription.filter) (take l.subscription-index l.subscriptions))
