@@ -1,8 +1,9 @@
 -- Auxiliary definitions.
-use Rattle.std.specs.Prelude.{◌≡◌, ℕ, List, [], ◌∷◌, ◌++◌, Some, Result, length, map}
+use Rattle.std.specs.Prelude.{◌≡◌, ℕ, Bool, true, false, List, [], ◌∷◌, ◌++◌, Some, Result, length, map}
 use Rattle.world.specs.master.declared.event.Idle.{Idle}
 use Rattle.script.specs.session_base.declared.publication.Publication.{Publication}
 use Rattle.script.specs.declared.script_line.ScriptLine.{ScriptLine}
+use Rattle.script.specs.declared.script_line.ScriptLine.TheVariants as lines
 use Rattle.play.specs.Lines.{end_line}
 use Rattle.world.specs.world_events.declared.event.Event.{Event}
 use Rattle.world.specs.Trace.{StaysReached, KeepsGroup}
@@ -13,6 +14,15 @@ use Rattle.play.specs.declared.played_world.Recipient.{Recipient}
 use Rattle.play.specs.Events.{asked_in, event_of}
 use Rattle.play.specs.Transcripts.{EventComesTo, IsAskedIn, IsEventLine, Played, ScriptStep}
 use Rattle.play.specs.AcceptedLines.{accepted_in, lines_after}
+
+-- a line that asks a client for a call
+abbrev pub is_call : ScriptLine → Bool
+is_call (lines.Abandon client) = true
+is_call (lines.Disconnect client) = true
+is_call (lines.Publish client publication) = true
+is_call (lines.Subscribe client filter qos) = true
+is_call (lines.Unsubscribe client filter) = true
+is_call _ = false
 
 -- what a line asks of a client, whatever waits on connections
 abbrev pub IsCallOf : ScriptLine → Event → Type 0

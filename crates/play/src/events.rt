@@ -6,7 +6,7 @@ ghost use Rattle.world.specs.world_events.declared.event.Event.TheVariants as ev
 ghost use Rattle.world.specs.Found.{way_of};
 ghost use Rattle.world.specs.Cannot.{down_of, up_of};
 ghost use Rattle.play.specs.Events.{asked_in, assign_of, count_of, is_small, node_of};
-ghost use Rattle.play.specs.Inside.{IsCallOf};
+ghost use Rattle.play.specs.Inside.{IsCallOf, is_call};
 
 use crate::error::PlayError;
 use ballot_base::{Config, Members};
@@ -42,12 +42,17 @@ pub(crate) fn event_of(
             Ok(Some(Event::CarryDown(*connection, count)))
         }
         ScriptLine::Notice(connection) => Ok(Some(Event::Notice(*connection))),
-        _ => Ok(Some(call(line)?)),
+        ScriptLine::Abandon(_)
+        | ScriptLine::Disconnect(_)
+        | ScriptLine::Publish(_, _)
+        | ScriptLine::Subscribe(_, _, _)
+        | ScriptLine::Unsubscribe(_, _) => Ok(Some(call(line)?)),
     }
 }
 
 // Returns what a client has to do.
 fn call(line: &ScriptLine) -> Result<Event, PlayError>
+    requires { is_call line.now ≡ true }
     ensures event { IfOk result (λ event. IsCallOf line.now event) }
     ensures memory { OnErr result (IsErrOf result PlayError.Memory) }
 {
@@ -63,8 +68,7 @@ fn call(line: &ScriptLine) -> Result<Event, PlayError>
         ScriptLine::Unsubscribe(client, filter) => {
             Ok(Event::Unsubscribe(client.clone()?, filter.clone()?))
         }
-        // This does not come: `event_of` does every other line itself.
-        _ => Err(PlayError::Memory),
+        _ => unreachable!(),
     }
 }
 
