@@ -14,8 +14,7 @@ use Rattle.node.specs.Message.{Message}
 use Rattle.node.specs.declared.Body.{Body}
 use Rattle.node.specs.declared.Body.TheVariants.{Activate, NewBallot}
 use Rattle.node.specs.declared.Config.{Config}
-use Rattle.node.specs.Effect.TheVariants.{To}
-use Rattle.outbox.specs.Given.{WasGiven}
+use Rattle.outbox.specs.Given.{WasGivenToMaster}
 use Rattle.outbox.specs.Mastering.{IsReachable, WasAnswered}
 use Rattle.outbox.specs.Mastering.Answers.{to_node, to_order}
 use Rattle.outbox.specs.Mastering.IsReachable.{answers, opens}
@@ -50,13 +49,13 @@ answered_order old config ballot previous members of_previous reachable taken b 
   is = λ i. record { receiver = config.primary; message = record { from = 0; body = NewBallot (b i) (m i) (p i) (o i) } };
 }
 
-pub reachable_by_node : (old new : MasterState) (asked : Message Command) (ballot : ℕ) → IsReachable old → WasGiven (To 0 asked)
+pub reachable_by_node : (old new : MasterState) (asked : Message Command) (ballot : ℕ) → IsReachable old → WasGivenToMaster asked
     → asked.body ≡ Activate ballot → new ≡ activating old ballot old.waiting → IsReachable new
 reachable_by_node old new asked ballot reachable given asks is =
     subst IsReachable (sym is) (answers (activated Command old ballot asked.from old.waiting) reachable (to_node asked ballot given asks))
 
 pub answered_node : (old : MasterState) (asked : Message Command) (ballot : ℕ) (body : Body Command) (given : Activation)
-    → IsReachable old → WasGiven (To 0 asked) → asked.body ≡ Activate ballot
+    → IsReachable old → WasGivenToMaster asked → asked.body ≡ Activate ballot
     → given ≡ (if is_granted old ballot old.waiting then activation.Activated else activation.Superseded)
     → body ≡ answer_of given ballot
     → WasAnswered asked.from (record { from = 0; body = body })

@@ -1,8 +1,10 @@
 -- What a step of a node gave for others.
 use Rattle.std.specs.Prelude.{◌≡◌, ℕ, List}
+use Rattle.master.specs.ballot_base.Sending.{master}
 use Rattle.node.specs.Command.{Command}
 use Rattle.node.specs.Output.{Output}
 use Rattle.node.specs.Effect.{Effect}
+use Rattle.node.specs.Effect.TheVariants.{To}
 use Rattle.node.specs.Message.{Message}
 use Rattle.node.specs.declared.Config.{Config}
 use Rattle.node.specs.declared.Item.{Item}
@@ -11,10 +13,14 @@ use Rattle.node.specs.Losses.{NodeStepped}
 use Rattle.node.specs.Lists.{In}
 use Rattle.node.specs.State.{Replays}
 
--- a message, and the number of the node that it is for; 0 is the master
+-- a message, and the number of the node or the master that it is for
 pub record Addressed : Type 0 where
   pub receiver : ℕ
   pub message : Message Command
+
+-- the receiver of this number is the master, whose number is 0
+abbrev pub IsMaster : ℕ → Type 0
+IsMaster receiver = receiver ≡ master
 
 -- a node that has just opened, under some number in some configuration of ballot 1
 pub record IsNewNode (core : CountedCore) : Type 0 where
@@ -46,3 +52,7 @@ pub record WasGiven (effect : Effect Command Output) : Type 0 where
   pub after : List (Effect Command Output)
   pub step : NodeStepped core item next before after
   pub gives : In effect step.given
+
+-- a step of a node gave this message for the master
+abbrev pub WasGivenToMaster : Message Command → Type 0
+WasGivenToMaster message = WasGiven (To master message)

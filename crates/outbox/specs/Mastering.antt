@@ -9,8 +9,7 @@ use Rattle.node.specs.Message.{Message}
 use Rattle.node.specs.declared.Body.{Body}
 use Rattle.node.specs.declared.Body.TheVariants.{Activate}
 use Rattle.node.specs.declared.Config.{Config}
-use Rattle.node.specs.Effect.TheVariants.{To}
-use Rattle.outbox.specs.Given.{Addressed, WasGiven}
+use Rattle.outbox.specs.Given.{Addressed, WasGivenToMaster}
 
 -- what the master answers to a message of a node: only an Activate gets an answer
 abbrev pub answer_to : MasterState → ℕ → Body Command → Option (MasterOutcome Command)
@@ -42,7 +41,7 @@ pub data Answers (master : MasterState) : MasterOutcome Command → Type 0 where
       → refusal master config ≡ None → Answers master (assigned Command master config)
   -- a step of a node gave the Activate
   to_node : (asked : Message Command) (ballot : ℕ)
-      → WasGiven (To 0 asked) → asked.body ≡ Activate ballot
+      → WasGivenToMaster asked → asked.body ≡ Activate ballot
       → Answers master (activated Command master ballot asked.from master.waiting)
 
 -- the states that it reaches, from its opening on, by one answer after another

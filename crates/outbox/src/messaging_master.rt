@@ -6,8 +6,7 @@ ghost use Rattle.master.specs.agreement.MasterState.AssignRefusal.{bad_members, 
 ghost use Rattle.master.specs.ballot_base.LawfulConfig.{is_lawful};
 ghost use Rattle.master.specs.snapshots.Masters.{assigned};
 ghost use Rattle.node.specs.Command.{Command};
-ghost use Rattle.node.specs.Effect.TheVariants.{To};
-ghost use Rattle.outbox.specs.Queued.{WasAnswered, WasGiven};
+ghost use Rattle.outbox.specs.Queued.{WasAnswered, WasGivenToMaster};
 ghost use Rattle.outbox.specs.Mastering.{MayGet, answer_to, master_after, message_if, message_of};
 
 use crate::order_error::OrderError;
@@ -138,7 +137,7 @@ impl MessagingMaster {
 
     /// Answers a message of a node, if it asks for a ballot to become the active one.
     pub fn answer(&mut self, asked: Message<Command>) -> Option<Answer>
-        requires { WasGiven (To 0 asked) }
+        requires { WasGivenToMaster asked }
         ensures answer { result ≡ message_if (answer_to self.old asked.from asked.body) }
         ensures state { self.new
             ≡ master_after self.old (answer_to self.old asked.from asked.body) }
