@@ -1,5 +1,6 @@
 -- What waits for a node.
-use Rattle.std.specs.Prelude.{ℕ, ◌+◌, ◌≤◌, Bool, false, ◌||◌, not, nat_lt, if◌then◌else◌, List, [], ◌∷◌, length}
+use Rattle.std.specs.Prelude.{◌≡◌, ℕ, ◌+◌, ◌≤◌, Bool, false, ◌||◌, not, nat_lt, if◌then◌else◌, List, [], ◌∷◌, length}
+use Rattle.master.specs.agreement.MasterState.{MasterState}
 use Rattle.node.specs.Lists.{Each}
 use Rattle.node.specs.declared.Item.{Item}
 use Rattle.node.specs.declared.Item.TheVariants.{Peer}
@@ -9,6 +10,11 @@ use Rattle.outbox.specs.Queued.{IsQueued}
 pub record Waiting : Type 0 where
   pub number : ℕ
   pub items : List Item
+
+-- an order was not done: what waits for the node and the state of the master are as before
+pub record AreUnchanged (old new : Waiting) (master after : MasterState) : Type 0 where
+  pub outbox : new ≡ old
+  pub master : after ≡ master
 
 -- whether an item is a message of another node; the master's number is 0
 abbrev pub is_of_node : Item → Bool

@@ -11,7 +11,7 @@ ghost use Rattle.master.specs.snapshots.Masters.{assigned};
 ghost use Rattle.outbox.specs.Queued.{IsPosted, IsQueued};
 ghost use Rattle.outbox.specs.Mastering.{MayGet, message_of};
 ghost use Rattle.outbox.specs.Superseding.{newest, still_waiting, supersedes_one};
-ghost use Rattle.outbox.specs.Waiting.{has_room, is_of_node};
+ghost use Rattle.outbox.specs.Waiting.{AreUnchanged, has_room, is_of_node};
 ghost use Rattle.outbox.specs.Waking.{is_long, wakes};
 
 use crate::messaging_master::{Answer, MessagingMaster};
@@ -147,7 +147,7 @@ impl Outbox {
             → refusal master.old config ≡ Some ballots_spent }
 
         // If it is refused, or memory runs out, nothing changes.
-        ensures same { OnErr result ((self.new ≡ self.old) × (master.new ≡ master.old)) }
+        ensures same { OnErr result (AreUnchanged self.old self.new master.old master.new) }
     {
         if self.items.reserve(1).is_err() {
             return Err(OrderError::Memory);
