@@ -82,6 +82,10 @@ impl Cluster {
         ensures spent { IsErrOf result (OrderError.Refused AssignError.BallotsSpent)
             → (is_lawful config.members config.primary && are_nodes self.now config.members)
             ≡ true }
+
+        // A member that is no node is always answered so, whether or not there is memory.
+        ensures stranger { are_nodes self.now config.members ≡ false
+            → IsErrOf result (OrderError.Refused AssignError.BadMembers) }
     {
         if !self.has_all(config.members.as_slice()) {
             return Err(OrderError::Refused(AssignError::BadMembers));
