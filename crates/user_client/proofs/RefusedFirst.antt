@@ -21,7 +21,7 @@ use Rattle.client.specs.Core.{AppendsAll, publication_with}
 use Rattle.user_client.specs.declared.user_client_error.UserClientError.{UserClientError}
 use Rattle.user_client.specs.declared.user_client_error.UserClientError.TheVariants as faults
 use Rattle.user_client.specs.Refusals.{IsRefusedFor, RefusesPacket, fault_of_call, first_publish}
-use Rattle.user_client.specs.Publishing.{WasTaken, unkept}
+use Rattle.user_client.specs.Publishing.{TakesPublish, unkept}
 use Rattle.user_client.specs.Tracing.{Called, IsAsked, new_called}
 
 -- the refusal of a publication at QoS 1 or 2 by a new client
@@ -113,11 +113,9 @@ wrote_once retain topic payload old new (does, was) =
 pub taken_once : {D : Type 0} (contents : D → Option (List ℕ)) (before after : D) (publish : Publish) (old new : Called)
     (topic payload : List ℕ) → topic ≡ publish.topic → payload ≡ publish.payload
     → IsAsked (publication_with publish.retain qualities.AtMostOnce topic payload) old new
-    → Appends (contents before) (contents after) new.core.out → WasTaken contents publish
+    → Appends (contents before) (contents after) new.core.out → TakesPublish contents publish before after
 taken_once contents before after publish old new topic payload same_topic same_payload asked taken =
     record {
-      old = before;
-      new = after;
       before = old.core.out;
       bytes = new.core.out;
       spelled = subst (λ (t : List ℕ). AppendsSpelling old.core.out new.core.out (packets.Publish

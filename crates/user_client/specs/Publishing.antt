@@ -39,24 +39,36 @@ HasPublication qualities.AtLeastOnce id p it =
 HasPublication qualities.ExactlyOnce id p it =
     (it.caller.core.state ≡ keeping id p) × (it.once ≡ None)
 
--- a stream took this PUBLISH at QoS 0 as a whole, after the bytes that its client wrote before it
-pub record WasTaken {D : Type 0} (contents : D → Option (List ℕ)) (publish : Publish)
-    : Type 0 where
-  pub old : D
-  pub new : D
+-- between these two states of a stream it took this PUBLISH at QoS 0 as a whole, after the bytes
+-- that its client wrote before it
+pub record TakesPublish {D : Type 0} (contents : D → Option (List ℕ)) (publish : Publish)
+    (old new : D) : Type 0 where
   pub before : List ℕ
   pub bytes : List ℕ
   pub spelled : AppendsSpelling before bytes
       (packets.Publish (record publish { delivery = deliveries.AtMostOnce }))
   pub taken : Appends (contents old) (contents new) bytes
 
--- what is answered is acknowledged as a whole: the client keeps no publication; a publication at
--- QoS 0 was taken by a stream
-abbrev pub IsAcknowledgedAs :
-    {D : Type 0} → (D → Option (List ℕ)) → Option Publish → Called → Type 0
-IsAcknowledgedAs contents None caller = kept_count caller.core.state ≡ 0
-IsAcknowledgedAs contents (Some publish) caller = WasTaken contents publish
+-- the last that this stream took is this PUBLISH
+abbrev pub WasTakenBy : {D : Type 0} → (D → Option (List ℕ)) → D → Publish → Type 0
+WasTakenBy {D} contents stream publish = (old : D) × TakesPublish contents publish old stream
+
+-- a stream of this type took this PUBLISH
+abbrev pub WasTaken : {D : Type 0} → (D → Option (List ℕ)) → Publish → Type 0
+WasTaken {D} contents publish = (stream : D) × WasTakenBy contents stream publish
+
+-- what is answered is acknowledged as a whole: the client keeps no publication; one at QoS 0 was
+-- taken
+abbrev pub IsAcknowledgedAs : (Publish → Type 0) → Option Publish → Called → Type 0
+IsAcknowledgedAs taken None caller = kept_count caller.core.state ≡ 0
+IsAcknowledgedAs taken (Some publish) caller = taken publish
 
 -- what a `Publishing` was to publish is acknowledged
 abbrev pub IsAcknowledged : {D : Type 0} → (D → Option (List ℕ)) → Publishing → Type 0
-IsAcknowledged contents publishing = IsAcknowledgedAs contents publishing.once publishing.caller
+IsAcknowledged contents publishing =
+    IsAcknowledgedAs (WasTaken contents) publishing.once publishing.caller
+
+-- the same, where a publication at QoS 0 is the last that this stream took
+abbrev pub IsAcknowledgedBy : {D : Type 0} → (D → Option (List ℕ)) → D → Publishing → Type 0
+IsAcknowledgedBy contents stream publishing =
+    IsAcknowledgedAs (WasTakenBy contents stream) publishing.once publishing.caller

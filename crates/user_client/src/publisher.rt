@@ -9,7 +9,7 @@ ghost use Rattle.client.specs.packet.declared.qos.QoS.TheVariants as qualities;
 ghost use Rattle.client.specs.session_base.Publication.{is_answered};
 ghost use Rattle.user_client.specs.Losing.{IsGivenUp, IsLostBy};
 ghost use Rattle.user_client.specs.Tracing.{Trace};
-ghost use Rattle.user_client.specs.Publishing.{HasPublication, IsAcknowledged, WasTaken, unkept};
+ghost use Rattle.user_client.specs.Publishing.{HasPublication, IsAcknowledged, IsAcknowledgedBy, TakesPublish, unkept};
 ghost use Rattle.user_client.specs.Refusals.{IsPublishable, RefusesPacket, RefusesPublisher, first_publish};
 
 use crate::caller::{Caller, News};
@@ -135,7 +135,8 @@ impl Publisher {
         buffer: &mut [u8],
     ) -> Result<Progress, UserClientError>
         ensures acknowledged { IfOk result (λ progress.
-            progress ≡ Progress.Done → IsAcknowledged D.contents self.new) }
+            progress ≡ Progress.Done
+            → IsAcknowledgedBy D.contents stream.new.device self.new) }
         ensures trace { OnOk result (Trace self.old.caller [] self.new.caller) }
         ensures same { self.new.once ≡ self.old.once }
         ensures lost { IfErr result (IsLostBy self.old.caller self.new.caller) }
@@ -151,7 +152,8 @@ impl Publisher {
         stream: &mut Counted<D>,
     ) -> Result<Progress, UserClientError>
         ensures acknowledged { IfOk result (λ progress.
-            progress ≡ Progress.Done → IsAcknowledged D.contents self.new) }
+            progress ≡ Progress.Done
+            → IsAcknowledgedBy D.contents stream.new.device self.new) }
         ensures trace { OnOk result (Trace self.old.caller [] self.new.caller) }
         ensures same { self.new.once ≡ self.old.once }
         ensures lost { IfErr result (λ fault. fault ≢ UserClientError.Lost) }
@@ -260,7 +262,8 @@ fn send_once<D: Read + Write>(
 ) -> Result<Progress, UserClientError>
     ensures trace { OnOk result (Trace caller.old [] caller.new) }
     ensures taken { IfOk result (λ progress.
-        progress ≡ Progress.Done → WasTaken D.contents publish.now) }
+        progress ≡ Progress.Done → TakesPublish D.contents publish.now
+        stream.old.device stream.new.device) }
     ensures lost { IfErr result (λ fault. fault ≢ UserClientError.Lost) }
 {
     let topic = publish.topic.clone()?;

@@ -9,7 +9,7 @@ returns-in-Lost-clause-trace g c = traces_follow c.loop.invariant.0 c.in_ok-cont
 
 pub returns-in-Done-clause-acknowledged : goal.returns-in-Done-clause-acknowledged
 returns-in-Done-clause-acknowledged g c =
-    λ _. stays_acknowledged g.D.Write.contents c.self-in-loop.inside.caller c.disconnect.new.caller c.self-in-loop.inside.once c.self-in-loop.view_is
+    λ _. stays_acknowledged g.D.Write.contents c.continue_once.new.stream.device c.self-in-loop.inside.caller c.disconnect.new.caller c.self-in-loop.inside.once c.self-in-loop.view_is
     c.disconnect.ensures.kept (c.in_ok-continue_once.ensures.acknowledged c.in-Done.is)
 
 pub returns-in-Done-clause-trace : goal.returns-in-Done-clause-trace
