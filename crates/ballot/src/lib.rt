@@ -2,13 +2,12 @@
 //! protocol, for any machine that meets the laws of `machine`.
 #![tactic(auto)]
 
-mod error;
 mod replica;
 
 pub use ballot_base::{
     Body, Config, Effect, Log, MASTER, MAX_MEMBERS, MAX_NODE, Members, Message, Role, Status,
     copy_log,
 };
-pub use error::{OpeningError, ProposeError};
+pub use ballot_errors::{OpeningError, ProposeError};
 pub use machine::{Halted, Machine, Memory, ThawFault};
 pub use replica::{MAX_PLACES, Replica};

@@ -13,11 +13,11 @@ ghost use Rattle.ballot_base.specs.Replica.{progress_at, status_of};
 ghost use Rattle.ballot_base.specs.Sending.{message_to_followed};
 ghost use Rattle.ballot_base.specs.Serving.{added, commit_at, max_places, proposed};
 
-use crate::error::{OpeningError, ProposeError};
 use ballot_base::{
     Body, Config, Effect, Log, MAX_NODE, Members, Progress, Role, Status, apply_places, counted,
     least_held, progress_of_others, send_appends, send_commits,
 };
+use ballot_errors::{OpeningError, ProposeError};
 use machine::{Halted, Machine, Memory};
 use std::alloc::Global;
 use std::marker::Model;

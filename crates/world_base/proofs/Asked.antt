@@ -6,8 +6,8 @@ use Rattle.broker.specs.broker_base.State.{State}
 use Rattle.node_connections.specs.broker_spec.declared.command.Command.{Command}
 use Rattle.node_connections.specs.broker_spec.declared.command.Output.{Output}
 use Rattle.ballot.specs.Logs.{places}
-use Rattle.ballot.specs.declared.error.ProposeError.{ProposeError}
-use Rattle.ballot.specs.declared.error.ProposeError.TheVariants.{NotActive, LogFull, Memory, Halted}
+use Rattle.ballot.specs.ProposeError.{ProposeError}
+use Rattle.ballot.specs.ProposeError.TheVariants.{NotActive, LogFull, Memory, Halted}
 use Rattle.ballot.specs.Effect.{Effect}
 use Rattle.ballot.specs.Losses.{Stepped, Steps, one_more}
 use Rattle.ballot.specs.Replica.{CountedReplica, ReplicaState, is_active}

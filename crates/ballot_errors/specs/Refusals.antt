@@ -1,10 +1,10 @@
 -- The numbers of the refusals, as in the table of refusals.
 use Rattle.std.specs.Prelude.{ℕ}
-use Rattle.ballot.specs.declared.error.OpeningError.{OpeningError}
-use Rattle.ballot.specs.declared.error.ProposeError.{ProposeError}
-use Rattle.ballot.specs.declared.error.OpeningError.TheVariants.{BadMembers}
-use Rattle.ballot.specs.declared.error.OpeningError.TheVariants as opening
-use Rattle.ballot.specs.declared.error.ProposeError.TheVariants.{NotActive, LogFull, Memory, Halted}
+use Rattle.ballot_errors.specs.declared.error.OpeningError.{OpeningError}
+use Rattle.ballot_errors.specs.declared.error.ProposeError.{ProposeError}
+use Rattle.ballot_errors.specs.declared.error.OpeningError.TheVariants.{BadMembers}
+use Rattle.ballot_errors.specs.declared.error.OpeningError.TheVariants as opening
+use Rattle.ballot_errors.specs.declared.error.ProposeError.TheVariants.{NotActive, LogFull, Memory, Halted}
 
 -- a replica that was not opened
 abbrev pub opening_number : OpeningError → ℕ

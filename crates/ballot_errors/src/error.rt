@@ -1,7 +1,7 @@
 // Why a replica did not open, or did not take a proposal.
 
 ghost use Rattle.std.specs.Prelude.{◌≡◌};
-ghost use Rattle.ballot.specs.Refusals.{opening_number, propose_number};
+ghost use Rattle.ballot_errors.specs.Refusals.{opening_number, propose_number};
 
 use machine::Memory;
 use std::alloc::{AllocError, AllocFailed};
@@ -43,7 +43,7 @@ impl fmt::Display for OpeningError {
 impl Error for OpeningError {}
 
 impl From<Memory> for OpeningError {
-    ghost use Rattle.ballot.specs.declared.error.OpeningError.TheVariants.{Memory};
+    ghost use Rattle.ballot_errors.specs.declared.error.OpeningError.TheVariants.{Memory};
 
     ghost from_gives = { λ _ error. error ≡ Memory };
 
@@ -53,7 +53,7 @@ impl From<Memory> for OpeningError {
 }
 
 impl From<AllocError> for OpeningError {
-    ghost use Rattle.ballot.specs.declared.error.OpeningError.TheVariants.{Memory};
+    ghost use Rattle.ballot_errors.specs.declared.error.OpeningError.TheVariants.{Memory};
 
     ghost from_gives = { λ _ error. error ≡ Memory };
 
@@ -63,7 +63,7 @@ impl From<AllocError> for OpeningError {
 }
 
 impl<T: Drop> From<AllocFailed<T>> for OpeningError {
-    ghost use Rattle.ballot.specs.declared.error.OpeningError.TheVariants.{Memory};
+    ghost use Rattle.ballot_errors.specs.declared.error.OpeningError.TheVariants.{Memory};
 
     ghost from_gives = { λ _ error. error ≡ Memory };
 
