@@ -20,8 +20,9 @@ use Rattle.headline.proofs.of_node_group.NamesInGroups.{puts_in_the_ballot_of_th
 use Rattle.headline.proofs.of_node_group.Ordered.{groups_keep_the_order, in_agreed}
 use Rattle.headline.proofs.of_node_group.Packets.{packets_join}
 use Rattle.escaping_nodes.specs.world_nodes.Nodes.{NodesState}
-use Rattle.world.specs.Trace.{AgreedGrows, StepsOfGroup, NodesGo}
-use Rattle.world.specs.Trace.StepsOfGroup.{rests, goes_on}
+use Rattle.world.specs.Trace.{AgreedGrows}
+use Rattle.world_clients.specs.NodesGoOn.{StepsOfGroup, NodesGo}
+use Rattle.world_clients.specs.NodesGoOn.StepsOfGroup.{rests, goes_on}
 use Rattle.world.proofs.OneAgreed.{one_agreed}
 
 -- A group that continued from another: its past continues from the past of that one.

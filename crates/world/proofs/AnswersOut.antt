@@ -28,15 +28,18 @@ use Rattle.escaping_nodes.specs.world_nodes.Nodes.{NodesState}
 use Rattle.escaping_nodes.proofs.of_world_nodes.Acts.{acts}
 use Rattle.world_events.specs.declared.event.Event.{Event}
 use Rattle.world_events.specs.declared.event.Event.TheVariants as events
-use Rattle.world.specs.Found.{is_named, port_of}
+use Rattle.world_clients.specs.Clients.{is_named}
+use Rattle.world.specs.Found.{port_of}
 use Rattle.world.specs.Gathering.{Gathers}
-use Rattle.world.specs.Trace.{WorldLosesNothing, NodesGo}
+use Rattle.world.specs.Trace.{WorldLosesNothing}
+use Rattle.world_clients.specs.NodesGoOn.{NodesGo}
 use Rattle.world.specs.Happening.{EventsHappen}
-use Rattle.world.specs.SlotsAreValid.{SlotsAreValid, leads_of}
+use Rattle.world_clients.specs.SlotsAreValid.{SlotsAreValid, leads_of}
 use Rattle.world.specs.World.{WorldState}
 use Rattle.world.proofs.ExactRuns.{in_two}
-use Rattle.world.proofs.GroupGoes.{acts_go, with_nodes}
-use Rattle.world.proofs.NodesGoOn.{nodes_go_join}
+use Rattle.world_clients.proofs.NodesGoOn.{acts_go}
+use Rattle.world.proofs.GroupGoes.{with_nodes}
+use Rattle.world_clients.proofs.NodesGoOn.{nodes_go_join}
 use Rattle.world.proofs.PassesOn.{Passes, gathers_passes, passes_join}
 use Rattle.world.proofs.PutsFirst.{AnsweredTo, BeforeLast, IsAnswered, answers_last, numbers_before, put_first}
 use Rattle.world.proofs.StandsOn.{IsNewest}

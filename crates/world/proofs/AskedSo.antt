@@ -17,11 +17,12 @@ use Rattle.world_events.specs.world_pipes.Piped.{Piped}
 use Rattle.world_events.proofs.of_world_pipes.CallingFollows.{calling_goes}
 use Rattle.world_events.specs.declared.event.Event.{Event}
 use Rattle.world_events.specs.declared.event.Event.TheVariants as events
-use Rattle.world.specs.declared.world.WorldClient.{WorldClient}
+use Rattle.world_clients.specs.declared.world_client.WorldClient.{WorldClient}
 use Rattle.world.specs.Asking.{AskedBy, AsksOne, EventAsks, RunAsks}
-use Rattle.world.specs.Found.{is_named}
+use Rattle.world_clients.specs.Clients.{is_named}
 use Rattle.world.specs.Happening.{EventHappens}
-use Rattle.world.specs.Inside.Calling.{CountsRefusal, IsCall, with_loss}
+use Rattle.world.specs.Inside.Calling.{CountsRefusal, with_loss}
+use Rattle.world_clients.specs.Calling.{IsCall}
 use Rattle.world.specs.Inside.Steps.{PublishesAsked, IsTrace, IsTraceAsking, IsCounted}
 use Rattle.world.specs.StandsFor.{KeepsReached, FollowsModelAsking}
 use Rattle.world.specs.World.{WorldState}

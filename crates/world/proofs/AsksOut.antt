@@ -29,11 +29,12 @@ use Rattle.escaping_nodes.specs.world_nodes.ExactSteps.{after_node_call}
 use Rattle.escaping_nodes.specs.world_nodes.Nodes.{NodesState}
 use Rattle.world_events.specs.declared.event.Event.{Event}
 use Rattle.world_events.specs.declared.event.Event.TheVariants as events
-use Rattle.world.specs.Found.{is_named, port_of}
+use Rattle.world_clients.specs.Clients.{is_named}
+use Rattle.world.specs.Found.{port_of}
 use Rattle.world.specs.Gathering.{Gathers}
 use Rattle.world.specs.Trace.{WorldLosesNothing}
 use Rattle.world.specs.Happening.{EventsHappen}
-use Rattle.world.specs.SlotsAreValid.{SlotsAreValid, leads_of}
+use Rattle.world_clients.specs.SlotsAreValid.{SlotsAreValid, leads_of}
 use Rattle.world.specs.World.{WorldState}
 use Rattle.world.proofs.AnswersOut.{answers_alone, answers_with_others}
 use Rattle.world.proofs.ExactRuns.{First, first_done}

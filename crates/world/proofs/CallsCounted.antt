@@ -8,11 +8,9 @@ use Rattle.escaping_nodes.specs.master.declared.event.Idle.{Idle}
 use Rattle.world_events.specs.world_pipes.declared.sending.Sending.{Sending}
 use Rattle.world_events.specs.world_pipes.declared.sending.Sending.TheVariants as sendings
 use Rattle.world_events.specs.world_pipes.Following.{CallingFollows, FollowsAll}
-use Rattle.world_events.specs.world_pipes.Steps.{ClientGoes}
 use Rattle.world_events.specs.world_pipes.Piped.{Piped}
-use Rattle.world_events.specs.world_pipes.StandsFor.{ClientStandsFor}
 use Rattle.world_events.proofs.of_world_pipes.CallingFollows.{calling_goes}
-use Rattle.world.specs.declared.world.WorldClient.{WorldClient}
+use Rattle.world_clients.specs.declared.world_client.WorldClient.{WorldClient}
 use Rattle.world.specs.Inside.Calling.{CountsRefusal, with_loss}
 use Rattle.world.specs.Inside.Steps.{IsTrace}
 use Rattle.world.specs.World.{WorldState}
@@ -70,7 +68,3 @@ pub carrying_counted : (old : WorldState) (i : ℕ) (client : WorldClient) (pipe
     new ≡ (if had then with_piped i client piped old else with_loss (with_piped i client piped old)) → IsTrace old new
 carrying_counted old i client piped true new found follows rises is = subst (λ w. IsTrace old w) (sym is) (client_goes_on old i client piped found follows)
 carrying_counted old i client piped false new found follows rises is = subst (λ w. IsTrace old w) (sym is) (client_goes_with_loss old i client piped found follows rises)
-
--- one that receives nothing stays as it is
-pub stays_all : (old new : Piped) → new ≡ old → FollowsAll old new
-stays_all old new same m s = record { next = m; goes = ClientGoes.stays; publishes = refl; stands = subst (λ p. ClientStandsFor p m) (sym same) s }

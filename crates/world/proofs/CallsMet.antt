@@ -5,7 +5,7 @@ use Rattle.std.specs.Option.{is_some}
 use Rattle.std.proofs.lemmas.Bool.{both_ways}
 use Rattle.std.proofs.lemmas.Option.{none-some}
 use Rattle.headline.specs.ballot.Losses.{one_more}
-use Rattle.escaping_client.specs.client.Core.{Core, publication_with}
+use Rattle.escaping_client.specs.client.Core.{Core}
 use Rattle.escaping_client.specs.client_base.Answered.{ClientOutcome}
 use Rattle.escaping_client.specs.client_base.Publishing.{publish_refusal, published}
 use Rattle.escaping_client.specs.client_base.State.{ClientState, is_online, is_open}
@@ -20,13 +20,15 @@ use Rattle.escaping_client.specs.session_base.declared.publication.Publication.{
 use Rattle.world_events.specs.world_pipes.declared.sending.Sending.{Sending}
 use Rattle.world_events.specs.world_pipes.declared.sending.Sending.TheVariants as sendings
 use Rattle.world_events.specs.world_pipes.Following.{CallingFollows}
-use Rattle.world_events.specs.world_pipes.Piped.{Calls, Piped, TakesLeave}
+use Rattle.world_events.specs.world_pipes.Piped.{Piped, TakesLeave}
 use Rattle.world_events.specs.declared.event.Event.TheVariants as events
-use Rattle.world.specs.declared.world.WorldClient.{WorldClient}
-use Rattle.world.specs.Found.{core_named, is_named, with_piped}
-use Rattle.world.specs.ClientCalls.{SendsCall, ClientDoes, SendsDisconnect, LosesConnection, LosesAsking, LosesLeaving}
+use Rattle.world_clients.specs.declared.world_client.WorldClient.{WorldClient}
+use Rattle.world.specs.Found.{core_named, with_piped}
+use Rattle.world_clients.specs.Clients.{is_named}
+use Rattle.world.specs.ClientCalls.{SendsCall, ClientDoes, SendsDisconnect, LosesAsking, LosesLeaving}
+use Rattle.world_clients.specs.Calling.{LosesConnection, IsCall}
 use Rattle.world.specs.Cannot.{HoldsNone, RefusesCall}
-use Rattle.world.specs.Inside.Calling.{CountsRefusal, IsCall, with_loss}
+use Rattle.world.specs.Inside.Calling.{CountsRefusal, with_loss}
 use Rattle.world.specs.Inside.Steps.{EventIsDone, Meets}
 use Rattle.world.specs.World.{WorldState}
 use Rattle.world.proofs.ClientGoes.{same_piped}
@@ -124,21 +126,6 @@ call_outcome published call old (Err errors.TooLarge) new can calls follows = (s
 call_outcome published call old (Err errors.SessionLost) new can calls follows = (some_cause _ errors.SessionLost calls.0.0, follows)
 call_outcome published call old (Err errors.Protocol) new can calls follows = (some_cause _ errors.Protocol calls.0.0, follows)
 call_outcome published call old (Err (errors.Malformed kind)) new can calls follows = (some_cause _ (errors.Malformed kind) calls.0.0, follows)
-
-pub is_call : (call : Call) (old : Piped) (done : Result Sending ClientError) (new : Piped) → Calls (keeper_step call old.core.state) old done new → IsCall call old done new
-is_call call old (Ok sending) new calls = calls
-is_call call old (Err errors.Memory) new calls = tt
-is_call call old (Err errors.NotActive) new calls = calls
-is_call call old (Err errors.WindowFull) new calls = calls
-is_call call old (Err errors.TooLarge) new calls = calls
-is_call call old (Err errors.SessionLost) new calls = calls
-is_call call old (Err errors.Protocol) new calls = calls
-is_call call old (Err (errors.Malformed kind)) new calls = calls
-
-pub same_publication : (a b : Publication) → a.retain ≡ b.retain → a.qos ≡ b.qos → a.topic ≡ b.topic → a.payload ≡ b.payload → publication_with a.retain a.qos a.topic a.payload ≡ b
-same_publication a b retain qos topic payload =
-    ap (λ (x : Bool). publication_with x a.qos a.topic a.payload) retain ∙ ap (λ (x : QoS). publication_with b.retain x a.topic a.payload) qos
-    ∙ ap (λ (x : List ℕ). publication_with b.retain b.qos x a.payload) topic ∙ ap (λ (x : List ℕ). publication_with b.retain b.qos b.topic x) payload
 
 -- a client that is asked says what it refuses
 refused_by : (refusal : Option ClientError) (outcome : ClientOutcome) (state : ClientState) → is_some refusal ≡ true → (unless_refused refusal outcome state).refusal ≡ None → ⊥

@@ -5,13 +5,13 @@ use Rattle.escaping_client.proofs.of_lists.Places.{get_set}
 use Rattle.headline.specs.byte_world.World.{ClientPipes, World, with_client}
 use Rattle.headline.specs.byte_world.Published.{from_client}
 use Rattle.escaping_client.specs.session_base.declared.publication.Publication.{Publication}
-use Rattle.world_events.specs.world_pipes.Following.{FollowsAll, FollowsBy, FollowsLosing, after_losing}
+use Rattle.world_events.specs.world_pipes.Following.{FollowsAll, FollowsBy}
 use Rattle.world_events.specs.world_pipes.Steps.{ClientGoes, published_along as published_with, published_with as published_with_one}
 use Rattle.world_events.specs.world_pipes.Piped.{Piped}
 use Rattle.world_events.proofs.of_world_pipes.StepsInWorlds.{steps_in_worlds}
-use Rattle.world.specs.declared.connection_slot.ConnectionSlot.{ConnectionSlot}
-use Rattle.world.specs.declared.world.WorldClient.{WorldClient}
-use Rattle.world.specs.SlotsAreValid.{SlotsAreValid, leads, leads_of}
+use Rattle.world_clients.specs.declared.connection_slot.ConnectionSlot.{ConnectionSlot}
+use Rattle.world_clients.specs.declared.world_client.WorldClient.{WorldClient}
+use Rattle.world_clients.specs.SlotsAreValid.{SlotsAreValid, leads, leads_of}
 use Rattle.world.specs.Inside.Steps.{IsTrace, IsTraceAsking}
 use Rattle.world.specs.Inside.Calling.{with_loss}
 use Rattle.world.specs.StandsFor.{WorldSteps, FollowsModel, FollowsModelAsking, published_along}
@@ -19,9 +19,9 @@ use Rattle.world.specs.StandsFor.WorldSteps.{rests, goes_on}
 use Rattle.world.specs.World.{WorldState}
 use Rattle.world.proofs.ClientsStand.{client_at, stand_set}
 use Rattle.world.proofs.Joined.{asked_goes_join, world_stays}
-use Rattle.world.proofs.LeadsKept.{housed_set}
-use Rattle.world.proofs.NodesGoOn.{nodes_rest}
-use Rattle.world.proofs.Turned.{set_itself}
+use Rattle.world_clients.proofs.LeadsKept.{housed_set}
+use Rattle.world_clients.proofs.NodesGoOn.{nodes_rest}
+use Rattle.world_clients.proofs.Turned.{set_itself}
 
 -- ---- the model
 
@@ -115,7 +115,3 @@ pub housed_still : (clients : List WorldClient) (connections : List ConnectionSl
     SlotsAreValid (leads_of (set clients i (record client { piped = piped }))) connections
 housed_still clients connections i client piped found same housed =
     subst (λ all. SlotsAreValid all connections) (sym (housed_set clients i client (record client { piped = piped }) found same)) housed
-
--- a client that loses its connection
-pub losing_goes : (old new : Piped) → FollowsLosing old new → FollowsAll old new
-losing_goes old new follows m s = let f = follows m s in record { next = after_losing m; goes = f.1; publishes = f.2; stands = f.0 }

@@ -11,17 +11,17 @@ use Rattle.escaping_nodes.specs.world_nodes.ExactSteps.{NodeDoesCall}
 use Rattle.escaping_nodes.specs.world_nodes.Nodes.{NodesState}
 use Rattle.world_events.specs.world_pipes.declared.way.Way.{Way}
 use Rattle.world_events.specs.world_pipes.Piped.{Piped}
-use Rattle.world.specs.declared.connection_slot.ConnectionSlot.{ConnectionSlot}
-use Rattle.world.specs.declared.world.WorldClient.{WorldClient}
-use Rattle.world.specs.SlotsAreValid.{LeadsThere, leads_of}
-use Rattle.world.specs.Found.{with_less}
-use Rattle.world.specs.Inside.Carrying.{CarriesUp}
+use Rattle.world_clients.specs.declared.connection_slot.ConnectionSlot.{ConnectionSlot}
+use Rattle.world_clients.specs.declared.world_client.WorldClient.{WorldClient}
+use Rattle.world_clients.specs.SlotsAreValid.{LeadsThere, leads_of}
+use Rattle.world_clients.specs.Carrying.{with_less}
+use Rattle.world_clients.specs.Carrying.{CarriesUp}
 use Rattle.world.specs.StandsFor.{ModelStepsTo, WorldStandsFor, FollowsModel}
 use Rattle.world.specs.StandsFor.WorldSteps.{rests, goes_on}
 use Rattle.world.specs.World.{WorldState}
 use Rattle.world.proofs.ClientsStand.{StandsAt, client_at, stand_set}
 use Rattle.world.proofs.GoesDown.{put_down}
-use Rattle.world.proofs.LeadsKept.{led}
+use Rattle.world_clients.proofs.LeadsKept.{led}
 use Rattle.world.proofs.WaysStand.{PipeAt, pipe_at, way_changes}
 
 taken_up : (old : WorldState) (m : World) (s : WorldStandsFor m old) (place : ConnectionSlot) (client : WorldClient) (one : StandsAt m.clients place.client client.piped) (way : Way)

@@ -18,10 +18,11 @@ use Rattle.escaping_client.specs.packet.Verdict.{verdict}
 use Rattle.world_events.specs.world_pipes.declared.way.Way.{Way}
 use Rattle.world_events.specs.world_pipes.Piped.{CarriesDown, Piped, broken, come_down, sent_up}
 use Rattle.world_events.specs.declared.event.Event.TheVariants as events
-use Rattle.world.specs.declared.connection_slot.ConnectionSlot.{ConnectionSlot}
-use Rattle.world.specs.declared.world.WorldClient.{WorldClient}
+use Rattle.world_clients.specs.declared.connection_slot.ConnectionSlot.{ConnectionSlot}
+use Rattle.world_clients.specs.declared.world_client.WorldClient.{WorldClient}
 use Rattle.world.specs.Doing.{DoesEvent}
-use Rattle.world.specs.Found.{core_named, is_named, with_piped}
+use Rattle.world.specs.Found.{core_named, with_piped}
+use Rattle.world_clients.specs.Clients.{is_named}
 use Rattle.world.specs.Trace.{WorldLosesNothing}
 use Rattle.world.specs.Happening.{EventsHappen}
 use Rattle.world.specs.World.{WorldState}

@@ -21,14 +21,16 @@ use Rattle.escaping_nodes.specs.world_nodes.Nodes.{NodesState, NodesStandFor}
 use Rattle.world_events.specs.world_pipes.declared.way.Way.{Way}
 use Rattle.world_events.specs.world_pipes.Following.{ConnectingFollows}
 use Rattle.world_events.specs.world_pipes.StandsFor.{AreWays}
-use Rattle.world.specs.declared.world.WorldClient.{WorldClient}
-use Rattle.world.specs.SlotsAreValid.{SlotsAreValid, leads, leads_of}
-use Rattle.world.specs.Inside.Connecting.{ConnectsAt, IsKnown}
-use Rattle.world.specs.StandsFor.{ClientsStand, ModelStepsTo, FollowsModel}
+use Rattle.world_clients.specs.declared.world_client.WorldClient.{WorldClient}
+use Rattle.world_clients.specs.SlotsAreValid.{SlotsAreValid, leads, leads_of}
+use Rattle.world.specs.Inside.Connecting.{ConnectsAt}
+use Rattle.world_clients.specs.Opening.{IsKnown}
+use Rattle.world_clients.specs.Clients.{ClientsStand}
+use Rattle.world.specs.StandsFor.{ModelStepsTo, FollowsModel}
 use Rattle.world.specs.StandsFor.WorldSteps.{rests, goes_on}
 use Rattle.world.specs.World.{WorldState}
 use Rattle.world.proofs.ClientsStand.{client_at, stand_set}
-use Rattle.world.proofs.Turned.{turned_at}
+use Rattle.world_clients.proofs.Turned.{turned_at}
 
 -- ---- the node has it
 

@@ -32,13 +32,13 @@ use Rattle.world.specs.Doing.{DoesEvent, receiver_of}
 use Rattle.world.specs.Gathering.{Gathers}
 use Rattle.world.specs.Trace.{WorldLosesNothing}
 use Rattle.world.specs.Happening.{EventsHappen}
-use Rattle.world.specs.SlotsAreValid.{SlotsAreValid, leads_of}
+use Rattle.world_clients.specs.SlotsAreValid.{SlotsAreValid, leads_of}
 use Rattle.world.specs.World.{WorldState}
 use Rattle.world.proofs.ExactRuns.{first_done}
 use Rattle.world.proofs.GroupGoes.{GoesApart, goes_apart, with_nodes}
 use Rattle.world.proofs.GroupGoes.GoesApart.{acts as goes_by}
 use Rattle.world.proofs.PassesOn.{Passes, gathers_passes, passes_join, passes_rest}
-use Rattle.world.proofs.Turned.{mapped_from}
+use Rattle.world_clients.proofs.Turned.{mapped_from}
 
 -- ---- the nodes change, by a call in which connections have no part
 

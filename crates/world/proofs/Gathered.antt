@@ -2,15 +2,17 @@
 use Rattle.std.proofs.Common.{◌≡◌, inl, inr, ◌<◌, ◌-◌, ℕ, zero, suc, Bool, true, false, List, ◌++◌, Some, length, set, slice_get, refl, sym, ap, ◌∙◌, subst, arith}
 use Rattle.escaping_nodes.specs.world_nodes.Running.{node_of}
 use Rattle.escaping_nodes.specs.world_nodes.Steps.{nodes_with_loss}
-use Rattle.world.specs.declared.connection_slot.ConnectionSlot.{ConnectionSlot}
-use Rattle.world.specs.Found.{slot_numbered, port_of, with_down, with_piped}
-use Rattle.world.specs.Gathering.{GatheredWhere, Gathers, GathersAmong, IsGathered, MayBeGathered, is_open_at, put_out}
+use Rattle.world_clients.specs.declared.connection_slot.ConnectionSlot.{ConnectionSlot}
+use Rattle.world.specs.Found.{slot_numbered, port_of, with_piped}
+use Rattle.world_clients.specs.Handing.{with_down}
+use Rattle.world.specs.Gathering.{GatheredWhere, Gathers, GathersAmong, IsGathered, MayBeGathered, is_open_at}
+use Rattle.world_clients.specs.Handing.{put_out}
 use Rattle.world.specs.Inside.Steps.{IsTrace}
 use Rattle.world.specs.Inside.Handing.{GathersOn, MayGatherOn, marked}
 use Rattle.world.specs.World.{WorldState}
 use Rattle.world.proofs.Joined.{goes_on_join}
 use Rattle.world.proofs.StandsThere.{numbered_at}
-use Rattle.world.proofs.Turned.{set_itself}
+use Rattle.world_clients.proofs.Turned.{set_itself}
 
 -- ---- one connection
 

@@ -26,18 +26,18 @@ use Rattle.escaping_nodes.specs.world_nodes.ExactSteps.{NodeDoesCall, HandsOver}
 use Rattle.escaping_nodes.specs.world_nodes.Nodes.{NodesState}
 use Rattle.world_events.specs.world_pipes.declared.way.Way.{Way}
 use Rattle.world_events.specs.world_pipes.Piped.{Piped}
-use Rattle.world.specs.declared.connection_slot.ConnectionSlot.{ConnectionSlot}
-use Rattle.world.specs.declared.world.WorldClient.{WorldClient}
-use Rattle.world.specs.SlotsAreValid.{LeadsThere, leads_of}
-use Rattle.world.specs.Found.{with_down}
-use Rattle.world.specs.Inside.Handing.{MayHandDown, MayPutDown}
-use Rattle.world.specs.Inside.Steps.{NodesStay}
+use Rattle.world_clients.specs.declared.connection_slot.ConnectionSlot.{ConnectionSlot}
+use Rattle.world_clients.specs.declared.world_client.WorldClient.{WorldClient}
+use Rattle.world_clients.specs.SlotsAreValid.{LeadsThere, leads_of}
+use Rattle.world_clients.specs.Handing.{with_down}
+use Rattle.world_clients.specs.Handing.{MayHandDown, MayPutDown}
+use Rattle.world_clients.specs.NodesGoOn.{NodesStay}
 use Rattle.world.specs.StandsFor.{ModelStepsTo, WorldStandsFor, FollowsModel}
 use Rattle.world.specs.StandsFor.WorldSteps.{rests, goes_on}
 use Rattle.world.specs.World.{WorldState}
 use Rattle.world.proofs.ClientsStand.{StandsAt, client_at, stand_set}
-use Rattle.world.proofs.LeadsKept.{led}
-use Rattle.world.proofs.Turned.{mapped_from, set_itself}
+use Rattle.world_clients.proofs.LeadsKept.{led}
+use Rattle.world_clients.proofs.Turned.{mapped_from, set_itself}
 use Rattle.world.proofs.WaysStand.{PipeAt, pipe_at, way_changes}
 
 -- all that a node hands over at a port is of one name

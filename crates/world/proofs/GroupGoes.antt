@@ -19,13 +19,13 @@ use Rattle.escaping_nodes.specs.world_nodes.Nodes.{NodesState, NodesStandFor}
 use Rattle.escaping_nodes.specs.world_nodes.ExactSteps.{NodeDoesCall, GoesBy}
 use Rattle.escaping_nodes.specs.world_nodes.Steps.{nodes_with_loss}
 use Rattle.escaping_nodes.specs.world_nodes.GroupSteps.{ActsOrRests, ComesOrRests, MasterGoesOrRests, MasterHears}
-use Rattle.world.specs.Trace.{NodesGo, NodesGoOn}
-use Rattle.world.specs.Trace.StepsOfGroup.{rests as stands_still, goes_on as then_goes}
-use Rattle.world.specs.Inside.Steps.{IsTrace, NodesStay}
+use Rattle.world_clients.specs.NodesGoOn.{NodesGo, NodesStay}
+use Rattle.world.specs.Inside.Steps.{IsTrace}
 use Rattle.world.specs.StandsFor.{FollowsModel}
 use Rattle.world.specs.StandsFor.WorldSteps.{rests, goes_on}
 use Rattle.world.specs.World.{WorldState}
-use Rattle.world.proofs.NodesGoOn.{nodes_forget, nodes_rest, nodes_stay, staying_goes}
+use Rattle.world_clients.proofs.NodesGoOn.{nodes_forget, nodes_stay, staying_goes}
+use Rattle.world_clients.proofs.NodesGoOn.{acts_go}
 
 abbrev pub with_nodes : NodesState → WorldState → WorldState
 with_nodes nodes w = record w { nodes = nodes }
@@ -36,9 +36,6 @@ with_nodes nodes w = record w { nodes = nodes }
 pub data GoesApart (old new : NodesState) : Type 0 where
   stays : NodesStay old new → GoesApart old new
   acts : (node_call : Option (ℕ × NodeCall)) → is_apart node_call ≡ true → ((g : Group) → NodesStandFor g old → GoesBy node_call g new) → GoesApart old new
-
-pub acts_go : (node_call : Option (ℕ × NodeCall)) (old new : NodesState) → ((g : Group) → NodesStandFor g old → GoesBy node_call g new) → NodesGo old new
-acts_go node_call old new by g s = let d = by g s in record { after = d.does.after; goes = then_goes stands_still d.does.step; stands = d.stands }
 
 nodes_go : (old new : NodesState) → GoesApart old new → NodesGo old new
 nodes_go old new (stays stay) = staying_goes old new stay
@@ -68,12 +65,6 @@ pub by_call : {X : Type 0} (r : Result X Idle) (old new : NodesState) (at : ℕ)
     → OnErr r (new ≡ old) → GoesApart old new
 by_call (Ok x) old new at node_call apart does same = acts (Some (at, node_call)) apart does
 by_call (Err e) old new at node_call apart does same = stays (nodes_stay old new same)
-
--- also by one that connections have a part in
-pub call_goes : {X : Type 0} (r : Result X Idle) (old new : NodesState) (at : ℕ) (node_call : NodeCall) → old.losses ≤ new.losses → OnOk r (NodeDoesCall at node_call old new) → OnErr r (new ≡ old)
-    → NodesGoOn old new
-call_goes (Ok x) old new at node_call rises does same = record { rises = rises; goes = acts_go (Some (at, node_call)) old new does }
-call_goes (Err e) old new at node_call rises does same = nodes_rest old new same
 
 acts_or_stays : (node_call : Option (ℕ × NodeCall)) (old new : NodesState) → is_apart node_call ≡ true → ((g : Group) → NodesStandFor g old → GoesBy node_call g new) ⊎ (new ≡ nodes_with_loss old) → GoesApart old new
 acts_or_stays node_call old new apart (inl does) = acts node_call apart does

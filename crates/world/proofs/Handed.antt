@@ -1,31 +1,27 @@
 -- Handed.antt: when bytes are handed over, or come to a node, the world continues.
-use Rattle.std.proofs.Common.{◌≡◌, inl, inr, ◌<◌, ◌≤◌, ◌-◌, ℕ, Bool, true, false, List, Some, None, Result, Ok, Err, OnErr, length, slice_get, refl, sym, ap, ◌∙◌, subst, arith}
-use Rattle.std.specs.Prelude.{IfOk, IfSome, drop, take}
+use Rattle.std.proofs.Common.{◌≡◌, inl, inr, ◌<◌, ◌-◌, ℕ, Bool, true, false, List, Some, Result, Ok, Err, OnErr, slice_get, refl, sym, ap, ◌∙◌, subst, arith}
+use Rattle.std.specs.Prelude.{IfOk}
 use Rattle.std.proofs.lemmas.Option.{same_Some}
 use Rattle.escaping_nodes.specs.master.declared.event.Idle.{Idle}
-use Rattle.headline.specs.world_base.declared.item.Item.TheVariants.{Bytes}
-use Rattle.headline.specs.world_base.declared.Port.{Port}
-use Rattle.headline.specs.node_moves.Moves.NodeCall.{takes}
-use Rattle.escaping_nodes.specs.world_nodes.ExactSteps.{NodeDoesCall}
-use Rattle.escaping_nodes.specs.world_nodes.Running.{running}
 use Rattle.escaping_nodes.specs.world_nodes.Nodes.{NodesState}
-use Rattle.escaping_nodes.specs.world_nodes.Steps.{TakesIn}
 use Rattle.world_events.specs.world_pipes.declared.way.Way.{Way}
 use Rattle.world_events.specs.world_pipes.Piped.{Piped}
-use Rattle.world.specs.declared.connection_slot.ConnectionSlot.{ConnectionSlot}
-use Rattle.world.specs.declared.world.WorldClient.{WorldClient}
-use Rattle.world.specs.Trace.{NodesGoOn}
-use Rattle.world.specs.SlotsAreValid.{SlotsAreValid, leads, leads_of}
-use Rattle.world.specs.Found.{port_of, with_down, with_less}
-use Rattle.world.specs.Inside.Carrying.{CanCarryUp, CannotCarryUp, CannotCarryUpOn, CarriesUp, CarriesUpOnWhere, CarriesUpWhere}
+use Rattle.world_clients.specs.declared.connection_slot.ConnectionSlot.{ConnectionSlot}
+use Rattle.world_clients.specs.declared.world_client.WorldClient.{WorldClient}
+use Rattle.world_clients.specs.NodesGoOn.{NodesGoOn}
+use Rattle.world_clients.specs.SlotsAreValid.{SlotsAreValid, leads_of}
+use Rattle.world.specs.Found.{port_of}
+use Rattle.world_clients.specs.Handing.{with_down, HandsDown, MayPutDown, PutsDown}
+use Rattle.world_clients.specs.Carrying.{CannotCarryUp, CarriesUpWhere}
+use Rattle.world.specs.Inside.Carrying.{CannotCarryUpOn, CarriesUpOnWhere}
 use Rattle.world.specs.Inside.Steps.{IsTrace}
-use Rattle.world.specs.Inside.Handing.{HandsDown, MayGatherOn, MayPutDown, PutsDown}
+use Rattle.world.specs.Inside.Handing.{MayGatherOn}
 use Rattle.world.specs.World.{WorldState}
 use Rattle.world.proofs.ComesUp.{takes_up}
 use Rattle.world.proofs.GoesDown.{put_down, puts_down}
 use Rattle.world.proofs.Joined.{goes_on_rest}
-use Rattle.world.proofs.LeadsKept.{led_there, leads_set}
-use Rattle.world.proofs.Turned.{set_itself, there}
+use Rattle.world_clients.proofs.LeadsKept.{led_there}
+use Rattle.world_clients.proofs.Turned.{set_itself, there}
 
 -- nothing is changed but the nodes
 same_client : (old : WorldState) (i : ℕ) (client : WorldClient) (new : NodesState) (later : Piped) → slice_get old.clients i ≡ Some client → later ≡ client.piped
@@ -96,49 +92,6 @@ takes_on (Ok true) old number count place client new later housed at positive fo
     }
 takes_on (Ok false) old number count place client new later housed at positive found nodes took same still = takes_nothing old place.client client new later found took.0 took.1
 takes_on (Err e) old number count place client new later housed at positive found nodes took same still = takes_nothing old place.client client new later found same still
-
--- what comes is what was in transit
-pub takes_part : (place : ConnectionSlot) (port : Port) (count : ℕ) (old : NodesState) (client : Piped) (new : NodesState) (later : Piped) (waiting piece : List ℕ)
-    → place.at < length client.ways → IfSome (slice_get client.ways place.at) (λ way. waiting ≡ way.up) → 0 < count → count ≤ length waiting
-    → (running old.nodes place.node ≡ None → ⊥) → piece ≡ take count waiting
-    → IfSome (slice_get client.ways place.at) (λ way. later ≡ with_less place.at count way client) → TakesIn place.node (Bytes port piece 0) old new
-    → NodeDoesCall (place.node - 1) (takes (Bytes port piece 0)) old new → CarriesUp place port count old client new later
-takes_part place port count old client new later waiting piece below up some part runs is less step acts =
-    let w = there client.ways place.at below in
-    let waits : waiting ≡ w.0.up = of_some (λ (way : Way). waiting ≡ way.up) w.0 w.1 up in
-    record {
-      way = w.0;
-      found = w.1;
-      some = some;
-      runs = runs;
-      part = (let e = ap length waits in omega (arith, e, part));
-      step = subst (λ (l : List ℕ). TakesIn place.node (Bytes port l 0) old new) (is ∙ ap (take count) waits) step;
-      acts = subst (λ (l : List ℕ). NodeDoesCall (place.node - 1) (takes (Bytes port l 0)) old new) (is ∙ ap (take count) waits) acts;
-      is = of_some (λ (way : Way). later ≡ with_less place.at count way client) w.0 w.1 less;
-    }
-  where
-    of_some : (P : Way → Type 0) (way : Way) → slice_get client.ways place.at ≡ Some way → IfSome (slice_get client.ways place.at) P → P way
-    of_some P way e i = subst (λ o. IfSome o P) e i
-
--- if there is no memory for it, it could have come
-pub can_take : (place : ConnectionSlot) (count : ℕ) (old : NodesState) (client : Piped) (waiting : List ℕ) → place.at < length client.ways → IfSome (slice_get client.ways place.at) (λ way. waiting ≡ way.up)
-    → 0 < count → count ≤ length waiting → (running old.nodes place.node ≡ None → ⊥) → CanCarryUp place count old client
-can_take place count old client waiting below up some part runs =
-    let w = there client.ways place.at below in
-    let waits : waiting ≡ w.0.up = of_some (λ (way : Way). waiting ≡ way.up) w.0 w.1 up in
-    record { way = w.0; found = w.1; some = some; part = (let e = ap length waits in omega (arith, e, part)); runs = runs }
-  where
-    of_some : (P : Way → Type 0) (way : Way) → slice_get client.ways place.at ≡ Some way → IfSome (slice_get client.ways place.at) P → P way
-    of_some P way e i = subst (λ o. IfSome o P) e i
-
--- and the connection leads to the same node
-pub less_leads : (client later : Piped) (at count : ℕ) (way : Way) → slice_get client.ways at ≡ Some way
-    → IfSome (slice_get client.ways at) (λ way. later ≡ with_less at count way client) → leads later.ways ≡ leads client.ways
-less_leads client later at count way found less =
-    ap (λ (p : Piped). leads p.ways) (of_some found less) ∙ leads_set client.ways at way (record way { up = drop count way.up }) found refl
-  where
-    of_some : slice_get client.ways at ≡ Some way → IfSome (slice_get client.ways at) (λ w. later ≡ with_less at count w client) → later ≡ with_less at count way client
-    of_some e i = subst (λ o. IfSome o (λ w. later ≡ with_less at count w client)) e i
 
 -- the same in a world: they come, or they cannot
 pub takes_up_on : {E : Type 0} (r : Result Bool E) (old : WorldState) (number count : ℕ) (place : ConnectionSlot) (client : WorldClient) (new : NodesState) (later : Piped)

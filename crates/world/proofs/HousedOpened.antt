@@ -6,9 +6,9 @@ use Rattle.headline.proofs.of_node_group.Placed.{get_mapped}
 use Rattle.headline.specs.world_base.declared.Port.{Port}
 use Rattle.world_events.specs.world_pipes.declared.way.Way.{Way}
 use Rattle.world_events.specs.world_pipes.Piped.{Piped, new_way, sent_up}
-use Rattle.world.specs.declared.connection_slot.ConnectionSlot.{ConnectionSlot}
-use Rattle.world.specs.declared.world.WorldClient.{WorldClient}
-use Rattle.world.specs.SlotsAreValid.{SlotsAreValid, leads, leads_of}
+use Rattle.world_clients.specs.declared.connection_slot.ConnectionSlot.{ConnectionSlot}
+use Rattle.world_clients.specs.declared.world_client.WorldClient.{WorldClient}
+use Rattle.world_clients.specs.SlotsAreValid.{SlotsAreValid, leads, leads_of}
 use Rattle.world.proofs.HousedOn.{housed_more}
 
 abbrev lead : Way → ℕ × Port

@@ -19,17 +19,21 @@ use Rattle.world_events.specs.world_pipes.declared.way.Way.{Way}
 use Rattle.world_events.specs.world_pipes.Piped.{Piped, is_holding}
 use Rattle.world_events.specs.declared.event.Event.{Event}
 use Rattle.world_events.specs.declared.event.Event.TheVariants as events
-use Rattle.world.specs.declared.connection_slot.ConnectionSlot.{ConnectionSlot}
-use Rattle.world.specs.declared.world.WorldClient.{WorldClient}
-use Rattle.world.specs.Found.{Connected, is_named, slot_numbered, port_of, with_less, with_piped}
+use Rattle.world_clients.specs.declared.connection_slot.ConnectionSlot.{ConnectionSlot}
+use Rattle.world_clients.specs.declared.world_client.WorldClient.{WorldClient}
+use Rattle.world.specs.Found.{Connected, slot_numbered, port_of, with_piped}
+use Rattle.world_clients.specs.Clients.{is_named}
+use Rattle.world_clients.specs.Carrying.{with_less}
 use Rattle.world.specs.Gathering.{Gathers, TakesItem}
-use Rattle.world.specs.Cannot.{CannotHappen, IsClosed, IsNoPart, down_of, is_held, is_held_by, up_of}
+use Rattle.world.specs.Cannot.{CannotHappen, IsClosed, down_of, is_held, is_held_by, up_of}
+use Rattle.world_clients.specs.Carrying.{IsNoPart}
 use Rattle.world.specs.Doing.{DoesEvent, LosesAtClient, receiver_of}
-use Rattle.world.specs.ClientCalls.{CarriesDownWhere}
+use Rattle.world_clients.specs.Carrying.{CarriesDownWhere}
 use Rattle.world.specs.Happening.{EventHappens, HappensExactly, HappensLosing, EventsHappen}
-use Rattle.world.specs.SlotsAreValid.{SlotsAreValid, leads_of}
+use Rattle.world_clients.specs.SlotsAreValid.{SlotsAreValid, leads_of}
 use Rattle.world.specs.Quiet.{EventTakesNoMemory}
-use Rattle.world.specs.Inside.Carrying.{CanCarryUp, CannotCarryDown, CannotCarryUpOn, CarriesDownOn, CarriesUpOn}
+use Rattle.world_clients.specs.Carrying.{CanCarryUp, CannotCarryDown, CarriesDownOn}
+use Rattle.world.specs.Inside.Carrying.{CannotCarryUpOn, CarriesUpOn}
 use Rattle.world.specs.Inside.Steps.{IsCounted, EventIsDone, Meets}
 use Rattle.world.specs.Inside.Calling.{with_loss}
 use Rattle.world.specs.World.{WorldState}

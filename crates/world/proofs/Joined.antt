@@ -14,11 +14,12 @@ use Rattle.headline.specs.byte_world.Published.{published_in, published_on}
 use Rattle.escaping_nodes.specs.world_nodes.Nodes.{NodesState, NodesStandFor}
 use Rattle.world.specs.Trace.{WorldLosesNothing, KeepsGroup}
 use Rattle.world.specs.Inside.Steps.{IsTrace, IsTraceAsking}
-use Rattle.world.specs.declared.world.WorldClient.{WorldClient}
-use Rattle.world.specs.StandsFor.{ClientsStand, ModelStepsTo, IsReached, KeepsReached, WorldStandsFor, WorldSteps, FollowsModel, FollowsModelAsking, asked_on, published_along}
+use Rattle.world_clients.specs.declared.world_client.WorldClient.{WorldClient}
+use Rattle.world_clients.specs.Clients.{ClientsStand}
+use Rattle.world.specs.StandsFor.{ModelStepsTo, IsReached, KeepsReached, WorldStandsFor, WorldSteps, FollowsModel, FollowsModelAsking, asked_on, published_along}
 use Rattle.world.specs.StandsFor.WorldSteps.{rests, goes_on}
 use Rattle.world.specs.World.{WorldState}
-use Rattle.world.proofs.NodesGoOn.{nodes_go_join, nodes_join, nodes_rest}
+use Rattle.world_clients.proofs.NodesGoOn.{nodes_go_join, nodes_join, nodes_rest}
 
 -- ---- worlds of the model
 

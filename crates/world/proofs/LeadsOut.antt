@@ -26,13 +26,14 @@ use Rattle.escaping_nodes.specs.world_nodes.Nodes.{NodesState}
 use Rattle.world_events.specs.world_pipes.StandsFor.{CanGoOut}
 use Rattle.world_events.specs.declared.event.Event.{Event}
 use Rattle.world_events.specs.declared.event.Event.TheVariants as events
-use Rattle.world.specs.declared.connection_slot.ConnectionSlot.{ConnectionSlot}
+use Rattle.world_clients.specs.declared.connection_slot.ConnectionSlot.{ConnectionSlot}
 use Rattle.world.specs.Opening.{next_number}
 use Rattle.world.specs.Escaping.{CanEscape, HasEscaped, LeadsClientOut}
 use Rattle.world.specs.Found.{port_of}
-use Rattle.world.specs.Trace.{AreReached, WorldLosesNothing, NodesGo}
+use Rattle.world.specs.Trace.{AreReached, WorldLosesNothing}
+use Rattle.world_clients.specs.NodesGoOn.{NodesGo}
 use Rattle.world.specs.Happening.{EventsHappen}
-use Rattle.world.specs.SlotsAreValid.{SlotsAreValid, leads_of}
+use Rattle.world_clients.specs.SlotsAreValid.{SlotsAreValid, leads_of}
 use Rattle.world_events.specs.EscapeEvents.{answer_events, client_events, leaving}
 use Rattle.world.specs.Inside.Escaping.{escaping_events, sent_then}
 use Rattle.world.specs.StandsFor.{IsReached}
@@ -47,7 +48,8 @@ use Rattle.world.proofs.LeavesOut.{HasLeft, leaves}
 use Rattle.world.proofs.LedWorld.{LedTo, lawful, led_to}
 use Rattle.world.proofs.NamesKept.{core_seen, named_there}
 use Rattle.world.proofs.NewPrimary.{IsNewPrimary, new_primary}
-use Rattle.world.proofs.NodesGoOn.{are_reached, nodes_go_join}
+use Rattle.world.proofs.StaysReached.{are_reached}
+use Rattle.world_clients.proofs.NodesGoOn.{nodes_go_join}
 use Rattle.world.proofs.OneAgreed.{reached_agree}
 use Rattle.world.proofs.OpensOut.{HasOpened, opens_out}
 use Rattle.world.proofs.PutsFirst.{AnsweredTo}

@@ -8,17 +8,17 @@ use Rattle.escaping_client.proofs.of_lists.Places.{get_set}
 use Rattle.world_events.specs.world_pipes.Piped.{Piped}
 use Rattle.world_events.specs.declared.event.Event.{Event}
 use Rattle.world_events.specs.declared.event.Event.TheVariants as events
-use Rattle.world.specs.declared.world.WorldClient.{WorldClient}
+use Rattle.world_clients.specs.declared.world_client.WorldClient.{WorldClient}
 use Rattle.world.specs.Cannot.{HoldsNone}
 use Rattle.world.specs.Doing.{DoesEvent}
 use Rattle.world.specs.Found.{core_named, with_piped}
 use Rattle.world.specs.Trace.{WorldLosesNothing}
 use Rattle.world.specs.Happening.{EventsHappen}
-use Rattle.world.specs.SlotsAreValid.{SlotsAreValid, leads, leads_of}
+use Rattle.world_clients.specs.SlotsAreValid.{SlotsAreValid, leads, leads_of}
 use Rattle.world_events.specs.EscapeEvents.{leaving}
 use Rattle.world.specs.World.{WorldState}
 use Rattle.world.proofs.ExactRuns.{First, first_done}
-use Rattle.world.proofs.LeadsKept.{housed_client}
+use Rattle.world_clients.proofs.LeadsKept.{housed_client}
 use Rattle.world.proofs.NamesKept.{names_set, position_kept}
 use Rattle.world.proofs.StandsThere.{core_found}
 

@@ -27,9 +27,10 @@ use Rattle.escaping_nodes.proofs.of_world_nodes.MasterActs.{gives_exactly}
 use Rattle.world_events.specs.declared.event.Event.{Event}
 use Rattle.world_events.specs.declared.event.Event.TheVariants as events
 use Rattle.world.specs.Escaping.{CanEscape, configuration_of}
-use Rattle.world.specs.Trace.{WorldLosesNothing, NodesGo}
+use Rattle.world.specs.Trace.{WorldLosesNothing}
+use Rattle.world_clients.specs.NodesGoOn.{NodesGo}
 use Rattle.world.specs.Happening.{EventsHappen}
-use Rattle.world.specs.SlotsAreValid.{SlotsAreValid, leads_of}
+use Rattle.world_clients.specs.SlotsAreValid.{SlotsAreValid, leads_of}
 use Rattle.world.specs.StandsFor.{FollowsModel}
 use Rattle.world.specs.World.{WorldState}
 use Rattle.world.proofs.CanLead.{can_be_led, seen_as}
@@ -38,7 +39,7 @@ use Rattle.world.proofs.ExactRuns.{first_done, in_two}
 use Rattle.world.proofs.GroupGoes.{goes_apart, with_nodes}
 use Rattle.world.proofs.GroupGoes.GoesApart.{acts as goes_by}
 use Rattle.world.proofs.Joined.{world_goes_join}
-use Rattle.world.proofs.NodesGoOn.{nodes_go_join}
+use Rattle.world_clients.proofs.NodesGoOn.{nodes_go_join}
 use Rattle.world.proofs.PassesOn.{seen_of}
 
 -- the world then, and the events after it

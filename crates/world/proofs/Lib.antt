@@ -1,7 +1,5 @@
-mod NodesGoOn
+mod StaysReached
 mod NothingLost
-mod Turned
-mod LeadsKept
 mod ClientsStand
 mod WaysStand
 mod Joined
@@ -11,14 +9,12 @@ mod ComesUp
 mod Connects
 mod OpensReached
 mod HousedOn
-mod PutsDown
 mod StandsThere
 mod OpenEnds
 mod Gathered
 mod Walked
 mod Handed
 mod HousedOpened
-mod Offered
 mod OpensOn
 mod ClientGoes
 mod CallsCounted

@@ -42,7 +42,7 @@ use Rattle.world.proofs.CanLead.{each_passes, runs_here, seen_as}
 use Rattle.world.proofs.Joined.{reached_on}
 use Rattle.world.proofs.LedWorld.{LedTo}
 use Rattle.world.proofs.OpensAgain.{new_name, new_port}
-use Rattle.world.proofs.Turned.{mapped_from}
+use Rattle.world_clients.proofs.Turned.{mapped_from}
 
 -- The primary of a ballot that was led to its start can open a connection in this world, under the next number; these others follow
 -- it, each another node.

@@ -17,17 +17,19 @@ use Rattle.escaping_nodes.specs.world_nodes.Nodes.{NodesState}
 use Rattle.world_events.specs.world_pipes.declared.way.Way.{Way}
 use Rattle.world_events.specs.world_pipes.Piped.{is_holding}
 use Rattle.world_events.specs.declared.event.Event.TheVariants as events
-use Rattle.world.specs.declared.connection_slot.ConnectionSlot.{ConnectionSlot}
-use Rattle.world.specs.declared.world.WorldClient.{WorldClient}
-use Rattle.world.specs.Cannot.{IsClosed, IsNoPart, down_of, is_held, is_held_by, up_of}
+use Rattle.world_clients.specs.declared.connection_slot.ConnectionSlot.{ConnectionSlot}
+use Rattle.world_clients.specs.declared.world_client.WorldClient.{WorldClient}
+use Rattle.world.specs.Cannot.{IsClosed, down_of, is_held, is_held_by, up_of}
+use Rattle.world_clients.specs.Carrying.{IsNoPart}
 use Rattle.world.specs.Doing.{DoesEvent}
-use Rattle.world.specs.Found.{Connected, slot_numbered, port_of, way_at, way_in, way_of, with_less, with_piped}
+use Rattle.world.specs.Found.{Connected, slot_numbered, port_of, way_at, way_in, way_of, with_piped}
+use Rattle.world_clients.specs.Carrying.{with_less}
 use Rattle.world.specs.Gathering.{Gathers, TakesItem}
-use Rattle.world.specs.SlotsAreValid.{SlotsAreValid, leads_of}
+use Rattle.world_clients.specs.SlotsAreValid.{SlotsAreValid, leads_of}
 use Rattle.world.specs.World.{WorldState}
 use Rattle.world.proofs.DeliversOn.{runs_there}
 use Rattle.world.proofs.GroupGoes.{with_nodes}
-use Rattle.world.proofs.LeadsKept.{housed_client, leads_set}
+use Rattle.world_clients.proofs.LeadsKept.{housed_client, leads_set}
 use Rattle.world.proofs.NamesKept.{names_of, names_set}
 use Rattle.world.proofs.StandsOn.{IsNewest}
 use Rattle.world.proofs.StandsThere.{numbered_at}

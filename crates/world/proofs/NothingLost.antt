@@ -18,7 +18,8 @@ use Rattle.escaping_nodes.specs.world_nodes.Nodes.{NodesState}
 use Rattle.escaping_nodes.specs.world_nodes.Steps.{ActsWithLosses, ComesIn, CutsIn, CutsWithLosses, ExpelsIn, HearsIn, NodesLoseNothing, TakesIn, nodes_with_loss}
 use Rattle.escaping_nodes.proofs.of_world_nodes.Exactly.{exactly}
 use Rattle.world.specs.Found.{slot_numbered, port_of}
-use Rattle.world.specs.Gathering.{GatheredWhere, Gathers, GathersAmong, HandsOverBytes, MayBeGathered, TakesItem, is_open_at}
+use Rattle.world.specs.Gathering.{GatheredWhere, Gathers, GathersAmong, MayBeGathered, TakesItem, is_open_at}
+use Rattle.world_clients.specs.Handing.{HandsOverBytes}
 use Rattle.world.specs.Doing.{Assigns}
 use Rattle.world.specs.World.{WorldState}
 

@@ -23,7 +23,7 @@ use Rattle.headline.specs.world_base.Core.{CoreState, CountedCore}
 use Rattle.world.specs.Found.{port_of}
 use Rattle.world.specs.StandsFor.{WorldStandsFor}
 use Rattle.world.specs.World.{WorldState}
-use Rattle.world.specs.SlotsAreValid.{SlotsAreValid, leads_of}
+use Rattle.world_clients.specs.SlotsAreValid.{SlotsAreValid, leads_of}
 use Rattle.world.proofs.Connects.{unused}
 
 -- ---- tests that nothing passes

@@ -19,18 +19,21 @@ use Rattle.escaping_nodes.specs.world_nodes.Nodes.{NodesState}
 use Rattle.escaping_nodes.specs.world_nodes.Steps.{NodesLoseNothing}
 use Rattle.world_events.specs.world_pipes.Following.{FollowsAll}
 use Rattle.world_events.specs.world_pipes.Piped.{Piped, is_holding}
-use Rattle.world.specs.Trace.{NodesGoOn}
-use Rattle.world.specs.SlotsAreValid.{SlotsAreValid, leads_of}
+use Rattle.world_clients.specs.NodesGoOn.{NodesGoOn}
+use Rattle.world_clients.specs.SlotsAreValid.{SlotsAreValid, leads_of}
 use Rattle.world_events.specs.declared.event.Event.TheVariants as events
-use Rattle.world.specs.declared.world.WorldClient.{WorldClient}
-use Rattle.world.specs.declared.connection_slot.ConnectionSlot.{ConnectionSlot}
-use Rattle.world.specs.Found.{Named, core_named, is_named, port_of, with_piped}
+use Rattle.world_clients.specs.declared.world_client.WorldClient.{WorldClient}
+use Rattle.world_clients.specs.declared.connection_slot.ConnectionSlot.{ConnectionSlot}
+use Rattle.world.specs.Found.{Named, core_named, port_of, with_piped}
+use Rattle.world_clients.specs.Clients.{is_named}
 use Rattle.world.specs.Doing.{DoesEvent as HappenDoes}
-use Rattle.world.specs.Opening.{NoneOpens, OpensNone, OpensOne, OpensUnless, has_no_name_left, next_number, with_connection}
+use Rattle.world_clients.specs.Opening.{NoneOpens}
+use Rattle.world.specs.Opening.{OpensNone, OpensOne, OpensUnless, has_no_name_left, next_number, with_connection}
 use Rattle.world.specs.Happening.{HappensLosing}
 use Rattle.world.specs.Cannot.{CannotOpen, is_serving}
 use Rattle.world.specs.Gathering.{Gathers, TakesItem}
-use Rattle.world.specs.Inside.Connecting.{BeginsConnection, ConnectsAt, HasNew, HearsOfOne, IsKnown, MayOpenNone, OpensAt, OpensNoneAt}
+use Rattle.world.specs.Inside.Connecting.{BeginsConnection, ConnectsAt, MayOpenNone, OpensAt, OpensNoneAt}
+use Rattle.world_clients.specs.Opening.{HasNew, HearsOfOne, IsKnown}
 use Rattle.world.specs.Inside.Steps.{IsTrace, EventIsDone}
 use Rattle.world.specs.StandsFor.{ModelStepsTo, FollowsModel}
 use Rattle.world.specs.StandsFor.WorldSteps.{rests, goes_on}
@@ -41,7 +44,7 @@ use Rattle.world.proofs.Connects.{connects_goes, unused}
 use Rattle.world.proofs.GoesDown.{put_down}
 use Rattle.world.proofs.GroupGoes.{with_nodes, world_stands}
 use Rattle.world.proofs.Joined.{world_goes_join}
-use Rattle.world.proofs.NodesGoOn.{nodes_stay}
+use Rattle.world_clients.proofs.NodesGoOn.{nodes_stay}
 use Rattle.world.proofs.NothingLost.{takes_exactly}
 use Rattle.world.proofs.StandsThere.{core_found}
 

@@ -32,23 +32,26 @@ use Rattle.world_events.specs.world_pipes.declared.way.Way.{Way}
 use Rattle.world_events.specs.world_pipes.Piped.{Piped, new_way}
 use Rattle.world_events.specs.declared.event.Event.{Event}
 use Rattle.world_events.specs.declared.event.Event.TheVariants as events
-use Rattle.world.specs.declared.connection_slot.ConnectionSlot.{ConnectionSlot}
-use Rattle.world.specs.declared.world.WorldClient.{WorldClient}
+use Rattle.world_clients.specs.declared.connection_slot.ConnectionSlot.{ConnectionSlot}
+use Rattle.world_clients.specs.declared.world_client.WorldClient.{WorldClient}
 use Rattle.world.specs.Cannot.{CannotOpen, is_serving}
 use Rattle.world.specs.Opening.{OpensOne, OpensUnless, has_no_name_left, next_number, with_connection}
-use Rattle.world.specs.Found.{Named, core_named, is_named, port_of}
+use Rattle.world.specs.Found.{Named, core_named, port_of}
+use Rattle.world_clients.specs.Clients.{is_named}
 use Rattle.world.specs.Gathering.{Gathers}
-use Rattle.world.specs.Trace.{WorldLosesNothing, NodesGo}
+use Rattle.world.specs.Trace.{WorldLosesNothing}
+use Rattle.world_clients.specs.NodesGoOn.{NodesGo}
 use Rattle.world.specs.Happening.{EventsHappen}
-use Rattle.world.specs.SlotsAreValid.{SlotsAreValid, leads_of}
+use Rattle.world_clients.specs.SlotsAreValid.{SlotsAreValid, leads_of}
 use Rattle.world.specs.World.{WorldState}
 use Rattle.world.proofs.ExactRuns.{first_done}
-use Rattle.world.proofs.GroupGoes.{acts_go, with_nodes}
+use Rattle.world_clients.proofs.NodesGoOn.{acts_go}
+use Rattle.world.proofs.GroupGoes.{with_nodes}
 use Rattle.world.proofs.HousedOpened.{housed_opened}
 use Rattle.world.proofs.NamesKept.{names_seen, names_set, position_kept}
 use Rattle.world.proofs.NamesSpent.{first_is_left}
 use Rattle.world.proofs.NewestFound.{its_place, takes_at}
-use Rattle.world.proofs.NodesGoOn.{nodes_go_join}
+use Rattle.world_clients.proofs.NodesGoOn.{nodes_go_join}
 use Rattle.world.proofs.PassesOn.{Passes, gathers_passes}
 use Rattle.world.proofs.StandsOn.{IsNewest}
 use Rattle.world.proofs.StandsThere.{core_found}

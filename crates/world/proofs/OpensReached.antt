@@ -1,7 +1,5 @@
 -- OpensReached.antt: a world in code opens as one of the model does.
-use Rattle.std.proofs.Common.{◌≡◌, ◌<◌, ◌+◌, ℕ, true, List, [], ◌∷◌, ◌++◌, Some, length, map, take, slice_get, sym, ap, ◌∙◌, subst}
-use Rattle.std.specs.Prelude.{get_or}
-use Rattle.std.proofs.lemmas.List.{map-append, take_more}
+use Rattle.std.proofs.Common.{◌≡◌, ℕ, true, List, [], Some, map, slice_get, sym, ap, ◌∙◌}
 use Rattle.std.proofs.lemmas.Option.{none-some}
 use Rattle.headline.specs.ballot.Config.{Config}
 use Rattle.headline.specs.agreement.World.{can_open}
@@ -13,40 +11,17 @@ use Rattle.headline.specs.byte_world.World.{ClientPipes, Pipe, new_client, openi
 use Rattle.headline.specs.byte_world.Steps.Reached.{begins}
 use Rattle.escaping_nodes.specs.world_nodes.Nodes.{NodesStandFor}
 use Rattle.world_events.specs.world_pipes.declared.way.Way.{Way}
-use Rattle.world_events.specs.world_pipes.StandsFor.{ClientStandsFor}
-use Rattle.world.specs.declared.world.WorldClient.{WorldClient}
-use Rattle.world.specs.Happening.{new_world_client}
-use Rattle.world.specs.SlotsAreValid.{SlotsAreValid, leads, leads_of}
-use Rattle.world.specs.StandsFor.{ClientsStand, IsReached, WorldStandsFor, asked_on, identifiers}
+use Rattle.world_clients.specs.declared.world_client.WorldClient.{WorldClient}
+use Rattle.world_clients.specs.SlotsAreValid.{SlotsAreValid, leads, leads_of}
+use Rattle.world_clients.specs.Clients.{ClientsStand}
+use Rattle.world.specs.StandsFor.{IsReached, WorldStandsFor, asked_on}
 use Rattle.world.specs.World.{WorldState}
 use Rattle.world.proofs.ClientsStand.{client_at}
 use Rattle.world.proofs.Joined.{is_reached, is_reached_asked}
-use Rattle.world.proofs.Turned.{mapped_from}
+use Rattle.world_clients.proofs.Turned.{mapped_from}
 use Rattle.world.proofs.WaysStand.{pipe_at}
 
 -- ---- its clients
-
-one_more : (made : List WorldClient) (cs : List ClientPipes) (one : WorldClient) (c : ClientPipes) → ClientsStand made cs → ClientStandsFor one.piped c
-    → ClientsStand (made ++ one ∷ []) (cs ++ c ∷ [])
-one_more [] [] one c all stands = (stands, tt)
-one_more [] (d ∷ cs) one c all stands = absurd all
-one_more (x ∷ made) [] one c all stands = absurd all
-one_more (x ∷ made) (d ∷ cs) one c all stands = (all.0, one_more made cs one c all.1 stands)
-
--- clients that were never connected, by these identifiers
-abbrev pub AreMade : List WorldClient → List Client → Type 0
-AreMade made ids = ClientsStand made (map new_client ids) × (identifiers made ≡ ids) × (made ≡ map new_world_client ids)
-
-pub made_more : (made later : List WorldClient) (ids : List Client) (i : ℕ) (one : WorldClient) (id : Client) → i < length ids → id ≡ get_or ids i id
-    → ClientStandsFor one.piped (new_client id) → one.name ≡ id → one ≡ new_world_client id → later ≡ made ++ one ∷ [] → AreMade made (take i ids) → AreMade later (take (i + 1) ids)
-made_more made later ids i one id below is stands named new pushed are =
-    subst (λ (l : List WorldClient). AreMade l (take (i + 1) ids)) (sym pushed)
-    (subst (λ (l : List Client). AreMade (made ++ one ∷ []) l) (sym (take_more ids i id below ∙ ap (λ (c : Client). take i ids ++ c ∷ []) (sym is))) (
-      subst (ClientsStand (made ++ one ∷ [])) (sym (map-append new_client (take i ids) (id ∷ [])))
-          (one_more made (map new_client (take i ids)) one (new_client id) are.0 stands),
-      map-append (λ (c : WorldClient). c.name) made (one ∷ []) ∙ ap (λ (l : List Client). l ++ one.name ∷ []) are.1 ∙ ap (λ (c : Client). take i ids ++ c ∷ []) named,
-      ap (λ (l : List WorldClient). l ++ one ∷ []) are.2 ∙ ap (λ (o : WorldClient). map new_world_client (take i ids) ++ o ∷ []) new ∙ sym (map-append new_world_client (take i ids) (id ∷ [])),
-    ))
 
 -- none of them has a connection
 pub housed_none : (clients : List WorldClient) (ids : List Client) → ClientsStand clients (map new_client ids) → SlotsAreValid (leads_of clients) []

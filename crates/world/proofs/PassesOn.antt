@@ -16,22 +16,24 @@ use Rattle.escaping_nodes.specs.world_nodes.Nodes.{NodesState}
 use Rattle.escaping_nodes.proofs.of_world_nodes.Exactly.{at_place, gives_acts}
 use Rattle.world_events.specs.world_pipes.declared.way.Way.{Way}
 use Rattle.world_events.specs.world_pipes.Piped.{Piped}
-use Rattle.world.specs.declared.connection_slot.ConnectionSlot.{ConnectionSlot}
-use Rattle.world.specs.declared.world.WorldClient.{WorldClient}
-use Rattle.world.specs.Found.{slot_numbered, port_of, with_down}
-use Rattle.world.specs.Gathering.{GatheredWhere, Gathers, GathersAmong, HandsOverBytes, IsGathered, is_open_at, is_told_open, put_out}
-use Rattle.world.specs.Trace.{NodesGo}
-use Rattle.world.specs.SlotsAreValid.{SlotsAreValid, leads_of}
-use Rattle.world.specs.Inside.Handing.{MayHandDown, MayPutDown}
+use Rattle.world_clients.specs.declared.connection_slot.ConnectionSlot.{ConnectionSlot}
+use Rattle.world_clients.specs.declared.world_client.WorldClient.{WorldClient}
+use Rattle.world.specs.Found.{slot_numbered, port_of}
+use Rattle.world_clients.specs.Handing.{with_down}
+use Rattle.world.specs.Gathering.{GatheredWhere, Gathers, GathersAmong, IsGathered, is_open_at}
+use Rattle.world_clients.specs.Handing.{HandsOverBytes, is_told_open, put_out}
+use Rattle.world_clients.specs.NodesGoOn.{NodesGo}
+use Rattle.world_clients.specs.SlotsAreValid.{SlotsAreValid, leads_of}
+use Rattle.world_clients.specs.Handing.{MayHandDown, MayPutDown}
 use Rattle.world.specs.StandsFor.{FollowsModel}
 use Rattle.world.specs.World.{WorldState}
 use Rattle.world.proofs.GoesDown.{put_down, puts_down}
-use Rattle.world.proofs.GroupGoes.{acts_go}
+use Rattle.world_clients.proofs.NodesGoOn.{acts_go}
 use Rattle.world.proofs.HousedOn.{housed_mark}
 use Rattle.world.proofs.Joined.{world_goes_join, world_rests, world_stays}
-use Rattle.world.proofs.LeadsKept.{housed_client, leads_set, led_there}
-use Rattle.world.proofs.NodesGoOn.{nodes_go_join, nodes_stay, staying_goes}
-use Rattle.world.proofs.Turned.{set_itself}
+use Rattle.world_clients.proofs.LeadsKept.{housed_client, leads_set, led_there}
+use Rattle.world_clients.proofs.NodesGoOn.{nodes_go_join, nodes_stay, staying_goes}
+use Rattle.world_clients.proofs.Turned.{set_itself}
 
 -- ---- what stays while these messages come, and bytes are handed over
 

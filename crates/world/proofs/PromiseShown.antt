@@ -5,7 +5,7 @@ use Rattle.headline.specs.broker_spec.Place.{Client}
 use Rattle.headline.specs.Promise.{Promise}
 use Rattle.headline.specs.byte_world.World.{ClientPipes}
 use Rattle.headline.specs.byte_world.Published.{published_of, published_on}
-use Rattle.world.specs.declared.world.WorldClient.{WorldClient}
+use Rattle.world_clients.specs.declared.world_client.WorldClient.{WorldClient}
 use Rattle.world.specs.StandsFor.{IsReached, connections_at, connections_in}
 use Rattle.world.specs.World.{WorldState}
 use Rattle.world.proofs.ClientsStand.{client_at}

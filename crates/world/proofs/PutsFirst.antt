@@ -24,18 +24,21 @@ use Rattle.escaping_nodes.specs.world_nodes.Running.{node_of, running}
 use Rattle.escaping_nodes.specs.world_nodes.Nodes.{NodesState}
 use Rattle.world_events.specs.declared.event.Event.{Event}
 use Rattle.world_events.specs.declared.event.Event.TheVariants as events
-use Rattle.world.specs.Found.{is_named, port_of}
-use Rattle.world.specs.Gathering.{Gathers, is_told_open, put_out}
-use Rattle.world.specs.Trace.{WorldLosesNothing, NodesGo}
+use Rattle.world_clients.specs.Clients.{is_named}
+use Rattle.world.specs.Found.{port_of}
+use Rattle.world.specs.Gathering.{Gathers}
+use Rattle.world_clients.specs.Handing.{is_told_open, put_out}
+use Rattle.world.specs.Trace.{WorldLosesNothing}
+use Rattle.world_clients.specs.NodesGoOn.{NodesGo}
 use Rattle.world.specs.Happening.{EventsHappen}
-use Rattle.world.specs.SlotsAreValid.{SlotsAreValid, leads_of}
+use Rattle.world_clients.specs.SlotsAreValid.{SlotsAreValid, leads_of}
 use Rattle.world.specs.World.{WorldState}
 use Rattle.world.proofs.DeliversOn.{AtNode, at_node}
 use Rattle.world.proofs.ExactRuns.{first_done}
 use Rattle.world.proofs.GroupGoes.{with_nodes}
 use Rattle.world.proofs.NamesKept.{names_seen, position_kept}
 use Rattle.world.proofs.NewestFound.{running_at}
-use Rattle.world.proofs.NodesGoOn.{nodes_go_join}
+use Rattle.world_clients.proofs.NodesGoOn.{nodes_go_join}
 use Rattle.world.proofs.PassesOn.{Passes, gathers_passes}
 use Rattle.world.proofs.StandsOn.{IsNewest, own_gathered}
 use Rattle.world.proofs.WaitsOn.{newest_with}

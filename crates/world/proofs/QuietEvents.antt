@@ -1,5 +1,5 @@
 -- QuietEvents.antt: what takes no memory raises no count.
-use Rattle.std.proofs.Common.{◌≡◌, inl, inr, ◌<◌, ◌^◌, ◌-◌, ◌↔◌, ℕ, zero, suc, Bool, true, false, if◌then◌else◌, List, [], ◌∷◌, Option, Some, None, Result, Ok, Err, IsErr, OnErr, OnOk, slice_get, slice_set, refl, sym, ap, ◌∙◌, subst, arith}
+use Rattle.std.proofs.Common.{◌≡◌, inl, inr, ◌<◌, ◌^◌, ◌-◌, ◌↔◌, ℕ, zero, suc, Bool, true, false, if◌then◌else◌, List, Option, Some, None, Result, Ok, Err, IsErr, slice_get, refl, sym, ap, ◌∙◌, subst}
 use Rattle.std.proofs.lemmas.Bool.{both_ways}
 use Rattle.std.proofs.lemmas.Option.{none-some, same_Some}
 use Rattle.headline.specs.ballot.Body.{Body}
@@ -8,39 +8,26 @@ use Rattle.headline.specs.ballot.Message.{Message}
 use Rattle.headline.specs.broker_spec.declared.command.Command.{Command}
 use Rattle.escaping_nodes.specs.master.declared.event.Idle.{Idle}
 use Rattle.headline.specs.world_base.Core.{CountedCore}
-use Rattle.headline.specs.world_base.Handing.{hands_over}
 use Rattle.headline.specs.world_base.Losses.{WaitsNothing}
 use Rattle.headline.specs.world_base.Step.{node_step}
-use Rattle.headline.specs.world_base.declared.Handed.{Handed}
 use Rattle.headline.specs.world_base.declared.item.Item.{Item}
 use Rattle.headline.specs.world_base.declared.item.Item.TheVariants.{Peer}
-use Rattle.headline.specs.world_base.declared.Port.{Port}
-use Rattle.headline.proofs.of_world_base.Calmly.{hands_over_waits, nothing_handed, step_waits}
-use Rattle.escaping_nodes.specs.world_nodes.ExactSteps.{MessageArrives, GivesExactly, HeardByMaster, TakesExactly}
+use Rattle.headline.proofs.of_world_base.Calmly.{step_waits}
+use Rattle.escaping_nodes.specs.world_nodes.ExactSteps.{MessageArrives, HeardByMaster, TakesExactly}
 use Rattle.escaping_nodes.specs.world_nodes.Running.{node_of, running, unless_stopped}
 use Rattle.escaping_nodes.specs.world_nodes.Nodes.{NodesState}
-use Rattle.escaping_nodes.specs.world_nodes.Quiet.{ComesUnheeded, IsUnheeded, RestsAt, WaitsAtNone}
+use Rattle.escaping_nodes.specs.world_nodes.Quiet.{ComesUnheeded, IsUnheeded, RestsAt}
 use Rattle.world_events.specs.declared.event.Event.{Event}
-use Rattle.world.specs.declared.connection_slot.ConnectionSlot.{ConnectionSlot}
+use Rattle.world_clients.specs.declared.connection_slot.ConnectionSlot.{ConnectionSlot}
 use Rattle.world.specs.Cannot.{CannotHappen}
 use Rattle.world.specs.Doing.{receiver_of}
 use Rattle.world.specs.Happening.{EventHappens}
-use Rattle.world.specs.Inside.Handing.{StaysQuiet}
-use Rattle.world.specs.Quiet.{ComesQuietly, EndsQuietly, HasNothingToHandOver, IsQuietAt, EventTakesNoMemory}
+use Rattle.world_clients.specs.Handing.{StaysQuiet, HasNothingToHandOver}
+use Rattle.world.specs.Quiet.{ComesQuietly, EndsQuietly, IsQuietAt, EventTakesNoMemory}
 use Rattle.world.specs.World.{WorldState}
+use Rattle.world_clients.proofs.HandsQuietly.{node_set}
 
 -- ---- a node among nodes
-
-set_there : {X : Type 0} (xs : List X) (i : ℕ) (x y z : X) → slice_get xs i ≡ Some x → slice_get (slice_set xs i y) i ≡ Some z → z ≡ y
-set_there [] i x y z there found = absurd (none-some x there)
-set_there (w ∷ xs) zero x y z there found = sym (same_Some y z found)
-set_there (w ∷ xs) (suc i) x y z there found = set_there xs i x y z there found
-
-node_set : (nodes : List CountedCore) (node : ℕ) (core new found : CountedCore) → node_of nodes node ≡ Some core → node_of (slice_set nodes (node - 1) new) node ≡ Some found → found ≡ new
-node_set nodes zero core new found there stands = absurd (none-some core there)
-node_set nodes (suc at) core new found there stands =
-    set_there nodes at core new found there
-    (subst (λ (k : ℕ). slice_get (slice_set nodes k new) at ≡ Some found) (let e : suc at - 1 ≡ at = omega arith in e) stands)
 
 there_of : (o : Option CountedCore) (core : CountedCore) → unless_stopped o ≡ Some core → o ≡ Some core
 there_of None core runs = runs
@@ -56,23 +43,8 @@ runs_there nodes (suc at) core runs = there_of (slice_get nodes at) core runs
 
 -- ---- what goes down
 
-pub stays_rest : (node : ℕ) (n m : NodesState) → m ≡ n → StaysQuiet node n m
-stays_rest node n m same = subst (λ (k : NodesState). StaysQuiet node n k) (sym same) (λ holds. (holds, refl))
-
 pub stays_join : (node : ℕ) (a b c : NodesState) → StaysQuiet node a b → StaysQuiet node b c → StaysQuiet node a c
 stays_join node a b c first next = λ holds. let one = first holds in let two = next one.0 in (two.0, two.1 ∙ one.1)
-
-pub handing_quiet : (r : Result Handed Idle) (X : Type 0) (node : ℕ) (port : Port) (old new : NodesState) → (WaitsAtNone node port old → OnOk r (GivesExactly node port old new))
-    → OnErr r ((new ≡ old) × X) → StaysQuiet node old new
-handing_quiet (Err idle) X node port old new hands same = stays_rest node old new same.0
-handing_quiet (Ok handed) X node port old new hands same = λ holds.
-    let g = hands (λ core there. nothing_handed port core.core (holds core there)) in
-    let later : CountedCore = record g.core { core = hands_over port g.core.core } in (
-      λ core there.
-          let is : core ≡ later = node_set old.nodes node g.core later core g.there (subst (λ (n : NodesState). node_of n.nodes node ≡ Some core) g.is there) in
-          subst (λ (c : CountedCore). WaitsNothing c.core) (sym is) (hands_over_waits port g.core.core (holds g.core g.there)),
-      ap (λ (n : NodesState). n.losses) g.is,
-    )
 
 -- ---- an item, and what goes down then
 

@@ -11,13 +11,15 @@ use Rattle.headline.specs.world_base.Core.{CountedCore}
 use Rattle.headline.specs.world_base.declared.Port.{Port}
 use Rattle.escaping_nodes.specs.world_nodes.Running.{node_of}
 use Rattle.world_events.specs.world_pipes.declared.way.Way.{Way}
-use Rattle.world.specs.declared.connection_slot.ConnectionSlot.{ConnectionSlot}
-use Rattle.world.specs.declared.world.WorldClient.{WorldClient}
-use Rattle.world.specs.Found.{slot_numbered, port_of, with_down}
-use Rattle.world.specs.Gathering.{GatheredWhere, Gathers, GathersAmong, IsGathered, is_open_at, is_told_open, put_out}
-use Rattle.world.specs.SlotsAreValid.{SlotsAreValid, leads_of}
+use Rattle.world_clients.specs.declared.connection_slot.ConnectionSlot.{ConnectionSlot}
+use Rattle.world_clients.specs.declared.world_client.WorldClient.{WorldClient}
+use Rattle.world.specs.Found.{slot_numbered, port_of}
+use Rattle.world_clients.specs.Handing.{with_down}
+use Rattle.world.specs.Gathering.{GatheredWhere, Gathers, GathersAmong, IsGathered, is_open_at}
+use Rattle.world_clients.specs.Handing.{is_told_open, put_out}
+use Rattle.world_clients.specs.SlotsAreValid.{SlotsAreValid, leads_of}
 use Rattle.world.specs.World.{WorldState}
-use Rattle.world.proofs.LeadsKept.{IsLed, led, led_there}
+use Rattle.world_clients.proofs.LeadsKept.{IsLed, led, led_there}
 use Rattle.world.proofs.PassesOn.{at_number, where_passes}
 use Rattle.world.proofs.StandsThere.{numbered_at}
 

@@ -7,7 +7,7 @@ use Rattle.headline.specs.byte_world.World.{ClientPipes, Pipe, with_pipe}
 use Rattle.world_events.specs.world_pipes.declared.way.Way.{Way}
 use Rattle.world_events.specs.world_pipes.Piped.{Piped}
 use Rattle.world_events.specs.world_pipes.StandsFor.{AreWays, IsHolding, IsWay, ClientStandsFor}
-use Rattle.world.proofs.Turned.{IsTurned, beside, last_turned, turned_at, turned_last}
+use Rattle.world_clients.proofs.Turned.{IsTurned, beside, last_turned, turned_at, turned_last}
 
 -- ---- all connections of a client
 

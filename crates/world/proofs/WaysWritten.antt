@@ -22,10 +22,10 @@ use Rattle.escaping_nodes.specs.world_nodes.Running.{is_running, node_of}
 use Rattle.escaping_nodes.specs.world_nodes.Nodes.{NodesState}
 use Rattle.world_events.specs.declared.event.Event.{Event}
 use Rattle.world_events.specs.declared.event.Event.TheVariants as events
-use Rattle.world.specs.declared.world.WorldClient.{WorldClient}
+use Rattle.world_clients.specs.declared.world_client.WorldClient.{WorldClient}
 use Rattle.escaping_nodes.proofs.of_master.Counting.{get_there}
 use Rattle.world.specs.Escaping.{CanEscape, configuration_of, held_in}
-use Rattle.world.specs.Found.{is_named}
+use Rattle.world_clients.specs.Clients.{is_named}
 use Rattle.world_events.specs.EscapeEvents.{answer_events, client_events, leaving}
 use Rattle.world.specs.Inside.Escaping.{IsFetchedFrom, escaping_events, group_events, sent_then}
 use Rattle.world.specs.World.{WorldState}

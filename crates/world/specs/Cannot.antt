@@ -1,5 +1,5 @@
 -- When an event cannot happen: then it is idle.
-use Rattle.std.specs.Prelude.{◌≡◌, ◌⊎◌, ◌<◌, ℕ, suc, ◌==◌, ◌&&◌, Bool, true, false, List, [], Option, Some, None, length, slice_get}
+use Rattle.std.specs.Prelude.{◌≡◌, ◌⊎◌, ℕ, suc, ◌==◌, ◌&&◌, Bool, true, false, List, [], Option, Some, None, length, slice_get}
 use Rattle.std.specs.List.{position}
 use Rattle.headline.specs.agreement.MasterState.{refusal}
 use Rattle.escaping_client.specs.client.Core.{Core}
@@ -12,10 +12,12 @@ use Rattle.world_events.specs.world_pipes.declared.way.Way.{Way}
 use Rattle.world_events.specs.world_pipes.Piped.{is_holding}
 use Rattle.world_events.specs.declared.event.Event.{Event}
 use Rattle.world_events.specs.declared.event.Event.TheVariants as events
-use Rattle.world.specs.declared.connection_slot.ConnectionSlot.{ConnectionSlot}
-use Rattle.world.specs.declared.world.WorldClient.{WorldClient}
-use Rattle.world.specs.Found.{core_named, is_named, slot_numbered, way_of}
+use Rattle.world_clients.specs.declared.connection_slot.ConnectionSlot.{ConnectionSlot}
+use Rattle.world_clients.specs.declared.world_client.WorldClient.{WorldClient}
+use Rattle.world.specs.Found.{core_named, slot_numbered, way_of}
+use Rattle.world_clients.specs.Clients.{is_named}
 use Rattle.world.specs.World.{WorldState}
+use Rattle.world_clients.specs.Carrying.{IsNoPart}
 
 -- there is no such client, or it holds no connection
 abbrev pub HoldsNone : Option Core → Type 0
@@ -51,10 +53,6 @@ is_held_by (Some client) at = is_holding client.piped && (suc at == length clien
 abbrev pub is_held : Option ConnectionSlot → List WorldClient → Bool
 is_held None clients = false
 is_held (Some slot) clients = is_held_by (slice_get clients slot.client) slot.at
-
--- no bytes, or more than wait
-abbrev pub IsNoPart : ℕ → List ℕ → Type 0
-IsNoPart count waiting = (count ≡ 0) ⊎ (length waiting < count)
 
 -- the bytes in transit to the node: none if there is no connection
 abbrev pub up_of : Option Way → List ℕ

@@ -1,13 +1,10 @@
 -- What a client does in an event: exactly, or, if losses are allowed (`whole` is false), perhaps
 -- with losses.
-use Rattle.std.specs.Prelude.{◌≡◌, ℕ, Bool, true, false, List, Result, Ok, Err}
-use Rattle.escaping_client.specs.client.Core.{gone}
+use Rattle.std.specs.Prelude.{◌≡◌, ℕ, Bool, true, false, List, Ok}
 use Rattle.escaping_client.specs.client_base.Steps.{Call, keeper_step}
-use Rattle.escaping_client.specs.client_base.declared.error.ClientError.{ClientError}
-use Rattle.escaping_client.specs.client_base.declared.error.ClientError.TheVariants as errors
 use Rattle.world_events.specs.world_pipes.declared.sending.Sending.{Sending}
 use Rattle.world_events.specs.world_pipes.declared.sending.Sending.TheVariants as sendings
-use Rattle.world_events.specs.world_pipes.Piped.{Calls, CarriesDown, Piped, TakesLeave}
+use Rattle.world_events.specs.world_pipes.Piped.{Calls, Piped, TakesLeave}
 use Rattle.world.specs.Found.{Named, with_piped}
 use Rattle.world.specs.World.{WorldState}
 
@@ -39,14 +36,3 @@ SendsDisconnect false old new =
 abbrev pub LosesLeaving : Piped → Piped → Type 0
 LosesLeaving old new =
     TakesLeave (keeper_step Call.Disconnects old.core.state) old (Ok sendings.Lost) new
-
--- what is in transit stays
-abbrev pub LosesConnection : Piped → Piped → Type 0
-LosesConnection old new = new ≡ record old { core = gone old.core }
-
--- bytes are carried to the client, whatever it does with them; it runs out of memory only if losses
--- are allowed
-abbrev pub CarriesDownWhere : Bool → ℕ → Piped → Piped → Type 0
-CarriesDownWhere whole count old new =
-    (result : Result (Unit {0}) ClientError) × (whole ≡ true → result ≡ Err errors.Memory → ⊥)
-    × CarriesDown count old result new

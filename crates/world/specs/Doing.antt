@@ -12,10 +12,13 @@ use Rattle.escaping_nodes.specs.world_nodes.Steps.{ComesIn, CutsIn, ExpelsIn, Gi
 use Rattle.world_events.specs.world_pipes.Piped.{CarriesDown, Piped}
 use Rattle.world_events.specs.declared.event.Event.{Event}
 use Rattle.world_events.specs.declared.event.Event.TheVariants as events
-use Rattle.world.specs.Found.{Connected, port_of, with_less, with_piped}
+use Rattle.world.specs.Found.{Connected, port_of, with_piped}
+use Rattle.world_clients.specs.Carrying.{with_less}
 use Rattle.world.specs.Gathering.{Gathers, TakesItem}
 use Rattle.world.specs.World.{WorldState}
-use Rattle.world.specs.ClientCalls.{ClientDoes, SendsCall, LosesAsking, SendsDisconnect, LosesLeaving, LosesConnection, CarriesDownWhere}
+use Rattle.world.specs.ClientCalls.{ClientDoes, SendsCall, LosesAsking, SendsDisconnect, LosesLeaving}
+use Rattle.world_clients.specs.Calling.{LosesConnection}
+use Rattle.world_clients.specs.Carrying.{CarriesDownWhere}
 use Rattle.world.specs.Opening.{OpensNone, OpensWhere}
 
 -- the master gives a ballot, exactly or perhaps with losses

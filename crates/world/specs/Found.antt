@@ -1,17 +1,14 @@
 -- What is found in a world: a client by its identifier, and a connection by its number.
-use Rattle.std.specs.Prelude.{◌≡◌, ℕ, ◌-◌, ◌==◌, if◌then◌else◌, Bool, List, Option, Some, None, bytes_eq, drop, set, slice_get}
+use Rattle.std.specs.Prelude.{◌≡◌, ℕ, ◌-◌, ◌==◌, if◌then◌else◌, List, Option, Some, None, set, slice_get}
 use Rattle.std.specs.List.{position}
 use Rattle.escaping_client.specs.client.Core.{Core}
 use Rattle.headline.specs.world_base.declared.Port.{Port}
 use Rattle.world_events.specs.world_pipes.declared.way.Way.{Way}
 use Rattle.world_events.specs.world_pipes.Piped.{Piped}
-use Rattle.world.specs.declared.connection_slot.ConnectionSlot.{ConnectionSlot}
-use Rattle.world.specs.declared.world.WorldClient.{WorldClient}
+use Rattle.world_clients.specs.declared.connection_slot.ConnectionSlot.{ConnectionSlot}
+use Rattle.world_clients.specs.declared.world_client.WorldClient.{WorldClient}
 use Rattle.world.specs.World.{WorldState}
-
--- whether a client has this identifier
-abbrev pub is_named : List ℕ → WorldClient → Bool
-is_named name client = bytes_eq client.name name
+use Rattle.world_clients.specs.Clients.{is_named}
 
 -- ---- a client
 
@@ -73,13 +70,3 @@ pub record Connected (number : ℕ) (w : WorldState) : Type 0 where
   pub owned : slice_get w.clients slot.client ≡ Some client
   pub way : Way
   pub stands : slice_get client.piped.ways slot.at ≡ Some way
-
--- these bytes are in transit down on the client's connection at this index
-abbrev pub with_down : ℕ → Way → List ℕ → Piped → Piped
-with_down at way bytes client =
-    record client { ways = set client.ways at (record way { down = bytes }) }
-
--- this many bytes are removed from the front of those in transit up
-abbrev pub with_less : ℕ → ℕ → Way → Piped → Piped
-with_less at count way client =
-    record client { ways = set client.ways at (record way { up = drop count way.up }) }

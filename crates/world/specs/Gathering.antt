@@ -1,43 +1,18 @@
 -- What a node queued goes down on its connections: exactly, or, if losses are allowed (`whole` is
 -- false), perhaps with losses.
-use Rattle.std.specs.Prelude.{◌≡◌, ◌⊎◌, ℕ, zero, suc, ◌-◌, ◌==◌, ◌&&◌, Bool, true, false, List, [], ◌++◌, Option, Some, None, length, set}
+use Rattle.std.specs.Prelude.{◌≡◌, ◌⊎◌, ℕ, zero, suc, ◌-◌, ◌==◌, ◌&&◌, Bool, true, false, ◌++◌, Option, Some, None, length, set}
 use Rattle.headline.specs.node_moves.Moves.NodeCall.{gives}
 use Rattle.headline.specs.world_base.Core.{CountedCore}
-use Rattle.headline.specs.world_base.Handing.{answer_of, bytes_of, listed_at}
-use Rattle.headline.specs.world_base.declared.Handed.{Handed}
-use Rattle.headline.specs.world_base.declared.Handed.TheVariants as answers
 use Rattle.headline.specs.world_base.declared.item.Item.{Item}
-use Rattle.headline.specs.world_base.declared.Port.{Port}
-use Rattle.escaping_nodes.specs.world_nodes.ExactSteps.{TakesExactly, after_node_call}
+use Rattle.escaping_nodes.specs.world_nodes.ExactSteps.{TakesExactly}
 use Rattle.escaping_nodes.specs.world_nodes.Running.{node_of}
 use Rattle.escaping_nodes.specs.world_nodes.Nodes.{NodesState}
 use Rattle.escaping_nodes.specs.world_nodes.Steps.{TakesIn, nodes_with_loss}
-use Rattle.world.specs.declared.connection_slot.ConnectionSlot.{ConnectionSlot}
-use Rattle.world.specs.Found.{Connected, slot_numbered, port_of, with_down, with_piped}
+use Rattle.world_clients.specs.declared.connection_slot.ConnectionSlot.{ConnectionSlot}
+use Rattle.world.specs.Found.{Connected, slot_numbered, port_of, with_piped}
+use Rattle.world_clients.specs.Handing.{with_down}
 use Rattle.world.specs.World.{WorldState}
-
--- ---- what a node says about a port, if the node exists
-
--- the bytes that the node queued for the port and has not yet handed over
-abbrev pub put_out : Port → Option CountedCore → List ℕ
-put_out port None = []
-put_out port (Some node) = bytes_of (listed_at port node.core)
-
--- whether the node's end of a connection stays open after it handed over bytes
-abbrev pub is_more : Handed → Bool
-is_more answers.Open = true
-is_more answers.Closed = false
-
--- whether the node's end of the connection is open
-abbrev pub is_told_open : Port → Option CountedCore → Bool
-is_told_open port None = false
-is_told_open port (Some node) = is_more (answer_of (listed_at port node.core))
-
--- the node hands over the bytes of the port
-abbrev pub HandsOverBytes : Option CountedCore → ℕ → Port → NodesState → NodesState → Type 0
-HandsOverBytes None node port old new = new ≡ old
-HandsOverBytes (Some core) node port old new =
-    new ≡ after_node_call (node - 1) core (gives port) old
+use Rattle.world_clients.specs.Handing.{put_out, is_told_open, HandsOverBytes}
 
 -- ---- one connection
 

@@ -7,13 +7,12 @@ use Rattle.headline.specs.node_group.Group.{opening_group}
 use Rattle.escaping_nodes.specs.master.declared.event.Idle.{Idle}
 use Rattle.escaping_nodes.specs.world_nodes.Nodes.{NodesStandFor}
 use Rattle.escaping_nodes.specs.world_nodes.Steps.{NodesLoseNothing}
-use Rattle.world_events.specs.world_pipes.Piped.{new_piped}
 use Rattle.world_events.specs.declared.event.Event.{Event}
-use Rattle.world.specs.declared.world.WorldClient.{WorldClient}
 use Rattle.world.specs.World.{WorldState}
 use Rattle.world.specs.Cannot.{CannotHappen}
 use Rattle.world.specs.Doing.{DoesEvent, LosesAtClient}
 use Rattle.world.specs.Quiet.{EventTakesNoMemory}
+use Rattle.world_clients.specs.Clients.{new_world_client}
 
 -- ---- what events do
 
@@ -50,10 +49,6 @@ EventsHappen (event ∷ events) old new =
     × EventsHappen events between new
 
 -- ---- how it begins
-
--- a client that has no connection yet
-abbrev pub new_world_client : List ℕ → WorldClient
-new_world_client name = record { name = name; piped = new_piped name }
 
 -- a world as it opens: no client was ever connected
 pub record WorldOpens (nodes : ℕ) (config : Config) (clients : List Client)

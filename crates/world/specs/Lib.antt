@@ -1,7 +1,6 @@
 pub mod World
 pub mod Trace
 pub mod StandsFor
-pub mod SlotsAreValid
 pub mod Inside
 pub mod Found
 pub mod Gathering
@@ -14,6 +13,9 @@ pub mod Happening
 pub mod Asking
 pub mod Laws
 pub mod Escaping
+pub use Rattle.world_clients.specs.Clients
+pub use Rattle.world_clients.specs.NodesGoOn
+pub use Rattle.world_clients.specs.declared.world_client.WorldClient
 pub use Rattle.headline.specs.agreement as agreement
 pub use Rattle.headline.specs.ballot as ballot
 pub use Rattle.escaping_nodes.specs.master as master

@@ -1,19 +1,17 @@
 -- What an Open does: a new connection, at its client and at its node, or none.
-use Rattle.std.specs.Prelude.{◌≡◌, ◌⊎◌, ℕ, suc, ◌-◌, Bool, true, false, not, List, [], ◌∷◌, ◌++◌, Option, Some, None, Ok, Err, length}
+use Rattle.std.specs.Prelude.{◌≡◌, ◌⊎◌, ℕ, suc, ◌-◌, Bool, true, false, not, List, [], ◌∷◌, ◌++◌, Option, Some, None, Ok, length}
 use Rattle.headline.specs.broker_spec.Connection.{is_connection_name}
 use Rattle.escaping_client.specs.client_base.Steps.{Call, keeper_step}
-use Rattle.escaping_client.specs.client_base.declared.error.ClientError.{ClientError}
 use Rattle.headline.specs.world_base.Core.{CountedCore}
 use Rattle.headline.specs.world_base.Step.{next_name}
 use Rattle.headline.specs.world_base.declared.item.Item.TheVariants as items
-use Rattle.headline.specs.world_base.declared.Port.{Port}
 use Rattle.escaping_nodes.specs.world_nodes.Running.{node_of}
 use Rattle.escaping_nodes.specs.world_nodes.Nodes.{NodesState}
-use Rattle.escaping_nodes.specs.world_nodes.Steps.{TakesIn}
-use Rattle.world_events.specs.world_pipes.Piped.{SendsConnect, Piped, taken_back}
+use Rattle.world_events.specs.world_pipes.Piped.{SendsConnect, Piped}
 use Rattle.world.specs.Found.{Named, port_of, with_piped}
 use Rattle.world.specs.Gathering.{TakesItem}
 use Rattle.world.specs.World.{WorldState}
+use Rattle.world_clients.specs.Opening.{NoneOpens}
 
 -- the number of the next connection
 abbrev pub next_number : WorldState → ℕ
@@ -44,18 +42,6 @@ OpensOne whole name node old new =
     (c : Named name old) × (piped : Piped) × ConnectsTo node (next_number old) c.client.piped piped
     × TakesItem whole node (items.Opened (port_of (next_number old)) 0)
     (with_connection c piped node) new
-
--- There is no new connection: the client runs out of memory, or its node does not take the
--- connection, and it is removed.
-abbrev pub NoneOpens : ℕ → Port → NodesState → Piped → NodesState → Piped → Type 0
-NoneOpens node port old client new later =
-    ((cause : ClientError)
-    × SendsConnect (node - 1) port (keeper_step Call.Opens client.core.state) client (Err cause)
-    later
-    × (new ≡ old))
-    ⊎ ((opened : Piped)
-    × SendsConnect (node - 1) port (keeper_step Call.Opens client.core.state) client (Ok tt) opened
-    × (later ≡ taken_back opened) × ((new ≡ old) ⊎ TakesIn node (items.Opened port 0) old new))
 
 -- a client of a world opens no connection: no slot is added
 abbrev pub OpensNone : List ℕ → ℕ → WorldState → WorldState → Type 0

@@ -2,8 +2,6 @@
 use Rattle.std.specs.Prelude.{◌≡◌, ℕ, zero, suc, true, Option, Some, None, slice_get}
 use Rattle.headline.specs.ballot.Message.{Message}
 use Rattle.headline.specs.broker_spec.declared.command.Command.{Command}
-use Rattle.headline.specs.world_base.Core.{CountedCore}
-use Rattle.headline.specs.world_base.Losses.{WaitsNothing}
 use Rattle.headline.specs.world_base.declared.item.Item.{Item}
 use Rattle.headline.specs.world_base.declared.item.Item.TheVariants as items
 use Rattle.escaping_nodes.specs.world_nodes.Running.{node_of}
@@ -11,15 +9,11 @@ use Rattle.escaping_nodes.specs.world_nodes.Nodes.{NodesState}
 use Rattle.escaping_nodes.specs.world_nodes.Quiet.{IsUnheeded, RestsAt}
 use Rattle.world_events.specs.declared.event.Event.{Event}
 use Rattle.world_events.specs.declared.event.Event.TheVariants as events
-use Rattle.world.specs.declared.connection_slot.ConnectionSlot.{ConnectionSlot}
+use Rattle.world_clients.specs.declared.connection_slot.ConnectionSlot.{ConnectionSlot}
 use Rattle.world.specs.Opening.{has_no_name_left}
 use Rattle.world.specs.Found.{slot_numbered, port_of}
 use Rattle.world.specs.World.{WorldState}
-
--- a node has nothing to hand over
-abbrev pub HasNothingToHandOver : ℕ → NodesState → Type 0
-HasNothingToHandOver node n =
-    (core : CountedCore) → node_of n.nodes node ≡ Some core → WaitsNothing core.core
+use Rattle.world_clients.specs.Handing.{HasNothingToHandOver}
 
 -- an item takes no memory at a node, which has nothing to hand over
 abbrev pub IsQuietAt : ℕ → Item → NodesState → Type 0

@@ -1,5 +1,5 @@
 -- Which worlds of the model a world in code corresponds to, and how these move.
-use Rattle.std.specs.Prelude.{◌≡◌, ℕ, List, [], ◌∷◌, ◌++◌, map, Option, Some, None, slice_get}
+use Rattle.std.specs.Prelude.{◌≡◌, ℕ, List, [], ◌++◌, Option, Some, None, slice_get}
 use Rattle.headline.specs.ballot.Config.{Config}
 use Rattle.headline.specs.broker_spec.Place.{Client}
 use Rattle.headline.specs.packet_world.World.{ClientsAreApart}
@@ -10,15 +10,8 @@ use Rattle.headline.specs.byte_world.World.{ClientPipes, World}
 use Rattle.headline.specs.byte_world.Steps.{Reached, WorldStep}
 use Rattle.headline.specs.byte_world.Published.{published_in, published_on}
 use Rattle.escaping_nodes.specs.world_nodes.Nodes.{NodesStandFor}
-use Rattle.world_events.specs.world_pipes.StandsFor.{ClientStandsFor}
 use Rattle.world.specs.World.{WorldState}
-use Rattle.world.specs.declared.world.WorldClient.{WorldClient}
-
--- each client corresponds to the model's client at its index
-abbrev pub ClientsStand : List WorldClient → List ClientPipes → Type 0
-ClientsStand (client ∷ clients) (c ∷ cs) = ClientStandsFor client.piped c × ClientsStand clients cs
-ClientsStand [] [] = Unit {0}
-ClientsStand _ _ = ⊥
+use Rattle.world_clients.specs.Clients.{ClientsStand}
 
 -- A world in code corresponds to one of the model: its nodes to the group, its clients to the
 -- clients. What was written, handled and agreed before is history: no field keeps it.
@@ -92,7 +85,3 @@ abbrev pub KeepsReached : List (ℕ × Publication) → WorldState → WorldStat
 KeepsReached asked old new =
     (nodes : ℕ) (config : Config) (cs : List Client) (before : IsReached nodes config cs old) →
     (after : IsReached nodes config cs new) × (asked_on after ≡ asked_on before ++ asked)
-
--- the identifiers of clients, in order
-abbrev pub identifiers : List WorldClient → List Client
-identifiers clients = map (λ (c : WorldClient). c.name) clients

@@ -8,34 +8,11 @@ use Rattle.headline.specs.snapshots.Moments.{IsAgreed}
 use Rattle.headline.specs.broker_spec.declared.command.Command.{Command}
 use Rattle.headline.specs.world_base.Core.{rules}
 use Rattle.headline.specs.node_group.Group.{Group, moment_of}
-use Rattle.headline.specs.node_group.Steps.{GroupStep, GroupTrace, all_put, groups_of}
+use Rattle.headline.specs.node_group.Steps.{GroupTrace, all_put, groups_of}
 use Rattle.headline.specs.node_group.Order.{KeepsOrder}
 use Rattle.escaping_nodes.specs.world_nodes.Nodes.{NodesState, NodesStandFor}
 use Rattle.world.specs.World.{WorldState}
-
--- ---- steps of a group, one after another
-
--- steps of a group, one after another
-pub data StepsOfGroup (g : Group) : Group → Type 0 where
-  -- no step
-  rests : StepsOfGroup g g
-  -- one more step
-  goes_on : {h k : Group} → StepsOfGroup g h → GroupStep h k → StepsOfGroup g k
-
--- a group moves by steps, and then corresponds to these nodes
-pub record GroupStepsTo (g : Group) (new : NodesState) : Type 0 where
-  pub after : Group
-  pub goes : StepsOfGroup g after
-  pub stands : NodesStandFor after new
-
--- each group that corresponds to the nodes before moves, and corresponds to the nodes after
-abbrev pub NodesGo : NodesState → NodesState → Type 0
-NodesGo old new = (g : Group) → NodesStandFor g old → GroupStepsTo g new
-
--- the count of the nodes' losses never falls, and each group that corresponds to them moves
-pub record NodesGoOn (old new : NodesState) : Type 0 where
-  pub rises : old.losses ≤ new.losses
-  pub goes : NodesGo old new
+use Rattle.world_clients.specs.NodesGoOn.{NodesGo}
 
 -- ---- worlds
 

@@ -1,29 +1,28 @@
 // What clients do in a world.
 
-ghost use Rattle.std.specs.Prelude.{◌≡◌, ◌<◌, if◌then◌else◌, true, false, [], ◌∷◌, length, slice_get, IfSome};
-ghost use Rattle.escaping_client.specs.client_base.Steps.{Call, keeper_step};
+ghost use Rattle.std.specs.Prelude.{◌≡◌, ◌<◌, true, false, length, slice_get, IfSome};
 ghost use Rattle.escaping_nodes.specs.world_nodes.Running.{node_of};
-ghost use Rattle.world_events.specs.world_pipes.Following.{CallingFollows, FollowsAll};
-ghost use Rattle.world_events.specs.world_pipes.Piped.{TakesLeave, is_holding, taken_back};
-ghost use Rattle.world.specs.Trace.{CountsOnce, NodesGoOn};
+ghost use Rattle.world_events.specs.world_pipes.Piped.{is_holding};
+ghost use Rattle.world.specs.Trace.{CountsOnce};
 ghost use Rattle.world.specs.Opening.{has_no_name_left};
-ghost use Rattle.world.specs.ClientCalls.{LosesConnection};
 ghost use Rattle.world.specs.Quiet.{EventTakesNoMemory};
 ghost use Rattle.world.specs.Cannot.{is_serving};
-ghost use Rattle.world.specs.SlotsAreValid.{leads};
-ghost use Rattle.world.specs.Inside.Connecting.{BeginsConnection, ConnectsAt, HearsOfOne, MayOpenNone, Reaches};
-ghost use Rattle.world.specs.Inside.Calling.{CountsRefusal, IsCall};
+ghost use Rattle.world.specs.Inside.Connecting.{BeginsConnection, ConnectsAt, MayOpenNone};
+ghost use Rattle.world.specs.Inside.Calling.{CountsRefusal};
 ghost use Rattle.world.specs.Inside.Steps.{PublishesAsked, IsTrace, Meets};
 
-use crate::connection_slot::ConnectionSlot;
 use crate::world::World;
 use packet::{ClientId, QoS};
 use session_base::Publication;
 use topics::Filter;
 use world_base::Port;
+use world_clients::{
+    ConnectionSlot, leave, lose_connection, open_pipe, publish_copy, subscribe_copy,
+    unsubscribe_copy,
+};
 use world_events::Event;
-use world_nodes::{Idle, Nodes};
-use world_pipes::{ClientError, PipedClient, Sending};
+use world_nodes::Idle;
+use world_pipes::{ClientError, Sending};
 
 impl World {
     /// Opens a connection of a client to a node. `Idle` comes if there is no such client, if it has
@@ -235,101 +234,4 @@ impl World {
             None => false,
         }
     }
-}
-
-// Lets a client that holds no connection open one to a node, to which it is reported. Returns
-// whether the client then has one.
-fn open_pipe(nodes: &mut Nodes, piped: &mut PipedClient, node: u8, port: Port) -> bool
-    requires node { 0 < node }
-    requires free { is_holding piped.old ≡ false }
-    ensures nodes { NodesGoOn nodes.old nodes.new }
-    ensures reaches { Reaches result node port nodes.old piped.old nodes.new piped.new }
-    ensures leads { result ≡ false → leads piped.new.ways ≡ leads piped.old.ways }
-{
-    match piped.open(node as usize - 1, port) {
-        Ok(()) => keep_if_taken(nodes, piped, node, port),
-        Err(_) => false,
-    }
-}
-
-// Reports a client's new connection to a node, and removes it again if the node does not take it.
-// Returns whether the node takes it.
-fn keep_if_taken(nodes: &mut Nodes, piped: &mut PipedClient, node: u8, port: Port) -> bool
-    ensures nodes { NodesGoOn nodes.old nodes.new }
-    ensures takes { HearsOfOne result node port nodes.old nodes.new }
-    ensures piped { piped.new ≡ (if result then piped.old else taken_back piped.old) }
-{
-    let taken = report_opened(nodes, node, port);
-    if !taken {
-        piped.take_back();
-    }
-    taken
-}
-
-// Reports a new connection to a node, and says whether the node takes it.
-fn report_opened(nodes: &mut Nodes, node: u8, port: Port) -> bool
-    ensures nodes { NodesGoOn nodes.old nodes.new }
-    ensures takes { HearsOfOne result node port nodes.old nodes.new }
-{
-    if nodes.opened(node, port, 0).is_err() {
-        return false;
-    }
-    match nodes.node(node) {
-        Some(core) => core.has_port(port),
-        None => false,
-    }
-}
-
-// Lets a client lose its connection.
-fn lose_connection(piped: &mut PipedClient)
-    ensures lost { LosesConnection piped.old piped.new }
-    ensures goes { FollowsAll piped.old piped.new }
-    ensures leads { leads piped.new.ways ≡ leads piped.old.ways }
-{
-    piped.abandon();
-}
-
-// Lets a client disconnect.
-fn leave(piped: &mut PipedClient) -> Result<Sending, ClientError>
-    ensures leaves { TakesLeave (keeper_step Call.Disconnects piped.old.core.state)
-        piped.old result piped.new }
-    ensures goes { CallingFollows [] piped.old result piped.new }
-    ensures leads { leads piped.new.ways ≡ leads piped.old.ways }
-{
-    piped.disconnect()
-}
-
-// Lets a client publish a copy.
-fn publish_copy(piped: &mut PipedClient, publication: &Publication) -> Result<Sending, ClientError>
-    ensures calls { IsCall (Call.Publishes publication.now) piped.old result piped.new }
-    ensures goes { CallingFollows (publication.now ∷ []) piped.old result piped.new }
-    ensures leads { leads piped.new.ways ≡ leads piped.old.ways }
-{
-    let copied = publication.clone()?;
-    let retain = copied.retain;
-    piped.publish(copied.topic, copied.qos, retain, copied.payload)
-}
-
-// Lets a client subscribe to a copy of a filter.
-fn subscribe_copy(
-    piped: &mut PipedClient,
-    filter: &Filter,
-    qos: QoS,
-) -> Result<Sending, ClientError>
-    ensures calls { IsCall (Call.Subscribes filter.now qos) piped.old result piped.new }
-    ensures goes { CallingFollows [] piped.old result piped.new }
-    ensures leads { leads piped.new.ways ≡ leads piped.old.ways }
-{
-    let copied = filter.clone()?;
-    piped.subscribe(copied, qos)
-}
-
-// Lets a client unsubscribe from a copy of a filter.
-fn unsubscribe_copy(piped: &mut PipedClient, filter: &Filter) -> Result<Sending, ClientError>
-    ensures calls { IsCall (Call.Unsubscribes filter.now) piped.old result piped.new }
-    ensures goes { CallingFollows [] piped.old result piped.new }
-    ensures leads { leads piped.new.ways ≡ leads piped.old.ways }
-{
-    let copied = filter.clone()?;
-    piped.unsubscribe(copied)
 }

@@ -1,20 +1,16 @@
 // Bytes reach a node, or a client.
 
-ghost use Rattle.std.specs.Prelude.{◌≡◌, ◌⊎◌, ◌≤◌, ◌<◌, ◌-◌, true, false, Some, length, slice_get, if◌then◌else◌, IfOk, OnErr};
-ghost use Rattle.world_events.specs.world_pipes.Following.{FollowsAll};
-ghost use Rattle.world.specs.Trace.{CountsOnce, NodesGoOn};
-ghost use Rattle.world.specs.SlotsAreValid.{leads};
-ghost use Rattle.world.specs.Inside.Carrying.{CannotCarryDown, CannotCarryUp, CannotCarryUpOn, CarriesDownOn, CarriesUpOnWhere, CarriesUpWhere};
+ghost use Rattle.std.specs.Prelude.{◌≡◌, ◌<◌, ◌-◌, true, Some, slice_get, if◌then◌else◌, IfOk, OnErr};
+ghost use Rattle.world.specs.Trace.{CountsOnce};
+ghost use Rattle.world.specs.Inside.Carrying.{CannotCarryUpOn, CarriesUpOnWhere};
 ghost use Rattle.world.specs.Inside.Steps.{IsTrace, Meets};
 ghost use Rattle.world.specs.Inside.Calling.{with_loss};
 
-use crate::connection_slot::ConnectionSlot;
 use crate::world::World;
-use std::alloc::Global;
-use world_base::{Piece, Port};
+use world_base::Port;
+use world_clients::{ConnectionSlot, carry_down_on, carry_to_node};
 use world_events::Event;
-use world_nodes::{Idle, Nodes};
-use world_pipes::{ClientError, PipedClient};
+use world_nodes::Idle;
 
 impl World {
     /// Carries `count` bytes from the front of a connection to its node. `Idle` comes if the end at
@@ -99,66 +95,4 @@ impl World {
             self.count_loss();
         }
     }
-}
-
-// Carries this many bytes from the front of a connection to its node, which knows it by this port.
-// Returns whether there was memory for them: if not, they keep waiting.
-fn carry_to_node(
-    alloc: Global,
-    nodes: &mut Nodes,
-    piped: &mut PipedClient,
-    slot: ConnectionSlot,
-    port: Port,
-    count: u64,
-) -> Result<bool, Idle>
-    requires { slot.at < length piped.old.ways }
-    ensures nodes { NodesGoOn nodes.old nodes.new }
-    ensures carries { IfOk result (λ had.
-        CarriesUpWhere had slot port count nodes.old piped.old nodes.new piped.new) }
-    ensures idle { OnErr result (CannotCarryUp slot count nodes.old piped.old) }
-    ensures leads { leads piped.new.ways ≡ leads piped.old.ways }
-    ensures same { OnErr result (nodes.new ≡ nodes.old) }
-    ensures still { OnErr result (piped.new ≡ piped.old) }
-{
-    let waiting = piped.up(slot.at);
-    if !is_part(count, waiting.len()) {
-        return Err(Idle);
-    }
-    if !nodes.is_running(slot.node) {
-        return Err(Idle);
-    }
-    let count = count as usize;
-    let Ok(piece) = Piece::from_slice(alloc, &waiting[..count]) else {
-        return Ok(false);
-    };
-    nodes.give_bytes(slot.node, port, piece)?;
-    piped.take_up(slot.at, count);
-    Ok(true)
-}
-
-// Carries this many bytes that wait on a connection to its client, if the client holds it. Returns
-// whether there was memory.
-fn carry_down_on(piped: &mut PipedClient, at: usize, count: u64) -> Result<bool, Idle>
-    requires { at < length piped.old.ways }
-    ensures goes { FollowsAll piped.old piped.new }
-    ensures leads { leads piped.new.ways ≡ leads piped.old.ways }
-    ensures carries { IfOk result (λ had. CarriesDownOn had at count piped.old piped.new) }
-    ensures idle { OnErr result (CannotCarryDown at count piped.old) }
-    ensures same { OnErr result (piped.new ≡ piped.old) }
-{
-    if !piped.is_open() || at != piped.len() - 1 {
-        return Err(Idle);
-    }
-    if !is_part(count, piped.down(at).len()) {
-        return Err(Idle);
-    }
-    Ok(piped.carry_down(count as usize) != Err(ClientError::Memory))
-}
-
-// Says whether some bytes are carried, and no more than wait.
-fn is_part(count: u64, waiting: usize) -> bool
-    ensures yes { result ≡ true → (0 < count) × (count ≤ waiting) }
-    ensures no { result ≡ false → (count ≡ 0) ⊎ (waiting < count) }
-{
-    count != 0 && count <= waiting as u64
 }

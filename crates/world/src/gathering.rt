@@ -1,19 +1,15 @@
 // What a node queued goes into the pipes to its clients.
 
 ghost use Rattle.std.specs.Prelude.{◌≡◌, ◌<◌, ◌-◌, true, false, Some, length, slice_get};
-ghost use Rattle.escaping_nodes.specs.world_nodes.Nodes.{NodesState};
 ghost use Rattle.world.specs.Gathering.{Gathers, GathersAmong};
-ghost use Rattle.world.specs.Trace.{NodesGoOn};
-ghost use Rattle.world.specs.SlotsAreValid.{leads, open_from};
-ghost use Rattle.world.specs.Inside.Handing.{GathersAt, HandsDown, MayGatherOn, MayHandDown, MayPutDown, PutsDown, StaysQuiet, marked, tells_open};
+ghost use Rattle.world_clients.specs.SlotsAreValid.{open_from};
+ghost use Rattle.world.specs.Inside.Handing.{GathersAt, MayGatherOn, marked};
+ghost use Rattle.world_clients.specs.Handing.{StaysQuiet};
 ghost use Rattle.world.specs.Inside.Steps.{IsTrace};
 
-use crate::connection_slot::ConnectionSlot;
 use crate::world::World;
-use std::alloc::Global;
-use world_base::{Handed, Port};
-use world_nodes::{Idle, Nodes};
-use world_pipes::PipedClient;
+use world_base::Port;
+use world_clients::{ConnectionSlot, hand_down};
 
 impl World {
     /// Puts into the pipes what a node queued, on each connection whose end there is open. The
@@ -114,50 +110,5 @@ impl World {
             slot.node,
             Port(number),
         )
-    }
-}
-
-// Puts into the pipe of a connection what a node queued for its port. Returns whether its end is
-// open.
-fn hand_down(
-    alloc: Global,
-    nodes: &mut Nodes,
-    piped: &mut PipedClient,
-    at: usize,
-    node: u8,
-    port: Port,
-) -> bool
-    requires { at < length piped.old.ways }
-    ensures nodes { NodesGoOn nodes.old nodes.new }
-    ensures quiet { StaysQuiet node nodes.old nodes.new }
-    ensures may { MayPutDown at node port nodes.old piped.old nodes.new piped.new }
-    ensures puts { PutsDown at node port nodes.old piped.old nodes.new piped.new result }
-    ensures leads { leads piped.new.ways ≡ leads piped.old.ways }
-{
-    let mut bytes = Vec::new(alloc);
-    piped.swap_down(at, &mut bytes);
-    let is_open = hands_over(nodes, node, port, &mut bytes);
-    piped.swap_down(at, &mut bytes);
-    is_open
-}
-
-// Hands over what a node queued for a port. Returns whether its end is open.
-fn hands_over(nodes: &mut Nodes, node: u8, port: Port, bytes: &mut Vec<u8>) -> bool
-    ensures nodes { NodesGoOn nodes.old nodes.new }
-    ensures quiet { StaysQuiet node nodes.old nodes.new }
-    ensures may { MayHandDown node port nodes.old bytes.old.items nodes.new bytes.new.items }
-    ensures hands { HandsDown node port nodes.old bytes.old.items
-        nodes.new bytes.new.items result }
-{
-    tells_open(nodes.hand_over(node, port, bytes))
-}
-
-// Says whether a node's answer means that an end is open.
-fn tells_open(answer: Result<Handed, Idle>) -> bool
-    ensures { result ≡ tells_open answer }
-{
-    match answer {
-        Ok(Handed::Open) => true,
-        Ok(Handed::Closed) | Err(Idle) => false,
     }
 }

@@ -8,7 +8,7 @@ ghost use Rattle.headline.specs.broker_spec.Past.{session_of};
 ghost use Rattle.escaping_nodes.specs.world_nodes.Asking.{log_of};
 ghost use Rattle.world_events.specs.EscapeEvents.{connect_bytes};
 ghost use Rattle.world_events.specs.world_pipes.Piped.{is_holding};
-ghost use Rattle.world.specs.declared.world.WorldClient.{WorldClient};
+ghost use Rattle.world_clients.specs.declared.world_client.WorldClient.{WorldClient};
 ghost use Rattle.escaping_nodes.specs.world_nodes.Running.{is_running, node_of};
 ghost use Rattle.world.specs.Escaping.{CanEscape, LeadsClientOut, configuration_of, held_in};
 ghost use Rattle.world.specs.Inside.Escaping.{IsFetchedFrom, escaping_events};

@@ -3,7 +3,6 @@
 
 mod calling;
 mod carrying;
-mod connection_slot;
 mod gathering;
 mod laws;
 mod leading_out;

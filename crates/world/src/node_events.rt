@@ -6,10 +6,10 @@ ghost use Rattle.world.specs.Found.{port_of};
 ghost use Rattle.world.specs.Inside.Steps.{IsTrace, Meets};
 ghost use Rattle.world.specs.Quiet.{IsQuietAt, EventTakesNoMemory};
 
-use crate::connection_slot::ConnectionSlot;
 use crate::world::World;
 use packet::ClientId;
 use world_base::{Config, Item, Port};
+use world_clients::ConnectionSlot;
 use world_events::Event;
 use world_nodes::Idle;
 

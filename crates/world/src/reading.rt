@@ -5,26 +5,18 @@ ghost use Rattle.std.specs.List.{position};
 ghost use Rattle.headline.specs.ballot.Config.{Config};
 ghost use Rattle.headline.specs.broker_spec.Place.{Client};
 ghost use Rattle.escaping_nodes.specs.world_nodes.Agreed.{AgreeOn, AgreeOnSoMany};
-ghost use Rattle.world.specs.Found.{core_named, is_named, slot_numbered, way_of};
+ghost use Rattle.world.specs.Found.{core_named, slot_numbered, way_of};
+ghost use Rattle.world_clients.specs.Clients.{is_named};
 ghost use Rattle.world.specs.Trace.{AreReached};
 ghost use Rattle.headline.specs.Promise.{Promise};
 ghost use Rattle.headline.specs.byte_world.Published.{published_of, published_on};
 ghost use Rattle.world.specs.StandsFor.{IsReached, connections_at};
 
-use crate::connection_slot::ConnectionSlot;
-use crate::world::{World, WorldClient};
+use crate::world::World;
 use packet::ClientId;
 use world_base::Command;
+use world_clients::ConnectionSlot;
 use world_pipes::{ClientCore, PipedClient};
-
-impl WorldClient {
-    /// Says whether it has this identifier.
-    pub(crate) fn is_named(&self, name: &ClientId) -> bool
-        ensures { result ≡ is_named name.now self.now }
-    {
-        self.name == *name
-    }
-}
 
 impl World {
     /// Returns the list on which the nodes agree, the longest that is chosen in a ballot that was

@@ -1,37 +1,26 @@
 // A world.
 
-ghost use Rattle.std.specs.Prelude.{ℕ, List, [], ◌≡◌, ◌≤◌, ◌<◌, ◌↔◌, true, false, Some, length, map, slice_get, IfOk, IfSome, IsErr, IsErrOf, OnErr};
+ghost use Rattle.std.specs.Prelude.{ℕ, List, [], ◌≡◌, ◌≤◌, ◌<◌, ◌↔◌, true, false, length, IfOk, IsErr, IsErrOf, OnErr};
 ghost use Rattle.escaping_client.specs.session_base.declared.publication.Publication.{Publication};
 ghost use Rattle.headline.specs.agreement.World.{can_open};
 ghost use Rattle.headline.specs.ballot.Losses.{greatest_count, one_more};
 ghost use Rattle.headline.specs.packet_world.World.{ClientsAreApart};
-ghost use Rattle.headline.specs.byte_world.World.{new_client};
-ghost use Rattle.world_events.specs.world_pipes.StandsFor.{ClientStandsFor};
 ghost use Rattle.world.specs.Trace.{AgreedGrows, AreReached, CountsOnce, StaysReached, KeepsGroup};
 ghost use Rattle.world.specs.Asking.{EventAsks, RunAsks};
-ghost use Rattle.world.specs.Happening.{EventHappens, EventsHappen, WorldOpens, new_world_client};
+ghost use Rattle.world.specs.Happening.{EventHappens, EventsHappen, WorldOpens};
 ghost use Rattle.world.specs.Cannot.{CannotHappen};
 ghost use Rattle.world.specs.Inside.Steps.{PublishesAsked, IsCounted, Meets};
 ghost use Rattle.world.specs.Quiet.{EventTakesNoMemory};
-ghost use Rattle.world.specs.StandsFor.{ClientsStand, IsReached, KeepsReached, FollowsModelAsking, asked_on, identifiers};
+ghost use Rattle.world_clients.specs.Clients.{identifiers};
+ghost use Rattle.world.specs.StandsFor.{IsReached, KeepsReached, FollowsModelAsking, asked_on};
 
-use crate::connection_slot::ConnectionSlot;
 use packet::ClientId;
 use std::alloc::Global;
 use std::marker::Model;
-use world_base::{Config, Memory, OpeningError};
+use world_base::{Config, OpeningError};
+use world_clients::{ConnectionSlot, WorldClient, new_clients};
 use world_events::Event;
 use world_nodes::{Idle, Nodes};
-use world_pipes::PipedClient;
-
-/// A client of a world, with its identifier.
-#[derive(Drop)]
-pub struct WorldClient {
-    /// The identifier.
-    pub name: ClientId,
-    /// The client, with all its connections.
-    pub piped: PipedClient,
-}
 
 /// Nodes with their master, and clients that keep their side of the handshakes, with a pipe of
 /// bytes each way on every connection. Whatever is in transit arrives late, again or never, as
@@ -62,7 +51,7 @@ impl Drop for World {
 
 impl Model for World {
     ghost use Rattle.std.specs.Prelude.{◌≡◌};
-    ghost use Rattle.world.specs.SlotsAreValid.{SlotsAreValid, leads_of, open_from};
+    ghost use Rattle.world_clients.specs.SlotsAreValid.{SlotsAreValid, leads_of, open_from};
     ghost use Rattle.world.specs.World.{WorldState};
 
     ghost Value = { WorldState };
@@ -255,30 +244,4 @@ impl World {
             Event::Unsubscribe(client, filter) => self.unsubscribe(client, filter),
         }
     }
-}
-
-// Returns clients that were never connected.
-fn new_clients(alloc: Global, clients: &[ClientId]) -> Result<Vec<WorldClient>, Memory>
-    ensures stand { IfOk result (λ made. ClientsStand made.items (map new_client clients.now)) }
-    ensures named { IfOk result (λ made. identifiers made.items ≡ clients.now) }
-    ensures new { IfOk result (λ made. made.items ≡ map new_world_client clients.now) }
-{
-    let mut made = Vec::new(alloc);
-    for client in clients {
-        made.push(new_one(alloc, client)?)?;
-    }
-    Ok(made)
-}
-
-// Returns a client that was never connected.
-fn new_one(alloc: Global, client: &ClientId) -> Result<WorldClient, Memory>
-    ensures stands { IfOk result (λ made. ClientStandsFor made.piped (new_client client.now)) }
-    ensures named { IfOk result (λ made. made.name ≡ client.now) }
-    ensures new { IfOk result (λ made. made ≡ new_world_client client.now) }
-{
-    let piped = PipedClient::new(alloc, client.clone()?);
-    Ok(WorldClient {
-        name: client.clone()?,
-        piped,
-    })
 }

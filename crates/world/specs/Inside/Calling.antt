@@ -1,23 +1,16 @@
 -- A call of a client.
 use Rattle.std.specs.Prelude.{◌≡◌, Result, Ok, Err, IsOk, IsErr}
 use Rattle.headline.specs.ballot.Losses.{one_more}
-use Rattle.escaping_client.specs.client_base.Steps.{Call, keeper_step}
 use Rattle.escaping_client.specs.client_base.declared.error.ClientError.{ClientError}
 use Rattle.escaping_client.specs.client_base.declared.error.ClientError.TheVariants as errors
 use Rattle.escaping_nodes.specs.master.declared.event.Idle.{Idle}
 use Rattle.world_events.specs.world_pipes.declared.sending.Sending.{Sending}
 use Rattle.world_events.specs.world_pipes.declared.sending.Sending.TheVariants as sendings
-use Rattle.world_events.specs.world_pipes.Piped.{Calls, Piped}
 use Rattle.world.specs.World.{WorldState}
 
 -- one loss more is counted
 abbrev pub with_loss : WorldState → WorldState
 with_loss w = record w { losses = one_more w.losses }
-
--- a call with a copy, for which memory may run out
-abbrev pub IsCall : Call → Piped → Result Sending ClientError → Piped → Type 0
-IsCall call old (Err errors.Memory) new = Unit {0}
-IsCall call old done new = Calls (keeper_step call old.core.state) old done new
 
 -- the result of a call: running out of memory is counted, and any other refusal is idle
 abbrev pub CountsRefusal : Result Sending ClientError → WorldState → Result (Unit {0}) Idle →

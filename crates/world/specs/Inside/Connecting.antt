@@ -1,55 +1,16 @@
 -- A new connection.
-use Rattle.std.specs.Prelude.{◌≡◌, ◌⊎◌, ◌-◌, ℕ, Bool, true, false, [], ◌∷◌, ◌++◌, Some, Ok, length, slice_get}
-use Rattle.std.specs.Option.{is_some}
+use Rattle.std.specs.Prelude.{◌≡◌, ◌⊎◌, ◌-◌, ℕ, true, false, [], ◌∷◌, ◌++◌, Some, length, slice_get}
 use Rattle.headline.specs.ballot.Losses.{one_more}
-use Rattle.escaping_client.specs.client_base.Steps.{Call, keeper_step}
-use Rattle.headline.specs.world_base.Core.{CountedCore}
-use Rattle.headline.specs.world_base.Handing.{listed_at}
-use Rattle.headline.specs.world_base.declared.Port.{Port}
-use Rattle.headline.specs.world_base.declared.item.Item.TheVariants.{Opened}
-use Rattle.headline.specs.node_moves.Moves.NodeCall.{takes}
-use Rattle.escaping_nodes.specs.world_nodes.ExactSteps.{NodeDoesCall}
-use Rattle.escaping_nodes.specs.world_nodes.Running.{node_of}
 use Rattle.escaping_nodes.specs.world_nodes.Nodes.{NodesState}
-use Rattle.escaping_nodes.specs.world_nodes.Steps.{NodesLoseNothing, TakesIn}
-use Rattle.world_events.specs.world_pipes.Following.{ConnectingFollows, FollowsAll}
-use Rattle.world_events.specs.world_pipes.Piped.{SendsConnect as Opens, Piped}
-use Rattle.world.specs.declared.world.WorldClient.{WorldClient}
+use Rattle.escaping_nodes.specs.world_nodes.Steps.{NodesLoseNothing}
+use Rattle.world_events.specs.world_pipes.Piped.{Piped}
+use Rattle.world_clients.specs.declared.world_client.WorldClient.{WorldClient}
 use Rattle.world.specs.Found.{port_of, with_piped}
 use Rattle.world.specs.Gathering.{Gathers}
-use Rattle.world.specs.Opening.{NoneOpens, next_number}
+use Rattle.world_clients.specs.Opening.{NoneOpens}
+use Rattle.world.specs.Opening.{next_number}
 use Rattle.world.specs.World.{WorldState}
-
--- the node of this number exists, and has a connection at this port or not
-pub record IsKnown (has : Bool) (node : ℕ) (port : Port) (n : NodesState) : Type 0 where
-  pub core : CountedCore
-  pub stands : node_of n.nodes node ≡ Some core
-  pub known : is_some (listed_at port core.core) ≡ has
-
--- a new connection is reported to a node, which then has it or not
-pub record HearsAndHas (has : Bool) (node : ℕ) (port : Port) (old new : NodesState) : Type 0 where
-  pub step : TakesIn node (Opened port 0) old new
-  pub acts : NodeDoesCall (node - 1) (takes (Opened port 0)) old new
-  pub known : IsKnown has node port new
-
--- a new connection is reported to a node, which then has it, or it is not reported
-abbrev pub HearsOfOne : Bool → ℕ → Port → NodesState → NodesState → Type 0
-HearsOfOne true node port old new = HearsAndHas true node port old new
-HearsOfOne false node port old new = (new ≡ old) ⊎ HearsAndHas false node port old new
-
--- a client has a new connection to a node, which takes it
-pub record HasNew (node : ℕ) (port : Port) (old : NodesState) (client : Piped) (new : NodesState)
-    (later : Piped) : Type 0 where
-  pub opens : Opens (node - 1) port (keeper_step Call.Opens client.core.state) client (Ok tt) later
-  pub follows : ConnectingFollows (node - 1) port client (Ok tt) later
-  pub hears : HearsAndHas true node port old new
-
--- a client has a new connection to a node, which takes it, or it has none
-abbrev pub Reaches : Bool → ℕ → Port → NodesState → Piped → NodesState → Piped → Type 0
-Reaches true node port old client new later = HasNew node port old client new later
-Reaches false node port old client new later =
-    FollowsAll client later × HearsOfOne false node port old new
-    × NoneOpens node port old client new later
+use Rattle.world_clients.specs.Opening.{HasNew}
 
 -- the client at this index has a new connection to the node, under the next number, and the node
 -- has taken it

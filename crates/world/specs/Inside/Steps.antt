@@ -2,13 +2,11 @@
 use Rattle.std.specs.Prelude.{◌≡◌, ◌⊎◌, ◌≤◌, ◌<◌, ℕ, true, false, List, [], Result, Ok, Err}
 use Rattle.headline.specs.ballot.Losses.{greatest_count, one_more}
 use Rattle.escaping_nodes.specs.master.declared.event.Idle.{Idle}
-use Rattle.headline.specs.node_group.Group.{Group}
 use Rattle.escaping_client.specs.session_base.declared.publication.Publication.{Publication}
-use Rattle.escaping_nodes.specs.world_nodes.Nodes.{NodesState, NodesStandFor}
 use Rattle.escaping_nodes.specs.world_nodes.Steps.{NodesLoseNothing}
 use Rattle.world_events.specs.declared.event.Event.{Event}
 use Rattle.world.specs.Asking.{EventAsks}
-use Rattle.world.specs.Trace.{NodesGoOn}
+use Rattle.world_clients.specs.NodesGoOn.{NodesGoOn}
 use Rattle.world.specs.Cannot.{CannotHappen}
 use Rattle.world.specs.Doing.{DoesEvent}
 use Rattle.world.specs.Happening.{HappensLosing}
@@ -32,10 +30,6 @@ pub record PublishesAsked (event : Event) (old : WorldState) (result : Result (U
   pub asked : List (ℕ × Publication)
   pub is : EventAsks event old result asked new
   pub goes : IsTraceAsking asked old new
-
--- each group that corresponds to the nodes before still corresponds to them
-abbrev pub NodesStay : NodesState → NodesState → Type 0
-NodesStay old new = (g : Group) → NodesStandFor g old → NodesStandFor g new
 
 -- an event was done, or nothing happened: it was done exactly, unless the nodes counted a loss
 pub record EventIsDone (event : Event) (old new : WorldState) : Type 0 where

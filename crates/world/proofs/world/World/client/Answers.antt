@@ -3,7 +3,7 @@ use Rattle.escaping_client.specs.client.Core.{Core}
 use Rattle.headline.specs.Promise.{Promise}
 use Rattle.headline.specs.byte_world.Published.{published_of, published_on}
 use Rattle.escaping_nodes.proofs.of_master.Counting.{get_there}
-use Rattle.world.specs.declared.world.WorldClient.{WorldClient}
+use Rattle.world_clients.specs.declared.world_client.WorldClient.{WorldClient}
 use Rattle.world.specs.StandsFor.{connections_at}
 use Rattle.world.specs.World.{WorldState}
 use Rattle.world.proofs.PromiseShown.{promise_shown, same_place}

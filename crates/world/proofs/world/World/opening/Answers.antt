@@ -1,7 +1,7 @@
 use Rattle.std.proofs.Common.{refl}
 use Rattle.headline.specs.node_group.Group.{opening_group}
 use Rattle.headline.specs.node_group.Steps.GroupTrace.{opened}
-use Rattle.world.proofs.NodesGoOn.{are_reached}
+use Rattle.world.proofs.StaysReached.{are_reached}
 use Rattle.world.proofs.OpensReached.{housed_none, opens_reached}
 use Rattle.world.proofs.world.World.opening.Goals as goal
 

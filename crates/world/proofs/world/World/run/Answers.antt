@@ -3,7 +3,7 @@ use Rattle.world.proofs.AgreedOnlyGrows.{agreed_grows}
 use Rattle.world.proofs.AskedSo.{asked_on_more, none_asked}
 use Rattle.world.proofs.ItemsMet.{run_on}
 use Rattle.world.proofs.Joined.{world_on_join, world_on_rest}
-use Rattle.world.proofs.NodesGoOn.{stays_reached}
+use Rattle.world.proofs.StaysReached.{stays_reached}
 use Rattle.world.proofs.world.World.run.Goals as goal
 
 pub loop-event-init : goal.loop-event-init

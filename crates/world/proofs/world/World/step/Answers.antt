@@ -6,7 +6,7 @@ use Rattle.world.proofs.AskedSo.{idle_asks, step_asks}
 use Rattle.world.proofs.CountedOnce.{step_once}
 use Rattle.world.proofs.ItemsMet.{step_happens}
 use Rattle.world.proofs.Joined.{goes_on_rest, goes_on_still, goes_on_then, world_goes_on}
-use Rattle.world.proofs.NodesGoOn.{stays_reached}
+use Rattle.world.proofs.StaysReached.{stays_reached}
 use Rattle.world.proofs.QuietEvents.{idle_exactly, quiet_by}
 use Rattle.world.proofs.world.World.step.Goals as goal
 

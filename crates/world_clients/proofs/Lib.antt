@@ -1,0 +1,9 @@
+pub mod Turned
+pub mod NodesGoOn
+pub mod LeadsKept
+pub mod Offered
+pub mod CallsGiven
+pub mod TakesPart
+pub mod HandsQuietly
+pub mod PutsDown
+pub mod ClientsMade

@@ -1,0 +1,87 @@
+-- What a node queued for a connection goes down on it.
+use Rattle.std.specs.Prelude.{◌≡◌, ◌⊎◌, ℕ, ◌-◌, Bool, true, false, List, [], ◌++◌, Option, Some, None, set, slice_get, Result, Ok, Err}
+use Rattle.byte_world.specs.node_moves.Moves.NodeCall.{gives}
+use Rattle.byte_world.specs.world_base.Core.{CountedCore}
+use Rattle.byte_world.specs.world_base.Handing.{answer_of, bytes_of, listed_at}
+use Rattle.byte_world.specs.world_base.declared.Handed.{Handed}
+use Rattle.byte_world.specs.world_base.declared.Handed.TheVariants as answers
+use Rattle.byte_world.specs.world_base.declared.Port.{Port}
+use Rattle.world_nodes.specs.ExactSteps.{after_node_call, NodeDoesCall, HandsOver}
+use Rattle.world_nodes.specs.Running.{node_of}
+use Rattle.world_nodes.specs.Nodes.{NodesState}
+use Rattle.world_nodes.specs.Steps.{nodes_with_loss}
+use Rattle.byte_world.specs.world_base.Losses.{WaitsNothing}
+use Rattle.world_pipes.specs.declared.way.Way.{Way}
+use Rattle.world_pipes.specs.Piped.{Piped}
+use Rattle.world_nodes.specs.master.declared.event.Idle.{Idle}
+use Rattle.world_clients.specs.NodesGoOn.{NodesStay}
+
+-- the bytes that the node queued for the port and has not yet handed over
+abbrev pub put_out : Port → Option CountedCore → List ℕ
+put_out port None = []
+put_out port (Some node) = bytes_of (listed_at port node.core)
+
+-- whether the node's end of a connection stays open after it handed over bytes
+abbrev pub is_more : Handed → Bool
+is_more answers.Open = true
+is_more answers.Closed = false
+
+-- whether the node's end of the connection is open
+abbrev pub is_told_open : Port → Option CountedCore → Bool
+is_told_open port None = false
+is_told_open port (Some node) = is_more (answer_of (listed_at port node.core))
+
+-- the node hands over the bytes of the port
+abbrev pub HandsOverBytes : Option CountedCore → ℕ → Port → NodesState → NodesState → Type 0
+HandsOverBytes None node port old new = new ≡ old
+HandsOverBytes (Some core) node port old new =
+    new ≡ after_node_call (node - 1) core (gives port) old
+
+-- a node has nothing to hand over
+abbrev pub HasNothingToHandOver : ℕ → NodesState → Type 0
+HasNothingToHandOver node n =
+    (core : CountedCore) → node_of n.nodes node ≡ Some core → WaitsNothing core.core
+
+-- these bytes are in transit down on the client's connection at this index
+abbrev pub with_down : ℕ → Way → List ℕ → Piped → Piped
+with_down at way bytes client =
+    record client { ways = set client.ways at (record way { down = bytes }) }
+
+-- whether a node's answer says that an end is open
+abbrev pub tells_open : Result Handed Idle → Bool
+tells_open (Ok handed) = is_more handed
+tells_open (Err idle) = false
+
+-- A node hands over what it queued for a port, after these bytes, and says whether its end is open.
+-- Or it runs out of memory: it hands nothing over, and its end is open.
+abbrev pub HandsDown : ℕ → Port → NodesState → List ℕ → NodesState → List ℕ → Bool → Type 0
+HandsDown node port old before new after is_open =
+    (HandsOverBytes (node_of old.nodes node) node port old new
+    × (after ≡ before ++ put_out port (node_of old.nodes node))
+    × (is_open ≡ is_told_open port (node_of old.nodes node)))
+    ⊎ ((new ≡ nodes_with_loss old) × (after ≡ before) × (is_open ≡ true))
+
+-- a node hands down what it queued, after what is in transit on the connection at this index
+abbrev pub PutsDown : ℕ → ℕ → Port → NodesState → Piped → NodesState → Piped → Bool → Type 0
+PutsDown at node port old client new later is_open =
+    (way : Way) → slice_get client.ways at ≡ Some way →
+    (bytes : List ℕ) × HandsDown node port old way.down new bytes is_open
+    × (later ≡ with_down at way bytes client)
+
+-- it may have no memory: then it hands over nothing
+abbrev pub MayHandDown : ℕ → Port → NodesState → List ℕ → NodesState → List ℕ → Type 0
+MayHandDown node port old before new after =
+    (NodesStay old new × (after ≡ before))
+    ⊎ (NodeDoesCall (node - 1) (gives port) old new × HandsOver node port old before after)
+
+-- a node may hand down what it queued, after what is in transit on the connection at this index
+abbrev pub MayPutDown : ℕ → ℕ → Port → NodesState → Piped → NodesState → Piped → Type 0
+MayPutDown at node port old client new later =
+    (way : Way) → slice_get client.ways at ≡ Some way →
+    (bytes : List ℕ) × MayHandDown node port old way.down new bytes
+    × (later ≡ with_down at way bytes client)
+
+-- a node that has nothing to hand over then has nothing, and counts no loss
+abbrev pub StaysQuiet : ℕ → NodesState → NodesState → Type 0
+StaysQuiet node old new =
+    HasNothingToHandOver node old → HasNothingToHandOver node new × (new.losses ≡ old.losses)

@@ -1,0 +1,31 @@
+-- What nodes do may happen in a group.
+use Rattle.std.specs.Prelude.{◌≤◌}
+use Rattle.byte_world.specs.node_group.Group.{Group}
+use Rattle.byte_world.specs.node_group.Steps.{GroupStep}
+use Rattle.world_nodes.specs.Nodes.{NodesState, NodesStandFor}
+
+-- steps of a group, one after another
+pub data StepsOfGroup (g : Group) : Group → Type 0 where
+  -- no step
+  rests : StepsOfGroup g g
+  -- one more step
+  goes_on : {h k : Group} → StepsOfGroup g h → GroupStep h k → StepsOfGroup g k
+
+-- a group moves by steps, and then corresponds to these nodes
+pub record GroupStepsTo (g : Group) (new : NodesState) : Type 0 where
+  pub after : Group
+  pub goes : StepsOfGroup g after
+  pub stands : NodesStandFor after new
+
+-- each group that corresponds to the nodes before moves, and corresponds to the nodes after
+abbrev pub NodesGo : NodesState → NodesState → Type 0
+NodesGo old new = (g : Group) → NodesStandFor g old → GroupStepsTo g new
+
+-- the count of the nodes' losses never falls, and each group that corresponds to them moves
+pub record NodesGoOn (old new : NodesState) : Type 0 where
+  pub rises : old.losses ≤ new.losses
+  pub goes : NodesGo old new
+
+-- each group that corresponds to the nodes before still corresponds to them
+abbrev pub NodesStay : NodesState → NodesState → Type 0
+NodesStay old new = (g : Group) → NodesStandFor g old → NodesStandFor g new
