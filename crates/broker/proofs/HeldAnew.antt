@@ -4,7 +4,7 @@ use Rattle.std.specs.Prelude.{bytes_eq}
 use Rattle.std.specs.Map.{update, update_all}
 use Rattle.std.specs.List.Sorted.{IsStrictlySortedBy}
 use Rattle.std.specs.Cmp.Lexicographic.{bytes_decides}
-use Rattle.packet.specs.declared.qos.QoS.{QoS}
+use Rattle.packet.specs.packet_base.declared.qos.QoS.{QoS}
 use Rattle.session_base.specs.Subscriptions.{GrantedFilter}
 use Rattle.session_base.specs.KeepingLaws.{AreFiltersApart}
 use Rattle.broker_tables.specs.broker_spec.Place.{Client, same_client}

@@ -2,7 +2,7 @@
 use Rattle.std.specs.Prelude.{◌≡◌, ℕ, ◌<◌, length, List, [], ◌∷◌, Option, None, bytes_eq}
 use Rattle.std.specs.Map.{update_all}
 use Rattle.std.specs.List.{AllByRecursion}
-use Rattle.packet.specs.declared.qos.QoS.{QoS}
+use Rattle.packet.specs.packet_base.declared.qos.QoS.{QoS}
 use Rattle.broker_tables.specs.retained.Retained.{RetainedTopics}
 use Rattle.session_base.specs.Subscriptions.{GrantedFilter}
 use Rattle.broker_tables.specs.subs_base.Content.{Content, with_filters}

@@ -9,8 +9,8 @@ use Rattle.broker_spec.specs.Connection.{ConnectionName}
 use Rattle.broker_spec.specs.Place.{Client, same_client, Mark, Place, Past, Limits, only_if}
 use Rattle.broker_spec.specs.Past.{accepts, any_connection, ends, expels, ends_any}
 use Rattle.session_base.specs.Publication.{publication_of}
-use Rattle.session_base.specs.packet.QoS.{lower_qos}
-use Rattle.session_base.specs.packet.declared.qos.QoS.{QoS}
+use Rattle.session_base.specs.packet.packet_base.QoS.{lower_qos}
+use Rattle.session_base.specs.packet.packet_base.declared.qos.QoS.{QoS}
 use Rattle.std.specs.Prelude.{option_map, is_some}
 use Rattle.broker_spec.specs.Subscriptions.{subscribed}
 use Rattle.broker_spec.specs.Received.{received_by}

@@ -9,7 +9,7 @@ use Rattle.session_base.specs.packet.declared.packet.Packet.TheVariants as packe
 use Rattle.broker_spec.specs.retained.Retained.{RetainedTopics, is_empty, publication_on}
 use Rattle.session_base.specs.declared.publication.Publication.{Publication}
 use Rattle.session_base.specs.Publication.{publication_of}
-use Rattle.session_base.specs.packet.QoS.{lower_qos}
+use Rattle.session_base.specs.packet.packet_base.QoS.{lower_qos}
 use Rattle.session_base.specs.lists.Lists.{has_id}
 use Rattle.session_base.specs.Queue.{room}
 use Rattle.broker_spec.specs.Place.{Client, Mark, Place, Limits}

@@ -6,7 +6,7 @@ use Rattle.session_base.specs.packet.declared.packet.Packet.TheVariants as packe
 use Rattle.broker_spec.specs.retained.Retained.{RetainedTopics}
 use Rattle.session_base.specs.declared.publication.Publication.{Publication}
 use Rattle.session_base.specs.Publication.{publication_of}
-use Rattle.session_base.specs.packet.QoS.{lower_qos}
+use Rattle.session_base.specs.packet.packet_base.QoS.{lower_qos}
 use Rattle.session_base.specs.Subscriptions.{GrantedFilter, granted_qos}
 use Rattle.session_base.specs.Session.{empty_session}
 use Rattle.session_base.specs.Queue.{Flight, Queue, on_puback, on_pubrec, on_pubcomp, fill, filled}

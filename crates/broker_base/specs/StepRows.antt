@@ -1,6 +1,6 @@
 -- Worked examples, computed by the step: full queues, identifiers and the window.
 use Rattle.std.specs.Prelude.{◌≡◌, ℕ, true, false, List, [], ◌∷◌, ◌++◌, Some, codes}
-use Rattle.session_base.specs.packet.declared.qos.QoS.TheVariants as qualities
+use Rattle.session_base.specs.packet.packet_base.declared.qos.QoS.TheVariants as qualities
 use Rattle.session_base.specs.packet.declared.delivery.Delivery.TheVariants as deliveries
 use Rattle.session_base.specs.packet.declared.packet.Packet.TheVariants as packets
 use Rattle.session_base.specs.declared.publication.Publication.{Publication}

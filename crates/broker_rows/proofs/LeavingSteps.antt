@@ -1,7 +1,7 @@
 -- The step at what ends a served client's connection: its row is written, or goes.
 use Rattle.std.proofs.Common.{◌≡◌, ℕ, true, false, ◌==◌, ◌&&◌, [], ◌∷◌, refl, ap, ap₂, ◌∙◌, arith}
-use Rattle.subs_base.specs.packet.declared.packet.Packet.{Packet}
-use Rattle.subs_base.specs.packet.declared.packet.Packet.TheVariants as packets
+use Rattle.packet.specs.declared.packet.Packet.{Packet}
+use Rattle.packet.specs.declared.packet.Packet.TheVariants as packets
 use Rattle.broker_base.specs.Connection.{ConnectionName, same_connection}
 use Rattle.broker_base.specs.Place.{Mark, Place}
 use Rattle.broker_base.specs.Past.{is_leaving, ends_any}

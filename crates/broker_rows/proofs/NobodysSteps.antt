@@ -1,7 +1,7 @@
 -- The step at a packet of a connection without a client, and at its loss, leaves the state.
 use Rattle.std.proofs.Common.{◌≡◌, [], refl, ap, ap₂, ◌∙◌}
-use Rattle.subs_base.specs.packet.declared.packet.Packet.{Packet}
-use Rattle.subs_base.specs.packet.declared.packet.Packet.TheVariants as packets
+use Rattle.packet.specs.declared.packet.Packet.{Packet}
+use Rattle.packet.specs.declared.packet.Packet.TheVariants as packets
 use Rattle.broker_base.specs.Place.{Mark}
 use Rattle.broker_base.specs.State.{State}
 use Rattle.broker_base.specs.StepAnswers.{answers_by_state}

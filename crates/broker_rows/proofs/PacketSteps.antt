@@ -2,8 +2,8 @@
 -- client.
 use Rattle.std.proofs.Common.{◌≡◌, ℕ, if◌then◌else◌, [], ◌∷◌, Option, Some, refl, ap, ap₂, ◌∙◌}
 use Rattle.std.specs.Prelude.{map}
-use Rattle.subs_base.specs.packet.declared.packet.Packet.{Packet}
-use Rattle.subs_base.specs.packet.declared.packet.Packet.TheVariants as packets
+use Rattle.packet.specs.declared.packet.Packet.{Packet}
+use Rattle.packet.specs.declared.packet.Packet.TheVariants as packets
 use Rattle.broker_spec.specs.session_base.Publication.{publication_of}
 use Rattle.broker_spec.specs.session_base.Sending.{copies_sent}
 use Rattle.broker_base.specs.Connection.{ConnectionName}

@@ -1,9 +1,9 @@
 -- What a packet does to its sender's session, if the connection continues.
 use Rattle.std.proofs.Common.{◌≡◌, ℕ, Bool, true, false, not, ◌&&◌, ◌||◌, if◌then◌else◌, List, [], Option, Some, None, refl, ap, ◌∙◌, sym}
-use Rattle.subs_base.specs.packet.declared.subscribe.Subscribe.{Subscribe}
-use Rattle.subs_base.specs.packet.declared.publish.Publish.{Publish}
-use Rattle.subs_base.specs.packet.declared.packet.Packet.{Packet}
-use Rattle.subs_base.specs.packet.declared.packet.Packet.TheVariants as packets
+use Rattle.packet.specs.declared.subscribe.Subscribe.{Subscribe}
+use Rattle.packet.specs.declared.publish.Publish.{Publish}
+use Rattle.packet.specs.declared.packet.Packet.{Packet}
+use Rattle.packet.specs.declared.packet.Packet.TheVariants as packets
 use Rattle.std.specs.Prelude.{map}
 use Rattle.broker_spec.specs.retained.Retained.{RetainedTopics}
 use Rattle.broker_spec.specs.session_base.Identifiers.{without_id}

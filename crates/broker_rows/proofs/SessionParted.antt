@@ -1,6 +1,6 @@
 -- Where a command ends a session's connection, a clean session goes, and another stays without a connection.
 use Rattle.std.proofs.Common.{◌≡◌, ℕ, Bool, true, false, not, ◌&&◌, ◌||◌, if◌then◌else◌, List, [], Some, None, refl, ap, ap₂, ◌∙◌}
-use Rattle.subs_base.specs.packet.declared.packet.Packet.TheVariants as packets
+use Rattle.packet.specs.declared.packet.Packet.TheVariants as packets
 use Rattle.broker_spec.specs.retained.Retained.{RetainedTopics}
 use Rattle.broker_spec.specs.session_base.Subscriptions.{GrantedFilter}
 use Rattle.broker_spec.specs.session_base.Queue.{Queue}

@@ -1,8 +1,8 @@
 -- Packets that change nothing: PINGREQ, a repeat, a packet of nobody.
 use Rattle.std.specs.Prelude.{◌≡◌, ℕ, true, [], ◌∷◌, None}
-use Rattle.subs_base.specs.packet.declared.publish.Publish.{Publish}
-use Rattle.subs_base.specs.packet.declared.packet.Packet.{Packet}
-use Rattle.subs_base.specs.packet.declared.packet.Packet.TheVariants as packets
+use Rattle.packet.specs.declared.publish.Publish.{Publish}
+use Rattle.packet.specs.declared.packet.Packet.{Packet}
+use Rattle.packet.specs.declared.packet.Packet.TheVariants as packets
 use Rattle.broker_base.specs.Connection.{ConnectionName}
 use Rattle.broker_base.specs.Place.{Client, Limits}
 use Rattle.broker_base.specs.Answers.{acknowledged}

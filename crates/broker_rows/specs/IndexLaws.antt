@@ -2,7 +2,7 @@
 -- them before (MQTT 3.1.2.4, 3.8.4, 3.10.4).
 use Rattle.std.specs.Prelude.{◌≡◌, ℕ, Bool, if◌then◌else◌, List, Some}
 use Rattle.std.specs.BTreeMap.{insert_entry}
-use Rattle.subs_base.specs.packet.declared.delivery.Delivery.{Delivery}
+use Rattle.packet.specs.declared.delivery.Delivery.{Delivery}
 use Rattle.broker_spec.specs.session_base.declared.publication.Publication.{Publication}
 use Rattle.broker_spec.specs.session_base.Subscriptions.{GrantedFilter, with_subscriptions}
 use Rattle.broker_spec.specs.session_base.Subscriptions.{without_filters}

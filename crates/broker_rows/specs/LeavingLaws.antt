@@ -1,7 +1,7 @@
 -- What ends a served client's connection (MQTT-3.1.0-2, MQTT 3.14.4, 4.8): its session stays
 -- without one, and a clean session ends (MQTT 3.1.2.4).
 use Rattle.std.specs.Prelude.{◌≡◌, ℕ, true, Bool, [], ◌∷◌, None}
-use Rattle.subs_base.specs.packet.declared.packet.Packet.{Packet}
+use Rattle.packet.specs.declared.packet.Packet.{Packet}
 use Rattle.broker_base.specs.Connection.{ConnectionName}
 use Rattle.broker_base.specs.Place.{Client, Limits}
 use Rattle.broker_base.specs.Past.{is_leaving}

@@ -2,7 +2,7 @@
 -- sessions' connections before.
 use Rattle.std.specs.Prelude.{◌≡◌, ℕ, List, Some, None}
 use Rattle.std.specs.BTreeMap.{insert_entry}
-use Rattle.subs_base.specs.packet.declared.delivery.Delivery.{Delivery}
+use Rattle.packet.specs.declared.delivery.Delivery.{Delivery}
 use Rattle.broker_spec.specs.session_base.declared.publication.Publication.{Publication}
 use Rattle.subs_base.specs.Granted.{Row}
 use Rattle.broker_base.specs.Connection.{ConnectionName}

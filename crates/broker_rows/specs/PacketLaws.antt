@@ -1,10 +1,10 @@
 -- What a packet of a served client does if its connection stays open: one session is written, and
 -- only its client is answered (MQTT 3.8.4, 3.10.4, 3.12.4, 4.3, 4.6).
 use Rattle.std.specs.Prelude.{◌≡◌, ℕ, Bool, List, ◌∷◌, map, Some}
-use Rattle.subs_base.specs.packet.declared.subscribe.Subscription.{Subscription}
-use Rattle.subs_base.specs.packet.declared.subscribe.Subscribe.{Subscribe}
-use Rattle.subs_base.specs.packet.declared.packet.Packet.{Packet}
-use Rattle.subs_base.specs.packet.declared.packet.Packet.TheVariants as packets
+use Rattle.packet.specs.declared.subscribe.Subscription.{Subscription}
+use Rattle.packet.specs.declared.subscribe.Subscribe.{Subscribe}
+use Rattle.packet.specs.declared.packet.Packet.{Packet}
+use Rattle.packet.specs.declared.packet.Packet.TheVariants as packets
 use Rattle.broker_spec.specs.retained.Retained.{RetainedTopics}
 use Rattle.broker_spec.specs.session_base.Identifiers.{without_id}
 use Rattle.broker_spec.specs.session_base.Session.{SessionState, with_filters, with_received, with_queue, with_flights}

@@ -1,7 +1,7 @@
 -- A taken publication depends on the rows that an index grants, and on no others (MQTT 3.3.5).
 use Rattle.std.specs.Prelude.{◌≡◌, ℕ, List, flat_map}
 use Rattle.std.specs.List.{list_any}
-use Rattle.subs_base.specs.packet.declared.publish.Publish.{Publish}
+use Rattle.packet.specs.declared.publish.Publish.{Publish}
 use Rattle.broker_spec.specs.retained.Retained.{RetainedTopics}
 use Rattle.broker_spec.specs.session_base.declared.publication.Publication.{Publication}
 use Rattle.broker_spec.specs.session_base.Publication.{publication_of}

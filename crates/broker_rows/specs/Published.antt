@@ -3,11 +3,11 @@
 use Rattle.std.specs.Prelude.{ℕ, Bool, false, ◌&&◌, ◌==◌, List, [], ◌∷◌, ◌++◌, Option, Some}
 use Rattle.std.specs.Prelude.{None, option_map}
 use Rattle.std.specs.List.{fold}
-use Rattle.subs_base.specs.packet.declared.qos.QoS.{QoS}
-use Rattle.subs_base.specs.packet.declared.delivery.Delivery.{Delivery}
+use Rattle.subs_base.specs.packet_base.declared.qos.QoS.{QoS}
+use Rattle.packet.specs.declared.delivery.Delivery.{Delivery}
 use Rattle.broker_spec.specs.session_base.declared.publication.Publication.{Publication}
 use Rattle.broker_spec.specs.session_base.Publication.{is_answered}
-use Rattle.subs_base.specs.packet.QoS.{lower_qos}
+use Rattle.subs_base.specs.packet_base.QoS.{lower_qos}
 use Rattle.broker_spec.specs.session_base.Queue.{room}
 use Rattle.broker_spec.specs.session_base.Session.{with_received, with_queue}
 use Rattle.broker_spec.specs.session_base.Sending.{copies_sent}

@@ -2,10 +2,10 @@
 -- is clean and served on connection 1; b is offline and holds t/# at QoS 1; c is clean, served on
 -- connection 2 and holds t/1 at QoS 2.
 use Rattle.std.specs.Prelude.{◌≡◌, ℕ, Bool, true, false, List, [], ◌∷◌, Option, Some, None, codes}
-use Rattle.subs_base.specs.packet.declared.qos.QoS.{QoS}
-use Rattle.subs_base.specs.packet.declared.qos.QoS.TheVariants as qualities
-use Rattle.subs_base.specs.packet.declared.delivery.Delivery.{Delivery}
-use Rattle.subs_base.specs.packet.declared.delivery.Delivery.TheVariants as deliveries
+use Rattle.subs_base.specs.packet_base.declared.qos.QoS.{QoS}
+use Rattle.subs_base.specs.packet_base.declared.qos.QoS.TheVariants as qualities
+use Rattle.packet.specs.declared.delivery.Delivery.{Delivery}
+use Rattle.packet.specs.declared.delivery.Delivery.TheVariants as deliveries
 use Rattle.broker_spec.specs.session_base.declared.publication.Publication.{Publication}
 use Rattle.broker_spec.specs.session_base.declared.awaits.Awaits.TheVariants as waits_for
 use Rattle.broker_spec.specs.session_base.Subscriptions.{GrantedFilter}

@@ -1,11 +1,11 @@
 -- What a client is sent for its session: at a step of a handshake, when the session continues, and
 -- of a publication.
 use Rattle.std.specs.Prelude.{ℕ, Bool, true, false, List, [], ◌∷◌, ◌++◌, Option, Some, None}
-use Rattle.session.specs.packet.declared.qos.QoS.{QoS}
+use Rattle.session.specs.packet.packet_base.declared.qos.QoS.{QoS}
 use Rattle.session.specs.packet.declared.packet.Packet.{Packet}
 use Rattle.session.specs.packet.declared.packet.Packet.TheVariants as packets
 use Rattle.session.specs.session_base.declared.publication.Publication.{Publication}
-use Rattle.session.specs.packet.QoS.{lower_qos}
+use Rattle.session.specs.packet.packet_base.QoS.{lower_qos}
 use Rattle.session.specs.session_base.Session.{SessionState}
 use Rattle.session.specs.session_base.Queue.{on_puback, on_pubrec, on_pubcomp}
 use Rattle.session.specs.session_base.Sending.{fill_sends, pubrec_sends, resend}

@@ -3,7 +3,7 @@
 ghost use Rattle.std.specs.Prelude.{◌≡◌, ◌≤◌, ◌++◌, [], ◌∷◌, true, false, Some, OnOk, IfOk};
 ghost use Rattle.session.specs.packet.declared.packet.Packet.TheVariants as packets;
 ghost use Rattle.session.specs.session_base.Publication.{publish_of, publication_of, is_answered};
-ghost use Rattle.session.specs.packet.declared.qos.QoS.TheVariants as qualities;
+ghost use Rattle.session.specs.packet.packet_base.declared.qos.QoS.TheVariants as qualities;
 ghost use Rattle.session.specs.session_base.Queue.{room};
 ghost use Rattle.session.specs.session_base.Copies.{copies_left};
 ghost use Rattle.session.specs.session_base.Sending.{copies_sent};

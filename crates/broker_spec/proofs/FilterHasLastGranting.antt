@@ -3,9 +3,9 @@ use Rattle.std.proofs.Common.{◌≡◌, ℕ, Bool, true, false, not, ◌&&◌, 
 use Rattle.std.specs.Prelude.{bytes_eq, option_map}
 use Rattle.std.specs.List.{list_any}
 use Rattle.std.proofs.lemmas.Slice.Eq.{bytes_eq-Decides}
-use Rattle.retained.specs.packet.declared.qos.QoS.{QoS}
-use Rattle.retained.specs.packet.declared.subscribe.Subscription.{Subscription}
-use Rattle.retained.specs.packet.declared.packet.Packet.TheVariants as packets
+use Rattle.retained.specs.packet_base.declared.qos.QoS.{QoS}
+use Rattle.packet.specs.declared.subscribe.Subscription.{Subscription}
+use Rattle.packet.specs.declared.packet.Packet.TheVariants as packets
 use Rattle.broker_spec.specs.Place.{Client, same_client, Mark}
 use Rattle.broker_spec.specs.Past.{session_of, begins, in_session}
 use Rattle.broker_spec.specs.Subscriptions.{as_granted, granted_of, subscribed, subscriptions_of, qos_asked}

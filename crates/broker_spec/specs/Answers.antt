@@ -2,15 +2,15 @@
 -- 4.3).
 use Rattle.std.specs.Prelude.{suc, Bool, not, if◌then◌else◌, List, [], ◌∷◌, ◌++◌, length, flat_map}
 use Rattle.std.specs.Prelude.{Option, Some, None}
-use Rattle.retained.specs.packet.RefusalCode.TheVariants as refusals
-use Rattle.retained.specs.packet.declared.connack.Connack.TheVariants as connacks
-use Rattle.retained.specs.packet.declared.delivery.Delivery.{Delivery}
-use Rattle.retained.specs.packet.declared.delivery.Delivery.TheVariants as deliveries
-use Rattle.retained.specs.packet.declared.subscribe.Subscription.{Subscription}
-use Rattle.retained.specs.packet.declared.suback.SubackCode.{SubackCode}
-use Rattle.retained.specs.packet.declared.suback.SubackCode.TheVariants as codes
-use Rattle.retained.specs.packet.declared.packet.Packet.{Packet}
-use Rattle.retained.specs.packet.declared.packet.Packet.TheVariants as packets
+use Rattle.packet.specs.RefusalCode.TheVariants as refusals
+use Rattle.packet.specs.declared.connack.Connack.TheVariants as connacks
+use Rattle.packet.specs.declared.delivery.Delivery.{Delivery}
+use Rattle.packet.specs.declared.delivery.Delivery.TheVariants as deliveries
+use Rattle.packet.specs.declared.subscribe.Subscription.{Subscription}
+use Rattle.packet.specs.declared.suback.SubackCode.{SubackCode}
+use Rattle.packet.specs.declared.suback.SubackCode.TheVariants as codes
+use Rattle.packet.specs.declared.packet.Packet.{Packet}
+use Rattle.packet.specs.declared.packet.Packet.TheVariants as packets
 use Rattle.broker_spec.specs.Connection.{ConnectionName}
 use Rattle.broker_spec.specs.Place.{Client, Mark, Place, Past, Limits}
 use Rattle.broker_spec.specs.Past.{current_connection, begins}

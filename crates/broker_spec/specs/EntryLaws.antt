@@ -3,8 +3,8 @@
 use Rattle.std.specs.Prelude.{◌≡◌, ◌≤◌, ℕ, ◌+◌, if◌then◌else◌, true, false, List, [], ◌∷◌, ◌++◌}
 use Rattle.std.specs.Prelude.{length, filter, Some, None, is_some, ◌⊎◌}
 use Rattle.std.specs.List.{AllByRecursion}
-use Rattle.retained.specs.packet.declared.publish.Publish.{Publish}
-use Rattle.retained.specs.packet.declared.packet.Packet.TheVariants as packets
+use Rattle.packet.specs.declared.publish.Publish.{Publish}
+use Rattle.packet.specs.declared.packet.Packet.TheVariants as packets
 use Rattle.broker_spec.specs.Connection.{ConnectionName}
 use Rattle.broker_spec.specs.Place.{Client, Mark, Place, Past, Limits}
 use Rattle.broker_spec.specs.Past.{current_connection, session_of, begins}

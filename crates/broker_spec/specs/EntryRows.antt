@@ -1,9 +1,9 @@
 -- Worked examples: the places at which an entry is made, starts, is released and finishes
 -- (MQTT 4.1, 4.3).
 use Rattle.std.specs.Prelude.{◌≡◌, true, false, List, [], ◌∷◌, ◌++◌, map, codes, Some, None}
-use Rattle.retained.specs.packet.declared.qos.QoS.TheVariants as qualities
-use Rattle.retained.specs.packet.declared.delivery.Delivery.TheVariants as deliveries
-use Rattle.retained.specs.packet.declared.packet.Packet.TheVariants as packets
+use Rattle.retained.specs.packet_base.declared.qos.QoS.TheVariants as qualities
+use Rattle.packet.specs.declared.delivery.Delivery.TheVariants as deliveries
+use Rattle.packet.specs.declared.packet.Packet.TheVariants as packets
 use Rattle.broker_spec.specs.Entries.{Entry}
 use Rattle.broker_spec.specs.Readings.{Origin, origin_of, start_place, release_place, finish_place, sent_entries}
 use Rattle.broker_spec.specs.Times.{entries_of}

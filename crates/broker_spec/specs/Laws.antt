@@ -3,11 +3,11 @@
 use Rattle.std.specs.Prelude.{◌≡◌, ◌↔◌, ℕ, Bool, true, false, ◌&&◌, ◌==◌, if◌then◌else◌, List, []}
 use Rattle.std.specs.Prelude.{◌∷◌, ◌++◌, bytes_eq, Option, Some, None, option_map}
 use Rattle.std.specs.List.{AllByRecursion, list_any}
-use Rattle.retained.specs.packet.declared.qos.QoS.{QoS}
-use Rattle.retained.specs.packet.declared.delivery.Delivery.{Delivery}
-use Rattle.retained.specs.packet.declared.delivery.Delivery.TheVariants as deliveries
-use Rattle.retained.specs.packet.declared.subscribe.Subscription.{Subscription}
-use Rattle.retained.specs.packet.declared.packet.Packet.TheVariants as packets
+use Rattle.retained.specs.packet_base.declared.qos.QoS.{QoS}
+use Rattle.packet.specs.declared.delivery.Delivery.{Delivery}
+use Rattle.packet.specs.declared.delivery.Delivery.TheVariants as deliveries
+use Rattle.packet.specs.declared.subscribe.Subscription.{Subscription}
+use Rattle.packet.specs.declared.packet.Packet.TheVariants as packets
 use Rattle.broker_spec.specs.Connection.{ConnectionName}
 use Rattle.broker_spec.specs.Place.{Client, same_client, Mark, Place, Past}
 use Rattle.broker_spec.specs.Past.{accepts, ends_any, current_connection, session_of}

@@ -1,12 +1,12 @@
 -- Worked examples: the limits of a broker, and what is answered when one is reached (MQTT 3.1.4,
 -- 3.2.2.3, 3.9.3, 4.8).
 use Rattle.std.specs.Prelude.{◌≡◌, ℕ, true, false, List, [], ◌∷◌, codes}
-use Rattle.retained.specs.packet.RefusalCode.TheVariants as refusals
-use Rattle.retained.specs.packet.declared.connack.Connack.TheVariants as connacks
-use Rattle.retained.specs.packet.declared.qos.QoS.TheVariants as qualities
-use Rattle.retained.specs.packet.declared.delivery.Delivery.TheVariants as deliveries
-use Rattle.retained.specs.packet.declared.suback.SubackCode.TheVariants as return_codes
-use Rattle.retained.specs.packet.declared.packet.Packet.TheVariants as packets
+use Rattle.packet.specs.RefusalCode.TheVariants as refusals
+use Rattle.packet.specs.declared.connack.Connack.TheVariants as connacks
+use Rattle.retained.specs.packet_base.declared.qos.QoS.TheVariants as qualities
+use Rattle.packet.specs.declared.delivery.Delivery.TheVariants as deliveries
+use Rattle.packet.specs.declared.suback.SubackCode.TheVariants as return_codes
+use Rattle.packet.specs.declared.packet.Packet.TheVariants as packets
 use Rattle.broker_spec.specs.Place.{Past}
 use Rattle.broker_spec.specs.Commands.{limits_with, usual_limits}
 use Rattle.broker_spec.specs.Connection.{is_connection_name}

@@ -1,7 +1,7 @@
 -- Commands that a log may hold: names, texts and packets in their ranges.
 use Rattle.std.specs.Prelude.{◌≡◌, true}
-use Rattle.retained.specs.packet.ClientId.{is_client}
-use Rattle.retained.specs.packet.Spelling.{Fits}
+use Rattle.packet.specs.ClientId.{is_client}
+use Rattle.packet.specs.Spelling.{Fits}
 use Rattle.broker_spec.specs.Connection.{IsConnectionName}
 use Rattle.broker_spec.specs.Sized.{IsSized}
 use Rattle.broker_spec.specs.declared.command.Command.{Command}

@@ -1,9 +1,9 @@
 -- More worked examples: full queues, violations, identifiers and the window.
 use Rattle.std.specs.Prelude.{◌≡◌, ℕ, Bool, true, false, List, [], ◌∷◌, ◌++◌, map, codes}
-use Rattle.retained.specs.packet.declared.qos.QoS.TheVariants as qualities
-use Rattle.retained.specs.packet.declared.delivery.Delivery.TheVariants as deliveries
-use Rattle.retained.specs.packet.declared.packet.Packet.{Packet}
-use Rattle.retained.specs.packet.declared.packet.Packet.TheVariants as packets
+use Rattle.retained.specs.packet_base.declared.qos.QoS.TheVariants as qualities
+use Rattle.packet.specs.declared.delivery.Delivery.TheVariants as deliveries
+use Rattle.packet.specs.declared.packet.Packet.{Packet}
+use Rattle.packet.specs.declared.packet.Packet.TheVariants as packets
 use Rattle.broker_spec.specs.Commands.{usual_limits, past_of}
 use Rattle.broker_spec.specs.Readings.{publication_in}
 use Rattle.broker_spec.specs.Times.{entries_of}

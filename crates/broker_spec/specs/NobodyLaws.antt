@@ -1,6 +1,6 @@
 -- A packet on a connection that is no client's current one changes nothing and is not answered.
 use Rattle.std.specs.Prelude.{◌≡◌, ℕ, false, [], ◌∷◌, None}
-use Rattle.retained.specs.packet.declared.packet.Packet.{Packet}
+use Rattle.packet.specs.declared.packet.Packet.{Packet}
 use Rattle.broker_spec.specs.Connection.{ConnectionName}
 use Rattle.broker_spec.specs.Place.{Client, Place, Past, Limits}
 use Rattle.broker_spec.specs.Past.{current_connection, session_of}

@@ -1,9 +1,9 @@
 -- The identifiers of QoS 2 publications that a session received and for which it has no PUBREL yet
 -- (MQTT 4.3.3).
 use Rattle.std.specs.Prelude.{ℕ, Bool, true, false, if◌then◌else◌, List, [], ◌∷◌}
-use Rattle.retained.specs.packet.declared.delivery.Delivery.{Delivery}
-use Rattle.retained.specs.packet.declared.delivery.Delivery.TheVariants as deliveries
-use Rattle.retained.specs.packet.declared.packet.Packet.TheVariants as packets
+use Rattle.packet.specs.declared.delivery.Delivery.{Delivery}
+use Rattle.packet.specs.declared.delivery.Delivery.TheVariants as deliveries
+use Rattle.packet.specs.declared.packet.Packet.TheVariants as packets
 use Rattle.retained.specs.lists.Lists.{has_id}
 use Rattle.session_base.specs.Identifiers.{with_id, without_id}
 use Rattle.broker_spec.specs.Place.{Client, same_client, Mark, Past}

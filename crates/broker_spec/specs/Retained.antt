@@ -1,6 +1,6 @@
 -- The retained publications (MQTT 3.3.1.3).
 use Rattle.std.specs.Prelude.{Bool, not, ◌&&◌, nat_le, if◌then◌else◌, [], ◌∷◌, length, is_none}
-use Rattle.retained.specs.packet.declared.packet.Packet.TheVariants as packets
+use Rattle.packet.specs.declared.packet.Packet.TheVariants as packets
 use Rattle.retained.specs.Retained.{RetainedTopics, after_put, is_empty, publication_on}
 use Rattle.broker_spec.specs.Place.{Mark, Past, Limits}
 use Rattle.session_base.specs.declared.publication.Publication.{Publication}

@@ -1,9 +1,9 @@
 -- Worked examples: what is retained, and who gets it (MQTT 3.3.1.3).
 use Rattle.std.specs.Prelude.{ℕ, Bool, true, false, List, [], ◌∷◌, ◌++◌, codes}
-use Rattle.retained.specs.packet.declared.qos.QoS.{QoS}
-use Rattle.retained.specs.packet.declared.qos.QoS.TheVariants as qualities
-use Rattle.retained.specs.packet.declared.delivery.Delivery.{Delivery}
-use Rattle.retained.specs.packet.declared.delivery.Delivery.TheVariants as deliveries
+use Rattle.retained.specs.packet_base.declared.qos.QoS.{QoS}
+use Rattle.retained.specs.packet_base.declared.qos.QoS.TheVariants as qualities
+use Rattle.packet.specs.declared.delivery.Delivery.{Delivery}
+use Rattle.packet.specs.declared.delivery.Delivery.TheVariants as deliveries
 use Rattle.broker_spec.specs.Commands.{usual_limits}
 use Rattle.broker_spec.specs.RowWords.{AreAnswered, a, b, connect, gets, sends, publish}
 use Rattle.broker_spec.specs.RowWords.{subscribe, suback}

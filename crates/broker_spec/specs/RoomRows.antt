@@ -1,9 +1,9 @@
 -- Worked example: the room that is left for retained copies to the later filters of a SUBSCRIBE.
 use Rattle.std.specs.Prelude.{true, false, [], ◌∷◌, ◌++◌, codes}
-use Rattle.retained.specs.packet.declared.qos.QoS.TheVariants as qualities
-use Rattle.retained.specs.packet.declared.delivery.Delivery.TheVariants as deliveries
-use Rattle.retained.specs.packet.declared.suback.SubackCode.TheVariants as return_codes
-use Rattle.retained.specs.packet.declared.packet.Packet.TheVariants as packets
+use Rattle.retained.specs.packet_base.declared.qos.QoS.TheVariants as qualities
+use Rattle.packet.specs.declared.delivery.Delivery.TheVariants as deliveries
+use Rattle.packet.specs.declared.suback.SubackCode.TheVariants as return_codes
+use Rattle.packet.specs.declared.packet.Packet.TheVariants as packets
 use Rattle.broker_spec.specs.RowWords.{AreAnswered, a, b, connect, gets, sends, small}
 use Rattle.broker_spec.specs.TopicRowWords.{publish_on, asks}
 use Rattle.broker_spec.specs.TopicRowWords.{asked_at, published_on}

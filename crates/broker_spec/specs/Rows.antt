@@ -1,10 +1,10 @@
 -- Worked examples: lists of commands, and the answers that the standard and this broker's profile
 -- give.
 use Rattle.std.specs.Prelude.{true, false, List, [], ◌∷◌, ◌++◌, codes}
-use Rattle.retained.specs.packet.declared.qos.QoS.TheVariants as qualities
-use Rattle.retained.specs.packet.declared.delivery.Delivery.TheVariants as deliveries
-use Rattle.retained.specs.packet.declared.suback.SubackCode.TheVariants as return_codes
-use Rattle.retained.specs.packet.declared.packet.Packet.TheVariants as packets
+use Rattle.retained.specs.packet_base.declared.qos.QoS.TheVariants as qualities
+use Rattle.packet.specs.declared.delivery.Delivery.TheVariants as deliveries
+use Rattle.packet.specs.declared.suback.SubackCode.TheVariants as return_codes
+use Rattle.packet.specs.declared.packet.Packet.TheVariants as packets
 use Rattle.broker_spec.specs.Commands.{usual_limits}
 use Rattle.broker_spec.specs.RowWords.{AreAnswered, a, b, nth, connect, gets, sends, connack, publish}
 use Rattle.broker_spec.specs.RowWords.{subscribe, suback, subscribed_at}

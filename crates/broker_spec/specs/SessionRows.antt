@@ -1,8 +1,8 @@
 -- Worked examples: where a session begins and ends, and the places at which an entry is made,
 -- starts, is released and finishes (MQTT 3.1.2.4, 4.1, 4.3).
 use Rattle.std.specs.Prelude.{◌≡◌, ℕ, Bool, true, false, List, [], ◌∷◌, codes, Option, Some, None}
-use Rattle.retained.specs.packet.declared.delivery.Delivery.TheVariants as deliveries
-use Rattle.retained.specs.packet.declared.packet.Packet.TheVariants as packets
+use Rattle.packet.specs.declared.delivery.Delivery.TheVariants as deliveries
+use Rattle.packet.specs.declared.packet.Packet.TheVariants as packets
 use Rattle.broker_spec.specs.Place.{Client}
 use Rattle.broker_spec.specs.Past.{ends_session, session_start, StandsIn}
 use Rattle.broker_spec.specs.Owner.{owner_of, IsLive}

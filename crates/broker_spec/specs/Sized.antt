@@ -1,7 +1,7 @@
 -- Packets that a log may hold, and the refusal of the others.
 use Rattle.std.specs.Prelude.{ℕ, ◌≤◌, length}
-use Rattle.retained.specs.packet.declared.packet.Packet.{Packet}
-use Rattle.retained.specs.packet.Spelling.{IsListed, body, max_body}
+use Rattle.packet.specs.declared.packet.Packet.{Packet}
+use Rattle.packet.specs.Spelling.{IsListed, body, max_body}
 use Rattle.broker_spec.specs.declared.sized_packet.Unspellable.{Unspellable}
 use Rattle.broker_spec.specs.declared.sized_packet.Unspellable.TheVariants.{TooLarge, Shape}
 

@@ -1,16 +1,16 @@
 -- What readers may want to know about the places that take a publication (MQTT 3.3.5, 4.3.3).
 use Rattle.std.specs.Prelude.{◌≡◌, Bool, true, false, List, [], ◌∷◌, length, filter, map}
 use Rattle.std.specs.Prelude.{Option, Some}
-use Rattle.retained.specs.packet.declared.qos.QoS.{QoS}
-use Rattle.retained.specs.packet.declared.qos.QoS.TheVariants as qualities
-use Rattle.retained.specs.packet.declared.publish.Publish.{Publish}
+use Rattle.retained.specs.packet_base.declared.qos.QoS.{QoS}
+use Rattle.retained.specs.packet_base.declared.qos.QoS.TheVariants as qualities
+use Rattle.packet.specs.declared.publish.Publish.{Publish}
 use Rattle.session_base.specs.declared.publication.Publication.{Publication}
 use Rattle.session_base.specs.Publication.{publication_of}
 use Rattle.broker_spec.specs.Connection.{ConnectionName}
 use Rattle.broker_spec.specs.Subscriptions.{effective_qos}
 use Rattle.broker_spec.specs.Readings.{publication_in}
 use Rattle.broker_spec.specs.EntryLaws.{taken}
-use Rattle.retained.specs.packet.declared.packet.Packet.TheVariants as packets
+use Rattle.packet.specs.declared.packet.Packet.TheVariants as packets
 use Rattle.broker_spec.specs.Place.{Client, Mark, Place, Past, Limits}
 use Rattle.broker_spec.specs.Times.{entries_of}
 use Rattle.broker_spec.specs.OriginLaws.{is_from_publish}

@@ -1,10 +1,10 @@
 -- Words of worked examples on several topics and filters.
 use Rattle.std.specs.Prelude.{ℕ, Bool, true, false, List, map, codes}
-use Rattle.retained.specs.packet.declared.qos.QoS.{QoS}
-use Rattle.retained.specs.packet.declared.delivery.Delivery.{Delivery}
-use Rattle.retained.specs.packet.declared.subscribe.Subscription.{Subscription}
-use Rattle.retained.specs.packet.declared.packet.Packet.{Packet}
-use Rattle.retained.specs.packet.declared.packet.Packet.TheVariants as packets
+use Rattle.retained.specs.packet_base.declared.qos.QoS.{QoS}
+use Rattle.packet.specs.declared.delivery.Delivery.{Delivery}
+use Rattle.packet.specs.declared.subscribe.Subscription.{Subscription}
+use Rattle.packet.specs.declared.packet.Packet.{Packet}
+use Rattle.packet.specs.declared.packet.Packet.TheVariants as packets
 use Rattle.session_base.specs.Publication.{delivery_at}
 use Rattle.broker_spec.specs.declared.command.Command.{Command}
 use Rattle.broker_spec.specs.RowWords.{gets}

@@ -1,7 +1,7 @@
 // A packet that the log may hold.
 
 ghost use Rattle.std.specs.Prelude.{◌≡◌, ◌↔◌, IfOk, IsOk, IsErrOf};
-ghost use Rattle.retained.specs.packet.Spelling.{Fits, IsListed, IsTooLarge};
+ghost use Rattle.packet.specs.Spelling.{Fits, IsListed, IsTooLarge};
 ghost use Rattle.broker_spec.specs.Sized.{IsSized, unspellable_number};
 
 use packet::Packet;
@@ -24,7 +24,7 @@ impl Drop for SizedPacket {
 }
 
 impl Model for SizedPacket {
-    ghost use Rattle.retained.specs.packet.declared.packet.Packet.{Packet};
+    ghost use Rattle.packet.specs.declared.packet.Packet.{Packet};
     ghost use Rattle.broker_spec.specs.Sized.{IsSized};
 
     ghost Value = { Packet };

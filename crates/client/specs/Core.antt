@@ -1,6 +1,6 @@
 -- What a `ClientCore` shows: what it keeps, what it has not yet read, and what it wrote.
 use Rattle.std.specs.Prelude.{◌≡◌, ℕ, Bool, false, List, [], ◌∷◌, Some, None, Result, Ok, Err}
-use Rattle.cutter.specs.packet.declared.qos.QoS.{QoS}
+use Rattle.cutter.specs.packet.packet_base.declared.qos.QoS.{QoS}
 use Rattle.cutter.specs.packet.declared.packet.Packet.{Packet}
 use Rattle.cutter.specs.packet.Spelling.{AppendsSpelling}
 use Rattle.cutter.specs.Stream.{Stream}

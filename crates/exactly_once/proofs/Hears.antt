@@ -3,8 +3,8 @@ use Rattle.std.proofs.Common.{◌≡◌, ◌≤◌, ◌<◌, ℕ, zero, suc, Boo
 use Rattle.std.specs.Prelude.{slice_get}
 use Rattle.std.proofs.lemmas.List.{drop-append-le}
 use Rattle.std.proofs.lemmas.Bool.{both_ways, cases_Bool}
-use Rattle.client_base.specs.packet.declared.qos.QoS.{QoS}
-use Rattle.client_base.specs.packet.declared.qos.QoS.TheVariants as qualities
+use Rattle.client_base.specs.packet.packet_base.declared.qos.QoS.{QoS}
+use Rattle.client_base.specs.packet.packet_base.declared.qos.QoS.TheVariants as qualities
 use Rattle.client_base.specs.packet.declared.delivery.Delivery.{Delivery}
 use Rattle.client_base.specs.packet.declared.delivery.Delivery.TheVariants as deliveries
 use Rattle.client_base.specs.packet.declared.packet.Packet.{Packet}

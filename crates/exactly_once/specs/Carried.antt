@@ -1,8 +1,8 @@
 -- Which publication of a client a place carries, by position: the j-th command of a connection is
 -- its j-th written packet.
 use Rattle.std.specs.Prelude.{ℕ, Bool, true, false, ◌==◌, if◌then◌else◌, List, [], ◌∷◌, ◌++◌, map, Option, Some, None, slice_get}
-use Rattle.client_base.specs.packet.declared.qos.QoS.{QoS}
-use Rattle.client_base.specs.packet.declared.qos.QoS.TheVariants as qualities
+use Rattle.client_base.specs.packet.packet_base.declared.qos.QoS.{QoS}
+use Rattle.client_base.specs.packet.packet_base.declared.qos.QoS.TheVariants as qualities
 use Rattle.client_base.specs.packet.declared.packet.Packet.TheVariants as packets
 use Rattle.broker_base.specs.broker_spec.Connection.{ConnectionName, same_connection}
 use Rattle.broker_base.specs.broker_spec.Place.{Past}

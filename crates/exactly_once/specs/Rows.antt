@@ -1,7 +1,7 @@
 -- Definitions for the worked examples of worlds: a client that publishes to itself, and the list
 -- over a takeover.
 use Rattle.std.specs.Prelude.{true, false, List, [], ◌∷◌}
-use Rattle.client_base.specs.packet.declared.qos.QoS.TheVariants as qualities
+use Rattle.client_base.specs.packet.packet_base.declared.qos.QoS.TheVariants as qualities
 use Rattle.client_base.specs.packet.declared.subscribe.Subscribe.{Subscribe}
 use Rattle.client_base.specs.packet.declared.packet.Packet.TheVariants as packets
 use Rattle.client_base.specs.session_base.declared.publication.Publication.{Publication}

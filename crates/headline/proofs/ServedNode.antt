@@ -6,7 +6,7 @@ use Rattle.std.proofs.Common.{◌≡◌, ℕ, false, List, [], ◌∷◌, ◌++�
 use Rattle.byte_world.specs.packet.declared.connack.Connack.TheVariants as connacks
 use Rattle.byte_world.specs.packet.declared.packet.Packet.{Packet}
 use Rattle.byte_world.specs.packet.declared.packet.Packet.TheVariants as packets
-use Rattle.byte_world.specs.packet.declared.qos.QoS.TheVariants as qualities
+use Rattle.byte_world.specs.packet.packet_base.declared.qos.QoS.TheVariants as qualities
 use Rattle.byte_world.specs.packet.declared.suback.SubackCode.TheVariants as codes
 use Rattle.byte_world.specs.packet.Connect.{connect_of}
 use Rattle.byte_world.specs.packet.Delivery.{delivery_at}

@@ -1,6 +1,5 @@
 pub mod ConnectReads
 pub mod ConnackReads
-pub mod QoSReads
 pub mod IdAloneReads
 pub mod PublishReads
 pub mod ListPacketsRead

@@ -13,19 +13,19 @@ use Rattle.packet_base.proofs.Steps.{then_if, cond_if}
 use Rattle.packet_base.proofs.FieldsFound.{Splits, Splits-then, byte_found, id_found, filter_found}
 use Rattle.packet_base.proofs.FieldsAgain.{id_again, filter_again}
 use Rattle.packet_base.proofs.ListsRead.{IsItem, list_found, list_again}
-use Rattle.packet.specs.declared.qos.QoS.{QoS}
-use Rattle.packet.specs.declared.qos.QoS.TheVariants as qualities
+use Rattle.packet_base.specs.declared.qos.QoS.{QoS}
+use Rattle.packet_base.specs.declared.qos.QoS.TheVariants as qualities
 use Rattle.packet.specs.declared.subscribe.Subscription.{Subscription}
 use Rattle.packet.specs.declared.subscribe.Subscribe.{Subscribe}
 use Rattle.packet.specs.declared.suback.SubackCode.{SubackCode}
 use Rattle.packet.specs.declared.suback.SubackCode.TheVariants as return_codes
 use Rattle.packet.specs.declared.suback.Suback.{Suback}
 use Rattle.packet.specs.declared.unsubscribe.Unsubscribe.{Unsubscribe}
-use Rattle.packet.specs.QoS.{qos_number, qos_of}
+use Rattle.packet_base.specs.QoS.{qos_number, qos_of}
 use Rattle.packet.specs.Subscribe.{subscription, subscribe, FitsSubscription, FitsSubscribe, subscription_at, subscribe_of}
 use Rattle.packet.specs.Suback.{granted_number, granted, suback, FitsSuback, granted_of, granted_at, suback_of}
 use Rattle.packet.specs.Unsubscribe.{unsubscribe, FitsUnsubscribe, unsubscribe_of}
-use Rattle.packet.proofs.QoSReads.{qos_found, qos_again}
+use Rattle.packet_base.proofs.QoSReads.{qos_found, qos_again}
 
 -- ---- items
 

@@ -1,5 +1,5 @@
 pub mod ConnectFaultRows
-pub mod QoS
+pub use Rattle.packet_base.specs.QoS
 pub mod Connect
 pub mod Connack
 pub mod Delivery

@@ -8,7 +8,7 @@ use Rattle.packet_base.specs.Lists.{list_of}
 use Rattle.packet.specs.declared.suback.SubackCode.{SubackCode}
 use Rattle.packet.specs.declared.suback.SubackCode.TheVariants as return_codes
 use Rattle.packet.specs.declared.suback.Suback.{Suback}
-use Rattle.packet.specs.QoS.{qos_number, qos_of}
+use Rattle.packet_base.specs.QoS.{qos_number, qos_of}
 
 -- the granted QoS, or 0x80 for a failure (MQTT 3.9.3)
 abbrev pub granted_number : SubackCode → ℕ

@@ -9,7 +9,7 @@ use Rattle.packet_base.specs.TopicFields.{filter_at}
 use Rattle.packet_base.specs.Lists.{list_of}
 use Rattle.packet.specs.declared.subscribe.Subscription.{Subscription}
 use Rattle.packet.specs.declared.subscribe.Subscribe.{Subscribe}
-use Rattle.packet.specs.QoS.{qos_number, qos_of}
+use Rattle.packet_base.specs.QoS.{qos_number, qos_of}
 
 -- a filter, and the greatest QoS that is asked for (MQTT 3.8.3)
 abbrev pub subscription : Subscription → List ℕ

@@ -11,8 +11,7 @@ ghost use Rattle.packet.specs.Delivery.{
   FitsDelivery,
 };
 
-use crate::qos::QoS;
-use packet_base::{DeliveryFlags, PacketId, Reader, Stop, put_number};
+use packet_base::{DeliveryFlags, PacketId, QoS, Reader, Stop, put_number};
 
 /// The QoS of a PUBLISH, with DUP and the Packet Identifier if its QoS has them (MQTT 3.3.1,
 /// 3.3.2.2). The bool is DUP: whether this may be a repeat of an earlier delivery.

@@ -12,7 +12,6 @@ mod id_alone;
 mod laws;
 mod packet;
 mod publish;
-mod qos;
 mod rows;
 mod suback;
 mod subscribe;
@@ -28,9 +27,8 @@ pub use laws::{
     faults_stay, fronts_are_unfinished, no_spelling_begins_another, one_spelling, spelling_spells,
 };
 pub use packet::{MAX_BODY, Packet};
-pub use packet_base::{ClientId, PacketId, PacketList, Payload, RefusalCode};
+pub use packet_base::{ClientId, PacketId, PacketList, Payload, QoS, RefusalCode};
 pub use publish::Publish;
-pub use qos::QoS;
 pub use rows::{first_fault_counts, numbers_of_packets};
 pub use suback::{Suback, SubackCode};
 pub use subscribe::{Subscribe, Subscription};

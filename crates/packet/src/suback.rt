@@ -23,8 +23,7 @@ ghost use Rattle.packet.specs.Suback.{
   FitsSuback,
 };
 
-use crate::qos::QoS;
-use packet_base::{ListItem, PacketId, PacketList, Reader, Stop, put_byte, put_number};
+use packet_base::{ListItem, PacketId, PacketList, QoS, Reader, Stop, put_byte, put_number};
 use std::alloc::Global;
 
 /// The answer to one filter of a SUBSCRIBE (MQTT 3.9.3).

@@ -21,8 +21,9 @@ ghost use Rattle.packet.specs.Subscribe.{
   FitsSubscribe,
 };
 
-use crate::qos::QoS;
-use packet_base::{ListItem, PacketId, PacketList, Reader, Stop, put_byte, put_number, put_text};
+use packet_base::{
+    ListItem, PacketId, PacketList, QoS, Reader, Stop, put_byte, put_number, put_text,
+};
 use std::alloc::{AllocError, Global};
 use topics::Filter;
 

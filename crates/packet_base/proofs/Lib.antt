@@ -1,4 +1,5 @@
 pub mod Texts
+pub mod QoSReads
 pub mod Lengths
 pub mod Steps
 pub mod FieldsFound

@@ -5,7 +5,7 @@ use Rattle.exactly_once.specs.packet.declared.connack.Connack.TheVariants as con
 use Rattle.exactly_once.specs.packet.declared.suback.SubackCode.TheVariants as codes
 use Rattle.exactly_once.specs.packet.declared.packet.Packet.TheVariants as packets
 use Rattle.exactly_once.specs.session_base.Publication.{publish_of}
-use Rattle.exactly_once.specs.packet.declared.qos.QoS.TheVariants as qualities
+use Rattle.exactly_once.specs.packet.packet_base.declared.qos.QoS.TheVariants as qualities
 use Rattle.exactly_once.specs.broker_spec.Past.{current_connection, session_of}
 use Rattle.exactly_once.specs.broker_spec.Owner.{named}
 use Rattle.exactly_once.specs.broker_spec.Subscriptions.{subscriptions_of}

@@ -5,7 +5,7 @@ use Rattle.std.specs.List.{find}
 use Rattle.std.specs.List.Sorted.{IsStrictlySortedBy}
 use Rattle.std.proofs.lemmas.List.{reverse-append}
 use Rattle.lists.proofs.Tables.{found_put, found_without, put_rises, without_rises, put_one_more, put_known, without_fewer}
-use Rattle.packet.specs.declared.qos.QoS.{QoS}
+use Rattle.packet_base.specs.declared.qos.QoS.{QoS}
 use Rattle.retained.specs.declared.retained_publication.RetainedPublication.{RetainedPublication}
 use Rattle.retained.specs.Retained.{RetainedTopics, IsRising, publication_on, with_topic, after_put, is_empty, is_full_for, is_refused}
 use Rattle.retained.specs.Laws.{Put, After, is_on, last_on, kept_of, kept_of_payload, LastIsRetained, StaysInBounds}

@@ -3,4 +3,4 @@ pub mod Refusals
 pub mod Inside
 pub mod Laws
 pub use Rattle.lists.specs as lists
-pub use Rattle.packet.specs as packet
+pub use Rattle.packet_base.specs as packet_base

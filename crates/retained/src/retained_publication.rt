@@ -2,7 +2,7 @@
 
 ghost use Rattle.std.specs.Prelude.{◌≡◌};
 
-use packet::{Payload, QoS};
+use packet_base::{Payload, QoS};
 use std::alloc::AllocError;
 
 /// What is kept of a topic's last publication.

@@ -11,7 +11,7 @@ ghost use Rattle.retained.specs.Retained.{without_topic, is_full_for, is_refused
 use crate::error::RetainedError;
 use crate::finding::append_matching;
 use crate::retained_publication::RetainedPublication;
-use packet::{Payload, QoS};
+use packet_base::{Payload, QoS};
 use std::alloc::{AllocError, Global};
 use std::collections::BTreeMap;
 use std::collections::btree_map::Iter;

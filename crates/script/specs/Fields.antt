@@ -9,8 +9,8 @@ use Rattle.hex.specs.Hex.{decode_of}
 use Rattle.session_base.specs.topics.declared.malformed.MalformedKind.{MalformedKind}
 use Rattle.session_base.specs.topics.Text.{filter_fault, topic_fault}
 use Rattle.session_base.specs.packet.ClientId.{client_fault}
-use Rattle.session_base.specs.packet.declared.qos.QoS.{QoS}
-use Rattle.session_base.specs.packet.declared.qos.QoS.TheVariants as qualities
+use Rattle.session_base.specs.packet.packet_base.declared.qos.QoS.{QoS}
+use Rattle.session_base.specs.packet.packet_base.declared.qos.QoS.TheVariants as qualities
 use Rattle.script.specs.declared.script_line.Amount.{Amount}
 use Rattle.script.specs.declared.script_line.Amount.TheVariants as amounts
 

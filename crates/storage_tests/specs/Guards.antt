@@ -4,7 +4,7 @@ use Rattle.std.specs.Prelude.{◌≡◌, true, false, [], ◌∷◌, ◌++◌, S
 use Rattle.std.specs.List.{AllByRecursion}
 use Rattle.session.specs.packet.declared.delivery.Delivery.TheVariants as deliveries
 use Rattle.session.specs.packet.declared.packet.Packet.TheVariants as packets
-use Rattle.session.specs.packet.declared.qos.QoS.TheVariants as qualities
+use Rattle.session.specs.packet.packet_base.declared.qos.QoS.TheVariants as qualities
 use Rattle.session.specs.session_base.Publication.{is_acknowledged}
 use Rattle.broker_form.specs.broker_spec.Commands.{usual_limits}
 use Rattle.broker_form.specs.broker_spec.Entries.{Entry}

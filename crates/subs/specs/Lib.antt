@@ -10,6 +10,6 @@ pub mod Inside
 pub mod Shown
 pub mod Walk
 pub mod Gathered
-pub use Rattle.subs_base.specs.packet as packet
+pub use Rattle.subs_base.specs.packet_base as packet_base
 pub use Rattle.subs_base.specs as subs_base
 pub use Rattle.topics.specs as topics

@@ -15,7 +15,7 @@ use crate::node_id::NodeId;
 use crate::nodes::Nodes;
 use crate::rows::Rows;
 use crate::slots::child;
-use packet::{ClientId, QoS};
+use packet_base::{ClientId, QoS};
 use std::alloc::AllocError;
 use std::collections::BTreeMap;
 use topics::split_level;

@@ -14,7 +14,7 @@ ghost use Rattle.subs.specs.Shown.{content_in, IsSoundTree};
 use crate::group::Group;
 use crate::nodes::Nodes;
 use indexmap::IndexMap;
-use packet::{ClientId, QoS};
+use packet_base::{ClientId, QoS};
 use std::alloc::{AllocError, Global};
 use std::collections::BTreeMap;
 use topics::Filter;

@@ -5,7 +5,7 @@ ghost use Rattle.subs.specs.Gathered.{rows_of_group, row_in};
 ghost use Rattle.subs.specs.Rows.{row_at};
 
 use crate::rows::Rows;
-use packet::{ClientId, QoS};
+use packet_base::{ClientId, QoS};
 use std::alloc::{AllocError, Global};
 use std::collections::BTreeMap;
 

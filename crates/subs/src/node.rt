@@ -9,7 +9,7 @@ ghost use Rattle.subs.specs.Changes.{SetsRow, SetsSide, SetsChild};
 
 use crate::node_id::NodeId;
 use crate::rows::Rows;
-use packet::{ClientId, QoS};
+use packet_base::{ClientId, QoS};
 use std::alloc::{AllocError, Global};
 use std::collections::BTreeMap;
 

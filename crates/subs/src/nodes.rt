@@ -13,7 +13,7 @@ use crate::node::Node;
 use crate::node_id::NodeId;
 use crate::rows::Rows;
 use crate::slots::{Slot, add_node, child, clear_at, put_at, set_at};
-use packet::{ClientId, QoS};
+use packet_base::{ClientId, QoS};
 use slab::Slab;
 use std::alloc::{AllocError, Global};
 use topics::split_level;

@@ -7,7 +7,7 @@ ghost use Rattle.std.specs.BTreeMap.{Updates, get};
 ghost use Rattle.subs.specs.declared.rows.Rows.TheVariants.{One};
 ghost use Rattle.subs.specs.Rows.{listed, row_at, SetsAt};
 
-use packet::{ClientId, QoS};
+use packet_base::{ClientId, QoS};
 use std::alloc::{AllocError, Global};
 use std::collections::BTreeMap;
 

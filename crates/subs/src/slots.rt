@@ -9,7 +9,7 @@ ghost use Rattle.subs.specs.Rows.{row_at};
 use crate::node::Node;
 use crate::node_id::NodeId;
 use crate::rows::Rows;
-use packet::{ClientId, QoS};
+use packet_base::{ClientId, QoS};
 use slab::Slab;
 use std::alloc::{AllocError, Global};
 

@@ -1,7 +1,7 @@
 // The number of nodes, about which there is no clause.
 
 use crate::tree_index::TreeIndex;
-use packet::{ClientId, QoS};
+use packet_base::{ClientId, QoS};
 use std::alloc::Global;
 use std::test::*;
 use subs_base::{ListIndex, SubIndex};

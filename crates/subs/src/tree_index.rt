@@ -11,7 +11,7 @@ ghost use Rattle.subs.specs.Shown.{content_in, IsSoundTree};
 
 use crate::gathering::{gather, nodes_of};
 use crate::nodes::Nodes;
-use packet::{ClientId, QoS};
+use packet_base::{ClientId, QoS};
 use std::alloc::{AllocError, Global};
 use std::collections::BTreeMap;
 use std::marker::Model;

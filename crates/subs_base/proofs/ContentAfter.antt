@@ -6,7 +6,7 @@ use Rattle.std.specs.Map.{lookup}
 use Rattle.std.specs.Cmp.Lexicographic.{slice_cmp, texts_ties, bytes_decides}
 use Rattle.std.specs.Ordering.{nat_cmp, is_eq}
 use Rattle.std.proofs.lemmas.Map.Made.{lookup-map_values}
-use Rattle.packet.specs.declared.qos.QoS.{QoS}
+use Rattle.packet_base.specs.declared.qos.QoS.{QoS}
 use Rattle.subs_base.specs.Content.{Content, without_client, without_row, with_filters}
 use Rattle.subs_base.specs.ListIndex.{content_of, at}
 use Rattle.subs_base.specs.Inside.{listed}

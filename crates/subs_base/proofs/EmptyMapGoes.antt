@@ -7,7 +7,7 @@ use Rattle.std.specs.Cmp.Lexicographic.{slice_cmp, texts_ties, bytes_decides}
 use Rattle.std.specs.Ordering.{nat_cmp}
 use Rattle.std.proofs.lemmas.Bool.{false≢true}
 use Rattle.std.proofs.lemmas.Map.Made.{lookup-map_values}
-use Rattle.packet.specs.declared.qos.QoS.{QoS}
+use Rattle.packet_base.specs.declared.qos.QoS.{QoS}
 use Rattle.subs_base.specs.ListIndex.{Filters, Clients, content_of, at}
 use Rattle.subs_base.specs.Inside.{listed}
 use Rattle.subs_base.proofs.ContentAfter.{held, content_held, held_some}

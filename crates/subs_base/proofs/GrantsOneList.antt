@@ -7,9 +7,9 @@ use Rattle.std.specs.Ordering.{nat_cmp}
 use Rattle.std.specs.declared.cmp.Ordering.TheVariants.{Less, Equal}
 use Rattle.std.proofs.lemmas.Map.Keys.{sorted_head, sorted_tail}
 use Rattle.std.proofs.lemmas.List.Elements.{All-head, All-tail, All-contains, All-from_recursion, Contains-append_right, All-map, All-weaker}
-use Rattle.packet.specs.declared.qos.QoS.{QoS}
-use Rattle.packet.specs.declared.qos.QoS.TheVariants as qualities
-use Rattle.packet.specs.QoS.{qos_number}
+use Rattle.packet_base.specs.declared.qos.QoS.{QoS}
+use Rattle.packet_base.specs.declared.qos.QoS.TheVariants as qualities
+use Rattle.packet_base.specs.QoS.{qos_number}
 use Rattle.subs_base.specs.Content.{Content}
 use Rattle.subs_base.specs.Granted.{Row, clients_of, IsGreatest, IsGranted}
 use Rattle.subs_base.specs.Laws.{GrantsOneList}

@@ -1,6 +1,6 @@
 -- What an index of subscriptions shows: who asked for which filter, at which QoS (MQTT 3.8.4).
 use Rattle.std.specs.Prelude.{ℕ, ◌&&◌, if◌then◌else◌, List, bytes_eq, Option, Some, None}
-use Rattle.packet.specs.declared.qos.QoS.{QoS}
+use Rattle.packet_base.specs.declared.qos.QoS.{QoS}
 
 -- at each client and filter the QoS of its subscription, and `None` if there is none
 abbrev pub Content : Type 0

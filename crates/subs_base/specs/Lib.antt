@@ -3,4 +3,4 @@ pub mod Granted
 pub mod Laws
 pub mod ListIndex
 pub mod Inside
-pub use Rattle.packet.specs as packet
+pub use Rattle.packet_base.specs as packet_base

@@ -30,7 +30,7 @@ ghost use Rattle.subs_base.specs.ListIndex.{content_of, at};
 ghost use Rattle.subs_base.specs.Inside.{listed, greatest_from, rows_of, AreOrdered};
 
 use crate::sub_index::SubIndex;
-use packet::{ClientId, QoS};
+use packet_base::{ClientId, QoS};
 use std::alloc::{AllocError, Global};
 use std::collections::BTreeMap;
 use std::marker::Model;

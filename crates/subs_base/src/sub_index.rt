@@ -10,7 +10,7 @@ ghost use Rattle.subs_base.specs.Content.{
 };
 ghost use Rattle.subs_base.specs.Granted.{AppendsGranted, IsWanted};
 
-use packet::{ClientId, QoS};
+use packet_base::{ClientId, QoS};
 use std::alloc::{AllocError, Global};
 use topics::{Filter, TopicName};
 

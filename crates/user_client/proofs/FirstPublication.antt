@@ -1,8 +1,8 @@
 -- FirstPublication.antt: what a new client keeps once it took its first publication.
 use Rattle.std.proofs.Common.{◌≡◌, ℕ, Bool, true, List, Option, Some, None, is_some, refl, ap, ap₂, subst}
 use Rattle.std.proofs.lemmas.Bool.{both_ways}
-use Rattle.client.specs.packet.declared.qos.QoS.{QoS}
-use Rattle.client.specs.packet.declared.qos.QoS.TheVariants as qualities
+use Rattle.client.specs.packet.packet_base.declared.qos.QoS.{QoS}
+use Rattle.client.specs.packet.packet_base.declared.qos.QoS.TheVariants as qualities
 use Rattle.client.specs.packet.declared.publish.Publish.{Publish}
 use Rattle.client.specs.session_base.declared.publication.Publication.{Publication}
 use Rattle.client.specs.session_base.Publication.{is_answered}

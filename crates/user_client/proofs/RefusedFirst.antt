@@ -5,8 +5,8 @@ use Rattle.std.proofs.lemmas.Bool.{both_ways}
 use Rattle.std.specs.Io.KnownBytes.{Appends}
 use Rattle.client.specs.packet.declared.packet.Packet.{Packet}
 use Rattle.client.specs.packet.declared.packet.Packet.TheVariants as packets
-use Rattle.client.specs.packet.declared.qos.QoS.{QoS}
-use Rattle.client.specs.packet.declared.qos.QoS.TheVariants as qualities
+use Rattle.client.specs.packet.packet_base.declared.qos.QoS.{QoS}
+use Rattle.client.specs.packet.packet_base.declared.qos.QoS.TheVariants as qualities
 use Rattle.client.specs.packet.declared.publish.Publish.{Publish}
 use Rattle.client.specs.packet.declared.delivery.Delivery.TheVariants as deliveries
 use Rattle.client.specs.packet.Spelling.{AppendsSpelling}

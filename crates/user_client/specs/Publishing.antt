@@ -5,8 +5,8 @@ use Rattle.client.specs.packet.Spelling.{AppendsSpelling}
 use Rattle.client.specs.packet.declared.delivery.Delivery.TheVariants as deliveries
 use Rattle.client.specs.packet.declared.packet.Packet.TheVariants as packets
 use Rattle.client.specs.packet.declared.publish.Publish.{Publish}
-use Rattle.client.specs.packet.declared.qos.QoS.{QoS}
-use Rattle.client.specs.packet.declared.qos.QoS.TheVariants as qualities
+use Rattle.client.specs.packet.packet_base.declared.qos.QoS.{QoS}
+use Rattle.client.specs.packet.packet_base.declared.qos.QoS.TheVariants as qualities
 use Rattle.client.specs.session_base.declared.publication.Publication.{Publication}
 use Rattle.client.specs.client_base.State.{ClientState, kept_count, new_client}
 use Rattle.user_client.specs.Tracing.{Called, new_called}

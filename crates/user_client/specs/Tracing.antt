@@ -1,7 +1,7 @@
 -- What a client does on its connections, step by step: calls of its keeper, and bytes of its
 -- servers (MQTT 4.3, 4.4).
 use Rattle.std.specs.Prelude.{◌≡◌, ◌≢◌, ℕ, Bool, false, ◌||◌, List, [], ◌++◌, Result, Ok, Err}
-use Rattle.client.specs.packet.declared.qos.QoS.{QoS}
+use Rattle.client.specs.packet.packet_base.declared.qos.QoS.{QoS}
 use Rattle.client.specs.session_base.declared.publication.Publication.{Publication}
 use Rattle.client.specs.client_base.declared.accepted.Accepted.{Accepted}
 use Rattle.client.specs.client_base.declared.error.ClientError.{ClientError}

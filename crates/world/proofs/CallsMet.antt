@@ -15,7 +15,7 @@ use Rattle.escaping_client.specs.client_base.declared.error.ClientError.TheVaria
 use Rattle.escaping_client.specs.client_base.declared.stage.Stage.{Stage}
 use Rattle.escaping_client.specs.client_base.declared.stage.Stage.TheVariants as stages
 use Rattle.escaping_nodes.specs.master.declared.event.Idle.{Idle}
-use Rattle.escaping_client.specs.packet.declared.qos.QoS.{QoS}
+use Rattle.escaping_client.specs.packet.packet_base.declared.qos.QoS.{QoS}
 use Rattle.escaping_client.specs.session_base.declared.publication.Publication.{Publication}
 use Rattle.world_events.specs.world_pipes.declared.sending.Sending.{Sending}
 use Rattle.world_events.specs.world_pipes.declared.sending.Sending.TheVariants as sendings

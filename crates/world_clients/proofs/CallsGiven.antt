@@ -10,7 +10,7 @@ use Rattle.world_pipes.specs.declared.sending.Sending.{Sending}
 use Rattle.world_pipes.specs.StandsFor.{ClientStandsFor}
 use Rattle.client.specs.Core.{publication_with}
 use Rattle.client.specs.client_base.Steps.{Call, keeper_step}
-use Rattle.client.specs.packet.declared.qos.QoS.{QoS}
+use Rattle.client.specs.packet.packet_base.declared.qos.QoS.{QoS}
 use Rattle.world_clients.specs.Calling.{IsCall}
 
 -- a client that loses its connection

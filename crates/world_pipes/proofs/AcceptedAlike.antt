@@ -10,7 +10,7 @@ use Rattle.client.specs.packet.declared.delivery.Delivery.TheVariants as deliver
 use Rattle.client.specs.packet.declared.packet.Packet.{Packet}
 use Rattle.client.specs.packet.declared.packet.Packet.TheVariants as packets
 use Rattle.client.specs.packet.declared.publish.Publish.{Publish}
-use Rattle.client.specs.packet.declared.qos.QoS.{QoS}
+use Rattle.client.specs.packet.packet_base.declared.qos.QoS.{QoS}
 use Rattle.client.specs.session_base.declared.publication.Publication.{Publication}
 use Rattle.client.specs.session_base.Publication.{is_answered, publication_of}
 use Rattle.client.specs.lists.Lists.{has_id}

@@ -7,13 +7,13 @@ use Rattle.client.specs.topics.Text.{is_filter, is_topic}
 use Rattle.client.specs.packet_base.Spelling.{IsId}
 use Rattle.client.proofs.of_packet_base.FieldsAgain.{filter_parts}
 use Rattle.client.specs.packet.Delivery.{FitsDelivery}
-use Rattle.client.specs.packet.QoS.{qos_number}
+use Rattle.client.specs.packet.packet_base.QoS.{qos_number}
 use Rattle.client.specs.packet.Spelling.{IsPacket, body, max_body}
 use Rattle.client.specs.packet.Subscribe.{FitsSubscription}
 use Rattle.client.specs.packet.declared.packet.Packet.{Packet}
 use Rattle.client.specs.packet.declared.packet.Packet.TheVariants as packets
-use Rattle.client.specs.packet.declared.qos.QoS.{QoS}
-use Rattle.client.specs.packet.declared.qos.QoS.TheVariants as qualities
+use Rattle.client.specs.packet.packet_base.declared.qos.QoS.{QoS}
+use Rattle.client.specs.packet.packet_base.declared.qos.QoS.TheVariants as qualities
 use Rattle.client.specs.session_base.declared.publication.Publication.{Publication}
 use Rattle.client.specs.session_base.Publication.{delivery_at, is_answered}
 use Rattle.client.proofs.of_session_base.IdentifiersOfFills.{least_free_is}

@@ -6,8 +6,8 @@ use Rattle.client.specs.packet.declared.connack.Connack.TheVariants as connacks
 use Rattle.client.specs.packet.declared.delivery.Delivery.{Delivery}
 use Rattle.client.specs.packet.declared.delivery.Delivery.TheVariants as deliveries
 use Rattle.client.specs.packet.declared.publish.Publish.{Publish}
-use Rattle.client.specs.packet.declared.qos.QoS.{QoS}
-use Rattle.client.specs.packet.declared.qos.QoS.TheVariants as qualities
+use Rattle.client.specs.packet.packet_base.declared.qos.QoS.{QoS}
+use Rattle.client.specs.packet.packet_base.declared.qos.QoS.TheVariants as qualities
 use Rattle.client.specs.packet.declared.packet.Packet.{Packet}
 use Rattle.client.specs.packet.declared.packet.Packet.TheVariants as packets
 use Rattle.client.specs.packet.Spelling.{Fits, IsPacket}

@@ -8,7 +8,7 @@ use Rattle.client.specs.packet.declared.connack.Connack.TheVariants as connacks
 use Rattle.client.specs.packet.declared.delivery.Delivery.{Delivery}
 use Rattle.client.specs.packet.declared.delivery.Delivery.TheVariants as deliveries
 use Rattle.client.specs.packet.declared.publish.Publish.{Publish}
-use Rattle.client.specs.packet.declared.qos.QoS.{QoS}
+use Rattle.client.specs.packet.packet_base.declared.qos.QoS.{QoS}
 use Rattle.client.specs.session_base.declared.publication.Publication.{Publication}
 use Rattle.client.specs.session_base.Publication.{is_answered}
 use Rattle.client.specs.client_base.declared.error.ClientError.{ClientError}

@@ -2,7 +2,7 @@
 use Rattle.std.proofs.Common.{◌≡◌, ℕ, Bool, true, false, not, if◌then◌else◌, List, [], ◌∷◌, Option, Some, None, refl, ap, ◌∙◌, sym}
 use Rattle.std.specs.Prelude.{bytes_eq}
 use Rattle.std.specs.Cmp.Lexicographic.{bytes_decides}
-use Rattle.subs_base.specs.packet.declared.qos.QoS.{QoS}
+use Rattle.subs_base.specs.packet_base.declared.qos.QoS.{QoS}
 use Rattle.broker_spec.specs.session_base.Subscriptions.{GrantedFilter, with_subscription, without_filter}
 use Rattle.broker_spec.specs.Subscriptions.{qos_asked}
 

@@ -1,12 +1,12 @@
 -- The answers to a taken publication are sent only to the clients of the granted rows, in order.
 use Rattle.std.proofs.Common.{◌≡◌, ℕ, List, [], ◌∷◌, ◌++◌, Option, Some, None, refl, ap₂, sym}
 use Rattle.std.specs.Prelude.{flat_map, option_map}
-use Rattle.subs_base.specs.packet.declared.qos.QoS.{QoS}
-use Rattle.subs_base.specs.packet.declared.publish.Publish.{Publish}
-use Rattle.subs_base.specs.packet.declared.packet.Packet.TheVariants as packets
+use Rattle.subs_base.specs.packet_base.declared.qos.QoS.{QoS}
+use Rattle.packet.specs.declared.publish.Publish.{Publish}
+use Rattle.packet.specs.declared.packet.Packet.TheVariants as packets
 use Rattle.broker_spec.specs.retained.Retained.{RetainedTopics}
 use Rattle.broker_spec.specs.session_base.Publication.{publication_of}
-use Rattle.subs_base.specs.packet.QoS.{lower_qos}
+use Rattle.subs_base.specs.packet_base.QoS.{lower_qos}
 use Rattle.broker_spec.specs.session_base.Sending.{copies_sent}
 use Rattle.broker_base.specs.Connection.{ConnectionName}
 use Rattle.broker_base.specs.Place.{Client, Mark, Place}

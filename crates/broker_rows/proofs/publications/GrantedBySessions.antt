@@ -4,10 +4,10 @@ use Rattle.std.specs.List.{AllByRecursion}
 use Rattle.std.specs.List.Sorted.{IsStrictlySortedBy}
 use Rattle.std.specs.declared.cmp.Ordering.TheVariants.{Less}
 use Rattle.std.proofs.lemmas.List.Elements.{All-nil, All-cons, Contains-append_right}
-use Rattle.subs_base.specs.packet.topics.Matching.{is_match}
+use Rattle.packet.specs.topics.Matching.{is_match}
 use Rattle.subs_base.proofs.of_topics.MatchingIsTested.{tested}
-use Rattle.subs_base.specs.packet.declared.qos.QoS.{QoS}
-use Rattle.subs_base.specs.packet.QoS.{qos_number}
+use Rattle.subs_base.specs.packet_base.declared.qos.QoS.{QoS}
+use Rattle.subs_base.specs.packet_base.QoS.{qos_number}
 use Rattle.broker_base.specs.Place.{Client, by_bytes, same_client}
 use Rattle.broker_spec.specs.session_base.Subscriptions.{granted_qos}
 use Rattle.broker_base.specs.ClientSession.{ClientSession}

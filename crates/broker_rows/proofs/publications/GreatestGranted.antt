@@ -4,9 +4,9 @@ use Rattle.std.specs.Prelude.{bytes_eq}
 use Rattle.std.specs.Cmp.Lexicographic.{bytes_decides}
 use Rattle.std.proofs.lemmas.Bool.Decides.{nat_tests}
 use Rattle.std.proofs.lemmas.Bool.{or_parts}
-use Rattle.subs_base.specs.packet.topics.Matching.{is_match}
-use Rattle.subs_base.specs.packet.declared.qos.QoS.{QoS}
-use Rattle.subs_base.specs.packet.QoS.{qos_number, greater_qos}
+use Rattle.packet.specs.topics.Matching.{is_match}
+use Rattle.subs_base.specs.packet_base.declared.qos.QoS.{QoS}
+use Rattle.subs_base.specs.packet_base.QoS.{qos_number, greater_qos}
 use Rattle.broker_spec.specs.session_base.Subscriptions.{GrantedFilter, is_subscribed, granted_qos}
 use Rattle.broker_spec.specs.Subscriptions.{qos_asked}
 use Rattle.broker_spec.specs.session_base.KeepingLaws.{AreFiltersApart}

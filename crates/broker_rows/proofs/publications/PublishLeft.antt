@@ -3,8 +3,8 @@ use Rattle.std.proofs.Common.{◌≡◌, ℕ, Bool, true, false, if◌then◌els
 use Rattle.std.specs.Ordering.{is_eq}
 use Rattle.std.specs.declared.cmp.Ordering.TheVariants.{Less}
 use Rattle.std.specs.List.Sorted.{IsStrictlySortedBy}
-use Rattle.subs_base.specs.packet.declared.qos.QoS.{QoS}
-use Rattle.subs_base.specs.packet.declared.publish.Publish.{Publish}
+use Rattle.subs_base.specs.packet_base.declared.qos.QoS.{QoS}
+use Rattle.packet.specs.declared.publish.Publish.{Publish}
 use Rattle.broker_spec.specs.retained.Retained.{RetainedTopics}
 use Rattle.broker_spec.specs.session_base.declared.publication.Publication.{Publication}
 use Rattle.broker_spec.specs.session_base.Publication.{publication_of}

@@ -1,14 +1,14 @@
 -- What a taken PUBLISH leaves of one session: its identifier noted, and the copy delivered.
 use Rattle.std.proofs.Common.{◌≡◌, ℕ, Bool, true, false, not, ◌&&◌, ◌||◌, if◌then◌else◌, [], Option, Some, None, refl, ap, ◌∙◌}
 use Rattle.std.specs.Prelude.{is_some, option_map}
-use Rattle.subs_base.specs.packet.declared.qos.QoS.{QoS}
-use Rattle.subs_base.specs.packet.declared.delivery.Delivery.{Delivery}
-use Rattle.subs_base.specs.packet.declared.publish.Publish.{Publish}
-use Rattle.subs_base.specs.packet.declared.packet.Packet.TheVariants as packets
+use Rattle.subs_base.specs.packet_base.declared.qos.QoS.{QoS}
+use Rattle.packet.specs.declared.delivery.Delivery.{Delivery}
+use Rattle.packet.specs.declared.publish.Publish.{Publish}
+use Rattle.packet.specs.declared.packet.Packet.TheVariants as packets
 use Rattle.broker_spec.specs.retained.Retained.{RetainedTopics}
 use Rattle.broker_spec.specs.session_base.declared.publication.Publication.{Publication}
 use Rattle.broker_spec.specs.session_base.Publication.{publication_of}
-use Rattle.subs_base.specs.packet.QoS.{lower_qos}
+use Rattle.subs_base.specs.packet_base.QoS.{lower_qos}
 use Rattle.broker_spec.specs.session_base.Subscriptions.{granted_qos}
 use Rattle.broker_spec.specs.session_base.Queue.{Queue}
 use Rattle.broker_base.specs.Connection.{ConnectionName}

@@ -2,7 +2,7 @@
 use Rattle.std.proofs.Common.{◌≡◌, ℕ, ◌-◌, Bool, true, false, not, ◌||◌, nat_lt, if◌then◌else◌, List, [], ◌∷◌, ◌++◌, refl, ap, ◌∙◌, sym}
 use Rattle.std.specs.Prelude.{map}
 use Rattle.std.proofs.lemmas.List.{append-nil}
-use Rattle.subs_base.specs.packet.declared.subscribe.Subscription.{Subscription}
+use Rattle.packet.specs.declared.subscribe.Subscription.{Subscription}
 use Rattle.broker_spec.specs.retained.Retained.{RetainedTopics}
 use Rattle.broker_spec.specs.session_base.Session.{SessionState, with_filters, with_queue}
 use Rattle.broker_spec.specs.session_base.Subscriptions.{with_subscription, with_subscriptions}

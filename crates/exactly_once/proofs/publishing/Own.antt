@@ -1,8 +1,8 @@
 -- What the answers to a client's publications make of them as items of a handshake.
 use Rattle.std.proofs.Common.{◌≡◌, ℕ, Bool, true, false, not, ◌&&◌, ◌||◌, ◌==◌, if◌then◌else◌, List, [], ◌∷◌, map, refl, ap, ap₂, sym, ◌∙◌, inl, inr, ◌⊎◌}
 use Rattle.std.proofs.lemmas.Bool.{both_ways, cases_Bool}
-use Rattle.client_base.specs.packet.declared.qos.QoS.{QoS}
-use Rattle.client_base.specs.packet.declared.qos.QoS.TheVariants as qualities
+use Rattle.client_base.specs.packet.packet_base.declared.qos.QoS.{QoS}
+use Rattle.client_base.specs.packet.packet_base.declared.qos.QoS.TheVariants as qualities
 use Rattle.client_base.specs.session_base.declared.publication.Publication.{Publication}
 use Rattle.client_base.specs.session_base.Publication.{is_acknowledged}
 use Rattle.exactly_once.specs.Items.{SenderItem, releasing, finishing, has_sent}

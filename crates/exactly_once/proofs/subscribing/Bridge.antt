@@ -1,8 +1,8 @@
 -- The copies that a place sends are the PUBLISHes of all that starts there, since nothing waited in vain before.
 use Rattle.std.proofs.Common.{◌≡◌, ◌≤◌, ℕ, Bool, true, false, ◌==◌, nat_lt, if◌then◌else◌, List, [], ◌∷◌, ◌++◌, length, map, take, drop, refl, ap, sym, ◌∙◌, ◌⊎◌, inl, inr, arith}
 use Rattle.std.proofs.lemmas.Bool.{both_ways, cases_Bool}
-use Rattle.client_base.specs.packet.declared.qos.QoS.{QoS}
-use Rattle.client_base.specs.packet.declared.qos.QoS.TheVariants as qualities
+use Rattle.client_base.specs.packet.packet_base.declared.qos.QoS.{QoS}
+use Rattle.client_base.specs.packet.packet_base.declared.qos.QoS.TheVariants as qualities
 use Rattle.client_base.specs.session_base.declared.publication.Publication.{Publication}
 use Rattle.client_base.specs.session_base.Publication.{is_answered}
 use Rattle.client_base.specs.session_base.Identifiers.{least_free}

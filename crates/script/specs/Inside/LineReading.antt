@@ -1,6 +1,6 @@
 -- What the fields of a line say, by the first of them.
 use Rattle.std.specs.Prelude.{Bool, if◌then◌else◌, List, [], ◌∷◌, codes, bytes_eq, Option, Some, None}
-use Rattle.session_base.specs.packet.declared.qos.QoS.{QoS}
+use Rattle.session_base.specs.packet.packet_base.declared.qos.QoS.{QoS}
 use Rattle.session_base.specs.declared.publication.Publication.{Publication}
 use Rattle.script.specs.Fields.{Text, amount_of, client_of, filter_of, number_of, numbers_of, payload_of, qos_of, retain_of, topic_of}
 use Rattle.script.specs.declared.script_line.ScriptLine.{ScriptLine}

@@ -7,7 +7,7 @@ use Rattle.std.specs.Cmp.Lexicographic.{slice_cmp}
 use Rattle.std.specs.Ordering.{nat_cmp}
 use Rattle.std.proofs.Math.Seq.{take-length}
 use Rattle.std.proofs.lemmas.Map.Keys.{sorted_tail}
-use Rattle.packet.specs.declared.qos.QoS.{QoS}
+use Rattle.packet_base.specs.declared.qos.QoS.{QoS}
 use Rattle.subs_base.specs.ListIndex.{at}
 use Rattle.subs_base.specs.Inside.{listed, rows_of, AreOrdered}
 use Rattle.subs_base.proofs.ContentAfter.{anyhow_err}

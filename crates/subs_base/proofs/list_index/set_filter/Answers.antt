@@ -3,7 +3,7 @@ use Rattle.std.proofs.Common.{ℕ, List, Some, subst}
 use Rattle.std.specs.BTreeMap.{BTreeMap, Updates}
 use Rattle.std.specs.Cmp.Lexicographic.{slice_cmp}
 use Rattle.std.specs.Ordering.{nat_cmp}
-use Rattle.packet.specs.declared.qos.QoS.{QoS}
+use Rattle.packet_base.specs.declared.qos.QoS.{QoS}
 use Rattle.subs_base.proofs.list_index.set_filter.Goals as goal
 
 pub returns-clause-ok : goal.returns-clause-ok

@@ -3,7 +3,7 @@ use Rattle.std.specs.Option.{is_some}
 use Rattle.std.proofs.lemmas.Option.{same_Some}
 use Rattle.escaping_client.specs.client.Core.{Core}
 use Rattle.escaping_client.specs.client_base.Steps.{request_refusal}
-use Rattle.escaping_client.specs.packet.declared.qos.QoS.TheVariants as qualities
+use Rattle.escaping_client.specs.packet.packet_base.declared.qos.QoS.TheVariants as qualities
 use Rattle.world_clients.specs.declared.world_client.WorldClient.{WorldClient}
 use Rattle.escaping_nodes.proofs.of_master.Counting.{get_there}
 use Rattle.escaping_client.specs.client_base.Steps.{Call}

@@ -3,9 +3,9 @@ use Rattle.std.proofs.Common.{◌≡◌, ℕ, eqb, Ok, refl}
 use Rattle.std.specs.Prelude.{IfOk}
 use Rattle.std.proofs.lemmas.Bool.{eqb-true}
 use Rattle.packet_base.proofs.Steps.{cond_if}
-use Rattle.packet.specs.declared.qos.QoS.{QoS}
-use Rattle.packet.specs.declared.qos.QoS.TheVariants as qualities
-use Rattle.packet.specs.QoS.{qos_number, qos_of}
+use Rattle.packet_base.specs.declared.qos.QoS.{QoS}
+use Rattle.packet_base.specs.declared.qos.QoS.TheVariants as qualities
+use Rattle.packet_base.specs.QoS.{qos_number, qos_of}
 
 pub qos_found : (number : ℕ) → IfOk (qos_of number) (λ qos. number ≡ qos_number qos)
 qos_found number =

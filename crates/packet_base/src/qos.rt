@@ -1,9 +1,9 @@
 // The three qualities of service.
 
 ghost use Rattle.std.specs.Prelude.{◌≡◌};
-ghost use Rattle.packet.specs.QoS.{greater_qos, lower_qos, qos_number, qos_of};
+ghost use Rattle.packet_base.specs.QoS.{greater_qos, lower_qos, qos_number, qos_of};
 
-use packet_base::Stop;
+use crate::stop::Stop;
 use topics::MalformedKind;
 
 /// Quality of Service: how reliably a publication is delivered (MQTT 4.3). The three are ordered by
