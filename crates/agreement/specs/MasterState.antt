@@ -1,4 +1,5 @@
 -- What the master keeps, and what it does on Assign and Activate.
+pub use Rattle.machine.specs.Ballots.{max_ballot}
 use Rattle.std.specs.Prelude.{ℕ, Bool, true, ◌+◌, ◌==◌, List, Option, Some, None, if◌then◌else◌}
 use Rattle.std.specs.Prelude.{◌^◌, nat_le}
 use Rattle.whole.specs.Config.{Config}
@@ -64,10 +65,6 @@ activated C m ballot from waiting =
 pub data AssignRefusal : Type 0 where
   bad_members : AssignRefusal  -- no ballot may have them
   ballots_spent : AssignRefusal  -- no number is left for a ballot
-
--- the last ballot that can be given
-abbrev pub max_ballot : ℕ
-max_ballot = 2 ^ 32
 
 -- members that no ballot may have are refused, and after the last ballot any configuration; the
 -- members are tested first. Which nodes there are the master does not know.

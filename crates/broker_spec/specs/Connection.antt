@@ -1,14 +1,11 @@
 -- Names of Network Connections.
+pub use Rattle.machine.specs.Ballots.{max_ballot}
 use Rattle.std.specs.Prelude.{◌≡◌, ℕ, nat_lt, nat_le, ◌^◌, Bool, true, ◌==◌, ◌&&◌}
 
 -- a connection's name: the ballot in which it was accepted, and its number there
 pub record ConnectionName : Type 0 where
   pub ballot : ℕ
   pub count : ℕ
-
--- the greatest ballot of a name
-abbrev pub max_ballot : ℕ
-max_ballot = 2 ^ 32
 
 -- the greatest number of a connection in its ballot
 abbrev pub max_count : ℕ

@@ -3,8 +3,7 @@
 ghost use Rattle.std.specs.Prelude.{◌≡◌, ◌<◌, ◌≤◌, ◌^◌, ◌↔◌, IsNone, IfSome, IsSome};
 ghost use Rattle.broker_spec.specs.Connection.{IsConnectionName};
 
-/// The greatest ballot of a name. No greater one is ever given.
-pub const MAX_BALLOT: u64 = 0x1_0000_0000;
+use machine::MAX_BALLOT;
 
 /// The greatest number of a connection in its ballot.
 pub const MAX_COUNT: u64 = 0x100_0000_0000;

@@ -1,3 +1,4 @@
 pub mod Inside
+pub mod Ballots
 pub mod Machine
 pub mod Tally

@@ -2,10 +2,12 @@
 //! them.
 #![tactic(auto)]
 
+mod ballots;
 mod error;
 mod machine;
 mod tally;
 
+pub use ballots::MAX_BALLOT;
 pub use error::{Halted, Memory, ThawFault};
 pub use machine::Machine;
 pub use tally::{Tally, TallyCommand};

@@ -19,7 +19,7 @@ pub use error::AssignError;
 pub use event::{Event, Idle};
 pub use group::Group;
 pub use inputs::counted;
-pub use master::{MAX_BALLOT, Master};
+pub use master::Master;
 pub use opening::can_open;
 pub use recording::record;
 pub use sending::{answer_of, asks_for, send};

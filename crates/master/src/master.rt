@@ -10,11 +10,8 @@ ghost use Rattle.ballot.specs.LawfulConfig.{is_lawful};
 use crate::activation::Activation;
 use crate::error::AssignError;
 use ballot::{Config, Members};
+use machine::MAX_BALLOT;
 use std::marker::Model;
-
-/// The greatest ballot that can be given. It is also `MAX_BALLOT` of `broker_spec`, which names
-/// connections by their ballot.
-pub const MAX_BALLOT: u64 = 0x1_0000_0000;
 
 /// The active ballot with its members, and at most one ballot that waits to be activated. None of
 /// its calls takes memory.
