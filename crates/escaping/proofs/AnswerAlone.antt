@@ -27,7 +27,7 @@ use Rattle.packet_world.specs.broker_spec.declared.command.Output.TheVariants as
 use Rattle.node_moves.specs.world_base.declared.Connection.{Connection}
 use Rattle.node_moves.specs.world_base.declared.item.Item.TheVariants.{Bytes}
 use Rattle.node_moves.specs.world_base.declared.Port.{Port}
-use Rattle.node_moves.specs.world_base.Connections.{is_at, is_first, is_open_at, is_open_named, is_over, is_proposed}
+use Rattle.node_moves.specs.world_base.Connections.{is_at, is_first, is_open_at, is_open_named, is_closed, is_proposed}
 use Rattle.node_moves.specs.world_base.ConnectionChanges.{noted_proposed, changed, closed, holding, left_with, max_pending}
 use Rattle.node_moves.specs.world_base.Core.{CoreState, StepOutcome, rules, serves}
 use Rattle.node_moves.specs.world_base.Handing.{listed_at}
@@ -144,7 +144,7 @@ module _ (core : CoreState) (port : Port) (now : ℕ) (piece : List ℕ) (c : Co
 
   then_named : find (is_open_named c.name) (changed (is_open_at port) now_asked core.connections) ≡ Some (now_asked c)
   then_named = found_both (is_open_at port) (is_open_named c.name) now_asked core.connections c is_open (found_passes (is_open_named c.name) core.connections c named)
-      (and_parts (not (is_over c.stage)) _ (found_passes (is_open_named c.name) core.connections c named)).1 named opened
+      (and_parts (not (is_closed c.stage)) _ (found_passes (is_open_named c.name) core.connections c named)).1 named opened
 
   found : open_at port (with_change (holding piece)) ≡ Some (holding piece c)
   found = find_changed (is_open_at port) (holding piece) core.connections c (λ d e. e) opened

@@ -8,7 +8,7 @@ use Rattle.packet_world.specs.broker_spec.Connection.{ConnectionName, same_conne
 use Rattle.node_moves.specs.world_base.declared.Connection.{Connection}
 use Rattle.node_moves.specs.world_base.declared.item.Item.TheVariants.{Peer}
 use Rattle.node_moves.specs.world_base.declared.Port.{Port}
-use Rattle.node_moves.specs.world_base.Connections.{fresh, is_at, is_listed, is_open_at, is_open_named, is_over}
+use Rattle.node_moves.specs.world_base.Connections.{fresh, is_at, is_listed, is_open_at, is_open_named, is_closed}
 use Rattle.node_moves.specs.world_base.ConnectionChanges.{changed, closed, handed}
 use Rattle.node_moves.specs.world_base.Core.{CoreState, StepOutcome, serves}
 use Rattle.node_moves.specs.world_base.Failing.{loses_all_failed}
@@ -61,7 +61,7 @@ found_changed test which change (d ∷ cs) c keeps same found = by (which d) (te
 -- ---- what waits is open, so it is listed
 
 listed_open : (x : ConnectionName) (c : Connection) → is_open_named x c ≡ true → is_listed c ≡ true
-listed_open x c e = ap (λ (b : Bool). b || not (length c.pending == 0)) (and_parts (not (is_over c.stage)) (same_connection c.name x) e).0
+listed_open x c e = ap (λ (b : Bool). b || not (length c.pending == 0)) (and_parts (not (is_closed c.stage)) (same_connection c.name x) e).0
 
 waits_listed : (port : Port) (x : ConnectionName) (core : CoreState) (cs : List Connection) (c : Connection) → find (is_at port) cs ≡ Some c → find (is_open_named x) cs ≡ Some c →
     c.pending ≡ [] → AwaitsAnswer port x (record core { connections = filter is_listed cs })
@@ -180,7 +180,7 @@ none_open : (port : Port) (cs : List Connection) → list_any (is_at port) cs �
 none_open port [] none = refl
 none_open port (d ∷ cs) none =
     let z = or_parts (is_at port d) (list_any (is_at port) cs) none in
-    ap (λ (b : Bool). if b then Some d else find (is_open_at port) cs) (and_right (not (is_over d.stage)) (is_at port d) z.0) ∙ none_open port cs z.1
+    ap (λ (b : Bool). if b then Some d else find (is_open_at port) cs) (and_right (not (is_closed d.stage)) (is_at port d) z.0) ∙ none_open port cs z.1
 
 named_self : (x : ConnectionName) → same_connection x x ≡ true
 named_self x = both (x.ballot == x.ballot) (x.count == x.count) (eq-eqb x.ballot x.ballot refl) (eq-eqb x.count x.count refl)
@@ -224,4 +224,4 @@ asked_awaits_answer port x core now connect command a =
     is_open = found_passes (is_open_at port) core.connections c a.opened
 
     open_after : is_open_named x (change c) ≡ true
-    open_after = (and_parts (not (is_over c.stage)) (same_connection c.name x) (found_passes (is_open_named x) core.connections c a.waits.named)).1
+    open_after = (and_parts (not (is_closed c.stage)) (same_connection c.name x) (found_passes (is_open_named x) core.connections c a.waits.named)).1

@@ -19,7 +19,7 @@ use Rattle.packet_world.specs.broker_spec.declared.command.Output.TheVariants as
 use Rattle.node_moves.specs.world_base.declared.Connection.{Connection}
 use Rattle.node_moves.specs.world_base.declared.item.Item.TheVariants.{Peer}
 use Rattle.node_moves.specs.world_base.declared.Port.{Port}
-use Rattle.node_moves.specs.world_base.Connections.{has_failed, is_at, is_listed, is_open_named, is_over}
+use Rattle.node_moves.specs.world_base.Connections.{has_failed, is_at, is_listed, is_open_named, is_closed}
 use Rattle.node_moves.specs.world_base.ConnectionChanges.{changed, closed, failing, max_pending, put_out, putting}
 use Rattle.node_moves.specs.world_base.Core.{CoreState, StepOutcome, rules, serves}
 use Rattle.node_moves.specs.world_base.Failing.{closes_failed, loses_all_failed, loses_failed, loses_if}
@@ -89,8 +89,8 @@ module _ (port : Port) (front : List ℕ) (some : 0 < length front) where
   -- one that has something to hand over is listed
   is_there : (d : Connection) → IsPrefixOf front d.pending → is_listed d ≡ true
   is_there d first =
-      ap (λ (b : Bool). not (is_over d.stage) || not b) (ne_eqb (length d.pending) 0 (λ e. let z = prefix_length first in let y = some in omega (arith, z, y, e)))
-      ∙ right (not (is_over d.stage))
+      ap (λ (b : Bool). not (is_closed d.stage) || not b) (ne_eqb (length d.pending) 0 (λ e. let z = prefix_length first in let y = some in omega (arith, z, y, e)))
+      ∙ right (not (is_closed d.stage))
     where
       right : (b : Bool) → (b || true) ≡ true
       right true = refl

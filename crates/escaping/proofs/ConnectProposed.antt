@@ -24,7 +24,7 @@ use Rattle.packet_world.specs.broker_base.State.{State}
 use Rattle.node_moves.specs.world_base.declared.Connection.{Connection}
 use Rattle.node_moves.specs.world_base.declared.item.Item.TheVariants.{Bytes}
 use Rattle.node_moves.specs.world_base.declared.Port.{Port}
-use Rattle.node_moves.specs.world_base.Connections.{has_failed, is_at, is_first, is_listed, is_open_at, is_over}
+use Rattle.node_moves.specs.world_base.Connections.{has_failed, is_at, is_first, is_listed, is_open_at, is_closed}
 use Rattle.node_moves.specs.world_base.ConnectionChanges.{noted_proposed, changed, closed, holding, left_with}
 use Rattle.node_moves.specs.world_base.Core.{CoreState, StepOutcome, rules, serves}
 use Rattle.node_moves.specs.world_base.Failing.{loses_all_failed}
@@ -133,7 +133,7 @@ module _ (core : CoreState) (port : Port) (now : ℕ) (piece : List ℕ) (c : Co
   leads = (and_parts (serves core) (nat_lt (places core.replica.state.log) max_places) room).0
 
   still_open : (d : Connection) → is_open_at port d ≡ true → is_open_at port (asked_now now connect.keep_alive d) ≡ true
-  still_open d e = (and_parts (not (is_over d.stage)) (is_at port d) e).1
+  still_open d e = (and_parts (not (is_closed d.stage)) (is_at port d) e).1
 
   -- it is proposed
   proposed_silently : (k : CoreState) → k.replica ≡ core.replica → proposes command k ≡ record { core = with_replica (proposal_at core command).state k; messages = (proposal_at core command).effects }

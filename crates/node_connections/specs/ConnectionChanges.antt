@@ -1,6 +1,6 @@
 -- How a connection of a node changes.
 use Rattle.std.specs.Prelude.{ℕ, ◌+◌, Bool, nat_le, if◌then◌else◌, List, [], ◌∷◌, ◌++◌, length}
-use Rattle.node_connections.specs.declared.connection.ConnectionStage.TheVariants.{Proposed, Over, Failed}
+use Rattle.node_connections.specs.declared.connection.ConnectionStage.TheVariants.{Proposed, Closed, Failed}
 use Rattle.node_connections.specs.declared.connection.Connection.{Connection}
 use Rattle.node_connections.specs.Connections.{is_proposed}
 
@@ -18,7 +18,7 @@ noted_proposed keep_alive c = record c { stage = Proposed; keep_alive = keep_ali
 
 -- closed: nothing more is read or waited for, and what was queued before is still handed over
 abbrev pub closed : Connection → Connection
-closed c = record c { stage = Over; keep_alive = 0; last_packet = 0; unread = [] }
+closed c = record c { stage = Closed; keep_alive = 0; last_packet = 0; unread = [] }
 
 -- bytes are queued
 abbrev pub putting : List ℕ → Connection → Connection
@@ -30,7 +30,7 @@ max_pending = 134217728
 
 -- closed as lost: the loss is to be reported to the broker, if its CONNECT was proposed
 abbrev pub failing : Connection → Connection
-failing c = record (closed c) { stage = if is_proposed c.stage then Failed else Over }
+failing c = record (closed c) { stage = if is_proposed c.stage then Failed else Closed }
 
 -- bytes are queued if there is room for them; otherwise the connection is closed as lost
 abbrev pub put_out : List ℕ → Connection → Connection

@@ -4,35 +4,35 @@ use Rattle.std.specs.Prelude.{ℕ, ◌+◌, ◌*◌, Bool, true, false, not, ◌
 use Rattle.broker_spec.specs.Connection.{ConnectionName, same_connection}
 use Rattle.node_connections.specs.declared.port.Port.{Port}
 use Rattle.node_connections.specs.declared.connection.ConnectionStage.{ConnectionStage}
-use Rattle.node_connections.specs.declared.connection.ConnectionStage.TheVariants.{Awaits, Proposed, Over, Failed}
+use Rattle.node_connections.specs.declared.connection.ConnectionStage.TheVariants.{Awaits, Proposed, Closed, Failed}
 use Rattle.node_connections.specs.declared.connection.Connection.{Connection}
 
 -- whether the node has closed it, for good or as lost
-abbrev pub is_over : ConnectionStage → Bool
-is_over Awaits = false
-is_over Proposed = false
-is_over Over = true
-is_over Failed = true
+abbrev pub is_closed : ConnectionStage → Bool
+is_closed Awaits = false
+is_closed Proposed = false
+is_closed Closed = true
+is_closed Failed = true
 
 -- whether a connection's first packet is still to come
 abbrev pub is_first : ConnectionStage → Bool
 is_first Awaits = true
 is_first Proposed = false
-is_first Over = false
+is_first Closed = false
 is_first Failed = false
 
 -- whether a connection's CONNECT was proposed, and it is open
 abbrev pub is_proposed : ConnectionStage → Bool
 is_proposed Awaits = false
 is_proposed Proposed = true
-is_proposed Over = false
+is_proposed Closed = false
 is_proposed Failed = false
 
 -- closed as lost, and the loss is still to be reported to the broker
 abbrev pub is_failed : ConnectionStage → Bool
 is_failed Awaits = false
 is_failed Proposed = false
-is_failed Over = false
+is_failed Closed = false
 is_failed Failed = true
 
 -- whether a connection is closed and its loss is still to be reported
@@ -45,21 +45,21 @@ is_at port c = c.port.0 == port.0
 
 -- whether a connection is the open one of a port
 abbrev pub is_open_at : Port → Connection → Bool
-is_open_at port c = not (is_over c.stage) && is_at port c
+is_open_at port c = not (is_closed c.stage) && is_at port c
 
 -- whether a connection is the open one of a name
 abbrev pub is_open_named : ConnectionName → Connection → Bool
-is_open_named name c = not (is_over c.stage) && same_connection c.name name
+is_open_named name c = not (is_closed c.stage) && same_connection c.name name
 
 -- a connection is listed while it is open, and until all that was queued for it was handed over
 abbrev pub is_listed : Connection → Bool
-is_listed c = not (is_over c.stage) || not (length c.pending == 0)
+is_listed c = not (is_closed c.stage) || not (length c.pending == 0)
 
 -- a connection is open, has a keep alive, and no whole packet came for more than one and a half
 -- times of it (MQTT 3.1.2.10); a keep alive counts seconds, times count milliseconds
 abbrev pub is_silent : ℕ → Connection → Bool
 is_silent now c =
-    (not (is_over c.stage) && nat_lt 0 c.keep_alive)
+    (not (is_closed c.stage) && nat_lt 0 c.keep_alive)
     && nat_lt (c.last_packet + 1500 * c.keep_alive) now
 
 -- a new connection

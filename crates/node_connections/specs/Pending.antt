@@ -3,7 +3,7 @@ use Rattle.std.specs.Prelude.{ℕ, Bool, not, ◌&&◌, ◌==◌, if◌then◌el
 use Rattle.node_connections.specs.declared.handed.Handed.{Handed}
 use Rattle.node_connections.specs.declared.handed.Handed.TheVariants as answers
 use Rattle.node_connections.specs.declared.connection.Connection.{Connection}
-use Rattle.node_connections.specs.Connections.{is_over}
+use Rattle.node_connections.specs.Connections.{is_closed}
 
 -- everything that was queued and not yet handed over
 abbrev pub bytes_of : Option Connection → List ℕ
@@ -13,8 +13,8 @@ bytes_of (Some c) = c.pending
 -- whether more may come: not if the connection is over, or was never opened
 abbrev pub answer_of : Option Connection → Handed
 answer_of None = answers.Closed
-answer_of (Some c) = if is_over c.stage then answers.Closed else answers.Open
+answer_of (Some c) = if is_closed c.stage then answers.Closed else answers.Open
 
 -- open, with nothing to hand over
 abbrev pub is_idle : Connection → Bool
-is_idle c = not (is_over c.stage) && (length c.pending == 0)
+is_idle c = not (is_closed c.stage) && (length c.pending == 0)

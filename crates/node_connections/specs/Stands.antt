@@ -10,7 +10,7 @@ use Rattle.node_connections.specs.declared.standing.Standing.TheVariants.{Awaits
 abbrev pub standing_at : ConnectionStage → Standing
 standing_at stages.Awaits = Awaits
 standing_at stages.Proposed = Open
-standing_at stages.Over = Closed
+standing_at stages.Closed = Closed
 standing_at stages.Failed = Closed
 
 -- if there is no connection it is closed

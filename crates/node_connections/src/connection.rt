@@ -1,7 +1,7 @@
 // One connection of a node.
 
 ghost use Rattle.std.specs.Prelude.{◌≡◌, ◌++◌, [], false, true, IsOk, OnOk, OnErr};
-ghost use Rattle.node_connections.specs.Connections.{fresh, has_failed, is_at, is_first, is_listed, is_open_at, is_open_named, is_over, is_proposed, is_silent};
+ghost use Rattle.node_connections.specs.Connections.{fresh, has_failed, is_at, is_first, is_listed, is_open_at, is_open_named, is_closed, is_proposed, is_silent};
 ghost use Rattle.node_connections.specs.ConnectionChanges.{noted_proposed, closed, failing, put_out, handed, holding, putting};
 ghost use Rattle.node_connections.specs.Pending.{answer_of, is_idle};
 ghost use Rattle.node_connections.specs.Fronts.{TakesFront};
@@ -31,7 +31,7 @@ pub enum ConnectionStage {
     /// Its CONNECT was proposed, or is about to be.
     Proposed,
     /// It is closed.
-    Over,
+    Closed,
     /// It is closed as lost, and the loss is still to be reported to the broker.
     Failed,
 }
@@ -99,21 +99,24 @@ impl Connection {
     pub fn is_open_at(&self, port: Port) -> bool
         ensures { result ≡ is_open_at port self.now }
     {
-        !self.is_over() && self.port.0 == port.0
+        !self.is_closed() && self.port.0 == port.0
     }
 
     /// Says whether this is the open connection of a name.
     pub fn is_open_named(&self, name: ConnectionName) -> bool
         ensures { result ≡ is_open_named name self.now }
     {
-        !self.is_over() && self.name == name
+        !self.is_closed() && self.name == name
     }
 
     /// Says whether it is closed.
-    pub fn is_over(&self) -> bool
-        ensures { result ≡ is_over self.now.stage }
+    pub fn is_closed(&self) -> bool
+        ensures { result ≡ is_closed self.now.stage }
     {
-        matches!(self.stage, ConnectionStage::Over | ConnectionStage::Failed)
+        matches!(
+            self.stage,
+            ConnectionStage::Closed | ConnectionStage::Failed
+        )
     }
 
     /// Says whether it is closed as lost, and the loss is still to be reported to the broker.
@@ -143,28 +146,28 @@ impl Connection {
         ensures { result ≡ is_silent now self.now }
     {
         let allowed = 1_500 * u64::from(self.keep_alive);
-        !self.is_over() && self.keep_alive > 0 && now.saturating_sub(self.last_packet) > allowed
+        !self.is_closed() && self.keep_alive > 0 && now.saturating_sub(self.last_packet) > allowed
     }
 
     /// Says whether it is listed: it is open, or has bytes to hand over.
     pub fn is_listed(&self) -> bool
         ensures { result ≡ is_listed self.now }
     {
-        !self.is_over() || !self.pending.is_empty()
+        !self.is_closed() || !self.pending.is_empty()
     }
 
     /// Says whether it is open, and has nothing to hand over.
     pub fn is_idle(&self) -> bool
         ensures { result ≡ is_idle self.now }
     {
-        !self.is_over() && self.pending.is_empty()
+        !self.is_closed() && self.pending.is_empty()
     }
 
     /// Says whether more may be queued for it.
     pub fn answer(&self) -> Handed
         ensures { result ≡ answer_of (Some self.now) }
     {
-        if self.is_over() {
+        if self.is_closed() {
             Handed::Closed
         } else {
             Handed::Open
@@ -178,7 +181,7 @@ impl Connection {
         match self.stage {
             ConnectionStage::Awaits => Standing::Awaits,
             ConnectionStage::Proposed => Standing::Open,
-            ConnectionStage::Over | ConnectionStage::Failed => Standing::Closed,
+            ConnectionStage::Closed | ConnectionStage::Failed => Standing::Closed,
         }
     }
 
@@ -287,7 +290,7 @@ impl Connection {
     pub fn close(&mut self)
         ensures { self.new ≡ closed self.old }
     {
-        self.stage = ConnectionStage::Over;
+        self.stage = ConnectionStage::Closed;
         self.keep_alive = 0;
         self.last_packet = 0;
         self.unread.clear();

@@ -8,7 +8,7 @@ use Rattle.node_moves.specs.ballot.Config.{Config}
 use Rattle.packet_world.specs.agreement.MasterState.{AssignRefusal, master_after, refusal}
 use Rattle.packet_world.specs.broker_spec.Connection.{ConnectionName}
 use Rattle.node_moves.specs.world_base.declared.Connection.{Connection}
-use Rattle.node_moves.specs.world_base.Connections.{is_listed, is_over}
+use Rattle.node_moves.specs.world_base.Connections.{is_listed, is_closed}
 use Rattle.node_moves.specs.world_base.ConnectionChanges.{closed}
 use Rattle.node_moves.specs.world_base.declared.item.Item.{Item}
 use Rattle.node_moves.specs.world_base.Core.{CoreState, StepOutcome, opening_core, serves}
@@ -36,12 +36,12 @@ use Rattle.node_group.proofs.PutsInBallot.{runs_well}
 
 -- ---- the end of a step
 
-all_over : (cs : List Connection) → Each (λ (c : Connection). is_over c.stage ≡ true) (map closed cs)
+all_over : (cs : List Connection) → Each (λ (c : Connection). is_closed c.stage ≡ true) (map closed cs)
 all_over [] = tt
 all_over (c ∷ cs) = (refl, all_over cs)
 
 -- what is open after the settling is so if the node serves
-settled_serves : (x : ConnectionName) (core : CoreState) (d : Connection) → listed_named x (settled core) ≡ Some d → is_over d.stage ≡ false
+settled_serves : (x : ConnectionName) (core : CoreState) (d : Connection) → listed_named x (settled core) ≡ Some d → is_closed d.stage ≡ false
     → serves (settled core) ≡ true
 unfolding settled
 settled_serves x core d e lives = by (serves core) refl e
@@ -50,9 +50,9 @@ settled_serves x core d e lives = by (serves core) refl e
         → serves core ≡ true
     by true leads f = leads
     by false none f =
-        absurd (both_ways (is_over d.stage) lives
-        (found_each (λ (c : Connection). is_over c.stage ≡ true) (named x) (filter is_listed (map closed core.connections)) d
-        (each_filtered (λ (c : Connection). is_over c.stage ≡ true) is_listed (map closed core.connections) (all_over core.connections)) f))
+        absurd (both_ways (is_closed d.stage) lives
+        (found_each (λ (c : Connection). is_closed c.stage ≡ true) (named x) (filter is_listed (map closed core.connections)) d
+        (each_filtered (λ (c : Connection). is_closed c.stage ≡ true) is_listed (map closed core.connections) (all_over core.connections)) f))
 
 settled_names : (core : CoreState) → AreWhereItServes (settled core) → AreOfTheBallot (settled core)
 settled_names core of =

@@ -15,7 +15,7 @@ use Rattle.packet_world.specs.snapshots.Moments.{Moment, Moments, IsAgreed}
 use Rattle.packet_world.specs.agreement.Proposals.{commands_of as commands_in}
 use Rattle.packet_world.specs.snapshots.Proposals.{proposals_of, taken_of}
 use Rattle.packet_world.proofs.of_snapshots.PastsAgree.{has_agreed}
-use Rattle.node_moves.specs.world_base.Connections.{is_over}
+use Rattle.node_moves.specs.world_base.Connections.{is_closed}
 use Rattle.node_moves.specs.world_base.Core.{CoreState, StepOutcome, rules}
 use Rattle.node_moves.specs.world_base.Effects.{without_messages}
 use Rattle.node_moves.specs.Ends.{IsOrderly}
@@ -149,7 +149,7 @@ calm_leads core outcome m calm x c there lives e = ap is_active (sym (calm_role 
 
 -- at the beginning of a step who has open connections leads
 first_leads : (core : CoreState) (outcome : StepOutcome) → AreOfTheBallot core → LeadsStill core outcome
-first_leads core outcome of x c there lives e = left_true (is_active (replica_of core).role) _ (of.each x c there (open_if (is_over c.stage) lives)).0
+first_leads core outcome of x c there lives e = left_true (is_active (replica_of core).role) _ (of.each x c there (open_if (is_closed c.stage) lives)).0
 
 -- one move, and a run after it
 move_and_run : {config : Config} (g : Group) (n : ℕ) (core : CoreState) (first next : StepOutcome) (m : LossyMoves core first) (run : LossyRuns first.core next) (kept : Given)

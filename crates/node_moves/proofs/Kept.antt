@@ -17,8 +17,8 @@ use Rattle.exactly_once.specs.lists.Lists.{Each}
 use Rattle.world_base.specs.declared.Port.{Port}
 use Rattle.world_base.specs.declared.Connection.{Connection}
 use Rattle.world_base.specs.declared.ConnectionStage.{ConnectionStage}
-use Rattle.world_base.specs.declared.ConnectionStage.TheVariants.{Awaits, Proposed, Over, Failed}
-use Rattle.world_base.specs.Connections.{is_over, is_proposed, is_failed, has_failed, is_at, is_open_at, is_open_named, is_listed}
+use Rattle.world_base.specs.declared.ConnectionStage.TheVariants.{Awaits, Proposed, Closed, Failed}
+use Rattle.world_base.specs.Connections.{is_closed, is_proposed, is_failed, has_failed, is_at, is_open_at, is_open_named, is_listed}
 use Rattle.world_base.specs.ConnectionChanges.{max_pending, closed, failing, put_out, putting, handed, changed}
 use Rattle.world_base.specs.Core.{CoreState, StepOutcome, rules, serves}
 use Rattle.world_base.specs.Failing.{closes_failed}
@@ -32,7 +32,7 @@ use Rattle.node_moves.proofs.NamesInOrder.{same_le}
 use Rattle.node_moves.proofs.Views.{view, if_live, found_passes, none_changes, view_of_others, view_of_changed, one_changed, each_kept, each_filtered, one_filtered, view_filtered, each_mapped, one_mapped}
 
 abbrev pub live : Connection → Bool
-live c = not (is_over c.stage)
+live c = not (is_closed c.stage)
 
 abbrev pub named : ConnectionName → Connection → Bool
 named x c = same_connection c.name x
@@ -59,14 +59,14 @@ kept_gone (Some c) = ended
 -- a change that leaves the name, and what is read of it, or closes it
 pub record IsMild (f : Connection → Connection) : Type 0 where
   pub name : (c : Connection) → (f c).name ≡ c.name
-  pub stage : (c : Connection) → (((f c).stage ≡ c.stage) × ((f c).unread ≡ c.unread)) ⊎ (is_over (f c).stage ≡ true)
+  pub stage : (c : Connection) → (((f c).stage ≡ c.stage) × ((f c).unread ≡ c.unread)) ⊎ (is_closed (f c).stage ≡ true)
 
 pub named_kept : (x : ConnectionName) (f : Connection → Connection) → ((c : Connection) → (f c).name ≡ c.name) → (d : Connection) → named x (f d) ≡ named x d
 named_kept x f name d = ap (λ (y : ConnectionName). same_connection y x) (name d)
 
-mild_kept : (f : Connection → Connection) (c : Connection) → live c ≡ true → (((f c).stage ≡ c.stage) × ((f c).unread ≡ c.unread)) ⊎ (is_over (f c).stage ≡ true)
+mild_kept : (f : Connection → Connection) (c : Connection) → live c ≡ true → (((f c).stage ≡ c.stage) × ((f c).unread ≡ c.unread)) ⊎ (is_closed (f c).stage ≡ true)
     → Kept (Some c) (if_live live (f c))
-mild_kept f c lives (inl (s, u)) = let e : live (f c) ≡ true = ap (λ (z : ConnectionStage). not (is_over z)) s ∙ lives in rw e (still s u)
+mild_kept f c lives (inl (s, u)) = let e : live (f c) ≡ true = ap (λ (z : ConnectionStage). not (is_closed z)) s ∙ lives in rw e (still s u)
 mild_kept f c lives (inr over) = let e : live (f c) ≡ false = ap not over in rw e ended
 
 pub kept_changed : (x : ConnectionName) (test : Connection → Bool) (f : Connection → Connection) (cs : List Connection) → AtMostOne (named x) cs
@@ -134,10 +134,10 @@ pub closed_is_mild : IsMild closed
 closed_is_mild = record { name = λ c. refl; stage = λ c. inr refl }
 
 -- one that is closed as lost is over
-pub failing_over : (c : Connection) → is_over (failing c).stage ≡ true
+pub failing_over : (c : Connection) → is_closed (failing c).stage ≡ true
 failing_over c = by (is_proposed c.stage)
   where
-    by : (b : Bool) → is_over (if b then Failed else Over) ≡ true
+    by : (b : Bool) → is_closed (if b then Failed else Closed) ≡ true
     by true = refl
     by false = refl
 
@@ -151,12 +151,12 @@ put_out_name bytes c = by (nat_le (length c.pending + length bytes) max_pending)
 pub put_out_is_mild : (bytes : List ℕ) → IsMild (put_out bytes)
 put_out_is_mild bytes = record { name = put_out_name bytes; stage = stays_or_ends }
   where
-    stays_or_ends : (c : Connection) → (((put_out bytes c).stage ≡ c.stage) × ((put_out bytes c).unread ≡ c.unread)) ⊎ (is_over (put_out bytes c).stage ≡ true)
+    stays_or_ends : (c : Connection) → (((put_out bytes c).stage ≡ c.stage) × ((put_out bytes c).unread ≡ c.unread)) ⊎ (is_closed (put_out bytes c).stage ≡ true)
     stays_or_ends c = by (nat_le (length c.pending + length bytes) max_pending)
       where
         by : (b : Bool) → (((let d : Connection = if b then putting bytes c else failing c in d).stage ≡ c.stage)
             × ((let d : Connection = if b then putting bytes c else failing c in d).unread ≡ c.unread))
-            ⊎ (is_over (let d : Connection = if b then putting bytes c else failing c in d).stage ≡ true)
+            ⊎ (is_closed (let d : Connection = if b then putting bytes c else failing c in d).stage ≡ true)
         by true = inl (refl, refl)
         by false = inr (failing_over c)
 
@@ -211,10 +211,10 @@ stays_crashed core o = record { kept = λ x. kept_same (open_named x core); last
 
 -- ---- a connection that failed is not live, before it is closed for good and after that
 
-failed_over : (s : ConnectionStage) → is_failed s ≡ true → not (is_over s) ≡ false
+failed_over : (s : ConnectionStage) → is_failed s ≡ true → not (is_closed s) ≡ false
 failed_over Awaits e = absurd cc
 failed_over Proposed e = absurd cc
-failed_over Over e = absurd cc
+failed_over Closed e = absurd cc
 failed_over Failed e = refl
 
 view_of_failed : (x : ConnectionName) (cs : List Connection) → view live (named x) (changed has_failed closed cs) ≡ view live (named x) cs

@@ -6,7 +6,7 @@ use Rattle.exactly_once.specs.broker_spec.declared.command.Command.TheVariants a
 use Rattle.exactly_once.specs.lists.Lists.{Each}
 use Rattle.world_base.specs.declared.Connection.{Connection}
 use Rattle.world_base.specs.declared.ConnectionStage.{ConnectionStage}
-use Rattle.world_base.specs.declared.ConnectionStage.TheVariants.{Awaits, Proposed, Over, Failed}
+use Rattle.world_base.specs.declared.ConnectionStage.TheVariants.{Awaits, Proposed, Closed, Failed}
 use Rattle.world_base.specs.Connections.{is_proposed, is_failed, has_failed}
 use Rattle.world_base.specs.ConnectionChanges.{closed}
 use Rattle.world_base.specs.Core.{CoreState}
@@ -22,7 +22,7 @@ use Rattle.node_moves.proofs.Weights.{IsLight, put_or_failing, total, total_few,
 abbrev untold : ConnectionStage → ℕ
 untold Awaits = 1
 untold Proposed = 1
-untold Over = 0
+untold Closed = 0
 untold Failed = 1
 
 abbrev untold_weight : Connection → ℕ
@@ -31,13 +31,13 @@ untold_weight c = untold c.stage
 one_untold : (s : ConnectionStage) → untold s ≤ 1
 one_untold Awaits = omega arith
 one_untold Proposed = omega arith
-one_untold Over = omega arith
+one_untold Closed = omega arith
 one_untold Failed = omega arith
 
-failing_untold : (s : ConnectionStage) → untold (if is_proposed s then Failed else Over) ≤ untold s
+failing_untold : (s : ConnectionStage) → untold (if is_proposed s then Failed else Closed) ≤ untold s
 failing_untold Awaits = omega arith
 failing_untold Proposed = omega arith
-failing_untold Over = omega arith
+failing_untold Closed = omega arith
 failing_untold Failed = omega arith
 
 untold_light : IsLight untold_weight
@@ -53,7 +53,7 @@ untold_light =
 untold_drops : (s : ConnectionStage) → is_failed s ≡ true → 0 < untold s
 untold_drops Awaits e = absurd cc
 untold_drops Proposed e = absurd cc
-untold_drops Over e = absurd cc
+untold_drops Closed e = absurd cc
 untold_drops Failed e = omega arith
 
 none_found : (test : Connection → Bool) (cs : List Connection) → find test cs ≡ None → Each (λ (c : Connection). test c ≡ false) cs

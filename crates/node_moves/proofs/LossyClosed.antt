@@ -4,7 +4,7 @@ use Rattle.std.proofs.Common.{◌≡◌, true, Option, Some, None, refl, sym, ap
 use Rattle.std.proofs.lemmas.Bool.{both_ways}
 use Rattle.exactly_once.specs.broker_spec.Connection.{ConnectionName}
 use Rattle.world_base.specs.declared.Connection.{Connection}
-use Rattle.world_base.specs.Connections.{is_over}
+use Rattle.world_base.specs.Connections.{is_closed}
 use Rattle.world_base.specs.Core.{CoreState, StepOutcome}
 use Rattle.node_moves.specs.Closed.{listed_named}
 use Rattle.node_moves.specs.Closed.{IsExactlyClosedBy}
@@ -27,15 +27,15 @@ use Rattle.node_moves.proofs.Views.{same_some}
 -- ---- nothing more is queued
 
 closed_by : (x : ConnectionName) (core : CoreState) (outcome : StepOutcome) (m : LossyMoves core outcome) (d : Connection) (o p : Option Connection) → Shuts (sent_in x m) o p
-    → listed_named x core ≡ o → p ≡ Some d → is_over d.stage ≡ true → IsClosedBy x m d
+    → listed_named x core ≡ o → p ≡ Some d → is_closed d.stage ≡ true → IsClosedBy x m d
 closed_by x core outcome m d o None nobody before after over = cc
 closed_by x core outcome m d None (Some e) shuts before after over = elim shuts [ ]
 closed_by x core outcome m d (Some c) (Some e) (stays_open a b pending) before after over =
-    let same = same_some e d after in absurd (both_ways (is_over d.stage) (open_if (is_over d.stage) (sym (ap live same) ∙ b)) over)
+    let same = same_some e d after in absurd (both_ways (is_closed d.stage) (open_if (is_closed d.stage) (sym (ap live same) ∙ b)) over)
 closed_by x core outcome m d (Some c) (Some e) (is_shut front a b pending short) before after over =
     closes_now c front (listed_open x core.connections c before a) (sym (ap (λ (z : Connection). z.pending) (same_some e d after)) ∙ pending) short
 closed_by x core outcome m d (Some c) (Some e) (was_shut a b pending) before after over =
-    was_closed c before (over_if (is_over c.stage) a) (sym (ap (λ (z : Connection). z.pending) (same_some e d after)) ∙ pending)
+    was_closed c before (over_if (is_closed c.stage) a) (sym (ap (λ (z : Connection). z.pending) (same_some e d after)) ∙ pending)
 
 exactly_so : (x : ConnectionName) (core : CoreState) (outcome : StepOutcome) (m : Moves core outcome) (d : Connection) → IsExactlyClosedBy x m d →
     IsClosedBy x (let k : LossyMoves core outcome = exactly m in k) d
@@ -43,7 +43,7 @@ exactly_so x core outcome m d (exact_was c there over pending) = was_closed c th
 exactly_so x core outcome m d (exact_now c front there pending short) = closes_now c front there pending short
 
 lost_closed : (core : CoreState) (outcome : StepOutcome) (m : LossyMoves core outcome) → IsOrderly core → Loses m → (x : ConnectionName) (d : Connection) →
-    listed_named x outcome.core ≡ Some d → is_over d.stage ≡ true → IsClosedBy x m d
+    listed_named x outcome.core ≡ Some d → is_closed d.stage ≡ true → IsClosedBy x m d
 lost_closed core outcome m o may x d there over =
     closed_by x core outcome m d (listed_named x core) (listed_named x outcome.core) (lossy_shuts core outcome m o x may) refl there over
 

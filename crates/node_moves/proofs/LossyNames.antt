@@ -14,7 +14,7 @@ use Rattle.exactly_once.specs.broker_spec.declared.command.Output.{Output}
 use Rattle.exactly_once.specs.lists.Lists.{In}
 use Rattle.exactly_once.specs.StoryCommands.{is_packet_of}
 use Rattle.world_base.specs.declared.Connection.{Connection}
-use Rattle.world_base.specs.Connections.{is_over}
+use Rattle.world_base.specs.Connections.{is_closed}
 use Rattle.world_base.specs.ConnectionChanges.{noted_proposed, failing, closed, left_with}
 use Rattle.world_base.specs.Core.{CoreState, StepOutcome, rules, serves}
 use Rattle.world_base.specs.Lossy.{Account, Drives, TakesCommand}
@@ -127,7 +127,7 @@ heard_keeps core later bytes or shuts of serving = record { each = λ x d e live
     joined (inr passive) =
         absurd (both_ways (is_active later.replica.state.role) passive (left_true (is_active later.replica.state.role) (not later.replica.state.stopped) serving))
 
-    led : (x : ConnectionName) (d : Connection) → listed_named x later ≡ Some d → is_over d.stage ≡ false → x.ballot ≡ later.replica.state.joined
+    led : (x : ConnectionName) (d : Connection) → listed_named x later ≡ Some d → is_closed d.stage ≡ false → x.ballot ≡ later.replica.state.joined
     led x d e lives =
         let was = shuts_open (bytes x) (listed_named x core) (listed_named x later) d (shuts x) e lives in
         (of.each x was.0 was.1 was.2).1 ∙ sym (joined or)

@@ -13,7 +13,7 @@ use Rattle.exactly_once.specs.broker_spec.Connection.{ConnectionName}
 use Rattle.exactly_once.specs.broker_spec.declared.command.Output.{Output}
 use Rattle.world_base.specs.declared.Port.{Port}
 use Rattle.world_base.specs.declared.Connection.{Connection}
-use Rattle.world_base.specs.Connections.{is_at, is_first, is_open_at, is_over}
+use Rattle.world_base.specs.Connections.{is_at, is_first, is_open_at, is_closed}
 use Rattle.world_base.specs.ConnectionChanges.{noted_proposed, closed, failing, left_with}
 use Rattle.world_base.specs.Core.{CoreState, StepOutcome}
 use Rattle.world_base.specs.Failing.{closes_failed}
@@ -148,7 +148,7 @@ closed_asked : (keep_alive : ℕ) (port : Port) (core : CoreState) → changes p
 unfolding changes
 closed_asked keep_alive port core =
     ap (λ (l : List Connection). record core { connections = l })
-    (twice (is_open_at port) closed (noted_proposed keep_alive) core.connections (λ c e. right_true (not (is_over c.stage)) (is_at port c) e))
+    (twice (is_open_at port) closed (noted_proposed keep_alive) core.connections (λ c e. right_true (not (is_closed c.stage)) (is_at port c) e))
 
 forgets_before : (port : Port) (f : Connection → Connection) (core : CoreState) → changes port f (with_loss core) ≡ with_loss (changes port f core)
 unfolding changes

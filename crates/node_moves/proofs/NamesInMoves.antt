@@ -4,7 +4,7 @@ use Rattle.std.specs.List.{list_any}
 use Rattle.exactly_once.specs.broker_spec.Connection.{ConnectionName, is_connection_name}
 use Rattle.world_base.specs.declared.Port.{Port}
 use Rattle.world_base.specs.declared.Connection.{Connection}
-use Rattle.world_base.specs.Connections.{fresh, is_at, is_over}
+use Rattle.world_base.specs.Connections.{fresh, is_at, is_closed}
 use Rattle.world_base.specs.Core.{CoreState, StepOutcome, serves}
 use Rattle.world_base.specs.Step.{next_name, opens, settled}
 use Rattle.node_moves.specs.Closed.{listed_named}
@@ -22,12 +22,12 @@ use Rattle.node_moves.proofs.Shut.{Shuts}
 
 -- what was open before has a name of the ballot still
 pub still_of : (x : ConnectionName) (core later : CoreState) (c : Connection) → AreOfTheBallot core → Same core.replica.state later.replica.state → listed_named x core ≡ Some c
-    → is_over c.stage ≡ false → (serves later ≡ true) × (x.ballot ≡ later.replica.state.joined)
+    → is_closed c.stage ≡ false → (serves later ≡ true) × (x.ballot ≡ later.replica.state.joined)
 still_of x core later c of same there' lives =
     let a = of.each x c there' lives in (serves_same core later same ∙ a.0, a.1 ∙ sym same.joined)
 
 pub by_shuts : (x : ConnectionName) (core later : CoreState) (bytes : List ℕ) (d : Connection) → AreOfTheBallot core → Same core.replica.state later.replica.state
-    → Shuts bytes (listed_named x core) (listed_named x later) → listed_named x later ≡ Some d → is_over d.stage ≡ false
+    → Shuts bytes (listed_named x core) (listed_named x later) → listed_named x later ≡ Some d → is_closed d.stage ≡ false
     → (serves later ≡ true) × (x.ballot ≡ later.replica.state.joined)
 by_shuts x core later bytes d of same shuts e lives =
     let z = shuts_open bytes (listed_named x core) (listed_named x later) d shuts e lives in still_of x core later z.0 of same z.1 z.2
@@ -43,13 +43,13 @@ opened_found x port core c f = by ((serves core && not (list_any (is_at port) co
 
 -- a connection that is opened
 opened_of : (x : ConnectionName) (port : Port) (core : CoreState) (d : Connection) → AreOfTheBallot core → Same core.replica.state (opens port core).replica.state
-    → listed_named x (opens port core) ≡ Some d → is_over d.stage ≡ false → (o : Option Connection) → listed_named x core ≡ o
+    → listed_named x (opens port core) ≡ Some d → is_closed d.stage ≡ false → (o : Option Connection) → listed_named x core ≡ o
     → (serves (opens port core) ≡ true) × (x.ballot ≡ (opens port core).replica.state.joined)
 opened_of x port core d of same e lives None none =
     let n = opened_new x port core d none e in (serves_same core (opens port core) same ∙ n.leads, n.ballot ∙ sym same.joined)
 opened_of x port core d of same e lives (Some c) there' =
     let one : d ≡ c = same_found (sym e ∙ still_found) in
-    still_of x core (opens port core) c of same there' (ap (λ (z : Connection). is_over z.stage) (sym one) ∙ lives)
+    still_of x core (opens port core) c of same there' (ap (λ (z : Connection). is_closed z.stage) (sym one) ∙ lives)
   where
     same_found : {a b : Connection} → Some a ≡ Some b → a ≡ b
     same_found f = cc
@@ -60,7 +60,7 @@ opened_of x port core d of same e lives (Some c) there' =
 -- ---- the moves
 
 pub move_of : (core : CoreState) (outcome : StepOutcome) (m : Moves core outcome) → IsOrderly core → AreOfTheBallot core → Same core.replica.state outcome.core.replica.state → moves_replica m ≡ false
-    → (x : ConnectionName) (d : Connection) → listed_named x outcome.core ≡ Some d → is_over d.stage ≡ false → (serves outcome.core ≡ true) × (x.ballot ≡ outcome.core.replica.state.joined)
+    → (x : ConnectionName) (d : Connection) → listed_named x outcome.core ≡ Some d → is_closed d.stage ≡ false → (serves outcome.core ≡ true) × (x.ballot ≡ outcome.core.replica.state.joined)
 move_of core outcome (hears input other) o of same calm x d e lives = absurd cc
 move_of core outcome (cuts_log can) o of same calm x d e lives = absurd cc
 move_of core outcome crashes o of same calm x d e lives = absurd cc

@@ -15,7 +15,7 @@ use Rattle.exactly_once.specs.lists.Lists.In.{here, there}
 use Rattle.exactly_once.specs.StoryCommands.{is_packet_of}
 use Rattle.world_base.specs.declared.Port.{Port}
 use Rattle.world_base.specs.declared.Connection.{Connection}
-use Rattle.world_base.specs.Connections.{is_at, is_open_at, is_over}
+use Rattle.world_base.specs.Connections.{is_at, is_open_at, is_closed}
 use Rattle.world_base.specs.Core.{CoreState, StepOutcome, rules, serves}
 use Rattle.world_base.specs.Reading.{open_at}
 use Rattle.world_base.specs.Step.{crashed, settled, with_cut}
@@ -48,7 +48,7 @@ heard_stays input r = by r.stopped
     by false = step_stays rules r input
 
 heard_of : (core : CoreState) (input : Input Command) → IsOrderly core → AreOfTheBallot core → (x : ConnectionName) (d : Connection)
-    → listed_named x (settled (drives input core).core) ≡ Some d → is_over d.stage ≡ false
+    → listed_named x (settled (drives input core).core) ≡ Some d → is_closed d.stage ≡ false
     → (serves (settled (drives input core).core) ≡ true) × (x.ballot ≡ (settled (drives input core).core).replica.state.joined)
 heard_of core input o of x d e lives = (
   ap (λ r. serves (let k : CoreState = record { replica = r; last_name = record { ballot = 0; count = 0 }; connections = [] } in k)) (settled_replica later) ∙ leads,
@@ -68,7 +68,7 @@ heard_of core input o of x d e lives = (
     state : later.replica.state ≡ (heard input core.replica.state).state
     state = drives_state input core
 
-    was : (c : Connection) × (listed_named x core ≡ Some c) × (is_over c.stage ≡ false)
+    was : (c : Connection) × (listed_named x core ≡ Some c) × (is_closed c.stage ≡ false)
     was = shuts_open (bytes_for x (heard input core.replica.state).effects) (listed_named x core) (listed_named x later) d (driven_shuts x input core o) z.1 lives
 
     before : (serves core ≡ true) × (x.ballot ≡ core.replica.state.joined)
@@ -90,7 +90,7 @@ orderly_crashed core o = record { names = o.names; given = o.given; within = o.w
 
 -- it cuts its log
 cut_of : (core : CoreState) → IsOrderly core → AreOfTheBallot core → (x : ConnectionName) (d : Connection) → listed_named x (settled (with_cut core)) ≡ Some d →
-    is_over d.stage ≡ false → (serves (settled (with_cut core)) ≡ true) × (x.ballot ≡ (settled (with_cut core)).replica.state.joined)
+    is_closed d.stage ≡ false → (serves (settled (with_cut core)) ≡ true) × (x.ballot ≡ (settled (with_cut core)).replica.state.joined)
 cut_of core o of x d e lives =
     let z = settled_open x (with_cut core) d (stays_cut core o).orderly e lives in
     let b = of.each x d z.1 lives in (
@@ -105,7 +105,7 @@ pub proposed_of : (core : CoreState) (port : Port) (c : Connection) (x : Connect
 proposed_of core port c x o of at is =
     let there' = (view_of_changed all (named x) (is_open_at port) (λ z. z) core.connections c (o.names x) (λ z t. refl) (λ z. refl) at is).0 in
     let lives = left_true (live c) (is_at port c) (found_passes (is_open_at port) core.connections c at) in
-    (of.each x c there' (open_if (is_over c.stage) lives)).1
+    (of.each x c there' (open_if (is_closed c.stage) lives)).1
 
 pub only_one : (x : ConnectionName) (z command : Command) → In command (z ∷ []) → is_packet_of command x ≡ true → is_packet_of z x ≡ true
 only_one x z command here is = is

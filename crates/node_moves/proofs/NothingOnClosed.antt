@@ -8,10 +8,10 @@ use Rattle.exactly_once.specs.broker_spec.Connection.{ConnectionName, is_connect
 use Rattle.exactly_once.specs.Sends.{sends_to}
 use Rattle.world_base.specs.declared.Port.{Port}
 use Rattle.world_base.specs.declared.Connection.{Connection}
-use Rattle.world_base.specs.Connections.{fresh, has_failed, is_at, is_failed, is_listed, is_over}
+use Rattle.world_base.specs.Connections.{fresh, has_failed, is_at, is_failed, is_listed, is_closed}
 use Rattle.world_base.specs.ConnectionChanges.{noted_proposed, closed, handed, holding, left_with, changed}
 use Rattle.world_base.specs.declared.ConnectionStage.{ConnectionStage}
-use Rattle.world_base.specs.declared.ConnectionStage.TheVariants.{Awaits, Proposed, Over, Failed}
+use Rattle.world_base.specs.declared.ConnectionStage.TheVariants.{Awaits, Proposed, Closed, Failed}
 use Rattle.world_base.specs.Failing.{closes_failed}
 use Rattle.world_base.specs.Core.{CoreState, StepOutcome, serves}
 use Rattle.world_base.specs.Handing.{hands_over, left_by}
@@ -44,15 +44,15 @@ sent_in x m = spelled (exact_refusal x m ++ sends_to x (outputs_of (given_in m))
 
 -- from what happens to a connection to how it came to be closed
 closed_by : (x : ConnectionName) (core : CoreState) (outcome : StepOutcome) (m : Moves core outcome) (d : Connection) (o p : Option Connection) → Shuts (sent_in x m) o p
-    → listed_named x core ≡ o → p ≡ Some d → is_over d.stage ≡ true → IsExactlyClosedBy x m d
+    → listed_named x core ≡ o → p ≡ Some d → is_closed d.stage ≡ true → IsExactlyClosedBy x m d
 closed_by x core outcome m d o None nobody before after over = cc
 closed_by x core outcome m d None (Some e) shuts before after over = elim shuts [ ]
 closed_by x core outcome m d (Some c) (Some e) (stays_open a b pending) before after over =
-    let same = same_some e d after in absurd (both_ways (is_over d.stage) (open_if (is_over d.stage) (sym (ap live same) ∙ b)) over)
+    let same = same_some e d after in absurd (both_ways (is_closed d.stage) (open_if (is_closed d.stage) (sym (ap live same) ∙ b)) over)
 closed_by x core outcome m d (Some c) (Some e) (is_shut front a b pending short) before after over =
     closes_now c front (listed_open x core.connections c before a) (sym (ap (λ (z : Connection). z.pending) (same_some e d after)) ∙ pending) short
 closed_by x core outcome m d (Some c) (Some e) (was_shut a b pending) before after over =
-    was_closed c before (over_if (is_over c.stage) a) (sym (ap (λ (z : Connection). z.pending) (same_some e d after)) ∙ pending)
+    was_closed c before (over_if (is_closed c.stage) a) (sym (ap (λ (z : Connection). z.pending) (same_some e d after)) ∙ pending)
 
 -- ---- a connection that is opened
 
@@ -69,7 +69,7 @@ found_pushed test (c ∷ cs) z d e = by (test c) (found_pushed test cs z d) e
     by true ih f = inl f
     by false ih f = ih f
 
-opened_closed : (x : ConnectionName) (port : Port) (core : CoreState) (d : Connection) → listed_named x (opens port core) ≡ Some d → is_over d.stage ≡ true
+opened_closed : (x : ConnectionName) (port : Port) (core : CoreState) (d : Connection) → listed_named x (opens port core) ≡ Some d → is_closed d.stage ≡ true
     → listed_named x core ≡ Some d
 unfolding opens
 opened_closed x port core d e over =
@@ -77,7 +77,7 @@ opened_closed x port core d e over =
   where
     old : (view all (named x) core.connections ≡ Some d) ⊎ (d ≡ fresh port (next_name core)) → listed_named x core ≡ Some d
     old (inl f) = f
-    old (inr f) = let g = ap (λ (z : Connection). is_over z.stage) f in cc
+    old (inr f) = let g = ap (λ (z : Connection). is_closed z.stage) f in cc
 
     by : (b : Bool) → listed_named x (let k : CoreState = if b then record core { last_name = next_name core; connections = core.connections ++ fresh port (next_name core) ∷ [] } else core in k) ≡ Some d
         → listed_named x core ≡ Some d
@@ -86,7 +86,7 @@ opened_closed x port core d e over =
 
 -- ---- all connections are closed, or those that are done are removed
 
-settled_closed : (x : ConnectionName) (core : CoreState) (d : Connection) → IsOrderly core → listed_named x (settled core) ≡ Some d → is_over d.stage ≡ true
+settled_closed : (x : ConnectionName) (core : CoreState) (d : Connection) → IsOrderly core → listed_named x (settled core) ≡ Some d → is_closed d.stage ≡ true
     → IsExactlyClosedBy x (let m : Moves core _ = settles in m) d
 unfolding settled
 settled_closed x core d o e over = by (serves core) e
@@ -94,7 +94,7 @@ settled_closed x core d o e over = by (serves core) e
     mapped : (c : Connection) → view all (named x) core.connections ≡ Some c → d ≡ closed c → (b : Bool) → live c ≡ b → IsExactlyClosedBy x (let m : Moves core _ = settles in m) d
     mapped c there is true lives =
         closes_now c [] (listed_open x core.connections c there lives) (ap (λ (z : Connection). z.pending) is ∙ sym (append-nil c.pending)) (record { rest = []; is = refl })
-    mapped c there is false dead = was_closed c there (over_if (is_over c.stage) dead) (ap (λ (z : Connection). z.pending) is)
+    mapped c there is false dead = was_closed c there (over_if (is_closed c.stage) dead) (ap (λ (z : Connection). z.pending) is)
 
     by : (b : Bool) → view all (named x) (filter is_listed (if b then core.connections else map closed core.connections)) ≡ Some d
         → IsExactlyClosedBy x (let m : Moves core _ = settles in m) d
@@ -105,14 +105,14 @@ settled_closed x core d o e over = by (serves core) e
         mapped h.0 h.1 h.2 (live h.0) refl
 
 handed_closed : (x : ConnectionName) (port : Port) (core : CoreState) (d : Connection) → IsOrderly core → listed_named x (hands_over port core) ≡ Some d
-    → is_over d.stage ≡ true → listed_named x core ≡ Some d
+    → is_closed d.stage ≡ true → listed_named x core ≡ Some d
 unfolding hands_over
 handed_closed x port core d o e over = by (find (is_at port) core.connections) refl e
   where
     done : (c : Connection) → d ≡ handed c → is_listed d ≡ true → ⊥
     done c is listed =
         let p : d.pending ≡ [] = ap (λ (z : Connection). z.pending) is in
-        both_ways (is_listed d) (rest (is_over d.stage) d.pending over p) listed
+        both_ways (is_listed d) (rest (is_closed d.stage) d.pending over p) listed
       where
         rest : (b : Bool) (bytes : List ℕ) → b ≡ true → bytes ≡ [] → (not b || not (length bytes == 0)) ≡ false
         rest b bytes f g = rw (f, g) refl
@@ -138,10 +138,10 @@ handed_closed x port core d o e over = by (find (is_at port) core.connections) r
 pub failed_dead : (c : Connection) → has_failed c ≡ true → live c ≡ false
 failed_dead c failed = by c.stage failed
   where
-    by : (s : ConnectionStage) → is_failed s ≡ true → not (is_over s) ≡ false
+    by : (s : ConnectionStage) → is_failed s ≡ true → not (is_closed s) ≡ false
     by Awaits e = cc
     by Proposed e = cc
-    by Over e = cc
+    by Closed e = cc
     by Failed e = refl
 
 -- a move that opens nothing, and does not settle or hand over
@@ -185,7 +185,7 @@ move_shuts core outcome settles o x may = absurd may
 move_shuts core outcome (hands port) o x may = absurd may
 
 changed_closed : (core : CoreState) (outcome : StepOutcome) (m : Moves core outcome) → IsOrderly core → (x : ConnectionName) (d : Connection) → Changes m →
-    listed_named x outcome.core ≡ Some d → is_over d.stage ≡ true → IsExactlyClosedBy x m d
+    listed_named x outcome.core ≡ Some d → is_closed d.stage ≡ true → IsExactlyClosedBy x m d
 changed_closed core outcome m o x d may there over =
     closed_by x core outcome m d (listed_named x core) (listed_named x outcome.core) (move_shuts core outcome m o x may) refl there over
 

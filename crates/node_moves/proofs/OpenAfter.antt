@@ -5,7 +5,7 @@ use Rattle.std.proofs.lemmas.Bool.{both_ways}
 use Rattle.exactly_once.specs.broker_spec.Connection.{ConnectionName}
 use Rattle.world_base.specs.declared.Port.{Port}
 use Rattle.world_base.specs.declared.Connection.{Connection}
-use Rattle.world_base.specs.Connections.{is_at, is_listed, is_over}
+use Rattle.world_base.specs.Connections.{is_at, is_listed, is_closed}
 use Rattle.world_base.specs.ConnectionChanges.{closed, handed, changed}
 use Rattle.world_base.specs.Core.{CoreState, serves}
 use Rattle.world_base.specs.Handing.{hands_over, left_by}
@@ -25,15 +25,15 @@ over_if : (b : Bool) → not b ≡ false → b ≡ true
 over_if true e = refl
 over_if false e = cc
 
-pub shuts_open : (bytes : List ℕ) (o p : Option Connection) (d : Connection) → Shuts bytes o p → p ≡ Some d → is_over d.stage ≡ false
-    → (c : Connection) × (o ≡ Some c) × (is_over c.stage ≡ false)
+pub shuts_open : (bytes : List ℕ) (o p : Option Connection) (d : Connection) → Shuts bytes o p → p ≡ Some d → is_closed d.stage ≡ false
+    → (c : Connection) × (o ≡ Some c) × (is_closed c.stage ≡ false)
 shuts_open bytes o None d nobody e lives = cc
 shuts_open bytes None (Some z) d shuts e lives = elim shuts [ ]
-shuts_open bytes (Some c) (Some z) d (stays_open a b f) e lives = (c, refl, open_if (is_over c.stage) a)
+shuts_open bytes (Some c) (Some z) d (stays_open a b f) e lives = (c, refl, open_if (is_closed c.stage) a)
 shuts_open bytes (Some c) (Some z) d (is_shut front a b f g) e lives =
-    absurd (both_ways (is_over d.stage) lives (over_if (is_over d.stage) (sym (ap live (same_some z d e)) ∙ b)))
+    absurd (both_ways (is_closed d.stage) lives (over_if (is_closed d.stage) (sym (ap live (same_some z d e)) ∙ b)))
 shuts_open bytes (Some c) (Some z) d (was_shut a b f) e lives =
-    absurd (both_ways (is_over d.stage) lives (over_if (is_over d.stage) (sym (ap live (same_some z d e)) ∙ b)))
+    absurd (both_ways (is_closed d.stage) lives (over_if (is_closed d.stage) (sym (ap live (same_some z d e)) ∙ b)))
 
 -- one that is there stays the first of its name
 pub found_front : (test : Connection → Bool) (cs : List Connection) (z c : Connection) → find test cs ≡ Some c → find test (cs ++ z ∷ []) ≡ Some c
@@ -46,7 +46,7 @@ found_front test (d ∷ cs) z c e = by (test d) (found_front test cs z c) e
     by false ih f = ih f
 
 -- of what is open after the settling
-pub settled_open : (x : ConnectionName) (core : CoreState) (d : Connection) → IsOrderly core → listed_named x (settled core) ≡ Some d → is_over d.stage ≡ false
+pub settled_open : (x : ConnectionName) (core : CoreState) (d : Connection) → IsOrderly core → listed_named x (settled core) ≡ Some d → is_closed d.stage ≡ false
     → (serves core ≡ true) × (listed_named x core ≡ Some d)
 unfolding settled
 settled_open x core d o e lives = by (serves core) refl e
@@ -57,24 +57,24 @@ settled_open x core d o e lives = by (serves core) refl e
     by false leads f =
         let g = found_filtered x is_listed (map closed core.connections) d (one_mapped (named x) closed core.connections (λ z. refl) (o.names x)) f in
         let h = found_mapped x core.connections d g.0 in
-        let over : is_over d.stage ≡ true = ap (λ (z : Connection). is_over z.stage) h.2 in
-        absurd (both_ways (is_over d.stage) lives over)
+        let over : is_closed d.stage ≡ true = ap (λ (z : Connection). is_closed z.stage) h.2 in
+        absurd (both_ways (is_closed d.stage) lives over)
 
 pub handed_open : (x : ConnectionName) (port : Port) (core : CoreState) (d : Connection) → IsOrderly core → listed_named x (hands_over port core) ≡ Some d
-    → is_over d.stage ≡ false → (c : Connection) × (listed_named x core ≡ Some c) × (is_over c.stage ≡ false)
+    → is_closed d.stage ≡ false → (c : Connection) × (listed_named x core ≡ Some c) × (is_closed c.stage ≡ false)
 unfolding hands_over
 handed_open x port core d o e lives = by (find (is_at port) core.connections) refl e
   where
     on : (c : Connection) → find (is_at port) core.connections ≡ Some c → (b : Bool) → named x c ≡ b
-        → view all (named x) (changed (is_at port) handed core.connections) ≡ Some d → (z : Connection) × (listed_named x core ≡ Some z) × (is_over z.stage ≡ false)
+        → view all (named x) (changed (is_at port) handed core.connections) ≡ Some d → (z : Connection) × (listed_named x core ≡ Some z) × (is_closed z.stage ≡ false)
     on c found true is f =
         let two = view_of_changed all (named x) (is_at port) handed core.connections c (o.names x) (λ z t. refl) (named_kept x handed (λ z. refl)) found is in
-        (c, two.0, ap (λ (z : Connection). is_over z.stage) (same_some (handed c) d (sym two.1 ∙ f)) ∙ lives)
+        (c, two.0, ap (λ (z : Connection). is_closed z.stage) (same_some (handed c) d (sym two.1 ∙ f)) ∙ lives)
     on c found false other f =
         (d, sym (view_of_others all (named x) (is_at port) handed core.connections c (named_kept x handed (λ z. refl)) found other) ∙ f, lives)
 
     by : (q : Option Connection) → find (is_at port) core.connections ≡ q → listed_named x (left_by port core q) ≡ Some d
-        → (z : Connection) × (listed_named x core ≡ Some z) × (is_over z.stage ≡ false)
+        → (z : Connection) × (listed_named x core ≡ Some z) × (is_closed z.stage ≡ false)
     by None found f = (d, f, lives)
     by (Some c) found f =
         on c found (named x c) refl

@@ -8,7 +8,7 @@ use Rattle.exactly_once.specs.lists.Lists.{Each}
 use Rattle.world_base.specs.declared.Port.{Port}
 use Rattle.world_base.specs.declared.item.Item.TheVariants.{Tick}
 use Rattle.world_base.specs.declared.Connection.{Connection}
-use Rattle.world_base.specs.Connections.{is_over, is_proposed, is_silent, is_at, is_open_at}
+use Rattle.world_base.specs.Connections.{is_closed, is_proposed, is_silent, is_at, is_open_at}
 use Rattle.world_base.specs.ConnectionChanges.{closed, failing}
 use Rattle.world_base.specs.Core.{CoreState, StepOutcome}
 use Rattle.world_base.specs.KeepAlive.{lower, lower_silent, lowest_silent, ends_if, ends_silent}
@@ -25,9 +25,9 @@ use Rattle.node_moves.proofs.Weights.{IsLight, put_or_failing, total, total_few,
 -- ---- open connections become fewer
 
 abbrev open_weight : Connection → ℕ
-open_weight c = if is_over c.stage then 0 else 1
+open_weight c = if is_closed c.stage then 0 else 1
 
-none_open : (c : Connection) → is_over c.stage ≡ true → (n : ℕ) → open_weight c ≤ n
+none_open : (c : Connection) → is_closed c.stage ≡ true → (n : ℕ) → open_weight c ≤ n
 none_open c over n = rw over (none n)
   where
     none : (n : ℕ) → 0 ≤ n
@@ -45,10 +45,10 @@ at_most_one true = omega arith
 at_most_one false = omega arith
 
 one_open : (c : Connection) → open_weight c ≤ 1
-one_open c = at_most_one (is_over c.stage)
+one_open c = at_most_one (is_closed c.stage)
 
 open_drops : (c : Connection) → live c ≡ true → open_weight (closed c) < open_weight c
-open_drops c lives = let one : 0 < 1 = omega arith in rw (not-true (is_over c.stage) lives) one
+open_drops c lives = let one : 0 < 1 = omega arith in rw (not-true (is_closed c.stage) lives) one
 
 closes_lowers : (port : Port) (c : Connection) (core : CoreState) → open_at port core ≡ Some c
     → total open_weight (changes port closed core).connections < total open_weight core.connections

@@ -18,7 +18,7 @@ use Rattle.world_base.specs.declared.Port.{Port}
 use Rattle.world_base.specs.declared.item.Item.{Item}
 use Rattle.world_base.specs.declared.item.Item.TheVariants.{Peer, Tick, Opened, Bytes, Ended, Expel, Cut, Crash}
 use Rattle.world_base.specs.declared.Connection.{Connection}
-use Rattle.world_base.specs.Connections.{is_over, is_first, is_proposed, has_failed, is_at, is_open_at}
+use Rattle.world_base.specs.Connections.{is_closed, is_first, is_proposed, has_failed, is_at, is_open_at}
 use Rattle.world_base.specs.ConnectionChanges.{noted_proposed, holding, left_with, closed, changed}
 use Rattle.world_base.specs.Core.{CoreState, StepOutcome}
 use Rattle.world_base.specs.Reading.{changes, open_at, loses, loses_open, ends, connects, proposes_packet, takes_first_packet, reads, reads_of, reads_next, refused, unread_of}
@@ -109,7 +109,7 @@ right_true true b e = e
 right_true false b e = cc
 
 asked_open : (keep_alive : ℕ) (port : Port) (c : Connection) → is_open_at port c ≡ true → is_open_at port (noted_proposed keep_alive c) ≡ true
-asked_open keep_alive port c e = right_true (not (is_over c.stage)) (is_at port c) e
+asked_open keep_alive port c e = right_true (not (is_closed c.stage)) (is_at port c) e
 
 closed_asked : (keep_alive now : ℕ) (port : Port) (rest : List ℕ) (core : CoreState)
     → changes port closed (changes port (noted_proposed keep_alive) (changes port (left_with now rest) core)) ≡ changes port closed core

@@ -8,7 +8,7 @@ use Rattle.exactly_once.specs.broker_spec.Connection.{ConnectionName, same_conne
 use Rattle.exactly_once.specs.lists.Lists.{IsPrefixOf}
 use Rattle.exactly_once.specs.Sends.{sends_to}
 use Rattle.world_base.specs.declared.Connection.{Connection}
-use Rattle.world_base.specs.Connections.{is_over}
+use Rattle.world_base.specs.Connections.{is_closed}
 use Rattle.world_base.specs.Core.{CoreState, StepOutcome}
 use Rattle.node_moves.specs.Ends.{IsOrderly, open_named}
 use Rattle.node_moves.specs.Moves.{Moves}
@@ -31,7 +31,7 @@ exact_refusal x _ = []
 pub data IsExactlyClosedBy (x : ConnectionName) {core : CoreState} {outcome : StepOutcome}
     (m : Moves core outcome) (d : Connection) : Type 0 where
   -- it was closed before, with the same bytes to hand over
-  was_closed : (c : Connection) → listed_named x core ≡ Some c → is_over c.stage ≡ true →
+  was_closed : (c : Connection) → listed_named x core ≡ Some c → is_closed c.stage ≡ true →
       d.pending ≡ c.pending → IsExactlyClosedBy x m d
   -- it was open, and got no more in this move than a prefix of what is sent to it
   closes_now : (c : Connection) (front : List ℕ) → open_named x core ≡ Some c →
@@ -44,4 +44,4 @@ abbrev pub NothingOnClosed : Type 0
 NothingOnClosed =
     (core : CoreState) (outcome : StepOutcome) (m : Moves core outcome) → IsOrderly core →
     (x : ConnectionName) (d : Connection) →
-    listed_named x outcome.core ≡ Some d → is_over d.stage ≡ true → IsExactlyClosedBy x m d
+    listed_named x outcome.core ≡ Some d → is_closed d.stage ≡ true → IsExactlyClosedBy x m d

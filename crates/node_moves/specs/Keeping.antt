@@ -7,7 +7,7 @@ use Rattle.exactly_once.specs.broker_spec.Connection.{ConnectionName}
 use Rattle.exactly_once.specs.lists.Lists.{In}
 use Rattle.exactly_once.specs.StoryCommands.{is_packet_of}
 use Rattle.world_base.specs.declared.Connection.{Connection}
-use Rattle.world_base.specs.Connections.{is_over}
+use Rattle.world_base.specs.Connections.{is_closed}
 use Rattle.world_base.specs.Core.{CoreState, StepOutcome, opening_core, serves}
 use Rattle.world_base.specs.Step.{crashed, settled, with_cut}
 use Rattle.world_base.specs.Effects.{drives}
@@ -19,7 +19,7 @@ use Rattle.node_moves.specs.Moves.Moves.{hears, cuts_log, crashes}
 -- each open connection has a name of the ballot that the node leads as its active primary
 pub record AreOfTheBallot (core : CoreState) : Type 0 where
   pub each : (x : ConnectionName) (c : Connection) → listed_named x core ≡ Some c →
-      is_over c.stage ≡ false →
+      is_closed c.stage ≡ false →
       (serves core ≡ true) × (x.ballot ≡ core.replica.state.joined)
 
 -- a move in which the replica receives something, cuts its log, or stops

@@ -9,7 +9,7 @@ use Rattle.world_base.specs.cutter.Pipe.{Joins}
 use Rattle.exactly_once.specs.Sends.{sends_to}
 use Rattle.exactly_once.specs.StoryCommands.{is_packet_of}
 use Rattle.world_base.specs.declared.Connection.{Connection}
-use Rattle.world_base.specs.Connections.{is_over}
+use Rattle.world_base.specs.Connections.{is_closed}
 use Rattle.world_base.specs.Core.{CoreState, StepOutcome, opening_core}
 use Rattle.node_moves.specs.Closed.{listed_named}
 use Rattle.node_moves.specs.Ends.{IsEnd, IsOrderly, commands_of, open_named}
@@ -73,7 +73,7 @@ LossesPutInOrder =
 pub data IsClosedBy (x : ConnectionName) {core : CoreState} {outcome : StepOutcome}
     (m : LossyMoves core outcome) (d : Connection) : Type 0 where
   -- it was closed before
-  was_closed : (c : Connection) → listed_named x core ≡ Some c → is_over c.stage ≡ true →
+  was_closed : (c : Connection) → listed_named x core ≡ Some c → is_closed c.stage ≡ true →
       d.pending ≡ c.pending → IsClosedBy x m d
   -- it was open before
   closes_now : (c : Connection) (front : List ℕ) → open_named x core ≡ Some c →
@@ -86,4 +86,4 @@ abbrev pub LossesPutNothingOnClosed : Type 0
 LossesPutNothingOnClosed =
     (core : CoreState) (outcome : StepOutcome) (m : LossyMoves core outcome) → IsOrderly core →
     (x : ConnectionName) (d : Connection) →
-    listed_named x outcome.core ≡ Some d → is_over d.stage ≡ true → IsClosedBy x m d
+    listed_named x outcome.core ≡ Some d → is_closed d.stage ≡ true → IsClosedBy x m d

@@ -18,7 +18,7 @@ use Rattle.escaping_client.specs.lists.Lists.{Each, In}
 use Rattle.escaping_client.specs.lists.Lists.In.{here, there}
 use Rattle.headline.specs.world_base.declared.Connection.{Connection}
 use Rattle.headline.specs.world_base.declared.Port.{Port}
-use Rattle.headline.specs.world_base.Connections.{is_at, is_open_named, is_over}
+use Rattle.headline.specs.world_base.Connections.{is_at, is_open_named, is_closed}
 use Rattle.headline.specs.world_base.Core.{CoreState, CountedCore}
 use Rattle.world.specs.Found.{port_of}
 use Rattle.world.specs.StandsFor.{WorldStandsFor}
@@ -76,8 +76,8 @@ module _ {nodes : ℕ} {config : Config} {cs : List Client} (m : World) (trail :
     where
       other : (d : Connection) → IsGiven node.core.last_name d.name → is_open_named (first_of ballot) d ≡ false
       other d g =
-          ap (λ (b : Bool). not (is_over d.stage) && (b && (d.name.count == 1)))
-          (ne_eqb d.name.ballot ballot (λ e. by g e)) ∙ never (not (is_over d.stage))
+          ap (λ (b : Bool). not (is_closed d.stage) && (b && (d.name.count == 1)))
+          (ne_eqb d.name.ballot ballot (λ e. by g e)) ∙ never (not (is_closed d.stage))
         where
           never : (b : Bool) → (b && false) ≡ false
           never true = refl

@@ -25,7 +25,7 @@ use Rattle.headline.specs.world_base.declared.Handed.{Handed}
 use Rattle.headline.specs.world_base.declared.Handed.TheVariants as answers
 use Rattle.headline.specs.world_base.declared.Port.{Port}
 use Rattle.headline.specs.world_base.declared.item.Item.TheVariants.{Peer}
-use Rattle.headline.specs.world_base.Connections.{is_open_named, is_over}
+use Rattle.headline.specs.world_base.Connections.{is_open_named, is_closed}
 use Rattle.headline.specs.world_base.Core.{CountedCore, rules}
 use Rattle.headline.specs.world_base.Handing.{answer_of, bytes_of}
 use Rattle.escaping_nodes.specs.world_nodes.ExactSteps.{after_answer, after_node_call}
@@ -47,8 +47,8 @@ use Rattle.world.proofs.StandsOn.{IsNewest, elsewhere_gathered, own_gathered}
 
 -- ---- a node that awaits an answer has nothing to hand over, and its end is open
 
-open_stage : (x : ConnectionName) (c : Connection) → is_open_named x c ≡ true → is_over c.stage ≡ false
-open_stage x c e = by (is_over c.stage) (and_parts (not (is_over c.stage)) (same_connection c.name x) e).0
+open_stage : (x : ConnectionName) (c : Connection) → is_open_named x c ≡ true → is_closed c.stage ≡ false
+open_stage x c e = by (is_closed c.stage) (and_parts (not (is_closed c.stage)) (same_connection c.name x) e).0
   where
     by : (b : Bool) → not b ≡ true → b ≡ false
     by true f = cc

@@ -16,8 +16,8 @@ use Rattle.ballot.specs.Effect.{Effect}
 use Rattle.ballot.specs.Effect.TheVariants.{To, Out}
 use Rattle.ballot.specs.Message.{Message}
 use Rattle.node_connections.specs.declared.connection.Connection.{Connection}
-use Rattle.node_connections.specs.declared.connection.ConnectionStage.TheVariants.{Over, Failed}
-use Rattle.node_connections.specs.Connections.{is_open_named, is_over, is_proposed}
+use Rattle.node_connections.specs.declared.connection.ConnectionStage.TheVariants.{Closed, Failed}
+use Rattle.node_connections.specs.Connections.{is_open_named, is_closed, is_proposed}
 use Rattle.node_connections.specs.ConnectionChanges.{changed, closed, failing, max_pending, put_out, putting}
 use Rattle.world_base.specs.Core.{CoreState}
 use Rattle.world_base.specs.Going.{AreNamedApart, EachGoesOn, ConnectionGoesOn, bytes_by, bytes_for}
@@ -30,7 +30,7 @@ use Rattle.world_base.specs.Effects.{changes_named}
 
 -- what stays open keeps what is to be handed over
 pub goes_still : (c d : Connection) → d.port ≡ c.port → d.name ≡ c.name → d.pending ≡ c.pending →
-    (is_over c.stage ≡ true → is_over d.stage ≡ true) → ConnectionGoesOn [] c d
+    (is_closed c.stage ≡ true → is_closed d.stage ≡ true) → ConnectionGoesOn [] c d
 goes_still c d port name same shut =
     record {
       port = port;
@@ -51,14 +51,14 @@ not_both : (over : Bool) → over ≡ true → over ≡ false → ⊥
 not_both over e f = absurd cc
 
 -- of a closed one nothing is asked
-pub goes_over : (bytes : List ℕ) (c d : Connection) → d.port ≡ c.port → d.name ≡ c.name → is_over d.stage ≡ true →
+pub goes_over : (bytes : List ℕ) (c d : Connection) → d.port ≡ c.port → d.name ≡ c.name → is_closed d.stage ≡ true →
     d.pending ≡ c.pending → ConnectionGoesOn bytes c d
 goes_over bytes c d port name over same =
     record {
       port = port;
       name = name;
       closed = λ _. (over, same);
-      whole = λ stays. absurd (not_both (is_over d.stage) over stays);
+      whole = λ stays. absurd (not_both (is_closed d.stage) over stays);
       prefix = [];
       answer = [];
       begins = record { rest = bytes; is = refl };
@@ -69,7 +69,7 @@ goes_over bytes c d port name over same =
 pub goes_closed : (bytes : List ℕ) (c : Connection) → ConnectionGoesOn bytes c (closed c)
 goes_closed bytes c = goes_over bytes c (closed c) refl refl refl refl
 
-over_failing : (proposed : Bool) → is_over (if proposed then Failed else Over) ≡ true
+over_failing : (proposed : Bool) → is_closed (if proposed then Failed else Closed) ≡ true
 over_failing true = refl
 over_failing false = refl
 
@@ -77,12 +77,12 @@ pub goes_failing : (bytes : List ℕ) (c : Connection) → ConnectionGoesOn byte
 goes_failing bytes c = goes_over bytes c (failing c) refl refl (over_failing (is_proposed c.stage)) refl
 
 -- it is closed with the node's refusal
-pub goes_refused : (code : RefusalCode) (c : Connection) → is_over c.stage ≡ false → ConnectionGoesOn [] c (refused code c)
+pub goes_refused : (code : RefusalCode) (c : Connection) → is_closed c.stage ≡ false → ConnectionGoesOn [] c (refused code c)
 goes_refused code c stays =
     record {
       port = refl;
       name = refl;
-      closed = λ over. absurd (not_both (is_over c.stage) over stays);
+      closed = λ over. absurd (not_both (is_closed c.stage) over stays);
       whole = λ again. absurd (not_both true refl again);
       prefix = [];
       answer = spelling (packets.Connack (connacks.Refused code));
@@ -92,7 +92,7 @@ goes_refused code c stays =
     }
 
 -- bytes that are queued come after all others, or the connection is closed
-goes_put : (bytes : List ℕ) (c : Connection) → is_over c.stage ≡ false → ConnectionGoesOn bytes c (put_out bytes c)
+goes_put : (bytes : List ℕ) (c : Connection) → is_closed c.stage ≡ false → ConnectionGoesOn bytes c (put_out bytes c)
 goes_put bytes c stays = by (nat_le (length c.pending + length bytes) max_pending)
   where
     by : (fits : Bool) → ConnectionGoesOn bytes c (if fits then putting bytes c else failing c)
@@ -100,7 +100,7 @@ goes_put bytes c stays = by (nat_le (length c.pending + length bytes) max_pendin
         record {
           port = refl;
           name = refl;
-          closed = λ over. absurd (not_both (is_over c.stage) over stays);
+          closed = λ over. absurd (not_both (is_closed c.stage) over stays);
           whole = λ _. refl;
           prefix = bytes;
           answer = [];
@@ -111,13 +111,13 @@ goes_put bytes c stays = by (nat_le (length c.pending + length bytes) max_pendin
     by false = goes_failing bytes c
 
 -- one thing and then another: after the first it was closed, or is open
-closed_between : (xs ys : List ℕ) (c d e : Connection) → is_over d.stage ≡ true → ConnectionGoesOn xs c d → ConnectionGoesOn ys d e → ConnectionGoesOn (xs ++ ys) c e
+closed_between : (xs ys : List ℕ) (c d e : Connection) → is_closed d.stage ≡ true → ConnectionGoesOn xs c d → ConnectionGoesOn ys d e → ConnectionGoesOn (xs ++ ys) c e
 closed_between xs ys c d e over one two =
     record {
       port = two.port ∙ one.port;
       name = two.name ∙ one.name;
       closed = λ was. ((two.closed over).0, (two.closed over).1 ∙ (one.closed was).1);
-      whole = λ stays. absurd (not_both (is_over e.stage) (two.closed over).0 stays);
+      whole = λ stays. absurd (not_both (is_closed e.stage) (two.closed over).0 stays);
       prefix = one.prefix;
       answer = one.answer;
       begins = record {
@@ -128,12 +128,12 @@ closed_between xs ys c d e over one two =
       put = (two.closed over).1 ∙ one.put;
     }
 
-open_between : (xs ys : List ℕ) (c d e : Connection) → is_over d.stage ≡ false → ConnectionGoesOn xs c d → ConnectionGoesOn ys d e → ConnectionGoesOn (xs ++ ys) c e
+open_between : (xs ys : List ℕ) (c d e : Connection) → is_closed d.stage ≡ false → ConnectionGoesOn xs c d → ConnectionGoesOn ys d e → ConnectionGoesOn (xs ++ ys) c e
 open_between xs ys c d e stays one two =
     record {
       port = two.port ∙ one.port;
       name = two.name ∙ one.name;
-      closed = λ was. absurd (not_both (is_over d.stage) (one.closed was).0 stays);
+      closed = λ was. absurd (not_both (is_closed d.stage) (one.closed was).0 stays);
       whole = λ again. two.whole again ∙ ap (λ (l : List ℕ). l ++ ys) (one.whole stays) ∙ append_assoc c.pending xs ys;
       prefix = xs ++ two.prefix;
       answer = two.answer;
@@ -148,9 +148,9 @@ open_between xs ys c d e stays one two =
     }
 
 goes_both : (xs ys : List ℕ) (c d e : Connection) → ConnectionGoesOn xs c d → ConnectionGoesOn ys d e → ConnectionGoesOn (xs ++ ys) c e
-goes_both xs ys c d e one two = by (is_over d.stage) refl
+goes_both xs ys c d e one two = by (is_closed d.stage) refl
   where
-    by : (over : Bool) → is_over d.stage ≡ over → ConnectionGoesOn (xs ++ ys) c e
+    by : (over : Bool) → is_closed d.stage ≡ over → ConnectionGoesOn (xs ++ ys) c e
     by true is = closed_between xs ys c d e is one two
     by false is = open_between xs ys c d e is one two
 
@@ -245,16 +245,16 @@ named_so false same e = e
 -- an output for a name is done on the first open connection that has it
 module _ (place : ℕ) (output : Output) (name : ConnectionName) (f : Connection → Connection)
     (others : (n : ConnectionName) → same_connection n name ≡ false → bytes_by output n ≡ [])
-    (done : (c : Connection) → is_over c.stage ≡ false → same_connection c.name name ≡ true → ConnectionGoesOn (bytes_by output c.name) c (f c)) where
+    (done : (c : Connection) → is_closed c.stage ≡ false → same_connection c.name name ≡ true → ConnectionGoesOn (bytes_by output c.name) c (f c)) where
   not_for : (cs : List Connection) → Each (λ (d : Connection). same_connection d.name name ≡ false) cs → EachGoesOn (Out place output ∷ []) cs cs
   not_for [] apart = tt
   not_for (c ∷ cs) apart =
       (with_none (bytes_by output c.name) c c (other_on output c (others c.name apart.0)), not_for cs apart.1)
 
   unchanged : (c : Connection) → is_open_named name c ≡ false → ConnectionGoesOn (bytes_by output c.name) c c
-  unchanged c fails = by (not_open (is_over c.stage) (same_connection c.name name) fails)
+  unchanged c fails = by (not_open (is_closed c.stage) (same_connection c.name name) fails)
     where
-      by : (is_over c.stage ≡ true) ⊎ (same_connection c.name name ≡ false) → ConnectionGoesOn (bytes_by output c.name) c c
+      by : (is_closed c.stage ≡ true) ⊎ (same_connection c.name name ≡ false) → ConnectionGoesOn (bytes_by output c.name) c c
       by (inl over) = goes_over (bytes_by output c.name) c c refl refl over refl
       by (inr other) = other_on output c (others c.name other)
 
@@ -265,8 +265,8 @@ module _ (place : ℕ) (output : Output) (name : ConnectionName) (f : Connection
       by : (b : Bool) → is_open_named name c ≡ b → EachGoesOn (Out place output ∷ []) cs (changed (is_open_named name) f cs) →
           EachGoesOn (Out place output ∷ []) (c ∷ cs) (if b then f c ∷ cs else c ∷ changed (is_open_named name) f cs)
       by true e more =
-          let named = named_so (is_over c.stage) (same_connection c.name name) e in (
-            with_none (bytes_by output c.name) c (f c) (done c (open_so (is_over c.stage) (same_connection c.name name) e) named),
+          let named = named_so (is_closed c.stage) (same_connection c.name name) e in (
+            with_none (bytes_by output c.name) c (f c) (done c (open_so (is_closed c.stage) (same_connection c.name name) e) named),
             not_for cs (subst (λ (n : ConnectionName). Each (λ (d : Connection). same_connection d.name n ≡ false) cs)
                 (same_name c.name name named) apart.0),
           )
@@ -276,7 +276,7 @@ for_other : (name : ConnectionName) (packet : Packet) (n : ConnectionName) → s
     bytes_by (outputs.Send name packet) n ≡ []
 for_other name packet n e = ap (λ (b : Bool). if b then spelling packet else []) e
 
-sent_on : (name : ConnectionName) (packet : Packet) (c : Connection) → is_over c.stage ≡ false → same_connection c.name name ≡ true →
+sent_on : (name : ConnectionName) (packet : Packet) (c : Connection) → is_closed c.stage ≡ false → same_connection c.name name ≡ true →
     ConnectionGoesOn (bytes_by (outputs.Send name packet) c.name) c (put_out (spelling packet) c)
 sent_on name packet c stays e =
     subst (λ (b : List ℕ). ConnectionGoesOn b c (put_out (spelling packet) c))

@@ -17,7 +17,7 @@ use Rattle.node_connections.specs.declared.port.Port.{Port}
 use Rattle.node_connections.specs.declared.front.Front.{Front}
 use Rattle.node_connections.specs.declared.front.Front.TheVariants as fronts
 use Rattle.node_connections.specs.declared.connection.ConnectionStage.{ConnectionStage}
-use Rattle.node_connections.specs.declared.connection.ConnectionStage.TheVariants.{Awaits, Proposed, Over, Failed}
+use Rattle.node_connections.specs.declared.connection.ConnectionStage.TheVariants.{Awaits, Proposed, Closed, Failed}
 use Rattle.node_connections.specs.declared.connection.Connection.{Connection}
 use Rattle.node_connections.specs.Connections.{is_first, is_proposed, is_open_at}
 use Rattle.node_connections.specs.ConnectionChanges.{changed, closed, left_with}
@@ -179,7 +179,7 @@ refused_there now port c new code a b r x y found did is turns =
     by Awaits e is_new =
         rw (e) (rw (e) at (after (refused code) (rw (e) at is_new)))
     by Proposed e is_new = rw (e) (rw (e) at (after closed (rw (e) at is_new)))
-    by Over e is_new = rw (e) (rw (e) at (after closed (rw (e) at is_new)))
+    by Closed e is_new = rw (e) (rw (e) at (after closed (rw (e) at is_new)))
     by Failed e is_new = rw (e) (rw (e) at (after closed (rw (e) at is_new)))
 
 -- either of them

@@ -13,7 +13,7 @@ use Rattle.node_connections.specs.declared.port.Port.{Port}
 use Rattle.node_connections.specs.declared.front.Front.{Front}
 use Rattle.node_connections.specs.declared.front.Front.TheVariants as fronts
 use Rattle.node_connections.specs.declared.connection.ConnectionStage.{ConnectionStage}
-use Rattle.node_connections.specs.declared.connection.ConnectionStage.TheVariants.{Awaits, Proposed, Over, Failed}
+use Rattle.node_connections.specs.declared.connection.ConnectionStage.TheVariants.{Awaits, Proposed, Closed, Failed}
 use Rattle.node_connections.specs.declared.connection.Connection.{Connection}
 use Rattle.node_connections.specs.Connections.{is_first, is_proposed}
 use Rattle.node_connections.specs.ConnectionChanges.{noted_proposed, closed, left_with}
@@ -106,7 +106,7 @@ closed_there now port c new a b r x y found may shut is ran =
 first_not_proposed : (stage : ConnectionStage) → is_first stage ≡ true → is_proposed stage ≡ false
 first_not_proposed Awaits e = refl
 first_not_proposed Proposed e = absurd cc
-first_not_proposed Over e = absurd cc
+first_not_proposed Closed e = absurd cc
 first_not_proposed Failed e = absurd cc
 
 refused_there : (now : ℕ) (port : Port) (c new : Connection) (code : RefusalCode) (a b r : CoreState) (x y : List (Effect Command Output)) →

@@ -17,7 +17,7 @@ use Rattle.node_connections.specs.declared.port.Port.{Port}
 use Rattle.world_base.specs.declared.item.Item.{Item}
 use Rattle.world_base.specs.declared.item.Item.TheVariants.{Peer, Tick, Opened, Bytes, Ended, Expel, Cut, Crash}
 use Rattle.node_connections.specs.declared.connection.Connection.{Connection}
-use Rattle.node_connections.specs.Connections.{fresh, has_failed, is_at, is_open_at, is_over}
+use Rattle.node_connections.specs.Connections.{fresh, has_failed, is_at, is_open_at, is_closed}
 use Rattle.node_connections.specs.ConnectionChanges.{noted_proposed, closed, failing, holding, left_with}
 use Rattle.world_base.specs.Core.{CoreState, serves}
 use Rattle.world_base.specs.Failing.{closes_failed}
@@ -69,19 +69,19 @@ was_open : (over at : Bool) → (not over && at) ≡ true → over ≡ false
 was_open true at e = absurd cc
 was_open false at e = refl
 
-changes_on : (port : Port) (f : Connection → Connection) (core : CoreState) → ((c : Connection) → is_over c.stage ≡ false → ConnectionGoesOn [] c (f c)) →
+changes_on : (port : Port) (f : Connection → Connection) (core : CoreState) → ((c : Connection) → is_closed c.stage ≡ false → ConnectionGoesOn [] c (f c)) →
     EachGoesOn [] core.connections (changes port f core).connections
 unfolding changes
 changes_on port f core on =
-    changed_on (is_open_at port) f (λ c at. on c (was_open (is_over c.stage) (is_at port c) at)) core.connections
+    changed_on (is_open_at port) f (λ c at. on c (was_open (is_closed c.stage) (is_at port c) at)) core.connections
 
 closes_on : (port : Port) (core : CoreState) → EachGoesOn [] core.connections (changes port closed core).connections
 closes_on port core = changes_on port closed core (λ c stays. goes_closed [] c)
 
-asked_on : (keep_alive : ℕ) (c : Connection) → is_over c.stage ≡ false → ConnectionGoesOn [] c (noted_proposed keep_alive c)
+asked_on : (keep_alive : ℕ) (c : Connection) → is_closed c.stage ≡ false → ConnectionGoesOn [] c (noted_proposed keep_alive c)
 asked_on keep_alive c stays = goes_still c (noted_proposed keep_alive c) refl refl refl (λ over. absurd (both over))
   where
-    both : is_over c.stage ≡ true → ⊥
+    both : is_closed c.stage ≡ true → ⊥
     both over = absurd cc
 
 -- ---- what comes to the replica

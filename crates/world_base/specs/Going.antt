@@ -15,7 +15,7 @@ use Rattle.ballot.specs.Effect.TheVariants.{To, Out}
 use Rattle.world_base.specs.declared.item.Item.{Item}
 use Rattle.world_base.specs.declared.item.Item.TheVariants.{Opened}
 use Rattle.node_connections.specs.declared.connection.Connection.{Connection}
-use Rattle.node_connections.specs.Connections.{fresh, is_over}
+use Rattle.node_connections.specs.Connections.{fresh, is_closed}
 use Rattle.world_base.specs.Core.{CoreState}
 use Rattle.world_base.specs.Lossy.{Account}
 use Rattle.world_base.specs.LossyStep.{ActsOn}
@@ -44,8 +44,8 @@ IsRefusalOfConnect bytes =
 pub record ConnectionGoesOn (bytes : List ℕ) (c d : Connection) : Type 0 where
   pub port : d.port ≡ c.port
   pub name : d.name ≡ c.name
-  pub closed : is_over c.stage ≡ true → (is_over d.stage ≡ true) × (d.pending ≡ c.pending)
-  pub whole : is_over d.stage ≡ false → d.pending ≡ c.pending ++ bytes
+  pub closed : is_closed c.stage ≡ true → (is_closed d.stage ≡ true) × (d.pending ≡ c.pending)
+  pub whole : is_closed d.stage ≡ false → d.pending ≡ c.pending ++ bytes
   pub prefix : List ℕ
   pub answer : List ℕ
   pub begins : IsPrefixOf prefix bytes
