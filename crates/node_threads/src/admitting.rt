@@ -29,7 +29,7 @@ impl<'a, J: NodeNaming, S: Stated<J>, G: Gate> Shared<'a, J, S, G> {
             if let Some(entering) = self.context.peer.admit(rt, bytes) {
                 return Some(entering);
             }
-            if self.is_over(rt, port) {
+            if self.needs_nothing_more(rt, port) {
                 return None;
             }
             thread::sleep(rt, Duration::from_millis(ADMIT_LOOK_MILLIS));
@@ -38,7 +38,7 @@ impl<'a, J: NodeNaming, S: Stated<J>, G: Gate> Shared<'a, J, S, G> {
     }
 
     // Says whether the listener or the port's connection is closed.
-    fn is_over<R: Wait>(&self, rt: &R, port: Port) -> bool {
+    fn needs_nothing_more<R: Wait>(&self, rt: &R, port: Port) -> bool {
         self.context.listener.is_closed(rt)
             || self.node.lock(rt).state().standing(port) == Standing::Closed
     }

@@ -21,7 +21,7 @@ const TICK_MILLIS: u64 = 200;
 
 /// How many times the thread looks for what comes before it sleeps. With the steps between two
 /// looks this takes about as long as it takes to wake a thread.
-const LOOKS: u32 = 64;
+const LOOKS_BEFORE_SLEEP: u32 = 64;
 
 /// How many spins it waits between two looks.
 const SPINS: u32 = 8;
@@ -180,7 +180,7 @@ impl<'a, J: NodeNaming, S: Stated<J>, G: Gate> Shared<'a, J, S, G> {
 
     // Watches for a while whether other nodes have something for the node. Returns whether they do.
     fn comes_at_once<R: Wait>(&self, rt: &R) -> bool {
-        for _ in 0..LOOKS {
+        for _ in 0..LOOKS_BEFORE_SLEEP {
             if self.context.peer.is_wanted(rt) {
                 return true;
             }

@@ -26,7 +26,7 @@ use std::time::{Clock, Duration, Instant};
 const NODE_LOOK_MILLIS: u64 = 1;
 
 /// How many times to look whether a node is served.
-const LOOKS: u32 = 1_000;
+const STATUS_LOOKS: u32 = 1_000;
 
 /// How long to wait until a node has stopped that was ordered to crash, in milliseconds.
 const STOP_MILLIS: u64 = 40;
@@ -146,12 +146,12 @@ impl Cluster {
     }
 
     /// Returns the status of a node after its last change. There is none if no node has this
-    /// number, or if it is not served within about a second (`LOOKS`).
+    /// number, or if it is not served within about a second (`STATUS_LOOKS`).
     pub fn status<R: Wait + Clock>(&self, rt: &R, number: u8) -> Option<Status>
         ensures { OnSome result (is_node self.now number ≡ true) }
     {
         let node = self.node(number)?;
-        for _ in 0..LOOKS {
+        for _ in 0..STATUS_LOOKS {
             let status = node.status(rt);
             if status.is_some() {
                 return status;
@@ -259,7 +259,7 @@ fn await_stop<R: Wait + Clock>(rt: &R, node: &Peer) {
         return;
     };
     for _ in 0..STOP_MILLIS {
-        if has_stopped(rt, node) || is_over(rt, start) {
+        if has_stopped(rt, node) || had_its_time(rt, start) {
             return;
         }
         thread::sleep(rt, Duration::from_millis(NODE_LOOK_MILLIS));
@@ -273,7 +273,7 @@ fn has_stopped<R: Wait>(rt: &R, node: &Peer) -> bool {
 
 // Says whether a node that was ordered to crash then had its time to stop. If the clock cannot be
 // read, nobody waits any longer.
-fn is_over<R: Clock>(rt: &R, start: Instant) -> bool {
+fn had_its_time<R: Clock>(rt: &R, start: Instant) -> bool {
     match start.elapsed(rt) {
         Ok(time) => time.as_millis() >= u128::from(STOP_MILLIS),
         Err(_) => true,
