@@ -160,7 +160,7 @@ module _ (tables : Tables) (x : ConnectionName) (c : Client) (clean : Bool) (ste
 pub resumes_so : (state : State) (c : Client) (clean : Bool) → connect_outcome state c clean ≡ outcomes.Resumes → begins_in state c clean ≡ false
 resumes_so state c clean is = by (begins_in state c clean) (may_have_session usual_limits state c) is
   where
-    by : (begins room : Bool) → (if not begins then outcomes.Resumes else if room then outcomes.Begins else outcomes.TurnedAway) ≡ outcomes.Resumes → begins ≡ false
+    by : (begins room : Bool) → (if not begins then outcomes.Resumes else if room then outcomes.Begins else outcomes.Full) ≡ outcomes.Resumes → begins ≡ false
     by false room e = refl
     by true true e = absurd (cc)
     by true false e = absurd (cc)
@@ -170,16 +170,16 @@ pub begins_so : (state : State) (c : Client) (clean : Bool) → connect_outcome 
     → (begins_in state c clean ≡ true) × (may_have_session usual_limits state c ≡ true)
 begins_so state c clean is = by (begins_in state c clean) (may_have_session usual_limits state c) is
   where
-    by : (begins room : Bool) → (if not begins then outcomes.Resumes else if room then outcomes.Begins else outcomes.TurnedAway) ≡ outcomes.Begins → (begins ≡ true) × (room ≡ true)
+    by : (begins room : Bool) → (if not begins then outcomes.Resumes else if room then outcomes.Begins else outcomes.Full) ≡ outcomes.Begins → (begins ≡ true) × (room ≡ true)
     by false room e = absurd (cc)
     by true true e = (refl, refl)
     by true false e = absurd (cc)
 
 -- and one that is turned away has none
-pub turned_so : (state : State) (c : Client) (clean : Bool) → connect_outcome state c clean ≡ outcomes.TurnedAway → may_have_session usual_limits state c ≡ false
+pub turned_so : (state : State) (c : Client) (clean : Bool) → connect_outcome state c clean ≡ outcomes.Full → may_have_session usual_limits state c ≡ false
 turned_so state c clean is = by (begins_in state c clean) (may_have_session usual_limits state c) is
   where
-    by : (begins room : Bool) → (if not begins then outcomes.Resumes else if room then outcomes.Begins else outcomes.TurnedAway) ≡ outcomes.TurnedAway → room ≡ false
+    by : (begins room : Bool) → (if not begins then outcomes.Resumes else if room then outcomes.Begins else outcomes.Full) ≡ outcomes.Full → room ≡ false
     by false room e = absurd (cc)
     by true true e = absurd (cc)
     by true false e = refl

@@ -17,7 +17,7 @@ use Rattle.broker_session.specs.broker_base.State.{State, session_in}
 abbrev pub connect_outcome : State → Client → Bool → ConnectOutcome
 connect_outcome state c clean =
     if not (begins_in state c clean) then outcomes.Resumes else
-    if may_have_session usual_limits state c then outcomes.Begins else outcomes.TurnedAway
+    if may_have_session usual_limits state c then outcomes.Begins else outcomes.Full
 
 -- the connection becomes the client's, and the client's old one has no client any more
 abbrev pub TakesOver : Tables → ConnectionName → Client → Tables → Type 0

@@ -35,7 +35,7 @@ pub(crate) enum ConnectOutcome {
     /// The client's session is resumed.
     Resumes,
     /// There are too many sessions.
-    TurnedAway,
+    Full,
 }
 
 impl Tables {
@@ -61,7 +61,7 @@ impl Tables {
         match self.outcome_of(client, clean) {
             ConnectOutcome::Begins => self.begin(connection, client, clean, out)?,
             ConnectOutcome::Resumes => self.resume(connection, client, clean, out)?,
-            ConnectOutcome::TurnedAway => turn_away(connection, out)?,
+            ConnectOutcome::Full => turn_away(connection, out)?,
         }
         Ok(())
     }
@@ -84,7 +84,7 @@ impl Tables {
                 if self.sessions.len() < MAX_SESSIONS {
                     ConnectOutcome::Begins
                 } else {
-                    ConnectOutcome::TurnedAway
+                    ConnectOutcome::Full
                 }
             }
         }

@@ -16,19 +16,19 @@ returns-then-contains_key-clause-step c =
           (further_by c.args.self.now c.args.connection c.args.client.now c.args.clean c.requires (sym c.contains_key.ensures ∙ c.if-contains_key.true))));
     }
 
-pub returns-in_ok-turn_away-in-TurnedAway-clause-step : goal.returns-in_ok-turn_away-in-TurnedAway-clause-step
-returns-in_ok-turn_away-in-TurnedAway-clause-step c =
+pub returns-in_ok-turn_away-in-Full-clause-step : goal.returns-in_ok-turn_away-in-Full-clause-step
+returns-in_ok-turn_away-in-Full-clause-step c =
     record {
       state = sym (ap (λ p. p.0)
           (full_of c.args.self.now c.args.connection c.args.client.now c.args.clean c.requires
           (not_there c.args.self.now c.args.connection c.requires (sym c.contains_key.ensures ∙ c.if-contains_key.false))
-          (turned_so (state_in c.args.self.now) c.args.client.now c.args.clean (sym c.outcome_of.ensures ∙ c.in-TurnedAway.is))));
-      outputs = c.in_ok-turn_away-in-TurnedAway.ensures
+          (turned_so (state_in c.args.self.now) c.args.client.now c.args.clean (sym c.outcome_of.ensures ∙ c.in-Full.is))));
+      outputs = c.in_ok-turn_away-in-Full.ensures
           ∙ ap (λ given. c.args.out.now.items ++ given)
           (sym (ap (λ p. p.1)
           (full_of c.args.self.now c.args.connection c.args.client.now c.args.clean c.requires
           (not_there c.args.self.now c.args.connection c.requires (sym c.contains_key.ensures ∙ c.if-contains_key.false))
-          (turned_so (state_in c.args.self.now) c.args.client.now c.args.clean (sym c.outcome_of.ensures ∙ c.in-TurnedAway.is)))));
+          (turned_so (state_in c.args.self.now) c.args.client.now c.args.clean (sym c.outcome_of.ensures ∙ c.in-Full.is)))));
     }
 
 pub begin-requires-clause-room : goal.begin-requires-clause-room
