@@ -4,11 +4,11 @@
 mod applying;
 mod connecting;
 mod expelling;
+mod handling;
 mod handshaking;
 mod leaving;
 mod limits;
 mod publishing;
-mod serving;
 mod starting;
 mod subscribing;
 mod tables;

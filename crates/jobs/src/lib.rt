@@ -7,7 +7,7 @@ mod performing;
 mod reading;
 mod refusing;
 mod scripts;
-mod serving;
+mod serving_table;
 mod talking;
 mod word_fault;
 
@@ -15,5 +15,5 @@ pub use job_error::JobError;
 pub use performing::{perform, print_fault};
 pub use refusing::refuse;
 pub use scripts::{escape_text, play_text};
-pub use serving::serve_table;
+pub use serving_table::serve_table;
 pub use talking::{publish, subscribe};

@@ -4,7 +4,7 @@ ghost use Rattle.std.specs.Prelude.{◌≡◌};
 ghost use Rattle.jobs.specs.Faults.{status_of};
 
 use crate::job_error::JobError;
-use crate::{scripts, serving, talking};
+use crate::{scripts, serving_table, talking};
 use command_line::Job;
 use std::io::{BufRead, Write};
 use std::net::{Net, TcpListener, TcpStream};
@@ -30,7 +30,7 @@ where
     E: Write + Drop,
 {
     let done = match job {
-        Job::Serve(job) => serving::run(rt, job, input, output, faults),
+        Job::Serve(job) => serving_table::run(rt, job, input, output, faults),
         Job::Publish(job) => talking::publish(rt, job),
         Job::Subscribe(job) => talking::subscribe(rt, job, output),
         Job::Play(job) => scripts::run(rt, job, input, output),
