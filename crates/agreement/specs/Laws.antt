@@ -1,7 +1,7 @@
 -- What holds for every past of a group whose master answers each Assign.
 use Rattle.std.specs.Prelude.{ℕ, Bool, ◌≤◌, ◌≡◌, List, [], ◌∷◌, ◌++◌, filter, length}
 use Rattle.std.specs.Prelude.{slice_get, Some}
-use Rattle.whole.specs.machine.Machine.{Rules}
+use Rattle.machine.specs.Machine.{Rules}
 use Rattle.whole.specs.lists.Lists.{In, IsPrefixOf}
 use Rattle.whole.specs.Applying.{outputs_between}
 use Rattle.whole.specs.Config.{Config}

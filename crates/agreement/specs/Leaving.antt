@@ -1,7 +1,7 @@
 -- What left a group, and in which order.
 use Rattle.std.specs.Prelude.{ℕ, ◌<◌, ◌≤◌, ◌≡◌, ◌⊎◌, List, length, slice_get, Some}
 use Rattle.std.specs.List.{flat_map}
-use Rattle.whole.specs.machine.Machine.{Rules}
+use Rattle.machine.specs.Machine.{Rules}
 use Rattle.whole.specs.lists.Lists.{In}
 use Rattle.whole.specs.Applying.{outputs_between}
 use Rattle.agreement.specs.Moments.{Moment, WasActive}

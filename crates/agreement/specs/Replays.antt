@@ -1,6 +1,6 @@
 -- The machine of a node that runs is the replay of the places that it applied.
 use Rattle.std.specs.Prelude.{ℕ, false, ◌≡◌, take, slice_get, Some}
-use Rattle.whole.specs.machine.Machine.{Rules, replay}
+use Rattle.machine.specs.Machine.{Rules, replay}
 use Rattle.whole.specs.Replica.{ReplicaState}
 use Rattle.agreement.specs.World.{World}
 

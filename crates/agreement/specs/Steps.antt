@@ -2,7 +2,7 @@
 -- answers an Assign, or receives an Activate. Messages of the master may be lost, too.
 use Rattle.std.specs.Prelude.{ℕ, ◌+◌, ◌≡◌, false, List, [], slice_get, Some, ◌∷◌, ◌++◌}
 use Rattle.std.specs.Prelude.{Option, None}
-use Rattle.whole.specs.machine.Machine.{Rules}
+use Rattle.machine.specs.Machine.{Rules}
 use Rattle.whole.specs.Config.{Config}
 use Rattle.whole.specs.Messages.Body.{Activate}
 use Rattle.whole.specs.Messages.{Effect}

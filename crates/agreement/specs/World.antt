@@ -2,7 +2,7 @@
 use Rattle.std.specs.Prelude.{Option, Some, None, ℕ, zero, suc, Bool, ◌+◌, List, [], ◌∷◌, ◌++◌}
 use Rattle.std.specs.Prelude.{slice_set, ◌&&◌, nat_le}
 use Rattle.std.specs.List.{list_all}
-use Rattle.whole.specs.machine.Machine.{Rules}
+use Rattle.machine.specs.Machine.{Rules}
 use Rattle.whole.specs.LawfulConfig.{is_lawful, max_node}
 use Rattle.whole.specs.Config.{Config}
 use Rattle.whole.specs.Messages.{Message, Effect}

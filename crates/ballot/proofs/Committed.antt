@@ -1,6 +1,6 @@
 -- Committed.antt: the helpers of a replica do the rows of the protocol.
 use Rattle.std.proofs.Common.{◌≡◌, ℕ, ◌<◌, ◌≤◌, Bool, true, false, ◌&&◌, cond, ◌⊎◌, inl, inr, List, ◌++◌, refl, ap, sym, ◌∙◌, subst}
-use Rattle.ballot_base.specs.machine.Machine.{Rules, replay_from}
+use Rattle.machine.specs.Machine.{Rules, replay_from}
 use Rattle.ballot_base.specs.declared.message.Body.TheVariants.{Append, Commit}
 use Rattle.ballot_base.specs.declared.message.Effect.{Effect}
 use Rattle.ballot_base.specs.declared.status.Progress.{Progress}

@@ -1,6 +1,6 @@
 -- MachineShown.antt: what a replica that runs shows of its machine.
 use Rattle.std.proofs.Common.{◌≡◌, Bool, true, false, cond, refl, List}
-use Rattle.ballot_base.specs.machine.Machine.{Rules, replay_from}
+use Rattle.machine.specs.Machine.{Rules, replay_from}
 
 -- what a replica that runs shows is its machine
 pub shown : {S : Type 0} (stopped : Bool) (opens machine : S) → stopped ≡ false → machine ≡ cond stopped opens machine

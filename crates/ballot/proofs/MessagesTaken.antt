@@ -2,7 +2,7 @@
 use Rattle.std.proofs.Common.{◌≡◌, ℕ, ◌-◌, ◌<◌, ◌≤◌, Bool, true, false, cond, ◌⊎◌, inl, inr, List, [], ◌∷◌, ◌++◌, length, max, take, drop, refl, ap, sym, ◌∙◌, subst, arith}
 use Rattle.std.proofs.lemmas.List.{append-nil, take_at}
 use Rattle.std.proofs.lemmas.Bool.{eq-eqb}
-use Rattle.ballot_base.specs.machine.Machine.{Rules, replay_from}
+use Rattle.machine.specs.Machine.{Rules, replay_from}
 use Rattle.ballot_base.specs.declared.message.Body.TheVariants.{Held}
 use Rattle.ballot_base.specs.declared.message.Effect.{Effect}
 use Rattle.ballot_base.specs.declared.status.Progress.{Progress}

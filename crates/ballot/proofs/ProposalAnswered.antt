@@ -3,7 +3,7 @@ use Rattle.std.proofs.Common.{◌≡◌, true, false, ◌⊎◌, inl, inr, List,
 use Rattle.std.specs.Result.{MatchResult, IsErrOf}
 use Rattle.std.proofs.lemmas.List.{append-nil}
 use Rattle.ballot_base.specs.declared.message.Effect.{Effect}
-use Rattle.ballot_base.specs.machine.Machine.{Rules}
+use Rattle.machine.specs.Machine.{Rules}
 use Rattle.ballot_base.specs.Replica.{ReplicaState, CountedReplica, is_active}
 use Rattle.ballot_base.specs.Logs.{places}
 use Rattle.ballot_base.specs.Losses.{Done, Stepped, Steps, one_more}

@@ -1,6 +1,6 @@
 -- What the helpers of a replica ensure about the list of effects.
 use Rattle.std.specs.Prelude.{◌≡◌, ◌⊎◌, Bool, true, false, List, ◌++◌, if◌then◌else◌}
-use Rattle.ballot_base.specs.machine.Machine.{Rules}
+use Rattle.machine.specs.Machine.{Rules}
 use Rattle.ballot_base.specs.declared.message.Effect.{Effect}
 use Rattle.ballot_base.specs.Logs.{Log, places, pushed}
 use Rattle.ballot_base.specs.Losses.{Loses, SendsAndAddsNothing, halted, one_more}

@@ -22,9 +22,8 @@ pub use Rattle.ballot_base.specs.declared.message.Message
 pub use Rattle.ballot_base.specs.declared.status.Progress
 pub use Rattle.ballot_base.specs.declared.status.Role
 pub use Rattle.ballot_base.specs.declared.status.Status
-pub use Rattle.ballot_base.specs.machine.Machine
+pub use Rattle.machine.specs.Machine
 pub use Rattle.ballot_errors.specs.declared.error.OpeningError
 pub use Rattle.ballot_errors.specs.declared.error.ProposeError
 pub use Rattle.ballot_base.specs as ballot_base
 pub use Rattle.ballot_base.specs.lists as lists
-pub use Rattle.ballot_base.specs.machine as machine

@@ -1,6 +1,6 @@
 // Bytes a second through `encode` and `decode`, for small and for large PUBLISH packets.
 
-ghost use Rattle.cutter.specs.packet.Spelling.{IsListed};
+ghost use Rattle.packet.specs.Spelling.{IsListed};
 
 use crate::publications::{encode_all, publication};
 use anyhow::{Result, bail};

@@ -1,6 +1,6 @@
 // The PUBLISH packets that the benchmarks of packets and of streams go through (MQTT 3.3).
 
-ghost use Rattle.cutter.specs.packet.Spelling.{IsListed};
+ghost use Rattle.packet.specs.Spelling.{IsListed};
 
 use anyhow::Result;
 use packet::{Delivery, Packet, Payload, Publish, encode};

@@ -4,18 +4,18 @@ use Rattle.std.specs.Prelude.{bytes_eq}
 use Rattle.std.specs.Map.{update, update_all}
 use Rattle.std.specs.List.Sorted.{IsStrictlySortedBy}
 use Rattle.std.specs.Cmp.Lexicographic.{bytes_decides}
-use Rattle.packet.specs.packet_base.declared.qos.QoS.{QoS}
+use Rattle.packet_base.specs.declared.qos.QoS.{QoS}
 use Rattle.session_base.specs.Subscriptions.{GrantedFilter}
 use Rattle.session_base.specs.KeepingLaws.{AreFiltersApart}
-use Rattle.broker_tables.specs.broker_spec.Place.{Client, same_client}
+use Rattle.broker_spec.specs.Place.{Client, same_client}
 use Rattle.broker_tables.specs.broker_base.ClientSession.{ClientSession}
 use Rattle.broker_tables.specs.broker_base.State.{Sessions, session_in}
 use Rattle.broker_tables.specs.broker_base.StateLaws.{AllSound, AreByClient}
-use Rattle.broker_tables.proofs.of_broker_base.ClientsInOrder.{same_is}
+use Rattle.broker_spec.proofs.ClientsInOrder.{same_is}
 use Rattle.broker_tables.proofs.of_broker_base.SessionsStayByClient.{ComesBefore}
 use Rattle.broker_tables.specs.subs_base.Content.{Content, no_subscriptions, with_filters}
 use Rattle.broker_tables.specs.broker_rows.Indexed.{subscribed_in, content_in}
-use Rattle.broker_tables.specs.broker_spec.Subscriptions.{qos_asked}
+use Rattle.broker_spec.specs.Subscriptions.{qos_asked}
 use Rattle.broker_tables.proofs.of_broker_rows.ConnectSteps.{no_session}
 use Rattle.broker_tables.proofs.of_broker_rows.publications.GreatestGranted.{none_held}
 use Rattle.broker_tables.proofs.of_broker_rows.maps.FiltersHeld.{bytes_back}

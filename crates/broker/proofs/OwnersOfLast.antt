@@ -2,9 +2,9 @@
 -- connection's owner.
 use Rattle.std.proofs.Common.{◌≡◌, Bool, true, false, not, ◌&&◌, Option, Some, None, [], ◌∷◌, ◌++◌, refl, sym, ap, ◌∙◌, if◌then◌else◌}
 use Rattle.std.specs.Prelude.{option_map, is_some}
-use Rattle.broker_tables.specs.broker_spec.Connection.{ConnectionName, same_connection}
-use Rattle.broker_tables.specs.broker_spec.Place.{Client}
-use Rattle.broker_tables.specs.broker_spec.Past.{any_connection}
+use Rattle.broker_spec.specs.Connection.{ConnectionName, same_connection}
+use Rattle.broker_spec.specs.Place.{Client}
+use Rattle.broker_spec.specs.Past.{any_connection}
 use Rattle.broker_tables.specs.broker_base.ClientSession.{ClientSession}
 use Rattle.broker_tables.specs.broker_base.State.{Sessions, owner_in}
 use Rattle.broker_tables.proofs.of_broker_base.ConnectionsOfSessions.{same_turned}

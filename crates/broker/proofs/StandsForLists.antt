@@ -1,10 +1,10 @@
 -- StandsForLists.antt: command by command a state corresponds to the list of those that were done.
 use Rattle.std.proofs.Common.{◌≡◌, ◌∙◌, ap, sym, refl, Bool, true, false, if◌then◌else◌, List, [], ◌∷◌, ◌++◌}
 use Rattle.std.specs.Prelude.{ℕ}
-use Rattle.broker_tables.specs.broker_spec.Place.{Past, Limits}
-use Rattle.broker_tables.specs.broker_spec.AnswersInOrder.{answers_of}
-use Rattle.broker_tables.specs.broker_spec.Commands.{is_start, past_from, past_of, place_of, limits_with, limits_from, window_from}
-use Rattle.broker_tables.specs.broker_spec.declared.command.Command.{Command}
+use Rattle.broker_spec.specs.Place.{Past, Limits}
+use Rattle.broker_spec.specs.AnswersInOrder.{answers_of}
+use Rattle.broker_spec.specs.Commands.{is_start, past_from, past_of, place_of, limits_with, limits_from, window_from}
+use Rattle.broker_spec.specs.declared.command.Command.{Command}
 use Rattle.broker_tables.specs.broker_base.State.{state_of}
 use Rattle.broker_tables.specs.broker_base.Step.{step, IsWindow}
 use Rattle.broker_tables.proofs.of_broker_base.StepByStep.{step_stands, growing_lists_stand}

@@ -1,9 +1,9 @@
 -- Writing.antt: what is in the state of a broker can be written.
 use Rattle.std.proofs.Common.{◌∷◌, []}
 use Rattle.std.specs.List.{AllByRecursion}
-use Rattle.broker_tables.specs.retained.Retained.{RetainedTopics}
+use Rattle.retained.specs.Retained.{RetainedTopics}
 use Rattle.session_base.proofs.Writable.{has_length}
-use Rattle.broker_tables.specs.broker_spec.Commands.{usual_limits}
+use Rattle.broker_spec.specs.Commands.{usual_limits}
 use Rattle.broker_tables.specs.broker_base.State.{Sessions, State}
 use Rattle.broker_tables.specs.broker_base.StateLaws.{AllSound}
 use Rattle.broker_form.specs.InRange.{IsBrokerState, IsRetained, IsSession, as_publication}

@@ -2,12 +2,12 @@
 use Rattle.std.specs.Prelude.{◌≡◌, ℕ, ◌<◌, length, List, [], ◌∷◌, Option, None, bytes_eq}
 use Rattle.std.specs.Map.{update_all}
 use Rattle.std.specs.List.{AllByRecursion}
-use Rattle.packet.specs.packet_base.declared.qos.QoS.{QoS}
-use Rattle.broker_tables.specs.retained.Retained.{RetainedTopics}
+use Rattle.packet_base.specs.declared.qos.QoS.{QoS}
+use Rattle.retained.specs.Retained.{RetainedTopics}
 use Rattle.session_base.specs.Subscriptions.{GrantedFilter}
 use Rattle.broker_tables.specs.subs_base.Content.{Content, with_filters}
 use Rattle.session_base.specs.FormLaws.{HasForm}
-use Rattle.broker_tables.specs.broker_spec.Connection.{ConnectionName}
+use Rattle.broker_spec.specs.Connection.{ConnectionName}
 use Rattle.broker_tables.specs.broker_base.State.{Sessions, State}
 use Rattle.broker_tables.specs.broker_rows.Owners.{owners_in}
 use Rattle.broker_tables.specs.Tables.{owners_at}

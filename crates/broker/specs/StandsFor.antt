@@ -1,12 +1,12 @@
 -- What a command does to a broker, and which list of commands its state corresponds to.
 use Rattle.std.specs.Prelude.{◌≡◌, ℕ, List, [], ◌∷◌, ◌++◌, Some}
-use Rattle.broker_tables.specs.machine.Machine.{Rules}
-use Rattle.broker_tables.specs.broker_spec.AnswersInOrder.{answers_of}
-use Rattle.broker_tables.specs.broker_spec.Commands.{past_of, limits_from, usual_limits}
-use Rattle.broker_tables.specs.broker_spec.Window.{narrow_window, wide_window}
-use Rattle.broker_tables.specs.broker_spec.declared.command.Command.{Command}
-use Rattle.broker_tables.specs.broker_spec.declared.command.Command.TheVariants.{Start}
-use Rattle.broker_tables.specs.broker_spec.declared.command.Output.{Output}
+use Rattle.machine.specs.Machine.{Rules}
+use Rattle.broker_spec.specs.AnswersInOrder.{answers_of}
+use Rattle.broker_spec.specs.Commands.{past_of, limits_from, usual_limits}
+use Rattle.broker_spec.specs.Window.{narrow_window, wide_window}
+use Rattle.broker_spec.specs.declared.command.Command.{Command}
+use Rattle.broker_spec.specs.declared.command.Command.TheVariants.{Start}
+use Rattle.broker_spec.specs.declared.command.Output.{Output}
 use Rattle.broker_tables.specs.broker_base.State.{State, state_of, empty_state}
 use Rattle.broker_tables.specs.broker_base.Step.{step}
 use Rattle.broker_form.specs.Form.{thawed}

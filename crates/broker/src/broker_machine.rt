@@ -38,7 +38,7 @@ impl Model for BrokerMachine {
 // It begins empty, and does a command as the step of a state with the limits of this broker says.
 // It is frozen to form 2, and thawed from form 1 too.
 impl Machine for BrokerMachine {
-    ghost use Rattle.broker_tables.specs.broker_spec.Logged.{IsBrokerCommand};
+    ghost use Rattle.broker_spec.specs.Logged.{IsBrokerCommand};
     ghost use Rattle.broker_form.specs.FormLaws.{IsUsualState};
     ghost use Rattle.broker_form.proofs.Thawing.{frozen_is_thawed};
     ghost use Rattle.broker.specs.StandsFor.{broker_rules};

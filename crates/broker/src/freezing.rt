@@ -3,7 +3,7 @@
 ghost use Rattle.std.specs.Prelude.{◌≡◌, ◌<◌, ◌++◌, length, OnErr, OnOk};
 ghost use Rattle.std.specs.List.{flat_map, AllByRecursion};
 ghost use Rattle.session_base.specs.FormLaws.{HasForm};
-ghost use Rattle.broker_tables.specs.broker_spec.Commands.{usual_limits};
+ghost use Rattle.broker_spec.specs.Commands.{usual_limits};
 ghost use Rattle.broker_form.specs.InRange.{IsBrokerState};
 ghost use Rattle.broker_form.specs.Writing.{connection_bytes, frozen, retained_bytes};
 ghost use Rattle.broker_form.specs.Writing.{row_bytes, wide_number};

@@ -2,8 +2,8 @@
 // of the form stop the reading; the reader is not to be used after an error.
 
 ghost use Rattle.std.specs.Prelude.{◌≡◌, true, IfOk};
-ghost use Rattle.packet.specs.ClientId.{is_client};
-ghost use Rattle.packet.specs.packet_base.Outcome.{Gives, Reads};
+ghost use Rattle.packet_base.specs.ClientId.{is_client};
+ghost use Rattle.packet_base.specs.Outcome.{Gives, Reads};
 ghost use Rattle.session_base.specs.Counted.{check_form};
 ghost use Rattle.broker_form.specs.Form.{client_at, connection_at, head_at, name_at, retainable};
 ghost use Rattle.broker_form.specs.Form.{retained_at, row_at, size_at, wide_number_at};

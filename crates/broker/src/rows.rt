@@ -1,10 +1,10 @@
 // The sessions of a frozen broker, with the map of their connections.
 
 ghost use Rattle.std.specs.Prelude.{◌≡◌, false, true, [], ◌∷◌, ◌++◌, IfOk, OnOk};
-ghost use Rattle.packet.specs.packet_base.Outcome.{Reads};
-ghost use Rattle.packet.specs.packet_base.Reading.{number_at};
+ghost use Rattle.packet_base.specs.Outcome.{Reads};
+ghost use Rattle.packet_base.specs.Reading.{number_at};
 ghost use Rattle.session_base.specs.Counted.{counted_at, items_after, last_of, AddsItem};
-ghost use Rattle.broker_tables.specs.broker_spec.Connection.{ConnectionName as SpecName};
+ghost use Rattle.broker_spec.specs.Connection.{ConnectionName as SpecName};
 ghost use Rattle.broker_tables.specs.broker_rows.Owners.{owned_by};
 ghost use Rattle.broker_form.specs.Form.{row_at};
 ghost use Rattle.broker_form.specs.Follows.{is_after, is_owned, row_follows};

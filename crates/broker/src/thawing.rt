@@ -4,15 +4,15 @@ ghost use Rattle.std.specs.Prelude.{◌≡◌, ◌<◌, ◌≤◌, [], length, I
 ghost use Rattle.std.specs.BTreeMap.{get};
 ghost use Rattle.std.specs.Cmp.Lexicographic.{slice_cmp};
 ghost use Rattle.std.specs.Ordering.{nat_cmp};
-ghost use Rattle.packet.specs.packet_base.Outcome.{Gives, Reads};
-ghost use Rattle.packet.specs.packet_base.Reading.{number_at};
+ghost use Rattle.packet_base.specs.Outcome.{Gives, Reads};
+ghost use Rattle.packet_base.specs.Reading.{number_at};
 ghost use Rattle.session_base.specs.Counted.{counted_at, items_after, last_of, AddsItem};
 ghost use Rattle.broker_tables.specs.subs_base.Content.{no_subscriptions};
 ghost use Rattle.broker_tables.specs.subs_base.ListIndex.{content_of};
 ghost use Rattle.broker_form.specs.Form.{broker_at, retained_at};
 ghost use Rattle.broker_form.specs.Follows.{is_after, topic_follows};
 ghost use Rattle.broker_tables.specs.Tables.{IsTied, state_in};
-ghost use Rattle.broker_tables.specs.retained.Retained.{IsRising};
+ghost use Rattle.retained.specs.Retained.{IsRising};
 ghost use Rattle.broker.specs.Inside.{AreOwned, state_read, all_held, last_held};
 
 use crate::reading::{read_head, read_topic};

@@ -9,7 +9,7 @@ use Rattle.std.proofs.lemmas.List.{length-append}
 use Rattle.packet_base.specs.Spelling.{number, text}
 use Rattle.packet.specs.Spelling.{IsPacket}
 use Rattle.packet.specs.Delivery.{FitsDelivery}
-use Rattle.packet.specs.packet_base.QoS.{qos_number}
+use Rattle.packet_base.specs.QoS.{qos_number}
 use Rattle.packet.specs.Subscribe.{subscription}
 use Rattle.packet.specs.Suback.{granted}
 use Rattle.packet.specs.declared.delivery.Delivery.{Delivery}

@@ -16,11 +16,11 @@ use Rattle.packet.specs.declared.delivery.Delivery.{Delivery}
 use Rattle.packet.specs.declared.delivery.Delivery.TheVariants as deliveries
 use Rattle.packet.specs.Delivery.{FitsDelivery, delivery_qos}
 use Rattle.packet.specs.declared.packet.Packet.TheVariants as packets
-use Rattle.packet.specs.packet_base.declared.qos.QoS.{QoS}
+use Rattle.packet_base.specs.declared.qos.QoS.{QoS}
 use Rattle.broker_spec.specs.retained.declared.retained_publication.RetainedPublication.{RetainedPublication}
 use Rattle.broker_spec.specs.retained.Retained.{RetainedTopics, matching_entries}
 use Rattle.session_base.specs.Publication.{publication_of}
-use Rattle.packet.specs.packet_base.QoS.{lower_qos}
+use Rattle.packet_base.specs.QoS.{lower_qos}
 use Rattle.session_base.specs.Identifiers.{with_id}
 use Rattle.session_base.specs.Subscriptions.{GrantedFilter, with_subscription, with_subscriptions, without_filter, without_filters, granted_qos}
 use Rattle.broker_spec.specs.Place.{Client, same_client, Mark}

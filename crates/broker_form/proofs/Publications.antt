@@ -4,14 +4,14 @@ use Rattle.std.proofs.lemmas.List.{length-append}
 use Rattle.packet_base.specs.Spelling.{IsId, number}
 use Rattle.packet.specs.Spelling.{IsPacket, max_body}
 use Rattle.packet.specs.declared.packet.Packet.TheVariants as packets
-use Rattle.packet.specs.packet_base.declared.qos.QoS.{QoS}
-use Rattle.packet.specs.packet_base.declared.qos.QoS.TheVariants as qualities
+use Rattle.packet_base.specs.declared.qos.QoS.{QoS}
+use Rattle.packet_base.specs.declared.qos.QoS.TheVariants as qualities
 use Rattle.packet.specs.declared.publish.Publish.{Publish}
 use Rattle.packet.specs.declared.delivery.Delivery.{Delivery}
 use Rattle.packet.specs.declared.delivery.Delivery.TheVariants as deliveries
 use Rattle.session_base.specs.declared.publication.Publication.{Publication}
 use Rattle.session_base.specs.Publication.{publish_of, publication_of}
-use Rattle.packet.specs.packet_base.QoS.{lower_qos}
+use Rattle.packet_base.specs.QoS.{lower_qos}
 use Rattle.session_base.specs.InRange.{CanBeSent}
 
 -- the publication with these parts

@@ -6,11 +6,11 @@ use Rattle.packet.specs.declared.packet.Packet.{Packet}
 use Rattle.packet.specs.declared.packet.Packet.TheVariants as packets
 use Rattle.packet.specs.declared.publish.Publish.{Publish}
 use Rattle.packet.specs.declared.subscribe.Subscribe.{Subscribe}
-use Rattle.packet.specs.packet_base.declared.qos.QoS.{QoS}
+use Rattle.packet_base.specs.declared.qos.QoS.{QoS}
 use Rattle.broker_spec.specs.retained.Retained.{RetainedTopics}
 use Rattle.session_base.specs.declared.publication.Publication.{Publication}
 use Rattle.session_base.specs.Publication.{publication_of, is_answered}
-use Rattle.packet.specs.packet_base.QoS.{lower_qos}
+use Rattle.packet_base.specs.QoS.{lower_qos}
 use Rattle.session_base.specs.Queue.{Queue, room}
 use Rattle.session_base.specs.Subscriptions.{GrantedFilter, with_subscriptions, without_filters, granted_qos}
 use Rattle.broker_spec.specs.Connection.{ConnectionName}

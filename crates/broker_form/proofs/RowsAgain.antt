@@ -6,7 +6,7 @@ use Rattle.std.proofs.lemmas.Nat.{from_be_bytes-to_be_bytes_8}
 use Rattle.packet_base.specs.Spelling.{text, bit}
 use Rattle.packet_base.proofs.FieldsAgain.{front_again, text_again, topic_again}
 use Rattle.packet_base.specs.ClientId.{is_client}
-use Rattle.packet.specs.packet_base.QoS.{qos_number}
+use Rattle.packet_base.specs.QoS.{qos_number}
 use Rattle.packet_base.proofs.Clients.{client_parts, client_short}
 use Rattle.broker_spec.specs.retained.declared.retained_publication.RetainedPublication.{RetainedPublication}
 use Rattle.session_base.specs.Form.{long_number, flag_at, state_bytes}

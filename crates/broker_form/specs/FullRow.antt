@@ -2,7 +2,7 @@
 -- session with two filters, two received identifiers, an entry in flight of each kind and two that
 -- wait, and two retained publications.
 use Rattle.std.specs.Prelude.{◌≡◌, ℕ, false, List, [], ◌∷◌, ◌++◌, Some, codes}
-use Rattle.packet.specs.packet_base.declared.qos.QoS.TheVariants as qualities
+use Rattle.packet_base.specs.declared.qos.QoS.TheVariants as qualities
 use Rattle.session_base.specs.FormRows.{full_session, full_session_by_hand}
 use Rattle.broker_base.specs.State.{State}
 use Rattle.broker_form.specs.Writing.{frozen, frozen_before}

@@ -3,7 +3,7 @@
 use Rattle.std.specs.Prelude.{ℕ, List, [], ◌∷◌, ◌++◌, length, Option, Some, None}
 use Rattle.std.specs.Int.{w64, to_be_bytes}
 use Rattle.packet_base.specs.Spelling.{number, text, bit}
-use Rattle.packet.specs.packet_base.QoS.{qos_number}
+use Rattle.packet_base.specs.QoS.{qos_number}
 use Rattle.broker_spec.specs.retained.declared.retained_publication.RetainedPublication.{RetainedPublication}
 use Rattle.session_base.specs.Counted.{counted}
 use Rattle.session_base.specs.Form.{long_number, state_bytes}

@@ -3,15 +3,15 @@ use Rattle.std.proofs.Common.{◌≡◌, ℕ, Bool, true, false, ◌||◌, nat_l
 use Rattle.std.specs.Prelude.{is_some}
 use Rattle.broker_spec.specs.session_base.Subscriptions.{GrantedFilter}
 use Rattle.packet.specs.declared.packet.Packet.TheVariants as packets
-use Rattle.broker_base.specs.Connection.{ConnectionName, same_connection}
-use Rattle.broker_base.specs.Place.{Client, Mark, Limits}
-use Rattle.broker_base.specs.Past.{any_connection}
+use Rattle.broker_spec.specs.Connection.{ConnectionName, same_connection}
+use Rattle.broker_spec.specs.Place.{Client, Mark, Limits}
+use Rattle.broker_spec.specs.Past.{any_connection}
 use Rattle.broker_base.specs.State.{Sessions, State, session_in, owner_in}
 use Rattle.broker_base.specs.Decisions.{packet_mark_in, connect_mark_in, mark_in, place_in}
 use Rattle.broker_base.specs.Step.{is_about, window_after, step}
 use Rattle.broker_base.specs.StateLaws.{IsNobodys}
-use Rattle.broker_base.specs.Command.{Command}
-use Rattle.broker_base.specs.Command.TheVariants as commands
+use Rattle.broker_spec.specs.declared.command.Command.{Command}
+use Rattle.broker_spec.specs.declared.command.Command.TheVariants as commands
 use Rattle.broker_rows.specs.Touched.{Untouched, comes_on, is_accepted, IsIdle}
 use Rattle.broker_rows.proofs.OneRow.{left_untouched}
 use Rattle.broker_rows.proofs.OneCommand.{ends_none, spares}

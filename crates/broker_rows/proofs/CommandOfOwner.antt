@@ -1,15 +1,15 @@
 -- A command of a connection's owner, except a taken PUBLISH, leaves every row but the owner's.
 use Rattle.std.proofs.Common.{◌≡◌, ℕ, false, Some, refl, ◌∙◌}
 use Rattle.broker_spec.specs.retained.Retained.{RetainedTopics}
-use Rattle.broker_base.specs.Connection.{ConnectionName}
-use Rattle.broker_base.specs.Place.{Client, Mark, Place, Limits}
+use Rattle.broker_spec.specs.Connection.{ConnectionName}
+use Rattle.broker_spec.specs.Place.{Client, Mark, Place, Limits}
 use Rattle.broker_base.specs.ClientSession.{ClientSession}
 use Rattle.broker_base.specs.State.{Sessions, State, owner_in}
 use Rattle.broker_base.specs.Decisions.{mark_in, place_in}
 use Rattle.broker_base.specs.Step.{session_after, sessions_left, sessions_with, window_after, step}
 use Rattle.broker_base.specs.StateLaws.{AreByClient, ConnectionsAreApart}
-use Rattle.broker_base.specs.Command.{Command}
-use Rattle.broker_base.specs.Command.TheVariants as commands
+use Rattle.broker_spec.specs.declared.command.Command.{Command}
+use Rattle.broker_spec.specs.declared.command.Command.TheVariants as commands
 use Rattle.broker_rows.specs.Touched.{comes_on, is_taken, is_accepted, IsMarkOf, written}
 use Rattle.broker_rows.proofs.OneRow.{left_one}
 use Rattle.broker_rows.proofs.OwnersRow.{owner_found, owner_only}

@@ -7,10 +7,10 @@ use Rattle.std.specs.declared.cmp.Ordering.TheVariants.{Less, Equal, Greater}
 use Rattle.std.specs.List.Sorted.{IsStrictlySortedBy}
 use Rattle.std.specs.Ordering.{is_eq, match_ordering}
 use Rattle.broker_spec.specs.session_base.Sending.{fill_sends, resend}
-use Rattle.broker_base.specs.Connection.{ConnectionName}
-use Rattle.broker_base.specs.Place.{Client, by_bytes, Mark, Limits}
-use Rattle.broker_base.specs.Past.{begins_session}
-use Rattle.broker_base.specs.Answers.{closed, welcome}
+use Rattle.broker_spec.specs.Connection.{ConnectionName}
+use Rattle.broker_spec.specs.Place.{Client, by_bytes, Mark, Limits}
+use Rattle.broker_spec.specs.Past.{begins_session}
+use Rattle.broker_spec.specs.Answers.{closed, welcome}
 use Rattle.broker_base.specs.ClientSession.{ClientSession}
 use Rattle.broker_base.specs.SessionStep.{kept_anew, kept_resumed, kept_connected}
 use Rattle.broker_base.specs.State.{Sessions, State, session_in, owner_in}
@@ -18,9 +18,9 @@ use Rattle.broker_base.specs.StepAnswers.{connection_of, connect_answers_in, ans
 use Rattle.broker_base.specs.Decisions.{connect_mark_in, mark_in}
 use Rattle.broker_base.specs.Step.{step_at, step}
 use Rattle.broker_base.specs.StateLaws.{IsSound}
-use Rattle.broker_base.specs.Command.TheVariants as commands
-use Rattle.broker_base.specs.Output.{Output}
-use Rattle.broker_base.specs.Output.TheVariants.{Send}
+use Rattle.broker_spec.specs.declared.command.Command.TheVariants as commands
+use Rattle.broker_spec.specs.declared.command.Output.{Output}
+use Rattle.broker_spec.specs.declared.command.Output.TheVariants.{Send}
 use Rattle.broker_base.proofs.SessionsStayByClient.{ComesBefore, before_more}
 use Rattle.broker_rows.specs.Touched.{written, is_accepted, is_taken}
 use Rattle.broker_rows.specs.ConnectLaws.{may_have_session, BeginningStep, ResumingStep, FullStep, InsertionWrites}

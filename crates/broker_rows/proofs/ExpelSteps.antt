@@ -3,19 +3,19 @@ use Rattle.std.proofs.Common.{◌≡◌, ℕ, Bool, true, false, not, ◌&&◌, 
 use Rattle.std.specs.List.Sorted.{IsStrictlySortedBy}
 use Rattle.std.specs.Ordering.{is_eq}
 use Rattle.broker_spec.specs.retained.Retained.{RetainedTopics}
-use Rattle.broker_base.specs.Connection.{ConnectionName}
-use Rattle.broker_base.specs.Place.{Client, same_client, Mark, Place, only_if}
-use Rattle.broker_base.specs.Past.{any_connection, ends, expels, ends_any}
-use Rattle.broker_base.specs.Answers.{closed}
+use Rattle.broker_spec.specs.Connection.{ConnectionName}
+use Rattle.broker_spec.specs.Place.{Client, same_client, Mark, Place, only_if}
+use Rattle.broker_spec.specs.Past.{any_connection, ends, expels, ends_any}
+use Rattle.broker_spec.specs.Answers.{closed}
 use Rattle.broker_base.specs.ClientSession.{ClientSession}
 use Rattle.broker_base.specs.SessionStep.{kept_on}
 use Rattle.broker_base.specs.State.{Sessions, State, session_in}
 use Rattle.broker_base.specs.StateLaws.{AreByClient}
 use Rattle.broker_base.specs.StepAnswers.{connection_of}
 use Rattle.broker_base.specs.Step.{touches, is_about, session_after}
-use Rattle.broker_base.specs.Command.TheVariants as commands
-use Rattle.broker_base.specs.Output.{Output}
-use Rattle.broker_base.proofs.ClientsInOrder.{same_is, same_self}
+use Rattle.broker_spec.specs.declared.command.Command.TheVariants as commands
+use Rattle.broker_spec.specs.declared.command.Output.{Output}
+use Rattle.broker_spec.proofs.ClientsInOrder.{same_is, same_self}
 use Rattle.broker_base.proofs.SessionsStayByClient.{ComesBefore}
 use Rattle.broker_rows.specs.Touched.{Untouched, TouchesOnly, written}
 use Rattle.broker_rows.specs.ExpelLaws.{ExpelStep, NobodysExpelStep}

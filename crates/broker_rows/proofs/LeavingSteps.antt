@@ -2,14 +2,14 @@
 use Rattle.std.proofs.Common.{◌≡◌, ℕ, true, false, ◌==◌, ◌&&◌, [], ◌∷◌, refl, ap, ap₂, ◌∙◌, arith}
 use Rattle.packet.specs.declared.packet.Packet.{Packet}
 use Rattle.packet.specs.declared.packet.Packet.TheVariants as packets
-use Rattle.broker_base.specs.Connection.{ConnectionName, same_connection}
-use Rattle.broker_base.specs.Place.{Mark, Place}
-use Rattle.broker_base.specs.Past.{is_leaving, ends_any}
+use Rattle.broker_spec.specs.Connection.{ConnectionName, same_connection}
+use Rattle.broker_spec.specs.Place.{Mark, Place}
+use Rattle.broker_spec.specs.Past.{is_leaving, ends_any}
 use Rattle.broker_base.specs.State.{State}
 use Rattle.broker_base.specs.StepAnswers.{answers_by_state}
 use Rattle.broker_base.specs.Decisions.{owned_mark, packet_mark_in, connect_mark_in}
-use Rattle.broker_base.specs.Command.TheVariants as commands
-use Rattle.broker_base.specs.Output.TheVariants.{Close}
+use Rattle.broker_spec.specs.declared.command.Command.TheVariants as commands
+use Rattle.broker_spec.specs.declared.command.Output.TheVariants.{Close}
 use Rattle.broker_rows.specs.Touched.{is_taken}
 use Rattle.broker_rows.specs.Served.{left_off}
 use Rattle.broker_rows.specs.LeavingLaws.{LeavingStep, FurtherConnectStep, LostStep}

@@ -6,14 +6,14 @@ use Rattle.std.specs.declared.cmp.Ordering.TheVariants.{Less, Equal, Greater}
 use Rattle.std.specs.List.Sorted.{IsStrictlySortedBy}
 use Rattle.std.specs.Ordering.{is_eq, match_ordering}
 use Rattle.broker_spec.specs.retained.Retained.{RetainedTopics}
-use Rattle.broker_base.specs.Connection.{ConnectionName}
-use Rattle.broker_base.specs.Place.{Client, by_bytes, Mark, Place}
+use Rattle.broker_spec.specs.Connection.{ConnectionName}
+use Rattle.broker_spec.specs.Place.{Client, by_bytes, Mark, Place}
 use Rattle.broker_base.specs.ClientSession.{ClientSession}
 use Rattle.broker_base.specs.State.{Sessions, keyed, put_session}
 use Rattle.broker_base.specs.Step.{session_after, sessions_left}
 use Rattle.broker_base.specs.StateLaws.{AreByClient, IsNobodys}
-use Rattle.broker_base.specs.Command.TheVariants as commands
-use Rattle.broker_base.proofs.ClientsInOrder.{equal_is}
+use Rattle.broker_spec.specs.declared.command.Command.TheVariants as commands
+use Rattle.broker_spec.proofs.ClientsInOrder.{equal_is}
 use Rattle.broker_base.proofs.SessionsStayByClient.{ComesBefore, before_more, put_first}
 use Rattle.broker_rows.specs.Touched.{Untouched}
 use Rattle.broker_rows.proofs.OneRow.{left_untouched}

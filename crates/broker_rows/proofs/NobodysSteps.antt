@@ -2,11 +2,11 @@
 use Rattle.std.proofs.Common.{◌≡◌, [], refl, ap, ap₂, ◌∙◌}
 use Rattle.packet.specs.declared.packet.Packet.{Packet}
 use Rattle.packet.specs.declared.packet.Packet.TheVariants as packets
-use Rattle.broker_base.specs.Place.{Mark}
+use Rattle.broker_spec.specs.Place.{Mark}
 use Rattle.broker_base.specs.State.{State}
 use Rattle.broker_base.specs.StepAnswers.{answers_by_state}
 use Rattle.broker_base.specs.Decisions.{packet_mark_in, mark_in}
-use Rattle.broker_base.specs.Command.TheVariants as commands
+use Rattle.broker_spec.specs.declared.command.Command.TheVariants as commands
 use Rattle.broker_rows.specs.Touched.{is_taken, is_accepted}
 use Rattle.broker_rows.specs.IdlePacketLaws.{NobodysPacketStep}
 use Rattle.broker_rows.specs.LeavingLaws.{NobodysLossStep}

@@ -6,15 +6,15 @@ use Rattle.packet.specs.declared.publish.Publish.{Publish}
 use Rattle.packet.specs.declared.packet.Packet.{Packet}
 use Rattle.packet.specs.declared.packet.Packet.TheVariants as packets
 use Rattle.broker_spec.specs.session_base.Publication.{publication_of}
-use Rattle.broker_base.specs.Connection.{ConnectionName, same_connection}
-use Rattle.broker_base.specs.Place.{Client, same_client, Mark, Limits}
-use Rattle.broker_base.specs.Past.{any_connection, is_leaving, ends, expels}
+use Rattle.broker_spec.specs.Connection.{ConnectionName, same_connection}
+use Rattle.broker_spec.specs.Place.{Client, same_client, Mark, Limits}
+use Rattle.broker_spec.specs.Past.{any_connection, is_leaving, ends, expels}
 use Rattle.broker_base.specs.ClientSession.{ClientSession}
 use Rattle.broker_base.specs.State.{State, owner_in}
 use Rattle.broker_base.specs.Decisions.{refuses, repeats, owned_mark, packet_mark_in, connect_mark_in, mark_in, place_in}
 use Rattle.broker_base.specs.Step.{is_about}
-use Rattle.broker_base.specs.Command.{Command}
-use Rattle.broker_base.specs.Command.TheVariants as commands
+use Rattle.broker_spec.specs.declared.command.Command.{Command}
+use Rattle.broker_spec.specs.declared.command.Command.TheVariants as commands
 use Rattle.broker_rows.specs.Touched.{IsOnes, comes_on, is_taken, IsMarkOf}
 
 -- ---- what ends

@@ -1,11 +1,11 @@
 -- A place that touches one session changes one row, and a place that touches none changes none.
 use Rattle.std.proofs.Common.{◌≡◌, ℕ, Bool, true, false, inl, inr, if◌then◌else◌, [], ◌∷◌, Option, Some, None, refl, ap, ap₂, ◌∙◌, sym}
 use Rattle.broker_spec.specs.retained.Retained.{RetainedTopics}
-use Rattle.broker_base.specs.Place.{Client, same_client, Place}
+use Rattle.broker_spec.specs.Place.{Client, same_client, Place}
 use Rattle.broker_base.specs.ClientSession.{ClientSession}
 use Rattle.broker_base.specs.State.{Sessions, keyed, session_in}
 use Rattle.broker_base.specs.Step.{session_after, sessions_left}
-use Rattle.broker_base.proofs.ClientsInOrder.{same_is}
+use Rattle.broker_spec.proofs.ClientsInOrder.{same_is}
 use Rattle.broker_rows.specs.Touched.{Untouched, TouchesOnly, written}
 
 -- if nothing is touched, every row stays

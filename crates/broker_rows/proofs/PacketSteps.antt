@@ -6,19 +6,19 @@ use Rattle.packet.specs.declared.packet.Packet.{Packet}
 use Rattle.packet.specs.declared.packet.Packet.TheVariants as packets
 use Rattle.broker_spec.specs.session_base.Publication.{publication_of}
 use Rattle.broker_spec.specs.session_base.Sending.{copies_sent}
-use Rattle.broker_base.specs.Connection.{ConnectionName}
-use Rattle.broker_base.specs.Place.{Client, Mark, Place}
-use Rattle.broker_base.specs.Subscriptions.{granted_of}
-use Rattle.broker_base.specs.Entries.{copies_for_all}
-use Rattle.broker_base.specs.Answers.{acknowledged, codes_of}
+use Rattle.broker_spec.specs.Connection.{ConnectionName}
+use Rattle.broker_spec.specs.Place.{Client, Mark, Place}
+use Rattle.broker_spec.specs.Subscriptions.{granted_of}
+use Rattle.broker_spec.specs.Entries.{copies_for_all}
+use Rattle.broker_spec.specs.Answers.{acknowledged, codes_of}
 use Rattle.broker_base.specs.ClientSession.{ClientSession}
 use Rattle.broker_base.specs.State.{State, session_in}
 use Rattle.broker_base.specs.StepAnswers.{handled_in, sent_on, copies_to, answers_by_state}
 use Rattle.broker_base.specs.Decisions.{refuses, packet_mark_in}
-use Rattle.broker_base.specs.Command.TheVariants as commands
-use Rattle.broker_base.specs.Output.{Output}
-use Rattle.broker_base.specs.Output.TheVariants.{Send}
-use Rattle.broker_base.proofs.ClientsInOrder.{same_self}
+use Rattle.broker_spec.specs.declared.command.Command.TheVariants as commands
+use Rattle.broker_spec.specs.declared.command.Output.{Output}
+use Rattle.broker_spec.specs.declared.command.Output.TheVariants.{Send}
+use Rattle.broker_spec.proofs.ClientsInOrder.{same_self}
 use Rattle.broker_rows.specs.Served.{ServesClient, with_session, holding}
 use Rattle.broker_rows.specs.PacketLaws.{handled_state, HandledStep, subscribed_to, subscribe_answers, SubscribeStep}
 use Rattle.broker_rows.specs.IdlePacketLaws.{PingreqStep, RepeatStep}

@@ -11,16 +11,16 @@ use Rattle.broker_spec.specs.session_base.Session.{with_filters, with_received, 
 use Rattle.broker_spec.specs.session_base.Subscriptions.{GrantedFilter, with_subscriptions, without_filters}
 use Rattle.broker_spec.specs.session_base.Queue.{Queue, on_puback, on_pubrec, on_pubcomp, fill}
 use Rattle.broker_spec.specs.session_base.Copies.{copies_left}
-use Rattle.broker_base.specs.Connection.{ConnectionName}
-use Rattle.broker_base.specs.Place.{Client, Mark, Place, only_if}
-use Rattle.broker_base.specs.Past.{ends_any, is_leaving}
-use Rattle.broker_base.specs.Subscriptions.{as_granted, granted_of}
-use Rattle.broker_base.specs.Entries.{copies_for_all}
+use Rattle.broker_spec.specs.Connection.{ConnectionName}
+use Rattle.broker_spec.specs.Place.{Client, Mark, Place, only_if}
+use Rattle.broker_spec.specs.Past.{ends_any, is_leaving}
+use Rattle.broker_spec.specs.Subscriptions.{as_granted, granted_of}
+use Rattle.broker_spec.specs.Entries.{copies_for_all}
 use Rattle.broker_base.specs.ClientSession.{ClientSession}
 use Rattle.broker_base.specs.SessionStep.{kept_on, kept_after}
 use Rattle.broker_base.specs.Step.{is_about, session_after}
-use Rattle.broker_base.specs.Command.TheVariants as commands
-use Rattle.broker_base.proofs.ClientsInOrder.{same_self}
+use Rattle.broker_spec.specs.declared.command.Command.TheVariants as commands
+use Rattle.broker_spec.proofs.ClientsInOrder.{same_self}
 use Rattle.broker_rows.specs.Served.{holding}
 use Rattle.broker_rows.specs.PacketLaws.{handled_state, subscribed_to}
 

@@ -4,15 +4,15 @@ use Rattle.packet.specs.declared.packet.Packet.TheVariants as packets
 use Rattle.broker_spec.specs.retained.Retained.{RetainedTopics}
 use Rattle.broker_spec.specs.session_base.Subscriptions.{GrantedFilter}
 use Rattle.broker_spec.specs.session_base.Queue.{Queue}
-use Rattle.broker_base.specs.Place.{Client, Mark, Place, only_if}
-use Rattle.broker_base.specs.Past.{accepts, ends_any, expels}
-use Rattle.broker_base.specs.Subscriptions.{subscribed}
-use Rattle.broker_base.specs.Received.{received_by}
+use Rattle.broker_spec.specs.Place.{Client, Mark, Place, only_if}
+use Rattle.broker_spec.specs.Past.{accepts, ends_any, expels}
+use Rattle.broker_spec.specs.Subscriptions.{subscribed}
+use Rattle.broker_spec.specs.Received.{received_by}
 use Rattle.broker_base.specs.ClientSession.{ClientSession}
 use Rattle.broker_base.specs.SessionStep.{copies_with, answered_queue, copied_queue, kept_on, kept_by, kept_after}
 use Rattle.broker_base.specs.Step.{is_about, session_after}
-use Rattle.broker_base.specs.Command.{Command}
-use Rattle.broker_base.specs.Command.TheVariants as commands
+use Rattle.broker_spec.specs.declared.command.Command.{Command}
+use Rattle.broker_spec.specs.declared.command.Command.TheVariants as commands
 use Rattle.broker_base.proofs.flights.IdentifiersInFlight.{append_none}
 use Rattle.broker_rows.specs.Served.{left_off}
 

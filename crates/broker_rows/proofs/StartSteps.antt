@@ -2,15 +2,15 @@
 use Rattle.std.proofs.Common.{◌≡◌, ℕ, Bool, true, false, ◌||◌, if◌then◌else◌, Option, Some, None, [], ◌∷◌, refl, ap, ap₂, ◌∙◌}
 use Rattle.std.specs.Prelude.{is_some}
 use Rattle.broker_spec.specs.retained.Retained.{RetainedTopics}
-use Rattle.broker_base.specs.Connection.{ConnectionName}
-use Rattle.broker_base.specs.Place.{Client, Mark, Place}
-use Rattle.broker_base.specs.Past.{ends_any}
+use Rattle.broker_spec.specs.Connection.{ConnectionName}
+use Rattle.broker_spec.specs.Place.{Client, Mark, Place}
+use Rattle.broker_spec.specs.Past.{ends_any}
 use Rattle.broker_base.specs.ClientSession.{ClientSession}
 use Rattle.broker_base.specs.SessionStep.{kept_after}
 use Rattle.broker_base.specs.State.{Sessions, keyed}
 use Rattle.broker_base.specs.StateLaws.{AllSound}
 use Rattle.broker_base.specs.Step.{session_after, sessions_left}
-use Rattle.broker_base.specs.Command.TheVariants as commands
+use Rattle.broker_spec.specs.declared.command.Command.TheVariants as commands
 use Rattle.broker_rows.specs.Served.{left_off}
 use Rattle.broker_rows.specs.ConnectLaws.{all_left_off, StartStep}
 use Rattle.broker_rows.proofs.SessionParted.{parted_is}

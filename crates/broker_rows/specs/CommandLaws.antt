@@ -1,14 +1,14 @@
 -- A command touches one row at most, except a taken publication, an accepted Connect and a Start
 -- (MQTT 3.1.4).
 use Rattle.std.specs.Prelude.{◌≡◌, ℕ, false, Some, None}
-use Rattle.broker_base.specs.Connection.{ConnectionName}
-use Rattle.broker_base.specs.Place.{Client, Limits}
+use Rattle.broker_spec.specs.Connection.{ConnectionName}
+use Rattle.broker_spec.specs.Place.{Client, Limits}
 use Rattle.broker_base.specs.ClientSession.{ClientSession}
 use Rattle.broker_base.specs.State.{Sessions, State, owner_in}
 use Rattle.broker_base.specs.StateLaws.{AreByClient, ConnectionsAreApart}
 use Rattle.broker_base.specs.Decisions.{mark_in, place_in}
 use Rattle.broker_base.specs.Step.{session_after, window_after, step}
-use Rattle.broker_base.specs.Command.{Command}
+use Rattle.broker_spec.specs.declared.command.Command.{Command}
 use Rattle.broker_rows.specs.Touched.{written, comes_on, is_taken, is_accepted}
 use Rattle.broker_rows.specs.Owners.{Owners, owners_in, row_in}
 

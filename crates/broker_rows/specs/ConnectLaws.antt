@@ -5,18 +5,18 @@ use Rattle.std.specs.Prelude.{◌≡◌, ℕ, Bool, true, false, ◌||◌, nat_l
 use Rattle.std.specs.Prelude.{Some, None, is_some, option_map}
 use Rattle.std.specs.BTreeMap.{insert_entry}
 use Rattle.broker_spec.specs.session_base.Sending.{fill_sends, resend}
-use Rattle.broker_base.specs.Connection.{ConnectionName}
-use Rattle.broker_base.specs.Place.{Client, by_bytes, Limits}
-use Rattle.broker_base.specs.Past.{begins_session}
-use Rattle.broker_base.specs.Answers.{closed, welcome, turned_away}
+use Rattle.broker_spec.specs.Connection.{ConnectionName}
+use Rattle.broker_spec.specs.Place.{Client, by_bytes, Limits}
+use Rattle.broker_spec.specs.Past.{begins_session}
+use Rattle.broker_spec.specs.Answers.{closed, welcome, turned_away}
 use Rattle.broker_base.specs.ClientSession.{ClientSession}
 use Rattle.broker_base.specs.SessionStep.{kept_anew, kept_resumed}
 use Rattle.broker_base.specs.State.{Sessions, State, keyed, session_in, owner_in}
 use Rattle.broker_base.specs.StateLaws.{IsSound, AreByClient}
 use Rattle.broker_base.specs.StepAnswers.{connection_of}
 use Rattle.broker_base.specs.Step.{step}
-use Rattle.broker_base.specs.Command.TheVariants as commands
-use Rattle.broker_base.specs.Output.TheVariants.{Send, Close}
+use Rattle.broker_spec.specs.declared.command.Command.TheVariants as commands
+use Rattle.broker_spec.specs.declared.command.Output.TheVariants.{Send, Close}
 use Rattle.broker_rows.specs.Touched.{written}
 use Rattle.broker_rows.specs.Served.{with_session, left_off}
 

@@ -11,10 +11,10 @@ use Rattle.broker_spec.specs.session_base.Session.{SessionState}
 use Rattle.broker_spec.specs.session_base.Queue.{Queue, room}
 use Rattle.broker_spec.specs.session_base.Copies.{copies_left}
 use Rattle.broker_spec.specs.session_base.Sending.{copies_sent}
-use Rattle.broker_base.specs.Place.{Limits}
-use Rattle.broker_base.specs.Subscriptions.{granted_of}
-use Rattle.broker_base.specs.Entries.{copies_for, copies_for_all, queued}
-use Rattle.broker_base.specs.Marks.{is_one_too_many, entries_for, grants}
+use Rattle.broker_spec.specs.Place.{Limits}
+use Rattle.broker_spec.specs.Subscriptions.{granted_of}
+use Rattle.broker_spec.specs.Entries.{copies_for, copies_for_all, queued}
+use Rattle.broker_spec.specs.Marks.{is_one_too_many, entries_for, grants}
 use Rattle.broker_rows.specs.PacketLaws.{subscribed_to}
 
 -- copies that come in two parts lead to the same session as all at once, and the same packets are

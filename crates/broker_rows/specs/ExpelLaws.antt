@@ -1,14 +1,14 @@
 -- An Expel: the client's session ends, clean or not, and its connection is closed.
 use Rattle.std.specs.Prelude.{◌≡◌, ℕ, [], Some, None}
 use Rattle.subs_base.specs.Content.{without_client}
-use Rattle.broker_base.specs.Connection.{ConnectionName}
-use Rattle.broker_base.specs.Place.{Client, Limits}
-use Rattle.broker_base.specs.Answers.{closed}
+use Rattle.broker_spec.specs.Connection.{ConnectionName}
+use Rattle.broker_spec.specs.Place.{Client, Limits}
+use Rattle.broker_spec.specs.Answers.{closed}
 use Rattle.broker_base.specs.ClientSession.{ClientSession}
 use Rattle.broker_base.specs.State.{Sessions, State, session_in}
 use Rattle.broker_base.specs.StateLaws.{AreByClient, IsSound}
 use Rattle.broker_base.specs.Step.{step}
-use Rattle.broker_base.specs.Command.TheVariants as commands
+use Rattle.broker_spec.specs.declared.command.Command.TheVariants as commands
 use Rattle.broker_rows.specs.Touched.{written}
 use Rattle.broker_rows.specs.Served.{with_session}
 use Rattle.broker_rows.specs.Owners.{owners_in, without_owner}

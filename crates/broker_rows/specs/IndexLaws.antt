@@ -8,8 +8,8 @@ use Rattle.broker_spec.specs.session_base.Subscriptions.{GrantedFilter, with_sub
 use Rattle.broker_spec.specs.session_base.Subscriptions.{without_filters}
 use Rattle.subs_base.specs.Content.{no_subscriptions, without_client}
 use Rattle.subs_base.specs.Granted.{Row}
-use Rattle.broker_base.specs.Connection.{ConnectionName}
-use Rattle.broker_base.specs.Place.{Client, by_bytes}
+use Rattle.broker_spec.specs.Connection.{ConnectionName}
+use Rattle.broker_spec.specs.Place.{Client, by_bytes}
 use Rattle.broker_base.specs.ClientSession.{ClientSession}
 use Rattle.broker_base.specs.SessionStep.{kept_anew}
 use Rattle.broker_base.specs.State.{Sessions, session_in}

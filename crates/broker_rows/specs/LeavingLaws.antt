@@ -2,15 +2,15 @@
 -- without one, and a clean session ends (MQTT 3.1.2.4).
 use Rattle.std.specs.Prelude.{◌≡◌, ℕ, true, Bool, [], ◌∷◌, None}
 use Rattle.packet.specs.declared.packet.Packet.{Packet}
-use Rattle.broker_base.specs.Connection.{ConnectionName}
-use Rattle.broker_base.specs.Place.{Client, Limits}
-use Rattle.broker_base.specs.Past.{is_leaving}
+use Rattle.broker_spec.specs.Connection.{ConnectionName}
+use Rattle.broker_spec.specs.Place.{Client, Limits}
+use Rattle.broker_spec.specs.Past.{is_leaving}
 use Rattle.broker_base.specs.ClientSession.{ClientSession}
 use Rattle.broker_base.specs.State.{State, owner_in}
 use Rattle.broker_base.specs.Decisions.{owned_mark}
 use Rattle.broker_base.specs.Step.{step}
-use Rattle.broker_base.specs.Command.TheVariants as commands
-use Rattle.broker_base.specs.Output.TheVariants.{Close}
+use Rattle.broker_spec.specs.declared.command.Command.TheVariants as commands
+use Rattle.broker_spec.specs.declared.command.Output.TheVariants.{Close}
 use Rattle.broker_rows.specs.Served.{ServesClient, with_session, left_off}
 
 -- a DISCONNECT, a violation or a refused PUBLISH closes the connection

@@ -16,6 +16,4 @@ pub mod OwnerLaws
 pub mod IndexLaws
 pub mod PublicationLaws
 pub use Rattle.broker_base.specs as broker_base
-pub use Rattle.broker_spec.specs as broker_spec
-pub use Rattle.broker_spec.specs.retained as retained
 pub use Rattle.subs_base.specs as subs_base

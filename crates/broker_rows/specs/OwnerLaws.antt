@@ -5,8 +5,8 @@ use Rattle.std.specs.BTreeMap.{insert_entry}
 use Rattle.packet.specs.declared.delivery.Delivery.{Delivery}
 use Rattle.broker_spec.specs.session_base.declared.publication.Publication.{Publication}
 use Rattle.subs_base.specs.Granted.{Row}
-use Rattle.broker_base.specs.Connection.{ConnectionName}
-use Rattle.broker_base.specs.Place.{Client, by_bytes}
+use Rattle.broker_spec.specs.Connection.{ConnectionName}
+use Rattle.broker_spec.specs.Place.{Client, by_bytes}
 use Rattle.broker_base.specs.ClientSession.{ClientSession}
 use Rattle.broker_base.specs.State.{Sessions, State, session_in, owner_in}
 use Rattle.broker_base.specs.StateLaws.{ConnectionsAreApart, IsSound}

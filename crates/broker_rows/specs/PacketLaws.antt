@@ -12,19 +12,19 @@ use Rattle.broker_spec.specs.session_base.Subscriptions.{with_subscriptions, wit
 use Rattle.broker_spec.specs.session_base.Queue.{room, on_puback, on_pubrec, on_pubcomp, filled}
 use Rattle.broker_spec.specs.session_base.Copies.{copies_left}
 use Rattle.broker_spec.specs.session_base.Sending.{copies_sent}
-use Rattle.broker_base.specs.Connection.{ConnectionName}
-use Rattle.broker_base.specs.Place.{Client, Mark, Limits}
-use Rattle.broker_base.specs.Subscriptions.{as_granted, granted_of}
-use Rattle.broker_base.specs.Entries.{copies_for_all}
-use Rattle.broker_base.specs.Marks.{grants}
-use Rattle.broker_base.specs.Answers.{codes_of}
+use Rattle.broker_spec.specs.Connection.{ConnectionName}
+use Rattle.broker_spec.specs.Place.{Client, Mark, Limits}
+use Rattle.broker_spec.specs.Subscriptions.{as_granted, granted_of}
+use Rattle.broker_spec.specs.Entries.{copies_for_all}
+use Rattle.broker_spec.specs.Marks.{grants}
+use Rattle.broker_spec.specs.Answers.{codes_of}
 use Rattle.broker_base.specs.ClientSession.{ClientSession}
 use Rattle.broker_base.specs.State.{State}
 use Rattle.broker_base.specs.Decisions.{owned_mark}
 use Rattle.broker_base.specs.StepAnswers.{handled_in}
 use Rattle.broker_base.specs.Step.{step}
-use Rattle.broker_base.specs.Command.TheVariants as commands
-use Rattle.broker_base.specs.Output.TheVariants.{Send}
+use Rattle.broker_spec.specs.declared.command.Command.TheVariants as commands
+use Rattle.broker_spec.specs.declared.command.Output.TheVariants.{Send}
 use Rattle.broker_rows.specs.Served.{ServesClient, with_session, holding}
 
 -- ---- the packets that are handled

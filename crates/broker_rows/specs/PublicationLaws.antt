@@ -7,9 +7,9 @@ use Rattle.broker_spec.specs.session_base.declared.publication.Publication.{Publ
 use Rattle.broker_spec.specs.session_base.Publication.{publication_of}
 use Rattle.subs_base.specs.Content.{Content}
 use Rattle.subs_base.specs.Granted.{Row, IsGranted}
-use Rattle.broker_base.specs.Connection.{ConnectionName}
-use Rattle.broker_base.specs.Place.{Client, Limits}
-use Rattle.broker_base.specs.EntryLaws.{taken}
+use Rattle.broker_spec.specs.Connection.{ConnectionName}
+use Rattle.broker_spec.specs.Place.{Client, Limits}
+use Rattle.broker_spec.specs.EntryLaws.{taken}
 use Rattle.broker_base.specs.State.{Sessions, session_in}
 use Rattle.broker_base.specs.StateLaws.{AllSound, AreByClient}
 use Rattle.broker_base.specs.Decisions.{has_no_room_for}

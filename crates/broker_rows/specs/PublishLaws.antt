@@ -8,17 +8,17 @@ use Rattle.packet.specs.declared.delivery.Delivery.{Delivery}
 use Rattle.packet.specs.declared.packet.Packet.TheVariants as packets
 use Rattle.broker_spec.specs.session_base.declared.publication.Publication.{Publication}
 use Rattle.broker_spec.specs.session_base.Publication.{publication_of}
-use Rattle.broker_base.specs.Connection.{ConnectionName}
-use Rattle.broker_base.specs.Place.{Client, Limits}
-use Rattle.broker_base.specs.Answers.{acknowledged}
-use Rattle.broker_base.specs.Retained.{retains}
+use Rattle.broker_spec.specs.Connection.{ConnectionName}
+use Rattle.broker_spec.specs.Place.{Client, Limits}
+use Rattle.broker_spec.specs.Answers.{acknowledged}
+use Rattle.broker_spec.specs.Retained.{retains}
 use Rattle.broker_base.specs.ClientSession.{ClientSession}
 use Rattle.broker_base.specs.State.{Sessions, State, session_in}
 use Rattle.broker_base.specs.Decisions.{is_one_topic_over, repeats}
 use Rattle.broker_base.specs.StateLaws.{AreByClient}
 use Rattle.broker_base.specs.Step.{step}
-use Rattle.broker_base.specs.Command.TheVariants as commands
-use Rattle.broker_base.specs.Output.TheVariants.{Close}
+use Rattle.broker_spec.specs.declared.command.Command.TheVariants as commands
+use Rattle.broker_spec.specs.declared.command.Output.TheVariants.{Close}
 use Rattle.subs_base.specs.Granted.{Row}
 use Rattle.broker_rows.specs.Touched.{written}
 use Rattle.broker_rows.specs.Served.{ServesClient, with_session, left_off}

@@ -11,15 +11,15 @@ use Rattle.subs_base.specs.packet_base.QoS.{lower_qos}
 use Rattle.broker_spec.specs.session_base.Queue.{room}
 use Rattle.broker_spec.specs.session_base.Session.{with_received, with_queue}
 use Rattle.broker_spec.specs.session_base.Sending.{copies_sent}
-use Rattle.broker_base.specs.Place.{Client, Limits}
+use Rattle.broker_spec.specs.Place.{Client, Limits}
 use Rattle.broker_spec.specs.session_base.Subscriptions.{granted_qos}
-use Rattle.broker_base.specs.Entries.{copy_of}
-use Rattle.broker_base.specs.Received.{receives}
+use Rattle.broker_spec.specs.Entries.{copy_of}
+use Rattle.broker_spec.specs.Received.{receives}
 use Rattle.broker_base.specs.SessionStep.{copied_queue}
 use Rattle.broker_base.specs.ClientSession.{ClientSession}
 use Rattle.broker_base.specs.State.{Sessions, session_in}
 use Rattle.broker_base.specs.StepAnswers.{sent_on}
-use Rattle.broker_base.specs.Output.{Output}
+use Rattle.broker_spec.specs.declared.command.Output.{Output}
 use Rattle.subs_base.specs.Granted.{Row, row_of}
 use Rattle.broker_rows.specs.Touched.{written}
 use Rattle.broker_rows.specs.Served.{holding}

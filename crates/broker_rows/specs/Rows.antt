@@ -10,11 +10,11 @@ use Rattle.broker_spec.specs.session_base.declared.publication.Publication.{Publ
 use Rattle.broker_spec.specs.session_base.declared.awaits.Awaits.TheVariants as waits_for
 use Rattle.broker_spec.specs.session_base.Subscriptions.{GrantedFilter}
 use Rattle.broker_spec.specs.session_base.Queue.{Queue, empty_queue}
-use Rattle.broker_base.specs.Connection.{ConnectionName}
-use Rattle.broker_base.specs.Place.{Client}
+use Rattle.broker_spec.specs.Connection.{ConnectionName}
+use Rattle.broker_spec.specs.Place.{Client}
 use Rattle.broker_base.specs.ClientSession.{ClientSession}
 use Rattle.broker_base.specs.State.{Sessions}
-use Rattle.broker_base.specs.RowWords.{a, b, nth, sends, publish}
+use Rattle.broker_spec.specs.RowWords.{a, b, nth, sends, publish}
 use Rattle.broker_rows.specs.Owners.{owners_in, with_owner, without_owner}
 use Rattle.broker_rows.specs.Indexed.{content_in, all_set, all_cleared, all_dropped, clean_clients}
 use Rattle.broker_rows.specs.Published.{granted_rows, changed, received_on}

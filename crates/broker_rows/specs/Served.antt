@@ -2,8 +2,8 @@
 -- 4.1).
 use Rattle.std.specs.Prelude.{◌≡◌, if◌then◌else◌, Option, Some, None}
 use Rattle.broker_spec.specs.session_base.Session.{SessionState}
-use Rattle.broker_base.specs.Connection.{ConnectionName}
-use Rattle.broker_base.specs.Place.{Client}
+use Rattle.broker_spec.specs.Connection.{ConnectionName}
+use Rattle.broker_spec.specs.Place.{Client}
 use Rattle.broker_base.specs.ClientSession.{ClientSession}
 use Rattle.broker_base.specs.State.{State, session_in, owner_in}
 use Rattle.broker_base.specs.StateLaws.{IsSound}

@@ -2,13 +2,13 @@
 use native.Mathlib.Omega.{arith}
 use Rattle.std.proofs.Common.{◌≡◌, ◌≤◌, ◌+◌, ◌-◌, ◌==◌, ◌&&◌, if◌then◌else◌, ℕ, zero, suc, Bool, true, false, List, [], ◌∷◌, ◌++◌, length, refl, ap, sym, ◌∙◌, append_assoc}
 use Rattle.session.specs.declared.session.TheConstants.{MAX_ENTRIES}
-use Rattle.session.specs.packet.declared.packet.Packet.{Packet}
-use Rattle.session.specs.session_base.declared.publication.Publication.{Publication}
-use Rattle.session.specs.session_base.Publication.{is_answered}
-use Rattle.session.specs.session_base.Queue.{Queue, room}
-use Rattle.session.specs.session_base.Copies.{copies_left}
-use Rattle.session.specs.session_base.Sending.{copies_sent}
-use Rattle.broker_rows.specs.broker_spec.Entries.{queued}
+use Rattle.packet.specs.declared.packet.Packet.{Packet}
+use Rattle.session_base.specs.declared.publication.Publication.{Publication}
+use Rattle.session_base.specs.Publication.{is_answered}
+use Rattle.session_base.specs.Queue.{Queue, room}
+use Rattle.session_base.specs.Copies.{copies_left}
+use Rattle.session_base.specs.Sending.{copies_sent}
+use Rattle.broker_spec.specs.Entries.{queued}
 use Rattle.broker_rows.proofs.publications.CopiesInParts.{copies_join, copies_take_room}
 
 -- if a copy would be queued and the queue is not full, there is room

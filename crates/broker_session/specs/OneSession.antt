@@ -2,13 +2,13 @@
 -- of a publication.
 use Rattle.std.specs.Prelude.{ℕ, Bool, true, false, List, [], ◌∷◌, ◌++◌, Option, Some, None}
 use Rattle.session.specs.packet.packet_base.declared.qos.QoS.{QoS}
-use Rattle.session.specs.packet.declared.packet.Packet.{Packet}
-use Rattle.session.specs.packet.declared.packet.Packet.TheVariants as packets
-use Rattle.session.specs.session_base.declared.publication.Publication.{Publication}
+use Rattle.packet.specs.declared.packet.Packet.{Packet}
+use Rattle.packet.specs.declared.packet.Packet.TheVariants as packets
+use Rattle.session_base.specs.declared.publication.Publication.{Publication}
 use Rattle.session.specs.packet.packet_base.QoS.{lower_qos}
-use Rattle.session.specs.session_base.Session.{SessionState}
-use Rattle.session.specs.session_base.Queue.{on_puback, on_pubrec, on_pubcomp}
-use Rattle.session.specs.session_base.Sending.{fill_sends, pubrec_sends, resend}
+use Rattle.session_base.specs.Session.{SessionState}
+use Rattle.session_base.specs.Queue.{on_puback, on_pubrec, on_pubcomp}
+use Rattle.session_base.specs.Sending.{fill_sends, pubrec_sends, resend}
 use Rattle.broker_rows.specs.broker_base.ClientSession.{ClientSession}
 
 -- whether a packet is a step of a handshake

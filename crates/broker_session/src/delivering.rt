@@ -1,16 +1,16 @@
 // Putting copies of publications into sessions (MQTT 3.3.5, 4.6).
 
 ghost use Rattle.std.specs.Prelude.{◌≡◌, ◌≤◌, ◌++◌, [], ◌∷◌, true, false, Some, OnOk, IfOk};
-ghost use Rattle.session.specs.packet.declared.packet.Packet.TheVariants as packets;
-ghost use Rattle.session.specs.session_base.Publication.{publish_of, publication_of, is_answered};
+ghost use Rattle.packet.specs.declared.packet.Packet.TheVariants as packets;
+ghost use Rattle.session_base.specs.Publication.{publish_of, publication_of, is_answered};
 ghost use Rattle.session.specs.packet.packet_base.declared.qos.QoS.TheVariants as qualities;
-ghost use Rattle.session.specs.session_base.Queue.{room};
-ghost use Rattle.session.specs.session_base.Copies.{copies_left};
-ghost use Rattle.session.specs.session_base.Sending.{copies_sent};
-ghost use Rattle.session.specs.session_base.Session.{with_queue};
+ghost use Rattle.session_base.specs.Queue.{room};
+ghost use Rattle.session_base.specs.Copies.{copies_left};
+ghost use Rattle.session_base.specs.Sending.{copies_sent};
+ghost use Rattle.session_base.specs.Session.{with_queue};
 ghost use Rattle.broker_rows.specs.broker_base.SessionStep.{copied_queue};
 ghost use Rattle.broker_rows.specs.broker_base.StepAnswers.{sent_on};
-ghost use Rattle.broker_rows.specs.broker_spec.Commands.{usual_limits};
+ghost use Rattle.broker_spec.specs.Commands.{usual_limits};
 ghost use Rattle.broker_rows.specs.Published.{delivered_on, is_full_at};
 ghost use Rattle.broker_session.specs.OneSession.{lowered};
 

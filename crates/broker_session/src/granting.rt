@@ -1,8 +1,8 @@
 // The filters of a SUBSCRIBE, in the session of its client (MQTT 3.8.4).
 
 ghost use Rattle.std.specs.Prelude.{◌≡◌, ◌++◌, OnOk, IfOk};
-ghost use Rattle.broker_rows.specs.broker_spec.Commands.{usual_limits};
-ghost use Rattle.broker_rows.specs.broker_spec.Marks.{is_one_too_many};
+ghost use Rattle.broker_spec.specs.Commands.{usual_limits};
+ghost use Rattle.broker_spec.specs.Marks.{is_one_too_many};
 ghost use Rattle.broker_rows.specs.CopyLaws.{is_granted_in, subscribed_by, sent_by};
 ghost use Rattle.broker_rows.specs.CopyLaws.{granted_in_turn, subscribed_in_turn, sent_in_turn};
 

@@ -1,11 +1,11 @@
 // What a subscriber is sent of the retained publications (MQTT 3.3.1.3, 3.8.4).
 
 ghost use Rattle.std.specs.Prelude.{◌≡◌, ◌≤◌, ◌++◌, length, OnOk, IfOk};
-ghost use Rattle.session.specs.session_base.Queue.{room};
-ghost use Rattle.session.specs.session_base.Copies.{copies_left};
-ghost use Rattle.session.specs.session_base.Sending.{copies_sent};
-ghost use Rattle.session.specs.session_base.Session.{with_queue};
-ghost use Rattle.broker_rows.specs.broker_spec.Entries.{copies_for, queued, retained_copy};
+ghost use Rattle.session_base.specs.Queue.{room};
+ghost use Rattle.session_base.specs.Copies.{copies_left};
+ghost use Rattle.session_base.specs.Sending.{copies_sent};
+ghost use Rattle.session_base.specs.Session.{with_queue};
+ghost use Rattle.broker_spec.specs.Entries.{copies_for, queued, retained_copy};
 
 use crate::delivering::put_copy;
 use broker_spec::Window;

@@ -1,7 +1,7 @@
 // Packets as outputs.
 
 ghost use Rattle.std.specs.Prelude.{◌≡◌, ◌++◌, OnOk, map};
-ghost use Rattle.broker_rows.specs.broker_spec.declared.command.Output.TheVariants as outputs;
+ghost use Rattle.broker_spec.specs.declared.command.Output.TheVariants as outputs;
 
 use broker_spec::{ConnectionName, Output};
 use machine::Halted;

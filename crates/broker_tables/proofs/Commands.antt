@@ -1,10 +1,10 @@
 -- Commands.antt: a Lost and a Start have no answers, and a step of the tables is the step of the state.
 use Rattle.std.proofs.Common.{◌≡◌, refl, [], false, Result, Ok, Err}
 use Rattle.std.specs.Prelude.{ℕ, OnOk, is_err}
-use Rattle.broker_session.specs.broker_spec.Connection.{ConnectionName}
-use Rattle.broker_session.specs.broker_spec.Commands.{usual_limits}
-use Rattle.broker_session.specs.broker_spec.declared.command.Command.{Command}
-use Rattle.broker_session.specs.broker_spec.declared.command.Command.TheVariants as commands
+use Rattle.broker_spec.specs.Connection.{ConnectionName}
+use Rattle.broker_spec.specs.Commands.{usual_limits}
+use Rattle.broker_spec.specs.declared.command.Command.{Command}
+use Rattle.broker_spec.specs.declared.command.Command.TheVariants as commands
 use Rattle.broker_session.specs.broker_base.Step.{step}
 use Rattle.broker_tables.specs.declared.tables.Tables.{Tables}
 use Rattle.broker_tables.specs.Tables.{state_in, stepped}

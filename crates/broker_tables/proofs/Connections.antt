@@ -3,7 +3,7 @@ use Rattle.std.proofs.Common.{◌≡◌, ◌&&◌, ◌∙◌, ap₂, sym}
 use Rattle.std.specs.Ordering.{nat_cmp}
 use Rattle.std.specs.Cmp.{tied_then, unsigned_ties}
 use Rattle.std.specs.BTreeMap.{is_at}
-use Rattle.broker_session.specs.broker_spec.Connection.{ConnectionName, same_connection}
+use Rattle.broker_spec.specs.Connection.{ConnectionName, same_connection}
 use Rattle.broker_tables.specs.Tables.{by_connection}
 
 pub at_is_same : (x y : ConnectionName) → is_at (by_connection x) y ≡ same_connection x y

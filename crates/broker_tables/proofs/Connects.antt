@@ -4,13 +4,13 @@ use Rattle.std.specs.Prelude.{map, not, ◌||◌, if◌then◌else◌, option_ma
 use Rattle.std.specs.BTreeMap.{insert_entry}
 use Rattle.broker_session.specs.subs_base.Content.{without_client}
 use Rattle.broker_session.specs.subs_base.ListIndex.{content_of}
-use Rattle.broker_session.specs.broker_spec.Connection.{ConnectionName}
-use Rattle.broker_session.specs.broker_spec.Place.{Client, by_bytes}
-use Rattle.broker_session.specs.broker_spec.Answers.{closed, welcome, turned_away}
-use Rattle.broker_session.specs.broker_spec.Commands.{usual_limits}
-use Rattle.broker_session.specs.broker_spec.declared.command.Command.TheVariants as commands
-use Rattle.broker_session.specs.broker_spec.declared.command.Output.TheVariants as outputs
-use Rattle.broker_session.specs.broker_spec.Past.{begins_session}
+use Rattle.broker_spec.specs.Connection.{ConnectionName}
+use Rattle.broker_spec.specs.Place.{Client, by_bytes}
+use Rattle.broker_spec.specs.Answers.{closed, welcome, turned_away}
+use Rattle.broker_spec.specs.Commands.{usual_limits}
+use Rattle.broker_spec.specs.declared.command.Command.TheVariants as commands
+use Rattle.broker_spec.specs.declared.command.Output.TheVariants as outputs
+use Rattle.broker_spec.specs.Past.{begins_session}
 use Rattle.broker_session.specs.broker_base.ClientSession.{ClientSession}
 use Rattle.broker_session.specs.broker_base.SessionStep.{kept_anew, kept_resumed}
 use Rattle.broker_session.specs.broker_base.State.{State, session_in, owner_in}

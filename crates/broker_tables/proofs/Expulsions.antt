@@ -1,10 +1,10 @@
 -- Expulsions.antt: the step at an Expel, by the tables.
 use Rattle.std.proofs.Common.{◌≡◌, if◌then◌else◌, [], Option, Some, None, ap, ◌∙◌, sym}
-use Rattle.broker_session.specs.broker_spec.Connection.{ConnectionName, same_connection}
-use Rattle.broker_session.specs.broker_spec.Place.{Client}
-use Rattle.broker_session.specs.broker_spec.Commands.{usual_limits}
-use Rattle.broker_session.specs.broker_spec.Answers.{closed}
-use Rattle.broker_session.specs.broker_spec.declared.command.Command.TheVariants as commands
+use Rattle.broker_spec.specs.Connection.{ConnectionName, same_connection}
+use Rattle.broker_spec.specs.Place.{Client}
+use Rattle.broker_spec.specs.Commands.{usual_limits}
+use Rattle.broker_spec.specs.Answers.{closed}
+use Rattle.broker_spec.specs.declared.command.Command.TheVariants as commands
 use Rattle.broker_session.specs.broker_base.ClientSession.{ClientSession}
 use Rattle.broker_session.specs.broker_base.State.{session_in}
 use Rattle.broker_session.specs.subs_base.Content.{Content, without_client}

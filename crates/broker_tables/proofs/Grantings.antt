@@ -3,17 +3,17 @@ use Rattle.std.proofs.Common.{◌≡◌, ◌∙◌, ap, sym, Some, ◌∷◌, Li
 use Rattle.std.specs.Prelude.{map}
 use Rattle.std.specs.BTreeMap.{is_at}
 use Rattle.std.specs.Map.{lookup, set_value}
-use Rattle.broker_session.specs.packet.declared.subscribe.Subscribe.{Subscribe}
-use Rattle.broker_session.specs.packet.declared.packet.Packet.TheVariants as packets
-use Rattle.broker_session.specs.session_base.Session.{SessionState}
+use Rattle.packet.specs.declared.subscribe.Subscribe.{Subscribe}
+use Rattle.packet.specs.declared.packet.Packet.TheVariants as packets
+use Rattle.session_base.specs.Session.{SessionState}
 use Rattle.broker_session.specs.subs_base.ListIndex.{content_of}
-use Rattle.broker_session.specs.broker_spec.Connection.{ConnectionName}
-use Rattle.broker_session.specs.broker_spec.Place.{Client, by_bytes}
-use Rattle.broker_session.specs.broker_spec.Answers.{codes_of}
-use Rattle.broker_session.specs.broker_spec.Commands.{usual_limits}
-use Rattle.broker_session.specs.broker_spec.Subscriptions.{as_granted, granted_of}
-use Rattle.broker_session.specs.broker_spec.declared.command.Command.TheVariants as commands
-use Rattle.broker_session.specs.broker_spec.declared.command.Output.TheVariants as outputs
+use Rattle.broker_spec.specs.Connection.{ConnectionName}
+use Rattle.broker_spec.specs.Place.{Client, by_bytes}
+use Rattle.broker_spec.specs.Answers.{codes_of}
+use Rattle.broker_spec.specs.Commands.{usual_limits}
+use Rattle.broker_spec.specs.Subscriptions.{as_granted, granted_of}
+use Rattle.broker_spec.specs.declared.command.Command.TheVariants as commands
+use Rattle.broker_spec.specs.declared.command.Output.TheVariants as outputs
 use Rattle.broker_session.specs.broker_base.ClientSession.{ClientSession}
 use Rattle.broker_session.specs.broker_base.State.{session_in}
 use Rattle.broker_session.specs.broker_rows.Served.{ServesClient, with_session, holding}

@@ -1,14 +1,14 @@
 -- Handshakes.antt: the step at a packet of a handshake, by the tables.
 use Rattle.std.proofs.Common.{◌≡◌, ℕ, true, Some, refl, ap, ◌∙◌}
 use Rattle.std.specs.Prelude.{map}
-use Rattle.broker_session.specs.packet.declared.packet.Packet.{Packet}
-use Rattle.broker_session.specs.packet.declared.packet.Packet.TheVariants as packets
-use Rattle.broker_session.specs.session_base.Session.{SessionState}
-use Rattle.broker_session.specs.broker_spec.Connection.{ConnectionName}
-use Rattle.broker_session.specs.broker_spec.Place.{Client, Mark}
-use Rattle.broker_session.specs.broker_spec.Commands.{usual_limits}
-use Rattle.broker_session.specs.broker_spec.declared.command.Command.TheVariants as commands
-use Rattle.broker_session.specs.broker_spec.declared.command.Output.TheVariants as outputs
+use Rattle.packet.specs.declared.packet.Packet.{Packet}
+use Rattle.packet.specs.declared.packet.Packet.TheVariants as packets
+use Rattle.session_base.specs.Session.{SessionState}
+use Rattle.broker_spec.specs.Connection.{ConnectionName}
+use Rattle.broker_spec.specs.Place.{Client, Mark}
+use Rattle.broker_spec.specs.Commands.{usual_limits}
+use Rattle.broker_spec.specs.declared.command.Command.TheVariants as commands
+use Rattle.broker_spec.specs.declared.command.Output.TheVariants as outputs
 use Rattle.broker_session.specs.broker_base.ClientSession.{ClientSession}
 use Rattle.broker_session.specs.broker_base.Decisions.{owned_mark}
 use Rattle.broker_session.specs.broker_base.StepAnswers.{handled_in, while_connected}

@@ -1,9 +1,9 @@
 -- InPairs.antt: a walk over the filters of a SUBSCRIBE and what happens to each ends with the
 -- shorter of the two.
 use Rattle.std.proofs.Common.{◌≡◌, ◌⊎◌, inl, inr, refl, Bool, List, [], ◌∷◌}
-use Rattle.broker_session.specs.packet.declared.subscribe.Subscription.{Subscription}
-use Rattle.broker_session.specs.broker_spec.Answers.{codes_of}
-use Rattle.broker_session.specs.broker_spec.Subscriptions.{granted_of}
+use Rattle.packet.specs.declared.subscribe.Subscription.{Subscription}
+use Rattle.broker_spec.specs.Answers.{codes_of}
+use Rattle.broker_spec.specs.Subscriptions.{granted_of}
 
 pub no_more_codes : (filters : List Subscription) (which : List Bool) → (filters ≡ []) ⊎ (which ≡ []) → codes_of filters which ≡ []
 no_more_codes [] which e = refl

@@ -2,10 +2,10 @@
 use Rattle.std.proofs.Common.{◌≡◌, Bool, true, false, [], Option, Some, None, ap, ap₂, ◌∙◌, sym, cond}
 use Rattle.std.specs.BTreeMap.{is_at}
 use Rattle.std.specs.Map.{lookup}
-use Rattle.broker_session.specs.broker_spec.Connection.{ConnectionName}
-use Rattle.broker_session.specs.broker_spec.Place.{Client}
-use Rattle.broker_session.specs.broker_spec.Commands.{usual_limits}
-use Rattle.broker_session.specs.broker_spec.declared.command.Command.TheVariants as commands
+use Rattle.broker_spec.specs.Connection.{ConnectionName}
+use Rattle.broker_spec.specs.Place.{Client}
+use Rattle.broker_spec.specs.Commands.{usual_limits}
+use Rattle.broker_spec.specs.declared.command.Command.TheVariants as commands
 use Rattle.broker_session.specs.broker_base.ClientSession.{ClientSession}
 use Rattle.broker_session.specs.subs_base.Content.{Content, without_client}
 use Rattle.broker_session.specs.subs_base.ListIndex.{content_of}

@@ -2,17 +2,17 @@
 -- violation, by the tables.
 use Rattle.std.proofs.Common.{◌≡◌, ◌∙◌, ap, sym, refl, Some, None, [], ◌∷◌, true, false, Option}
 use Rattle.std.specs.Prelude.{option_map}
-use Rattle.broker_session.specs.packet.declared.packet.Packet.{Packet}
-use Rattle.broker_session.specs.packet.declared.publish.Publish.{Publish}
-use Rattle.broker_session.specs.packet.declared.subscribe.Subscribe.{Subscribe}
-use Rattle.broker_session.specs.packet.declared.unsubscribe.Unsubscribe.{Unsubscribe}
-use Rattle.broker_session.specs.packet.declared.packet.Packet.TheVariants as packets
-use Rattle.broker_session.specs.broker_spec.Connection.{ConnectionName}
-use Rattle.broker_session.specs.broker_spec.Place.{Client}
-use Rattle.broker_session.specs.broker_spec.Past.{is_leaving}
-use Rattle.broker_session.specs.broker_spec.Commands.{usual_limits}
-use Rattle.broker_session.specs.broker_spec.declared.command.Command.TheVariants as commands
-use Rattle.broker_session.specs.broker_spec.declared.command.Output.TheVariants as outputs
+use Rattle.packet.specs.declared.packet.Packet.{Packet}
+use Rattle.packet.specs.declared.publish.Publish.{Publish}
+use Rattle.packet.specs.declared.subscribe.Subscribe.{Subscribe}
+use Rattle.packet.specs.declared.unsubscribe.Unsubscribe.{Unsubscribe}
+use Rattle.packet.specs.declared.packet.Packet.TheVariants as packets
+use Rattle.broker_spec.specs.Connection.{ConnectionName}
+use Rattle.broker_spec.specs.Place.{Client}
+use Rattle.broker_spec.specs.Past.{is_leaving}
+use Rattle.broker_spec.specs.Commands.{usual_limits}
+use Rattle.broker_spec.specs.declared.command.Command.TheVariants as commands
+use Rattle.broker_spec.specs.declared.command.Output.TheVariants as outputs
 use Rattle.broker_session.specs.broker_base.ClientSession.{ClientSession}
 use Rattle.broker_session.specs.broker_base.Decisions.{owned_mark}
 use Rattle.broker_session.specs.broker_base.State.{owner_in}

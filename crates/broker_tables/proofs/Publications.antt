@@ -4,18 +4,18 @@ use Rattle.std.specs.BTreeMap.{is_at}
 use Rattle.std.specs.List.{list_any}
 use Rattle.std.specs.Map.{lookup}
 use Rattle.std.proofs.lemmas.Bool.{or_parts}
-use Rattle.broker_session.specs.packet.declared.publish.Publish.{Publish}
-use Rattle.broker_session.specs.packet.declared.packet.Packet.TheVariants as packets
-use Rattle.broker_session.specs.session_base.Publication.{publication_of}
+use Rattle.packet.specs.declared.publish.Publish.{Publish}
+use Rattle.packet.specs.declared.packet.Packet.TheVariants as packets
+use Rattle.session_base.specs.Publication.{publication_of}
 use Rattle.broker_session.specs.subs_base.ListIndex.{content_of}
 use Rattle.broker_session.specs.subs_base.Granted.{Row}
-use Rattle.broker_session.specs.broker_spec.Connection.{ConnectionName}
-use Rattle.broker_session.specs.broker_spec.Place.{Client}
-use Rattle.broker_session.specs.broker_spec.Retained.{retains}
-use Rattle.broker_session.specs.broker_spec.Answers.{acknowledged}
-use Rattle.broker_session.specs.broker_spec.Commands.{usual_limits}
-use Rattle.broker_session.specs.broker_spec.declared.command.Command.TheVariants as commands
-use Rattle.broker_session.specs.broker_spec.declared.command.Output.TheVariants as outputs
+use Rattle.broker_spec.specs.Connection.{ConnectionName}
+use Rattle.broker_spec.specs.Place.{Client}
+use Rattle.broker_spec.specs.Retained.{retains}
+use Rattle.broker_spec.specs.Answers.{acknowledged}
+use Rattle.broker_spec.specs.Commands.{usual_limits}
+use Rattle.broker_spec.specs.declared.command.Command.TheVariants as commands
+use Rattle.broker_spec.specs.declared.command.Output.TheVariants as outputs
 use Rattle.broker_session.specs.broker_base.ClientSession.{ClientSession}
 use Rattle.broker_session.specs.broker_base.State.{Sessions, session_in}
 use Rattle.broker_session.specs.broker_base.Decisions.{repeats, is_one_topic_over}

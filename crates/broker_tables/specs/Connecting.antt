@@ -1,8 +1,8 @@
 -- What a Connect does, and whose its connection becomes (MQTT 3.1.2.4).
 use Rattle.std.specs.Prelude.{◌≡◌, Bool, not, if◌then◌else◌}
-use Rattle.broker_session.specs.broker_spec.Connection.{ConnectionName}
-use Rattle.broker_session.specs.broker_spec.Place.{Client}
-use Rattle.broker_session.specs.broker_spec.Commands.{usual_limits}
+use Rattle.broker_spec.specs.Connection.{ConnectionName}
+use Rattle.broker_spec.specs.Place.{Client}
+use Rattle.broker_spec.specs.Commands.{usual_limits}
 use Rattle.broker_session.specs.broker_base.StepAnswers.{connection_of}
 use Rattle.broker_session.specs.broker_rows.Owners.{with_owner, without_owner}
 use Rattle.broker_session.specs.broker_rows.ConnectLaws.{may_have_session, begins_in}

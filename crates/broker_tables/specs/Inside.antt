@@ -1,8 +1,8 @@
 -- Definitions of private calls: which packets end their connection, and what a call leaves as it
 -- was.
 use Rattle.std.specs.Prelude.{◌≡◌, Bool, true, false}
-use Rattle.broker_session.specs.packet.declared.packet.Packet.{Packet}
-use Rattle.broker_session.specs.packet.declared.packet.Packet.TheVariants as packets
+use Rattle.packet.specs.declared.packet.Packet.{Packet}
+use Rattle.packet.specs.declared.packet.Packet.TheVariants as packets
 use Rattle.broker_session.specs.subs_base.ListIndex.{content_of}
 use Rattle.broker_tables.specs.declared.tables.Tables.{Tables}
 

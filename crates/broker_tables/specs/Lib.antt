@@ -3,7 +3,4 @@ pub mod Tables
 pub mod Connecting
 pub use Rattle.broker_session.specs.broker_base as broker_base
 pub use Rattle.broker_session.specs.broker_rows as broker_rows
-pub use Rattle.broker_session.specs.broker_spec as broker_spec
-pub use Rattle.broker_session.specs.machine as machine
-pub use Rattle.broker_session.specs.retained as retained
 pub use Rattle.broker_session.specs.subs_base as subs_base

@@ -1,11 +1,11 @@
 // Connect: a client opens a connection (MQTT 3.1).
 
 ghost use Rattle.std.specs.Prelude.{◌≡◌, ◌++◌, [], ◌∷◌, true, false, Some, None, OnOk, IsSome, map};
-ghost use Rattle.broker_session.specs.broker_spec.Answers.{turned_away, closed, welcome};
-ghost use Rattle.broker_session.specs.broker_spec.Connection.{ConnectionName as SpecName};
-ghost use Rattle.broker_session.specs.broker_spec.Commands.{usual_limits};
-ghost use Rattle.broker_session.specs.broker_spec.declared.command.Command.TheVariants as commands;
-ghost use Rattle.broker_session.specs.broker_spec.declared.command.Output.TheVariants as outputs;
+ghost use Rattle.broker_spec.specs.Answers.{turned_away, closed, welcome};
+ghost use Rattle.broker_spec.specs.Connection.{ConnectionName as SpecName};
+ghost use Rattle.broker_spec.specs.Commands.{usual_limits};
+ghost use Rattle.broker_spec.specs.declared.command.Command.TheVariants as commands;
+ghost use Rattle.broker_spec.specs.declared.command.Output.TheVariants as outputs;
 ghost use Rattle.broker_session.specs.broker_base.SessionStep.{kept_resumed};
 ghost use Rattle.broker_session.specs.broker_base.State.{session_in};
 ghost use Rattle.broker_session.specs.broker_base.StepAnswers.{connection_of};

@@ -1,7 +1,7 @@
 // An Expel: an administrator ends a client's session.
 
 ghost use Rattle.std.specs.Prelude.{◌≡◌, OnOk, OnErr};
-ghost use Rattle.broker_session.specs.broker_spec.declared.command.Command.TheVariants as commands;
+ghost use Rattle.broker_spec.specs.declared.command.Command.TheVariants as commands;
 ghost use Rattle.broker_tables.specs.Tables.{DoesCommand, IsConsistent, IsTied};
 
 use crate::leaving::{push_close, remove_owner};

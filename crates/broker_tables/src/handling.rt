@@ -1,7 +1,7 @@
 // Packets, and the clients that are served on the connections on which they come.
 
 ghost use Rattle.std.specs.Prelude.{◌≡◌, Some, IfOk, OnOk};
-ghost use Rattle.broker_session.specs.broker_spec.declared.command.Command.TheVariants as commands;
+ghost use Rattle.broker_spec.specs.declared.command.Command.TheVariants as commands;
 ghost use Rattle.broker_session.specs.broker_rows.Owners.{owners_in};
 ghost use Rattle.broker_session.specs.OneSession.{is_handshake};
 ghost use Rattle.broker_tables.specs.Inside.{ends_connection};

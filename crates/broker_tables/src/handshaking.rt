@@ -2,7 +2,7 @@
 // its sender's session, and answers it.
 
 ghost use Rattle.std.specs.Prelude.{◌≡◌, OnOk, Some, true};
-ghost use Rattle.broker_session.specs.broker_spec.declared.command.Command.TheVariants as commands;
+ghost use Rattle.broker_spec.specs.declared.command.Command.TheVariants as commands;
 ghost use Rattle.broker_session.specs.broker_rows.Owners.{owners_in};
 ghost use Rattle.broker_session.specs.OneSession.{is_handshake};
 ghost use Rattle.broker_tables.specs.Tables.{DoesCommand, IsConsistent, IsTied};

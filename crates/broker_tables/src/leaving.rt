@@ -2,10 +2,10 @@
 // 4.8).
 
 ghost use Rattle.std.specs.Prelude.{◌≡◌, ◌++◌, [], ◌∷◌, OnOk, OnErr};
-ghost use Rattle.broker_session.specs.broker_spec.Answers.{closed};
-ghost use Rattle.broker_session.specs.broker_spec.Connection.{ConnectionName as SpecName};
-ghost use Rattle.broker_session.specs.broker_spec.declared.command.Command.TheVariants as commands;
-ghost use Rattle.broker_session.specs.broker_spec.declared.command.Output.TheVariants as outputs;
+ghost use Rattle.broker_spec.specs.Answers.{closed};
+ghost use Rattle.broker_spec.specs.Connection.{ConnectionName as SpecName};
+ghost use Rattle.broker_spec.specs.declared.command.Command.TheVariants as commands;
+ghost use Rattle.broker_spec.specs.declared.command.Output.TheVariants as outputs;
 ghost use Rattle.broker_session.specs.broker_rows.Owners.{without_owner};
 ghost use Rattle.broker_tables.specs.Tables.{IsConsistent, IsTied, owners_at, state_in, stepped};
 

@@ -2,15 +2,15 @@
 
 ghost use Rattle.std.specs.Prelude.{◌≡◌, ◌++◌, false, Some, OnOk, IfOk, IfSome};
 ghost use Rattle.std.specs.List.{list_any};
-ghost use Rattle.broker_session.specs.packet.declared.packet.Packet.TheVariants as packets;
-ghost use Rattle.broker_session.specs.broker_spec.declared.command.Command.TheVariants as commands;
+ghost use Rattle.packet.specs.declared.packet.Packet.TheVariants as packets;
+ghost use Rattle.broker_spec.specs.declared.command.Command.TheVariants as commands;
 ghost use Rattle.broker_session.specs.broker_rows.Owners.{owners_in};
 ghost use Rattle.broker_session.specs.broker_rows.PublishLaws.{is_refused_in, HaveRoomInTurn};
 ghost use Rattle.broker_tables.specs.Tables.{DoesCommand, IsConsistent, IsTied, state_in};
 ghost use Rattle.broker_tables.specs.Inside.{HasOthersOf};
-ghost use Rattle.broker_session.specs.broker_spec.Answers.{acknowledged};
-ghost use Rattle.broker_session.specs.broker_spec.Commands.{usual_limits};
-ghost use Rattle.broker_session.specs.broker_spec.Retained.{retains};
+ghost use Rattle.broker_spec.specs.Answers.{acknowledged};
+ghost use Rattle.broker_spec.specs.Commands.{usual_limits};
+ghost use Rattle.broker_spec.specs.Retained.{retains};
 ghost use Rattle.broker_session.specs.broker_base.Decisions.{repeats, is_one_topic_over};
 ghost use Rattle.broker_session.specs.broker_base.State.{session_in};
 ghost use Rattle.broker_session.specs.broker_rows.Published.{is_full_at, all_delivered, answered_in_turn, changed};

@@ -2,7 +2,7 @@
 
 ghost use Rattle.std.specs.Prelude.{◌≡◌, Some, None, if◌then◌else◌};
 ghost use Rattle.broker_session.specs.subs_base.ListIndex.{content_of};
-ghost use Rattle.broker_session.specs.broker_spec.declared.command.Command.TheVariants as commands;
+ghost use Rattle.broker_spec.specs.declared.command.Command.TheVariants as commands;
 ghost use Rattle.broker_session.specs.broker_rows.Indexed.{all_dropped, clean_clients};
 ghost use Rattle.broker_session.specs.broker_rows.ConnectLaws.{all_left_off};
 ghost use Rattle.broker_session.specs.broker_rows.Served.{left_off};

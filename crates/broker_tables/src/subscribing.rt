@@ -1,11 +1,11 @@
 // SUBSCRIBE: a client subscribes (MQTT 3.8).
 
 ghost use Rattle.std.specs.Prelude.{◌≡◌, Some, OnOk, IfOk, map};
-ghost use Rattle.broker_session.specs.packet.declared.packet.Packet.TheVariants as packets;
+ghost use Rattle.packet.specs.declared.packet.Packet.TheVariants as packets;
 ghost use Rattle.broker_session.specs.subs_base.ListIndex.{content_of};
-ghost use Rattle.broker_session.specs.broker_spec.Answers.{codes_of};
-ghost use Rattle.broker_session.specs.broker_spec.Subscriptions.{as_granted, granted_of};
-ghost use Rattle.broker_session.specs.broker_spec.declared.command.Command.TheVariants as commands;
+ghost use Rattle.broker_spec.specs.Answers.{codes_of};
+ghost use Rattle.broker_spec.specs.Subscriptions.{as_granted, granted_of};
+ghost use Rattle.broker_spec.specs.declared.command.Command.TheVariants as commands;
 ghost use Rattle.broker_session.specs.broker_rows.Indexed.{all_set};
 ghost use Rattle.broker_session.specs.broker_rows.Owners.{owners_in};
 ghost use Rattle.broker_tables.specs.Tables.{DoesCommand, IsConsistent, IsTied};

@@ -2,7 +2,7 @@
 
 ghost use Rattle.std.specs.Prelude.{◌≡◌};
 ghost use Rattle.broker_session.specs.broker_base.State.{empty_state};
-ghost use Rattle.broker_session.specs.broker_spec.Window.{wide_window};
+ghost use Rattle.broker_spec.specs.Window.{wide_window};
 ghost use Rattle.broker_tables.specs.Tables.{IsTied, state_in};
 
 use broker_session::ClientRow;

@@ -1,11 +1,11 @@
 // UNSUBSCRIBE: a client unsubscribes (MQTT 3.10).
 
 ghost use Rattle.std.specs.Prelude.{◌≡◌, Some, OnOk};
-ghost use Rattle.broker_session.specs.packet.declared.packet.Packet.TheVariants as packets;
-ghost use Rattle.broker_session.specs.session_base.Subscriptions.{without_filters};
-ghost use Rattle.broker_session.specs.session_base.Session.{with_filters};
+ghost use Rattle.packet.specs.declared.packet.Packet.TheVariants as packets;
+ghost use Rattle.session_base.specs.Subscriptions.{without_filters};
+ghost use Rattle.session_base.specs.Session.{with_filters};
 ghost use Rattle.broker_session.specs.subs_base.ListIndex.{content_of};
-ghost use Rattle.broker_session.specs.broker_spec.declared.command.Command.TheVariants as commands;
+ghost use Rattle.broker_spec.specs.declared.command.Command.TheVariants as commands;
 ghost use Rattle.broker_session.specs.broker_rows.Indexed.{all_cleared};
 ghost use Rattle.broker_session.specs.broker_rows.Owners.{owners_in};
 ghost use Rattle.broker_tables.specs.Tables.{DoesCommand, IsConsistent, IsTied};

@@ -27,4 +27,3 @@ pub use Rattle.node_group.proofs.of_node_moves as of_node_moves
 pub use Rattle.node_group.proofs.of_packet as of_packet
 pub use Rattle.node_group.proofs.of_packet_world as of_packet_world
 pub use Rattle.node_group.proofs.of_snapshots as of_snapshots
-pub use Rattle.node_group.proofs.of_world_base as of_world_base

@@ -1,6 +1,6 @@
 -- A packet that was read and then ends the call, or finds no memory, ends the reading.
 use Rattle.std.proofs.Common.{Err, ap, ◌∙◌, inr}
-use Rattle.cutter.specs.packet.declared.packet.Packet.{Packet}
+use Rattle.packet.specs.declared.packet.Packet.{Packet}
 use Rattle.client_base.specs.declared.error.ClientError.{ClientError}
 use Rattle.client_base.specs.declared.error.ClientError.TheVariants as errors
 use Rattle.client.specs.Core.{Core}

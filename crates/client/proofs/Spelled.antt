@@ -1,9 +1,9 @@
 -- Spelled.antt: packets that are written one after another.
 use Rattle.std.proofs.Common.{◌≡◌, ℕ, true, false, ◌+◌, ◌<◌, List, [], ◌∷◌, ◌++◌, length, map, take, get_or, append_assoc, append-nil, refl, ap, sym, subst, ◌∙◌}
 use Rattle.std.proofs.lemmas.List.{map_more}
-use Rattle.cutter.specs.packet.declared.packet.Packet.{Packet}
-use Rattle.cutter.specs.packet.declared.packet.Packet.TheVariants as packets
-use Rattle.cutter.specs.packet.Spelling.{AppendsSpelling}
+use Rattle.packet.specs.declared.packet.Packet.{Packet}
+use Rattle.packet.specs.declared.packet.Packet.TheVariants as packets
+use Rattle.packet.specs.Spelling.{AppendsSpelling}
 use Rattle.client_base.specs.declared.unacknowledged_publication.UnacknowledgedPublication.{UnacknowledgedPublication}
 use Rattle.client_base.specs.State.{ClientState, publish_kept, resent}
 use Rattle.client.specs.Core.{AppendsAll}

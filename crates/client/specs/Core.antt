@@ -1,10 +1,10 @@
 -- What a `ClientCore` shows: what it keeps, what it has not yet read, and what it wrote.
 use Rattle.std.specs.Prelude.{◌≡◌, ℕ, Bool, false, List, [], ◌∷◌, Some, None, Result, Ok, Err}
 use Rattle.cutter.specs.packet.packet_base.declared.qos.QoS.{QoS}
-use Rattle.cutter.specs.packet.declared.packet.Packet.{Packet}
-use Rattle.cutter.specs.packet.Spelling.{AppendsSpelling}
+use Rattle.packet.specs.declared.packet.Packet.{Packet}
+use Rattle.packet.specs.Spelling.{AppendsSpelling}
 use Rattle.cutter.specs.Stream.{Stream}
-use Rattle.client_base.specs.session_base.declared.publication.Publication.{Publication}
+use Rattle.session_base.specs.declared.publication.Publication.{Publication}
 use Rattle.client_base.specs.declared.error.ClientError.{ClientError}
 use Rattle.client_base.specs.declared.error.ClientError.TheVariants as errors
 use Rattle.client_base.specs.State.{ClientState, new_client, lost}

@@ -26,4 +26,3 @@ pub use Rattle.client_base.specs.lists as lists
 pub use Rattle.cutter.specs.packet as packet
 pub use Rattle.cutter.specs.packet_base as packet_base
 pub use Rattle.client_base.specs.session_base as session_base
-pub use Rattle.cutter.specs.topics as topics

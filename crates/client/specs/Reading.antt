@@ -1,8 +1,8 @@
 -- How the bytes from the server are read: packet by packet, up to the first that ends the call.
 use Rattle.std.specs.Prelude.{◌≡◌, ℕ, ◌⊎◌, List, ◌++◌, Some, None, Result, Ok, Err}
-use Rattle.cutter.specs.packet.declared.packet.Packet.{Packet}
-use Rattle.cutter.specs.packet.declared.error.DecodeFault.{DecodeFault}
-use Rattle.cutter.specs.packet.declared.error.DecodeFault.TheVariants as faults
+use Rattle.packet.specs.declared.packet.Packet.{Packet}
+use Rattle.packet.specs.declared.error.DecodeFault.{DecodeFault}
+use Rattle.packet.specs.declared.error.DecodeFault.TheVariants as faults
 use Rattle.cutter.specs.declared.error.CutError.TheVariants as cuts
 use Rattle.cutter.specs.Stream.{Stream, Takes}
 use Rattle.client_base.specs.declared.error.ClientError.{ClientError}

@@ -1,8 +1,8 @@
 // Requests of a client (MQTT 3.8, 3.10).
 
 ghost use Rattle.std.specs.Prelude.{◌≡◌, [], ◌∷◌, IfOk, OnOk, OnErr, IsErrOf};
-ghost use Rattle.cutter.specs.packet.Spelling.{AppendsSpelling};
-ghost use Rattle.cutter.specs.packet.declared.packet.Packet.TheVariants as packets;
+ghost use Rattle.packet.specs.Spelling.{AppendsSpelling};
+ghost use Rattle.packet.specs.declared.packet.Packet.TheVariants as packets;
 ghost use Rattle.client_base.specs.Steps.{Call, keeper_step};
 ghost use Rattle.client.specs.Core.{AnswersCall};
 ghost use Rattle.client.specs.Inside.Ids.{RequestId};

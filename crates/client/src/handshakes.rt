@@ -2,7 +2,7 @@
 
 ghost use Rattle.std.specs.Prelude.{◌≡◌, false};
 ghost use Rattle.client_base.specs.lists.Lists.{has_id};
-ghost use Rattle.cutter.specs.packet.declared.delivery.Delivery.TheVariants as deliveries;
+ghost use Rattle.packet.specs.declared.delivery.Delivery.TheVariants as deliveries;
 ghost use Rattle.client_base.specs.Answered.{on_publish, on_puback, on_pubrec, on_pubcomp};
 ghost use Rattle.client_base.specs.Answered.{on_pubrel, answered, accepted_of};
 ghost use Rattle.client_base.specs.Answered.{is_subscribe, is_unsubscribe};

@@ -6,7 +6,7 @@ ghost use Rattle.client_base.specs.lists.Lists.{has_id};
 ghost use Rattle.client_base.specs.State.{id_of_request, used_ids};
 ghost use Rattle.client_base.specs.Answered.{awaits_puback, awaits_pubrec};
 ghost use Rattle.client_base.specs.Answered.{is_subscribe, is_unsubscribe};
-ghost use Rattle.client_base.specs.session_base.Identifiers.{without_id};
+ghost use Rattle.session_base.specs.Identifiers.{without_id};
 ghost use Rattle.client_base.specs.Publishing.{next_id, has_free_id};
 
 use crate::client_core::ClientCore;

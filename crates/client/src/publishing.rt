@@ -1,10 +1,10 @@
 // Publications of a client (MQTT 3.3, 4.3).
 
 ghost use Rattle.std.specs.Prelude.{◌≡◌, false, true, IfOk};
-ghost use Rattle.cutter.specs.packet.declared.delivery.Delivery.TheVariants as deliveries;
-ghost use Rattle.cutter.specs.packet.declared.packet.Packet.TheVariants as packets;
+ghost use Rattle.packet.specs.declared.delivery.Delivery.TheVariants as deliveries;
+ghost use Rattle.packet.specs.declared.packet.Packet.TheVariants as packets;
 ghost use Rattle.cutter.specs.packet.packet_base.declared.qos.QoS.TheVariants as qualities;
-ghost use Rattle.client_base.specs.session_base.Publication.{is_answered};
+ghost use Rattle.session_base.specs.Publication.{is_answered};
 ghost use Rattle.client_base.specs.State.{publish_kept};
 ghost use Rattle.client_base.specs.Publishing.{is_over_limit};
 ghost use Rattle.client_base.specs.Steps.{Call, keeper_step};

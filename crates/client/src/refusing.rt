@@ -2,8 +2,8 @@
 
 ghost use Rattle.std.specs.Prelude.{ℕ, ◌≡◌, ◌+◌, false, if◌then◌else◌, length, min};
 ghost use Rattle.std.specs.Option.{is_some};
-ghost use Rattle.cutter.specs.packet.declared.packet.Packet.TheVariants as packets;
-ghost use Rattle.client_base.specs.session_base.Publication.{is_answered, publish_of};
+ghost use Rattle.packet.specs.declared.packet.Packet.TheVariants as packets;
+ghost use Rattle.session_base.specs.Publication.{is_answered, publish_of};
 ghost use Rattle.client_base.specs.Publishing.{is_over_limit, publish_refusal};
 ghost use Rattle.client_base.specs.Steps.{request_refusal};
 

@@ -1,8 +1,8 @@
 // Packets that a client writes.
 
 ghost use Rattle.std.specs.Prelude.{◌≡◌, false, map, IfOk, OnOk, OnErr, IsErrOf};
-ghost use Rattle.cutter.specs.packet.Spelling.{IsListed, AppendsSpelling};
-ghost use Rattle.cutter.specs.packet.declared.packet.Packet.TheVariants as packets;
+ghost use Rattle.packet.specs.Spelling.{IsListed, AppendsSpelling};
+ghost use Rattle.packet.specs.declared.packet.Packet.TheVariants as packets;
 ghost use Rattle.client_base.specs.State.{publish_kept};
 ghost use Rattle.client.specs.Core.{AppendsAll};
 

@@ -2,7 +2,7 @@
 use Rattle.std.proofs.Common.{◌≡◌, ℕ, Bool, true, false, if◌then◌else◌, List, [], ◌∷◌, ◌++◌, None, refl, ap, ap₂, sym, ◌∙◌, append-nil}
 use Rattle.std.proofs.lemmas.Bool.{both_ways}
 use Rattle.session_base.specs.lists.Lists.{has_id}
-use Rattle.session_base.specs.packet.declared.packet.Packet.TheVariants as packets
+use Rattle.packet.specs.declared.packet.Packet.TheVariants as packets
 use Rattle.session_base.specs.declared.publication.Publication.{Publication}
 use Rattle.session_base.specs.Publication.{publish_of}
 use Rattle.client_base.specs.declared.unacknowledged_publication.UnacknowledgedPublication.{UnacknowledgedPublication}

@@ -5,7 +5,7 @@ use Rattle.std.proofs.lemmas.Bool.{both_ways}
 use Rattle.std.specs.List.{list_any}
 use Rattle.session_base.specs.lists.Lists.{has_id}
 use Rattle.session_base.proofs.of_lists.Identifiers.{has_append}
-use Rattle.session_base.specs.packet.declared.packet.Packet.TheVariants as packets
+use Rattle.packet.specs.declared.packet.Packet.TheVariants as packets
 use Rattle.session_base.specs.Publication.{is_acknowledged}
 use Rattle.client_base.specs.State.{ClientState}
 use Rattle.client_base.specs.Answered.{awaits_pubrec, on_pubrec, on_pubcomp}

@@ -2,9 +2,9 @@
 -- publication's and a request's.
 use Rattle.std.proofs.Common.{◌≡◌, ℕ, ◌+◌, Bool, true, false, if◌then◌else◌, List, [], ◌∷◌, ◌++◌, filter, refl, arith}
 use Rattle.session_base.proofs.of_lists.Identifiers.{distinct_apart}
-use Rattle.session_base.specs.packet.declared.connack.Connack.TheVariants as connacks
-use Rattle.session_base.specs.packet.declared.packet.Packet.{Packet}
-use Rattle.session_base.specs.packet.declared.packet.Packet.TheVariants as packets
+use Rattle.packet.specs.declared.connack.Connack.TheVariants as connacks
+use Rattle.packet.specs.declared.packet.Packet.{Packet}
+use Rattle.packet.specs.declared.packet.Packet.TheVariants as packets
 use Rattle.session_base.specs.Laws.{IsLeastFree}
 use Rattle.client_base.specs.declared.unacknowledged_publication.UnacknowledgedPublication.{UnacknowledgedPublication}
 use Rattle.client_base.specs.declared.stage.Stage.{Stage}

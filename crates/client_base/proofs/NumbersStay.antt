@@ -1,10 +1,10 @@
 -- NumbersStay.antt: whatever is called or comes, the n-th publication has number n.
 use Rattle.std.proofs.Common.{◌≡◌, ◌+◌, ℕ, suc, Bool, true, false, not, ◌&&◌, if◌then◌else◌, List, [], ◌∷◌, ◌++◌, length, refl, subst, arith}
-use Rattle.session_base.specs.packet.declared.connack.Connack.TheVariants as connacks
-use Rattle.session_base.specs.packet.declared.delivery.Delivery.{Delivery}
-use Rattle.session_base.specs.packet.declared.delivery.Delivery.TheVariants as deliveries
-use Rattle.session_base.specs.packet.declared.packet.Packet.{Packet}
-use Rattle.session_base.specs.packet.declared.packet.Packet.TheVariants as packets
+use Rattle.packet.specs.declared.connack.Connack.TheVariants as connacks
+use Rattle.packet.specs.declared.delivery.Delivery.{Delivery}
+use Rattle.packet.specs.declared.delivery.Delivery.TheVariants as deliveries
+use Rattle.packet.specs.declared.packet.Packet.{Packet}
+use Rattle.packet.specs.declared.packet.Packet.TheVariants as packets
 use Rattle.session_base.specs.lists.Lists.{has_id}
 use Rattle.session_base.specs.declared.publication.Publication.{Publication}
 use Rattle.session_base.specs.Publication.{is_answered, publication_of}

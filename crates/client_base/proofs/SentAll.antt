@@ -1,7 +1,7 @@
 -- SentAll.antt: after a CONNACK 0 all is sent, in the order in which it was published; and one more
 -- is published.
 use Rattle.std.proofs.Common.{◌≡◌, true, false, List, [], ◌∷◌, ◌++◌, map, refl, ap, sym, ◌∙◌}
-use Rattle.session_base.specs.packet.declared.packet.Packet.{Packet}
+use Rattle.packet.specs.declared.packet.Packet.{Packet}
 use Rattle.client_base.specs.declared.unacknowledged_publication.UnacknowledgedPublication.{UnacknowledgedPublication}
 use Rattle.client_base.specs.State.{publish_kept}
 use Rattle.client_base.specs.Keeper.{Own, Written}

@@ -2,12 +2,12 @@
 use Rattle.std.specs.Prelude.{ℕ, Bool, false, not, ◌&&◌, ◌==◌, if◌then◌else◌, List, [], ◌∷◌, ◌++◌}
 use Rattle.std.specs.Prelude.{filter, Option, Some, None}
 use Rattle.std.specs.List.{list_any}
-use Rattle.session_base.specs.packet.declared.delivery.Delivery.{Delivery}
-use Rattle.session_base.specs.packet.declared.delivery.Delivery.TheVariants as deliveries
-use Rattle.session_base.specs.packet.declared.publish.Publish.{Publish}
-use Rattle.session_base.specs.packet.declared.packet.Packet.{Packet}
-use Rattle.session_base.specs.packet.declared.packet.Packet.TheVariants as packets
-use Rattle.session_base.specs.packet.Delivery.{delivery_qos}
+use Rattle.packet.specs.declared.delivery.Delivery.{Delivery}
+use Rattle.packet.specs.declared.delivery.Delivery.TheVariants as deliveries
+use Rattle.packet.specs.declared.publish.Publish.{Publish}
+use Rattle.packet.specs.declared.packet.Packet.{Packet}
+use Rattle.packet.specs.declared.packet.Packet.TheVariants as packets
+use Rattle.packet.specs.Delivery.{delivery_qos}
 use Rattle.session_base.specs.Publication.{is_acknowledged}
 use Rattle.session_base.specs.lists.Lists.{has_id}
 use Rattle.client_base.specs.declared.accepted.Accepted.{Accepted}

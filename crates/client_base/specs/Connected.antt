@@ -1,6 +1,6 @@
 -- How a client with its history opens and leaves a connection.
 use Rattle.std.specs.Prelude.{ℕ, true, false, if◌then◌else◌, List, [], ◌∷◌}
-use Rattle.session_base.specs.packet.declared.packet.Packet.TheVariants as packets
+use Rattle.packet.specs.declared.packet.Packet.TheVariants as packets
 use Rattle.client_base.specs.Keeper.{Written, ClientConnection, Keeper, Side}
 use Rattle.client_base.specs.Written.{plain}
 use Rattle.client_base.specs.Handled.{lost, handled}

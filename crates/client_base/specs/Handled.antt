@@ -1,9 +1,9 @@
 -- What a packet of the server does to a client with its history (MQTT 3.2, 4.3, 4.4).
 use Rattle.std.specs.Prelude.{ℕ, suc, Bool, true, false, not, ◌&&◌, if◌then◌else◌, [], ◌∷◌, ◌++◌}
 use Rattle.std.specs.Prelude.{map, filter}
-use Rattle.session_base.specs.packet.declared.connack.Connack.TheVariants as connacks
-use Rattle.session_base.specs.packet.declared.packet.Packet.{Packet}
-use Rattle.session_base.specs.packet.declared.packet.Packet.TheVariants as packets
+use Rattle.packet.specs.declared.connack.Connack.TheVariants as connacks
+use Rattle.packet.specs.declared.packet.Packet.{Packet}
+use Rattle.packet.specs.declared.packet.Packet.TheVariants as packets
 use Rattle.session_base.specs.Publication.{publication_of}
 use Rattle.client_base.specs.declared.request.Request.{Request}
 use Rattle.client_base.specs.Answered.{is_subscribe, is_unsubscribe}

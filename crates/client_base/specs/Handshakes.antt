@@ -1,9 +1,9 @@
 -- What a packet of the server does to the handshakes of a client with its history (MQTT 4.3).
 use Rattle.std.specs.Prelude.{ℕ, Bool, false, not, ◌&&◌, ◌||◌, ◌==◌, if◌then◌else◌, List, [], ◌∷◌}
 use Rattle.std.specs.Prelude.{◌++◌, map}
-use Rattle.session_base.specs.packet.declared.delivery.Delivery.{Delivery}
-use Rattle.session_base.specs.packet.declared.delivery.Delivery.TheVariants as deliveries
-use Rattle.session_base.specs.packet.declared.packet.Packet.TheVariants as packets
+use Rattle.packet.specs.declared.delivery.Delivery.{Delivery}
+use Rattle.packet.specs.declared.delivery.Delivery.TheVariants as deliveries
+use Rattle.packet.specs.declared.packet.Packet.TheVariants as packets
 use Rattle.session_base.specs.declared.publication.Publication.{Publication}
 use Rattle.session_base.specs.Publication.{is_acknowledged}
 use Rattle.session_base.specs.lists.Lists.{has_id}

@@ -1,6 +1,6 @@
 -- A client that keeps no history does the same as the one with it.
 use Rattle.std.specs.Prelude.{◌≡◌, ℕ, true, List, map, None}
-use Rattle.session_base.specs.packet.declared.packet.Packet.{Packet}
+use Rattle.packet.specs.declared.packet.Packet.{Packet}
 use Rattle.client_base.specs.State.{ClientState, is_open}
 use Rattle.client_base.specs.Keeper.{ClientConnection, Side}
 use Rattle.client_base.specs.Steps.{Call, keeper_step}

@@ -1,7 +1,7 @@
 -- A client with its history: all that it published, and what it wrote on which connection (MQTT
 -- 4.3, 4.4).
 use Rattle.std.specs.Prelude.{ℕ, ◌+◌, Bool, false, List, [], ◌∷◌, ◌++◌, length, map, Option}
-use Rattle.session_base.specs.packet.declared.packet.Packet.{Packet}
+use Rattle.packet.specs.declared.packet.Packet.{Packet}
 use Rattle.session_base.specs.declared.publication.Publication.{Publication}
 use Rattle.client_base.specs.declared.request.Request.{Request}
 use Rattle.client_base.specs.State.{id_of_request}

@@ -1,9 +1,9 @@
 -- What is accepted at QoS 2 is accepted once for each identifier kept (MQTT 4.3.3).
 use Rattle.std.specs.Prelude.{◌≡◌, ℕ, Bool, true, false, ◌⊎◌}
-use Rattle.session_base.specs.packet.declared.connack.Connack.TheVariants as connacks
-use Rattle.session_base.specs.packet.declared.delivery.Delivery.TheVariants as deliveries
-use Rattle.session_base.specs.packet.declared.publish.Publish.{Publish}
-use Rattle.session_base.specs.packet.declared.packet.Packet.TheVariants as packets
+use Rattle.packet.specs.declared.connack.Connack.TheVariants as connacks
+use Rattle.packet.specs.declared.delivery.Delivery.TheVariants as deliveries
+use Rattle.packet.specs.declared.publish.Publish.{Publish}
+use Rattle.packet.specs.declared.packet.Packet.TheVariants as packets
 use Rattle.session_base.specs.lists.Lists.{has_id}
 use Rattle.client_base.specs.State.{ClientState}
 use Rattle.client_base.specs.Answered.{on_publish, accepting}

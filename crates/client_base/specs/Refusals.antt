@@ -1,6 +1,6 @@
 -- The numbers of what a client refuses.
 use Rattle.std.specs.Prelude.{ℕ}
-use Rattle.session_base.specs.topics.Refusals.{number_of}
+use Rattle.topics.specs.Refusals.{number_of}
 use Rattle.client_base.specs.declared.error.ClientError.{ClientError}
 use Rattle.client_base.specs.declared.error.ClientError.TheVariants as errors
 

@@ -4,4 +4,3 @@ pub mod Jobs
 pub mod Tables
 pub mod Inside
 pub use Rattle.packet.specs as packet
-pub use Rattle.packet.specs.topics as topics

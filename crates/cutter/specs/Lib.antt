@@ -4,4 +4,3 @@ pub mod Refusals
 pub mod Pipe
 pub use Rattle.packet.specs as packet
 pub use Rattle.packet.specs.packet_base as packet_base
-pub use Rattle.packet.specs.topics as topics

@@ -1,7 +1,7 @@
 -- The packets of a stream of bytes (MQTT 2), and how they are taken from it.
 use Rattle.std.specs.Prelude.{◌≡◌, ◌≢◌, ℕ, Bool, true, false, List, [], ◌∷◌, ◌++◌, Option, Some}
 use Rattle.std.specs.Prelude.{None, Result, Ok, Err}
-use Rattle.packet.specs.topics.declared.malformed.MalformedKind.TheVariants as kinds
+use Rattle.topics.specs.declared.malformed.MalformedKind.TheVariants as kinds
 use Rattle.packet.specs.Stop.TheVariants as stops
 use Rattle.packet.specs.Spelling.{Spells, IsPacket}
 use Rattle.packet.specs.Verdict.{verdict, MayNeedMemory}

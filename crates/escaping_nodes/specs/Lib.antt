@@ -4,5 +4,4 @@ pub mod Opened
 pub mod Answered
 pub use Rattle.escaping.specs as escaping
 pub use Rattle.world_nodes.specs.master as master
-pub use Rattle.ways_out.specs as ways_out
 pub use Rattle.world_nodes.specs as world_nodes

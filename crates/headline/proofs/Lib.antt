@@ -39,4 +39,3 @@ pub use Rattle.byte_world.proofs.of_node_group as of_node_group
 pub use Rattle.byte_world.proofs.of_node_moves as of_node_moves
 pub use Rattle.byte_world.proofs.of_packet_world as of_packet_world
 pub use Rattle.byte_world.proofs.of_snapshots as of_snapshots
-pub use Rattle.byte_world.proofs.of_world_base as of_world_base

@@ -12,8 +12,8 @@ use Rattle.command_line.specs.declared.fault.TableFault.{TableFault}
 use Rattle.command_line.specs.declared.fault.TableFault.TheVariants as tables
 use Rattle.command_line.specs.declared.fault.LineFault.{LineFault}
 use Rattle.command_line.specs.declared.fault.LineFault.TheVariants as lines
-use Rattle.play.specs.user_client.declared.user_client_error.UserClientError.{UserClientError}
-use Rattle.play.specs.user_client.declared.user_client_error.UserClientError.TheVariants as clients
+use Rattle.user_client.specs.declared.user_client_error.UserClientError.{UserClientError}
+use Rattle.user_client.specs.declared.user_client_error.UserClientError.TheVariants as clients
 use Rattle.jobs.specs.declared.job_error.JobError.{JobError}
 use Rattle.jobs.specs.declared.job_error.JobError.TheVariants as faults
 

@@ -8,9 +8,9 @@ use Rattle.script.specs.ballot_base.declared.status.Role.{Role}
 use Rattle.script.specs.ballot_base.declared.status.Role.TheVariants as roles
 use Rattle.script.specs.ballot_base.declared.status.Status.{Status}
 use Rattle.command_line.specs.packet.ClientId.{client_fault}
-use Rattle.command_line.specs.topics.Refusals.{number_of}
-use Rattle.command_line.specs.topics.declared.malformed.MalformedKind.{MalformedKind}
-use Rattle.command_line.specs.topics.declared.malformed.MalformedKind.TheVariants as kinds
+use Rattle.topics.specs.Refusals.{number_of}
+use Rattle.topics.specs.declared.malformed.MalformedKind.{MalformedKind}
+use Rattle.topics.specs.declared.malformed.MalformedKind.TheVariants as kinds
 use Rattle.jobs.specs.declared.obeying.Order.{Order}
 use Rattle.jobs.specs.declared.obeying.Order.TheVariants as orders
 use Rattle.jobs.specs.declared.word_fault.WordFault.{WordFault}

@@ -2,8 +2,8 @@
 
 ghost use Rattle.std.specs.Prelude.{◌≡◌, ◌<◌, ℕ, None, IfErr, IfOk, OnOk, OnErr, IsErrOf};
 ghost use Rattle.std.specs.Io.KnownBytes.{Appends};
-ghost use Rattle.play.specs.script.Scripts.{Refuses, lines_of};
-ghost use Rattle.play.specs.script.declared.error.ScriptFault.TheVariants.{Line};
+ghost use Rattle.script.specs.Scripts.{Refuses, lines_of};
+ghost use Rattle.script.specs.declared.error.ScriptFault.TheVariants.{Line};
 ghost use Rattle.command_line.specs.packet.ClientId.{client_fault};
 ghost use Rattle.play.specs.Ways.{HasNoWay};
 ghost use Rattle.jobs.specs.Orders.{IsRefusedBy};

@@ -4,7 +4,7 @@ use Rattle.std.specs.Prelude.{slice_get, ◌==◌, ◌&&◌}
 use Rattle.std.proofs.lemmas.Bool.{cases_eq, ne_eqb, cases_Bool, eqb-true}
 use Rattle.std.proofs.lemmas.List.{drop_more, length-append, take-append-le, take_more}
 use Rattle.std.proofs.Math.Seq.{take-length}
-use Rattle.ballot.specs.machine.Machine.{Rules}
+use Rattle.machine.specs.Machine.{Rules}
 use Rattle.ballot.specs.lists.Lists.{In}
 use Rattle.ballot.specs.lists.Lists.In.{here, there}
 use Rattle.ballot.proofs.of_lists.Members.{in_append}

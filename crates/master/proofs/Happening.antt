@@ -1,7 +1,7 @@
 -- Happening.antt: each step of a group is one that may happen to a master and nodes.
 use Rattle.std.proofs.Common.{◌≡◌, ℕ, zero, suc, ◌+◌, ◌-◌, ◌⊎◌, inl, inr, Bool, true, false, cond, List, [], Some, None, Option, refl, ap, sym, ◌∙◌, subst, arith}
 use Rattle.std.specs.Prelude.{slice_get, nat_lt, not, ◌<◌}
-use Rattle.ballot.specs.machine.Machine.{Rules}
+use Rattle.machine.specs.Machine.{Rules}
 use Rattle.ballot.specs.lists.Lists.{In}
 use Rattle.ballot.proofs.of_lists.Members.{in_at}
 use Rattle.ballot.specs.Config.{Config}

@@ -3,7 +3,7 @@ use Rattle.std.proofs.Common.{◌≡◌, ℕ, zero, suc, ◌+◌, ◌-◌, ◌^�
 use Rattle.std.specs.Prelude.{slice_get, ◌&&◌}
 use Rattle.std.proofs.lemmas.List.{map-append, map-set, append-nil, take-append-le, length-map}
 use Rattle.std.proofs.Math.Seq.{take-length, drop-append_seam}
-use Rattle.ballot.specs.machine.Machine.{Rules}
+use Rattle.machine.specs.Machine.{Rules}
 use Rattle.ballot.specs.Message.{Message}
 use Rattle.ballot.specs.Effect.{Effect}
 use Rattle.ballot.specs.Replica.{ReplicaState, CountedReplica, opening, status_of}

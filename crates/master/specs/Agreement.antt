@@ -1,6 +1,6 @@
 -- What holds for a group whatever happened to it.
 use Rattle.std.specs.Prelude.{◌≡◌, List, ◌∷◌, ◌++◌}
-use Rattle.ballot.specs.machine.Machine.{Rules}
+use Rattle.machine.specs.Machine.{Rules}
 use Rattle.ballot.specs.lists.Lists.{IsPrefixOf}
 use Rattle.ballot.specs.Config.{Config}
 use Rattle.snapshots.specs.Agreeing.{Agrees, Holds, LeftInOrder}

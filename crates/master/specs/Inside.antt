@@ -2,7 +2,7 @@
 pub mod Losing
 use Rattle.std.specs.Prelude.{ℕ, false, ◌-◌, ◌<◌, ◌≤◌, ◌≡◌, List, [], ◌∷◌, length, map, min, get_or}
 use Rattle.std.specs.Prelude.{slice_get, Option, Some, None, nat_lt, if◌then◌else◌}
-use Rattle.ballot.specs.machine.Machine.{Rules}
+use Rattle.machine.specs.Machine.{Rules}
 use Rattle.ballot.specs.Body.{Body}
 use Rattle.ballot.specs.Body.TheVariants.{Activate, Activated, Superseded}
 use Rattle.ballot.specs.Config.{Config}

@@ -1,7 +1,7 @@
 -- What an event does: the step of a node, a cut of its log, or the answer of the master.
 use Rattle.std.specs.Prelude.{ℕ, zero, suc, Bool, true, List, [], slice_get, Option, Some, None}
 use Rattle.std.specs.Prelude.{◌&&◌, nat_lt, if◌then◌else◌}
-use Rattle.ballot.specs.machine.Machine.{Rules}
+use Rattle.machine.specs.Machine.{Rules}
 use Rattle.ballot.specs.Cutting.{can_cut, cut}
 use Rattle.ballot.specs.Logs.{places}
 use Rattle.ballot.specs.Losses.{halted}

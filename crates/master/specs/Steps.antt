@@ -1,6 +1,6 @@
 -- Steps of a group in which memory may have run out, and how these are counted.
 use Rattle.std.specs.Prelude.{◌<◌, ◌≡◌, ◌⊎◌, ℕ, List, [], ◌∷◌, Option, Some, None}
-use Rattle.ballot.specs.machine.Machine.{Rules}
+use Rattle.machine.specs.Machine.{Rules}
 use Rattle.ballot.specs.Effect.{Effect}
 use Rattle.ballot.specs.Losses.{SendsAndAddsNothing, Loses, greatest_count, one_more}
 use Rattle.ballot.specs.Replica.{ReplicaState}

@@ -1,9 +1,9 @@
 -- How much the items that a node takes add to its log, and when the log is to be cut because of its
 -- size.
 use Rattle.std.specs.Prelude.{ℕ, ◌+◌, ◌*◌, ◌-◌, ◌^◌, Bool, ◌&&◌, not, nat_lt, max, min, List, length, fold, sum_by}
-use Rattle.world_base.specs.packet.declared.packet.Packet.{Packet}
-use Rattle.world_base.specs.packet.declared.packet.Packet.TheVariants as packets
-use Rattle.world_base.specs.packet.declared.subscribe.Subscription.{Subscription}
+use Rattle.packet.specs.declared.packet.Packet.{Packet}
+use Rattle.packet.specs.declared.packet.Packet.TheVariants as packets
+use Rattle.packet.specs.declared.subscribe.Subscription.{Subscription}
 use Rattle.world_base.specs.Command.{Command}
 use Rattle.world_base.specs.Command.TheVariants as commands
 use Rattle.world_base.specs.Core.{CoreState}

@@ -19,4 +19,3 @@ pub use Rattle.world_base.specs.LawfulConfig
 pub use Rattle.world_base.specs.Replica
 pub use Rattle.world_base.specs.declared.item.Item
 pub use Rattle.world_base.specs.lists.Lists
-pub use Rattle.mailbox.specs as mailbox

@@ -2,9 +2,9 @@
 use Rattle.std.specs.Prelude.{◌≡◌, ◌⊎◌, true, false, if◌then◌else◌, List, ℕ, Result, Ok, Err}
 use Rattle.cutter.specs.packet.Stop.{Stop}
 use Rattle.cutter.specs.packet.Stop.TheVariants as stops
-use Rattle.cutter.specs.packet.declared.packet.Packet.{Packet}
+use Rattle.packet.specs.declared.packet.Packet.{Packet}
 use Rattle.cutter.specs.packet.RefusalCode.{RefusalCode}
-use Rattle.cutter.specs.packet.Verdict.{verdict, MayNeedMemory}
+use Rattle.packet.specs.Verdict.{verdict, MayNeedMemory}
 use Rattle.broker_spec.specs.Sized.{IsSized}
 use Rattle.node_connections.specs.declared.connection.Connection.{Connection}
 use Rattle.node_connections.specs.declared.front.Front.{Front}

@@ -5,6 +5,5 @@ pub mod Pending
 pub mod Refusing
 pub mod Silent
 pub mod Stands
-pub use Rattle.broker_spec.specs as broker_spec
 pub use Rattle.cutter.specs as cutter
 pub use Rattle.cutter.specs.packet as packet

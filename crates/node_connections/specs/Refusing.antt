@@ -1,8 +1,8 @@
 -- What happens to a connection whose CONNECT is refused with a code.
 use Rattle.cutter.specs.packet.RefusalCode.{RefusalCode}
-use Rattle.cutter.specs.packet.declared.packet.Packet.TheVariants as packets
-use Rattle.cutter.specs.packet.declared.connack.Connack.TheVariants as connacks
-use Rattle.cutter.specs.packet.Spelling.{spelling}
+use Rattle.packet.specs.declared.packet.Packet.TheVariants as packets
+use Rattle.packet.specs.declared.connack.Connack.TheVariants as connacks
+use Rattle.packet.specs.Spelling.{spelling}
 use Rattle.node_connections.specs.declared.connection.Connection.{Connection}
 use Rattle.node_connections.specs.ConnectionChanges.{closed, putting}
 

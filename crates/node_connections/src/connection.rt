@@ -6,7 +6,7 @@ ghost use Rattle.node_connections.specs.ConnectionChanges.{noted_proposed, close
 ghost use Rattle.node_connections.specs.Pending.{answer_of, is_idle};
 ghost use Rattle.node_connections.specs.Fronts.{TakesFront};
 ghost use Rattle.node_connections.specs.Stands.{standing_of};
-ghost use Rattle.cutter.specs.packet.Spelling.{spelling};
+ghost use Rattle.packet.specs.Spelling.{spelling};
 ghost use Rattle.node_connections.specs.Refusing.{refused};
 
 use crate::front::Front;

@@ -32,4 +32,3 @@ pub use Rattle.node_moves.proofs as of_node_moves
 pub use Rattle.packet_world.proofs.of_packet as of_packet
 pub use Rattle.packet_world.proofs as of_packet_world
 pub use Rattle.packet_world.proofs.of_snapshots as of_snapshots
-pub use Rattle.node_moves.proofs.of_world_base as of_world_base

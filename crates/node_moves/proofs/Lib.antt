@@ -36,4 +36,3 @@ pub mod LossyRead
 pub mod LossyRuns
 pub mod LossesAreMoves
 pub use Rattle.world_base.proofs.of_ballot as of_ballot
-pub use Rattle.world_base.proofs as of_world_base

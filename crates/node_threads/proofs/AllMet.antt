@@ -1,9 +1,9 @@
 -- AllMet.antt: what a lane knows once all that it sent was taken.
 use Rattle.std.proofs.Common.{◌≡◌, ℕ, ◌≤◌, List, [], ◌∷◌, ◌++◌, length, take, ◌∙◌, ap, arith}
 use Rattle.std.proofs.lemmas.List.{take_all}
-use Rattle.post.specs.mailbox.Delivery.{items_of}
-use Rattle.post.specs.mailbox.Ends.{Sender, all_met, unmet}
-use Rattle.post.specs.node.declared.Item.{Item}
+use Rattle.mailbox.specs.Delivery.{items_of}
+use Rattle.mailbox.specs.Ends.{Sender, all_met, unmet}
+use Rattle.node.specs.declared.Item.{Item}
 
 -- a lane of which no less was taken than it sent
 pub met_all : (taken : List (ℕ × Item)) (old lane new : Sender Item) (count : ℕ)

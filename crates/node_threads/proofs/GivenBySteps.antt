@@ -4,10 +4,10 @@ use Rattle.post.specs.node.Command.{Command}
 use Rattle.post.specs.node.Output.{Output}
 use Rattle.post.specs.node.Effect.{Effect}
 use Rattle.post.specs.node.Core.{CountedCore}
-use Rattle.post.specs.node.declared.Config.{Config}
+use Rattle.node.specs.declared.Config.{Config}
 use Rattle.post.specs.node.Lists.{Each, In}
 use Rattle.post.specs.node.Lists.In.{here, there}
-use Rattle.post.specs.node.State.{Replays, Seen, TakesOne}
+use Rattle.node.specs.State.{Replays, Seen, TakesOne}
 use Rattle.post.proofs.of_lists.OfEach.{each_append}
 use Rattle.post.specs.Queued.{EachOpens, EachOpensAs, WasGiven}
 

@@ -1,8 +1,8 @@
 -- OwnSendsJoin.antt: what a node's own thread sends at first and then is what it sends.
 use Rattle.std.proofs.Common.{◌≡◌, ℕ, List, [], ◌∷◌, ◌++◌, ◌∙◌, ap, sym, subst}
-use Rattle.post.specs.mailbox.Ends.{Sender}
-use Rattle.post.specs.node.declared.Item.{Item}
-use Rattle.post.specs.node.declared.Item.TheVariants.{Tick, Cut}
+use Rattle.mailbox.specs.Ends.{Sender}
+use Rattle.node.specs.declared.Item.{Item}
+use Rattle.node.specs.declared.Item.TheVariants.{Tick, Cut}
 use Rattle.post.specs.Queued.{IsQueued}
 use Rattle.node_threads.specs.Serving.{OwnSender, SendsOwn}
 use Rattle.node_threads.specs.Serving.SendsOwn.{starts, ticks, cuts, hands}

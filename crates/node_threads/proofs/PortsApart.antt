@@ -1,6 +1,6 @@
 -- PortsApart.antt: no two connections of a node have one port.
 use Rattle.std.proofs.Common.{◌≡◌, ◌+◌, ◌*◌, ap, arith}
-use Rattle.post.specs.node.declared.Port.{Port}
+use Rattle.node.specs.declared.Port.{Port}
 use Rattle.node_threads.specs.Laws.{PortsDiffer}
 
 pub ports_apart : PortsDiffer

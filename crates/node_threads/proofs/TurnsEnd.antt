@@ -4,7 +4,7 @@ use Rattle.post.specs.node.Command.{Command}
 use Rattle.post.specs.node.Output.{Output}
 use Rattle.post.specs.node.Effect.{Effect}
 use Rattle.post.specs.node.Lists.{Each}
-use Rattle.post.specs.node.State.{Seen, next_taking}
+use Rattle.node.specs.State.{Seen, next_taking}
 use Rattle.post.specs.Queued.{WasGiven}
 use Rattle.node_threads.specs.Turns.{Turns}
 use Rattle.node_threads.specs.Turns.Turns.{begins, finds_none}

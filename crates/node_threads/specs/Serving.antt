@@ -1,11 +1,11 @@
 -- What a lane reports of a connection.
 use Rattle.std.specs.Prelude.{◌≡◌, ℕ, ◌+◌, ◌^◌, List, [], ◌∷◌, ◌++◌, length, Option, None, Some}
-use Rattle.post.specs.node.declared.Item.{Item}
-use Rattle.post.specs.node.declared.Item.TheVariants.{Bytes, Tick, Cut}
-use Rattle.post.specs.node.declared.Port.{Port}
-use Rattle.post.specs.mailbox.Ends.{Sender}
-use Rattle.streams.specs.connection.declared.ending.Ending.{Ending}
-use Rattle.streams.specs.connection.Hearing.{Hears}
+use Rattle.node.specs.declared.Item.{Item}
+use Rattle.node.specs.declared.Item.TheVariants.{Bytes, Tick, Cut}
+use Rattle.node.specs.declared.Port.{Port}
+use Rattle.mailbox.specs.Ends.{Sender}
+use Rattle.connection.specs.declared.ending.Ending.{Ending}
+use Rattle.connection.specs.Hearing.{Hears}
 use Rattle.streams.specs.Ports.{port_of}
 use Rattle.post.specs.Queued.{IsQueued}
 

@@ -3,7 +3,7 @@ use Rattle.std.specs.Prelude.{List, []}
 use Rattle.post.specs.node.Command.{Command}
 use Rattle.post.specs.node.Output.{Output}
 use Rattle.post.specs.node.Effect.{Effect}
-use Rattle.post.specs.node.State.{Seen, TakesOne, next_taking}
+use Rattle.node.specs.State.{Seen, TakesOne, next_taking}
 
 -- From a state of a node on, one item after another was taken, and these are all effects of the
 -- steps, in order; or no item waited.

@@ -1,7 +1,7 @@
 -- What the threads of a node do in their whole lives, each with its slot.
 use Rattle.std.specs.Prelude.{◌≡◌, ℕ, Option, Some, None}
-use Rattle.post.specs.node.declared.Item.{Item}
-use Rattle.post.specs.mailbox.Ends.{Sender}
+use Rattle.node.specs.declared.Item.{Item}
+use Rattle.mailbox.specs.Ends.{Sender}
 use Rattle.node_threads.specs.Serving.{EndsBy, SendsRow}
 
 -- the slot of a thread: its lane, if it serves connections, and once it has returned the witness

@@ -1,8 +1,8 @@
 // What the threads of a node share.
 
 ghost use Rattle.std.specs.Prelude.{◌≡◌, All, IfOk, OnErr, OnOk, map};
-ghost use Rattle.post.specs.mailbox.Ends.{ArrivesWhole, unmet};
-ghost use Rattle.post.specs.node.Running.{AreItsLanes, ReportsOn};
+ghost use Rattle.mailbox.specs.Ends.{ArrivesWhole, unmet};
+ghost use Rattle.node.specs.Running.{AreItsLanes, ReportsOn};
 ghost use Rattle.post.specs.Queued.{EachOpensAs};
 
 use crate::node_context::NodeContext;

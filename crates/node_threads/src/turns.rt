@@ -1,8 +1,8 @@
 // A node's turn, which the thread that sent an item, or queued something for the node, does itself.
 
 ghost use Rattle.std.specs.Prelude.{◌≡◌, ◌++◌, ◌∷◌, [], true, false};
-ghost use Rattle.post.specs.mailbox.Ends.{all_met, unmet};
-ghost use Rattle.post.specs.node.Running.{IsNext};
+ghost use Rattle.mailbox.specs.Ends.{all_met, unmet};
+ghost use Rattle.node.specs.Running.{IsNext};
 ghost use Rattle.post.specs.Queued.{EachOpens};
 ghost use Rattle.node_threads.specs.Turns.{Turns};
 

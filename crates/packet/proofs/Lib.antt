@@ -10,4 +10,3 @@ pub mod OneSpelling
 pub mod MoreBytes
 pub use Rattle.packet_base.proofs.Clients
 pub use Rattle.packet_base.proofs as of_packet_base
-pub use Rattle.packet_base.proofs.of_topics as of_topics

@@ -4,7 +4,7 @@ use Rattle.std.proofs.Common.{◌≡◌, ℕ, ◌^◌, ◌<◌, true, eqb, List,
 use Rattle.std.specs.Prelude.{IfOk, IsTrue}
 use Rattle.std.specs.List.{flat_map, All}
 use Rattle.std.proofs.lemmas.Bool.{eqb-true}
-use Rattle.packet_base.specs.topics.Text.{is_filter}
+use Rattle.topics.specs.Text.{is_filter}
 use Rattle.packet_base.specs.Spelling.{number, text}
 use Rattle.packet_base.specs.Reading.{AreBytes, byte_at, id_at}
 use Rattle.packet_base.specs.TopicFields.{filter_at}

@@ -1,7 +1,7 @@
 -- A PUBLISH's body that is read is spelled so, and one that is spelled is read.
 use Rattle.std.proofs.Common.{◌≡◌, ℕ, ◌^◌, ◌<◌, Bool, true, List, ◌++◌, Ok, refl, ap, ◌∙◌, append_assoc}
 use Rattle.std.specs.Prelude.{IfOk}
-use Rattle.packet_base.specs.topics.Text.{is_topic}
+use Rattle.topics.specs.Text.{is_topic}
 use Rattle.packet_base.specs.declared.header.DeliveryFlags.{DeliveryFlags}
 use Rattle.packet_base.specs.declared.header.DeliveryFlags.TheVariants as flags
 use Rattle.packet_base.specs.Spelling.{number, text}

@@ -1,6 +1,6 @@
 -- CONNECT packets with two faults, and the one that counts (MQTT 3.1).
 use Rattle.std.specs.Prelude.{List, [], ◌∷◌}
-use Rattle.packet_base.specs.topics.declared.malformed.MalformedKind.TheVariants as kinds
+use Rattle.topics.specs.declared.malformed.MalformedKind.TheVariants as kinds
 use Rattle.packet_base.specs.declared.refusal_code.RefusalCode.TheVariants as refusals
 use Rattle.packet_base.specs.declared.stop.Stop.TheVariants as stops
 use Rattle.packet.specs.FaultRows.{Row}

@@ -1,7 +1,7 @@
 -- Bytes with two faults, and the one that counts: `decode` checks in one order.
 use Rattle.std.specs.Prelude.{◌≡◌, ℕ, List, [], ◌∷◌, Err}
 use Rattle.std.specs.List.{AllByRecursion}
-use Rattle.packet_base.specs.topics.declared.malformed.MalformedKind.TheVariants as kinds
+use Rattle.topics.specs.declared.malformed.MalformedKind.TheVariants as kinds
 use Rattle.packet_base.specs.declared.stop.Stop.{Stop}
 use Rattle.packet_base.specs.declared.stop.Stop.TheVariants as stops
 use Rattle.packet.specs.Verdict.{verdict}

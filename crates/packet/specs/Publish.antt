@@ -1,6 +1,6 @@
 -- PUBLISH (MQTT 3.3).
 use Rattle.std.specs.Prelude.{ℕ, Bool, IsTrue, List, ◌++◌, Result, Ok}
-use Rattle.packet_base.specs.topics.Text.{is_topic}
+use Rattle.topics.specs.Text.{is_topic}
 use Rattle.packet_base.specs.declared.stop.Stop.{Stop}
 use Rattle.packet_base.specs.declared.header.DeliveryFlags.{DeliveryFlags}
 use Rattle.packet_base.specs.Spelling.{text}

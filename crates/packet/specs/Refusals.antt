@@ -1,6 +1,6 @@
 -- The numbers of the refusals, as in the table of refusals.
 use Rattle.std.specs.Prelude.{ℕ, Option, Some, None}
-use Rattle.packet_base.specs.topics.Refusals.{number_of}
+use Rattle.topics.specs.Refusals.{number_of}
 use Rattle.packet.specs.declared.error.DecodeFault.{DecodeFault}
 use Rattle.packet.specs.declared.error.DecodeFault.TheVariants as faults
 use Rattle.packet.specs.declared.error.EncodeFault.{EncodeFault}

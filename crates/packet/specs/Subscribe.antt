@@ -1,7 +1,7 @@
 -- SUBSCRIBE (MQTT 3.8).
 use Rattle.std.specs.Prelude.{ℕ, IsTrue, List, [], ◌∷◌, ◌++◌, Result, Ok}
 use Rattle.std.specs.List.{flat_map, All}
-use Rattle.packet_base.specs.topics.Text.{is_filter}
+use Rattle.topics.specs.Text.{is_filter}
 use Rattle.packet_base.specs.declared.stop.Stop.{Stop}
 use Rattle.packet_base.specs.Spelling.{number, text, IsId}
 use Rattle.packet_base.specs.Reading.{◌>>=◌, byte_at, id_at}

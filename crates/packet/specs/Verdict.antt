@@ -1,7 +1,7 @@
 -- What is at the front of bytes: a packet, less than one, or the first fault from the left.
 use Rattle.std.specs.Prelude.{◌≡◌, ℕ, ◌≤◌, nat_le, Bool, true, false, is_ok, List, [], ◌∷◌, ◌++◌}
 use Rattle.std.specs.Prelude.{length, take, drop, Result, Ok, Err}
-use Rattle.packet_base.specs.topics.declared.malformed.MalformedKind.TheVariants as kinds
+use Rattle.topics.specs.declared.malformed.MalformedKind.TheVariants as kinds
 use Rattle.packet_base.specs.declared.stop.Stop.{Stop}
 use Rattle.packet_base.specs.declared.stop.Stop.TheVariants as stops
 use Rattle.packet_base.specs.declared.header.Header.{Header}

@@ -11,4 +11,3 @@ pub mod ItemsInALoop
 pub mod ListsWritten
 pub mod Growing
 pub mod Clients
-pub use Rattle.topics.proofs as of_topics

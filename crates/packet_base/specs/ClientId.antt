@@ -2,9 +2,9 @@
 use Rattle.std.specs.Prelude.{ℕ, Bool, not, ◌&&◌, nat_lt, if◌then◌else◌, List, length, Option, Some}
 use Rattle.std.specs.Prelude.{None, is_none}
 use Rattle.std.specs.Str.{is_utf8}
-use Rattle.packet_base.specs.topics.Text.{has}
-use Rattle.packet_base.specs.topics.declared.malformed.MalformedKind.{MalformedKind}
-use Rattle.packet_base.specs.topics.declared.malformed.MalformedKind.TheVariants as kinds
+use Rattle.topics.specs.Text.{has}
+use Rattle.topics.specs.declared.malformed.MalformedKind.{MalformedKind}
+use Rattle.topics.specs.declared.malformed.MalformedKind.TheVariants as kinds
 
 -- 1 to 64 bytes, this broker's own limit
 abbrev pub has_client_length : List ℕ → Bool

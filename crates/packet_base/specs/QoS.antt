@@ -1,6 +1,6 @@
 -- Quality of Service (MQTT 4.3).
 use Rattle.std.specs.Prelude.{ℕ, ◌==◌, nat_lt, if◌then◌else◌, Result, Ok, Option, Some, None}
-use Rattle.packet_base.specs.topics.declared.malformed.MalformedKind.TheVariants as kinds
+use Rattle.topics.specs.declared.malformed.MalformedKind.TheVariants as kinds
 use Rattle.packet_base.specs.declared.stop.Stop.{Stop}
 use Rattle.packet_base.specs.Reading.{malformed}
 use Rattle.packet_base.specs.declared.qos.QoS.{QoS}

@@ -2,7 +2,7 @@
 
 ghost use Rattle.std.specs.Prelude.{◌≡◌, None, Some, IfOk, OnOk, IfErr, IsTrue, true};
 ghost use Rattle.packet_base.specs.ClientId.{client_fault, has_client_length, is_client};
-ghost use Rattle.packet_base.specs.topics.Text.{RefusesBy};
+ghost use Rattle.topics.specs.Text.{RefusesBy};
 
 use std::alloc::{AllocError, Global};
 use std::fmt;

@@ -1,6 +1,6 @@
 -- The agreed list begins a log, and each log keeps the order of proposing.
 use Rattle.std.proofs.Common.{Bool, List, filter, ap, ◌∙◌, subst}
-use Rattle.snapshots.specs.machine.Machine.{Rules}
+use Rattle.machine.specs.Machine.{Rules}
 use Rattle.snapshots.specs.lists.Lists.{IsPrefixOf}
 use Rattle.snapshots.proofs.of_lists.Prefixes.{prefix_then}
 use Rattle.snapshots.specs.Orders.{KeepsTheOrder}

@@ -1,6 +1,6 @@
 -- The broker's machine gives what the model answers, after each list of commands.
 use Rattle.std.proofs.Common.{◌≡◌, ℕ, Bool, true, false, if◌then◌else◌, List, [], ◌∷◌, refl, ap, ◌∙◌}
-use Rattle.snapshots.specs.machine.Machine.{replay, replay_from}
+use Rattle.machine.specs.Machine.{replay, replay_from}
 use Rattle.exactly_once.specs.broker_spec.Commands.{is_start, past_of, usual_limits}
 use Rattle.exactly_once.specs.broker_spec.AnswersInOrder.{answers_of}
 use Rattle.exactly_once.specs.broker_spec.declared.command.Command.{Command}

@@ -2,7 +2,7 @@
 use Rattle.std.proofs.Common.{◌≡◌, ◌≤◌, ◌+◌, ℕ, zero, suc, List, [], ◌∷◌, ◌++◌, length, map, set, take, drop, Some, refl, ap, sym, ◌∙◌, subst, append_assoc, arith}
 use Rattle.std.specs.Prelude.{slice_get}
 use Rattle.std.proofs.lemmas.List.{append-nil, map-append}
-use Rattle.snapshots.specs.machine.Machine.{replay}
+use Rattle.machine.specs.Machine.{replay}
 use Rattle.snapshots.specs.whole.Applying.{outputs_from, outputs_between}
 use Rattle.snapshots.specs.whole.Messages.{Effect}
 use Rattle.snapshots.specs.whole.Messages.Effect.{Out}

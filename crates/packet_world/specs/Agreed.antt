@@ -1,7 +1,7 @@
 -- What the agreement of nodes says about the order in which a connection's packets are in the
 -- agreed list.
 use Rattle.std.specs.Prelude.{ℕ, Bool, List, ◌∷◌, filter}
-use Rattle.snapshots.specs.machine.Machine.{Rules}
+use Rattle.machine.specs.Machine.{Rules}
 use Rattle.snapshots.specs.lists.Lists.{IsPrefixOf}
 use Rattle.snapshots.specs.ballot_base.declared.config.Config.{Config}
 use Rattle.snapshots.specs.Moments.{Moment, Moments, IsAgreed}

@@ -1,7 +1,7 @@
 -- How a group of nodes serves a world: what its nodes take is what the ends of the world's
 -- connections read.
 use Rattle.std.specs.Prelude.{◌≡◌, ℕ, true, false, List, ◌∷◌, filter, take}
-use Rattle.snapshots.specs.machine.Machine.{Rules}
+use Rattle.machine.specs.Machine.{Rules}
 use Rattle.snapshots.specs.ballot_base.declared.config.Config.{Config}
 use Rattle.exactly_once.specs.broker_spec.Connection.{ConnectionName}
 use Rattle.exactly_once.specs.broker_spec.declared.command.Command.{Command}

@@ -1,6 +1,6 @@
 -- The lines of a transcript for what clients accepted.
 use Rattle.std.specs.Prelude.{ℕ, List, [], ◌∷◌, ◌++◌, Option, Some, None, drop, length}
-use Rattle.user_client.specs.client.Core.{Core}
+use Rattle.client.specs.Core.{Core}
 use Rattle.user_client.specs.client_base.declared.accepted.Accepted.{Accepted}
 use Rattle.play.specs.Lines.{accepted_line}
 use Rattle.world.specs.Found.{core_named}

@@ -5,5 +5,3 @@ pub mod Events
 pub mod Faults
 pub mod Inside
 pub mod Lines
-pub use Rattle.script.specs as script
-pub use Rattle.user_client.specs as user_client

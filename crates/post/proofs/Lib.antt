@@ -3,4 +3,3 @@ mod NoneAmong
 mod QueuesJoin
 mod RefusedByConfig
 pub use Rattle.master.proofs.of_lists as of_lists
-pub use Rattle.node.proofs as of_node

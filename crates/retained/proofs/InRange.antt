@@ -7,8 +7,8 @@ use Rattle.std.specs.Cmp.Lexicographic.{slice_cmp}
 use Rattle.std.specs.declared.ops.Bound.{Bound}
 use Rattle.std.specs.declared.ops.Bound.TheVariants.{Included, Excluded}
 use Rattle.std.specs.BTreeMap.Range.{IsLeBy, range_contains, entries_between}
-use Rattle.packet.specs.topics.Matching.{is_match}
-use Rattle.packet.proofs.of_topics.BelowFront.{below_front}
+use Rattle.topics.specs.Matching.{is_match}
+use Rattle.topics.proofs.BelowFront.{below_front}
 use Rattle.retained.specs.Retained.{RetainedTopics, matching_entries}
 use Rattle.retained.specs.Inside.{IsAround, HoldsMatches}
 

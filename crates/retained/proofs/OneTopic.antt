@@ -7,8 +7,8 @@ use Rattle.std.specs.Cmp.Lexicographic.{slice_cmp, texts_ties, bytes_decides}
 use Rattle.std.specs.Ordering.{nat_cmp}
 use Rattle.std.proofs.lemmas.List.{append-nil}
 use Rattle.std.proofs.lemmas.Map.Keys.{sorted_head, sorted_tail}
-use Rattle.packet.specs.topics.Text.{has_no_wildcard}
-use Rattle.packet.proofs.of_topics.ItselfAlone.{alone}
+use Rattle.topics.specs.Text.{has_no_wildcard}
+use Rattle.topics.proofs.ItselfAlone.{alone}
 use Rattle.retained.specs.declared.retained_publication.RetainedPublication.{RetainedPublication}
 use Rattle.retained.specs.Retained.{RetainedTopics, publication_on, matching_entries}
 use Rattle.retained.specs.Inside.{entry_of}

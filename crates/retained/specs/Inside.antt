@@ -4,8 +4,8 @@ use Rattle.std.specs.declared.ops.Bound.{Bound}
 use Rattle.std.specs.BTreeMap.Range.{range_contains}
 use Rattle.std.specs.Cmp.Lexicographic.{slice_cmp}
 use Rattle.std.specs.Ordering.{nat_cmp}
-use Rattle.packet.specs.topics.Text.{has_no_wildcard}
-use Rattle.packet.specs.topics.Matching.{is_match}
+use Rattle.topics.specs.Text.{has_no_wildcard}
+use Rattle.topics.specs.Matching.{is_match}
 use Rattle.retained.specs.declared.retained_publication.RetainedPublication.{RetainedPublication}
 use Rattle.retained.specs.Retained.{RetainedTopics}
 

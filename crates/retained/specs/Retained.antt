@@ -6,7 +6,7 @@ use Rattle.std.specs.Map.{lookup, remove_entry, keys_of}
 use Rattle.std.specs.List.Sorted.{IsStrictlySortedBy}
 use Rattle.std.specs.Cmp.Lexicographic.{slice_cmp}
 use Rattle.std.specs.Ordering.{nat_cmp}
-use Rattle.packet.specs.topics.Matching.{is_match}
+use Rattle.topics.specs.Matching.{is_match}
 use Rattle.packet_base.specs.declared.qos.QoS.{QoS}
 use Rattle.retained.specs.declared.retained_publication.RetainedPublication.{RetainedPublication}
 

@@ -16,7 +16,7 @@ ghost use Rattle.std.specs.BTreeMap.Range.{IsLeBy, IsLtBy};
 ghost use Rattle.std.specs.Range.Bound.{IsForward};
 ghost use Rattle.std.specs.Cmp.Lexicographic.{slice_cmp};
 ghost use Rattle.std.specs.Ordering.{nat_cmp};
-ghost use Rattle.packet.specs.topics.Text.{has_no_wildcard};
+ghost use Rattle.topics.specs.Text.{has_no_wildcard};
 ghost use Rattle.retained.specs.Retained.{matching_entries};
 ghost use Rattle.retained.specs.Inside.{IsFront, StandsBefore, IsAround, HoldsMatches};
 

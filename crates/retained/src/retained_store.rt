@@ -4,7 +4,7 @@ ghost use Rattle.std.specs.Prelude.{◌≡◌, ◌++◌, ◌↔◌, [], length, 
 ghost use Rattle.std.specs.Prelude.{true, false, IsTrue, OnOk, OnErr, option_copied};
 ghost use Rattle.std.specs.Cmp.Lexicographic.{slice_cmp};
 ghost use Rattle.std.specs.Ordering.{nat_cmp};
-ghost use Rattle.packet.specs.topics.Text.{has_no_wildcard};
+ghost use Rattle.topics.specs.Text.{has_no_wildcard};
 ghost use Rattle.retained.specs.Retained.{IsRising, publication_on, after_put, with_topic};
 ghost use Rattle.retained.specs.Retained.{without_topic, is_full_for, is_refused, matching_entries};
 

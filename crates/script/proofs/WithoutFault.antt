@@ -1,8 +1,8 @@
 -- WithoutFault.antt: a text that is refused has a fault, but if memory ran out.
 use Rattle.std.proofs.Common.{◌≡◌, Option, Some, None, Result, Ok, Err, inl, inr, ap, sym, ◌∙◌}
 use Rattle.std.specs.Result.{IsErrAnd}
-use Rattle.session_base.specs.topics.Text.{RefusesBy}
-use Rattle.session_base.specs.topics.declared.malformed.MalformedKind.{MalformedKind}
+use Rattle.topics.specs.Text.{RefusesBy}
+use Rattle.topics.specs.declared.malformed.MalformedKind.{MalformedKind}
 use Rattle.script.specs.declared.error.FieldFault.{FieldFault}
 use Rattle.script.specs.declared.error.FieldFault.TheVariants as faults
 use Rattle.script.specs.Faults.{fault_of}

@@ -1,6 +1,6 @@
 -- How a fault of a field becomes one of its line.
-use Rattle.session_base.specs.topics.declared.malformed.MalformedKind.{MalformedKind}
-use Rattle.session_base.specs.topics.declared.malformed.MalformedKind.TheVariants as kinds
+use Rattle.topics.specs.declared.malformed.MalformedKind.{MalformedKind}
+use Rattle.topics.specs.declared.malformed.MalformedKind.TheVariants as kinds
 use Rattle.script.specs.declared.error.FieldFault.{FieldFault}
 use Rattle.script.specs.declared.error.FieldFault.TheVariants as faults
 

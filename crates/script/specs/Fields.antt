@@ -6,8 +6,8 @@ use Rattle.std.specs.Result.{result_ok}
 use Rattle.std.specs.Str.{all_ascii_digits}
 use Rattle.std.specs.Str.Parse.{digits_value}
 use Rattle.hex.specs.Hex.{decode_of}
-use Rattle.session_base.specs.topics.declared.malformed.MalformedKind.{MalformedKind}
-use Rattle.session_base.specs.topics.Text.{filter_fault, topic_fault}
+use Rattle.topics.specs.declared.malformed.MalformedKind.{MalformedKind}
+use Rattle.topics.specs.Text.{filter_fault, topic_fault}
 use Rattle.session_base.specs.packet.ClientId.{client_fault}
 use Rattle.session_base.specs.packet.packet_base.declared.qos.QoS.{QoS}
 use Rattle.session_base.specs.packet.packet_base.declared.qos.QoS.TheVariants as qualities

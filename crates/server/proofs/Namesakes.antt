@@ -1,8 +1,8 @@
 -- Namesakes.antt: of nodes in rising order each has the inbox for which its number stands.
 use Rattle.std.proofs.Common.{◌≡◌, ◌==◌, ℕ, ◌+◌, ◌<◌, Bool, false, List, [], ◌∷◌, ◌++◌, if◌then◌else◌, refl, ◌∙◌, ap, sym, subst, arith}
 use Rattle.std.proofs.lemmas.Bool.{eq-eqb}
-use Rattle.node_threads.specs.post.mailbox.Naming.{no_inbox}
-use Rattle.node_threads.specs.post.node.declared.Config.{Config}
+use Rattle.mailbox.specs.Naming.{no_inbox}
+use Rattle.node.specs.declared.Config.{Config}
 use Rattle.node_threads.specs.post.node.Lists.{Each}
 use Rattle.node_threads.proofs.of_post.of_lists.OfEach.{each_append, each_then}
 use Rattle.node_threads.specs.Named.{AreNamed}

@@ -1,9 +1,9 @@
 -- Which inbox and which first state the number of each node stands for.
 use Rattle.std.specs.Prelude.{◌==◌, ℕ, List, [], ◌∷◌, if◌then◌else◌}
 use Rattle.atomic_table.specs.Seated.{TableId}
-use Rattle.node_threads.specs.post.mailbox.Naming.{no_inbox}
+use Rattle.mailbox.specs.Naming.{no_inbox}
 use Rattle.node_threads.specs.post.node.Core.{CountedCore, opening_core}
-use Rattle.node_threads.specs.post.node.declared.Config.{Config}
+use Rattle.node.specs.declared.Config.{Config}
 use Rattle.node_threads.specs.declared.opened.Opened.{Opened}
 
 -- the inbox of the node of a number, among nodes that are about to serve

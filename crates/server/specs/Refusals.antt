@@ -1,6 +1,6 @@
 -- Why nodes are not served, by why a node did not open.
-use Rattle.node_threads.specs.post.node.declared.OpeningError.{OpeningError}
-use Rattle.node_threads.specs.post.node.declared.OpeningError.TheVariants as opening
+use Rattle.node.specs.declared.OpeningError.{OpeningError}
+use Rattle.node.specs.declared.OpeningError.TheVariants as opening
 use Rattle.server.specs.declared.serve_error.ServeError.{ServeError}
 use Rattle.server.specs.declared.serve_error.ServeError.TheVariants.{BadMembers, Memory}
 

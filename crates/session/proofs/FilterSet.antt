@@ -4,7 +4,7 @@ use Rattle.std.specs.Prelude.{bytes_eq, is_some}
 use Rattle.std.proofs.lemmas.Bool.{or_parts}
 use Rattle.std.specs.Map.{lookup}
 use Rattle.indexmap.specs.IndexMap.{insert_entry}
-use Rattle.session_base.specs.packet.packet_base.declared.qos.QoS.{QoS}
+use Rattle.packet_base.specs.declared.qos.QoS.{QoS}
 use Rattle.session_base.specs.Counted.{check_form}
 use Rattle.session_base.specs.Subscriptions.{GrantedFilter, is_subscribed, with_subscription}
 

@@ -1,8 +1,8 @@
 -- The greater of several QoS does not ask in which order they are compared.
 use Rattle.std.proofs.Common.{◌≡◌, Option, Some, None, refl, ap}
-use Rattle.session_base.specs.packet.packet_base.declared.qos.QoS.{QoS}
-use Rattle.session_base.specs.packet.packet_base.declared.qos.QoS.TheVariants as qualities
-use Rattle.session_base.specs.packet.packet_base.QoS.{greater_qos}
+use Rattle.packet_base.specs.declared.qos.QoS.{QoS}
+use Rattle.packet_base.specs.declared.qos.QoS.TheVariants as qualities
+use Rattle.packet_base.specs.QoS.{greater_qos}
 use Rattle.session.specs.Inside.{greater_of}
 
 two : (h b : QoS) → greater_qos h (Some b) ≡ greater_qos b (Some h)

@@ -1,13 +1,13 @@
 -- What the private calls ensure: one start in a queue, an entry that is released, and filters.
 use Rattle.std.specs.Prelude.{◌≡◌, ℕ, ◌==◌, false, Option, Some, None, List, [], ◌∷◌, ◌++◌}
 use Rattle.std.specs.Map.{lookup, set_value}
-use Rattle.session_base.specs.packet.packet_base.declared.qos.QoS.{QoS}
-use Rattle.session_base.specs.packet.declared.packet.Packet.{Packet}
-use Rattle.session_base.specs.packet.declared.packet.Packet.TheVariants as packets
+use Rattle.packet_base.specs.declared.qos.QoS.{QoS}
+use Rattle.packet.specs.declared.packet.Packet.{Packet}
+use Rattle.packet.specs.declared.packet.Packet.TheVariants as packets
 use Rattle.session_base.specs.declared.publication.Publication.{Publication}
 use Rattle.session_base.specs.declared.awaits.Awaits.TheVariants as waits_for
 use Rattle.session_base.specs.Publication.{publish_of}
-use Rattle.session_base.specs.packet.packet_base.QoS.{greater_qos}
+use Rattle.packet_base.specs.QoS.{greater_qos}
 use Rattle.session_base.specs.Queue.{Flight, Queue, started_flight}
 use Rattle.session_base.specs.Form.{IsWritable}
 

@@ -2,7 +2,7 @@
 
 ghost use Rattle.std.specs.Prelude.{◌≡◌, ◌≤◌, ◌++◌, length, OnOk};
 ghost use Rattle.std.specs.List.{flat_map, AllByRecursion};
-ghost use Rattle.session_base.specs.packet_base.Spelling.{number};
+ghost use Rattle.packet_base.specs.Spelling.{number};
 ghost use Rattle.session_base.specs.Counted.{counted};
 ghost use Rattle.session_base.specs.Form.{one_byte, granted_filter_bytes, flight_bytes, publication_bytes};
 ghost use Rattle.session_base.specs.Form.{state_bytes, HasLength, IsWritable};

@@ -1,7 +1,7 @@
 // The packets of entries, and what an entry waits for.
 
 ghost use Rattle.std.specs.Prelude.{◌≡◌, false, [], ◌∷◌, ◌++◌, IfOk, OnOk, OnErr};
-ghost use Rattle.session_base.specs.packet.declared.packet.Packet.TheVariants as packets;
+ghost use Rattle.packet.specs.declared.packet.Packet.TheVariants as packets;
 ghost use Rattle.session_base.specs.Publication.{publish_of};
 ghost use Rattle.session_base.specs.Queue.{is_puback, is_pubrec, is_pubcomp, awaited};
 ghost use Rattle.session_base.specs.Sending.{sent_anew};

@@ -3,8 +3,8 @@
 ghost use Rattle.std.specs.Prelude.{◌≡◌, ◌≤◌, [], length, IfOk};
 ghost use Rattle.std.specs.List.Sorted.{IsStrictlySortedBy};
 ghost use Rattle.std.specs.Ordering.{nat_cmp};
-ghost use Rattle.session_base.specs.packet_base.Outcome.{Gives, Reads};
-ghost use Rattle.session_base.specs.packet_base.Reading.{byte_at, number_at, id_at};
+ghost use Rattle.packet_base.specs.Outcome.{Gives, Reads};
+ghost use Rattle.packet_base.specs.Reading.{byte_at, number_at, id_at};
 ghost use Rattle.session_base.specs.Counted.{counted_at, items_after, last_of, AddsItem};
 ghost use Rattle.session_base.specs.Form.{is_new_filter, granted_filter_at, is_above, may_follow, flight_at};
 ghost use Rattle.session_base.specs.Form.{anything, was_released, waiting_at};

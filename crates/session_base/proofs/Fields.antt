@@ -5,10 +5,10 @@ use Rattle.std.proofs.lemmas.List.{length-append}
 use Rattle.std.proofs.lemmas.Nat.{from_be_bytes-to_be_bytes_4}
 use Rattle.packet_base.specs.Spelling.{IsId, number, text, bit}
 use Rattle.packet_base.proofs.FieldsAgain.{front_again, id_again, topic_again, filter_again}
-use Rattle.packet.specs.packet_base.QoS.{qos_number}
+use Rattle.packet_base.specs.QoS.{qos_number}
 use Rattle.packet.specs.Spelling.{max_body}
-use Rattle.packet.specs.packet_base.declared.qos.QoS.{QoS}
-use Rattle.packet.specs.packet_base.declared.qos.QoS.TheVariants as qualities
+use Rattle.packet_base.specs.declared.qos.QoS.{QoS}
+use Rattle.packet_base.specs.declared.qos.QoS.TheVariants as qualities
 use Rattle.session_base.specs.declared.publication.Publication.{Publication}
 use Rattle.session_base.specs.declared.awaits.Awaits.{Awaits}
 use Rattle.session_base.specs.declared.awaits.Awaits.TheVariants as waits_for

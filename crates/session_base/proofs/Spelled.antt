@@ -3,16 +3,16 @@ use Rattle.std.proofs.Common.{◌≡◌, ℕ, zero, suc, ◌-◌, ◌<◌, Bool,
 use Rattle.std.specs.Prelude.{IfOk, flat_map}
 use Rattle.std.proofs.lemmas.Bool.{ltb-true}
 use Rattle.std.proofs.lemmas.Nat.{be_bytes_4}
-use Rattle.packet_base.specs.topics.Text.{is_topic, is_filter}
+use Rattle.topics.specs.Text.{is_topic, is_filter}
 use Rattle.packet_base.specs.Lists.{ItemAt}
 use Rattle.packet_base.specs.Spelling.{number, text, bit}
 use Rattle.packet_base.specs.Reading.{AreBytes, byte_at, front_at, number_at, id_at}
 use Rattle.packet_base.specs.TopicFields.{topic_at, filter_at}
 use Rattle.packet_base.proofs.Steps.{then_if, check_if}
 use Rattle.packet_base.proofs.FieldsFound.{Splits, Splits-then, byte_found, front_found, number_found, id_found, topic_found, filter_found}
-use Rattle.packet.specs.packet_base.QoS.{qos_number, qos_of}
+use Rattle.packet_base.specs.QoS.{qos_number, qos_of}
 use Rattle.packet.specs.Spelling.{max_body}
-use Rattle.packet.specs.packet_base.declared.qos.QoS.{QoS}
+use Rattle.packet_base.specs.declared.qos.QoS.{QoS}
 use Rattle.packet_base.proofs.QoSReads.{qos_found}
 use Rattle.session_base.specs.declared.publication.Publication.{Publication}
 use Rattle.session_base.specs.declared.awaits.Awaits.{Awaits}

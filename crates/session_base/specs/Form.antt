@@ -6,8 +6,8 @@ use Rattle.std.specs.Int.{w32, from_be_bytes}
 use Rattle.packet_base.specs.declared.stop.Stop.{Stop}
 use Rattle.packet_base.specs.Reading.{◌>>=◌, ◌>>◌, byte_at, front_at, id_at}
 use Rattle.packet_base.specs.TopicFields.{topic_at, filter_at}
-use Rattle.packet.specs.packet_base.QoS.{qos_of}
-use Rattle.packet.specs.packet_base.declared.qos.QoS.{QoS}
+use Rattle.packet_base.specs.QoS.{qos_of}
+use Rattle.packet_base.specs.declared.qos.QoS.{QoS}
 use Rattle.packet.specs.Spelling.{max_body}
 use Rattle.session_base.specs.declared.publication.Publication.{Publication}
 use Rattle.session_base.specs.declared.awaits.Awaits.{Awaits}

@@ -2,8 +2,8 @@
 -- received identifiers, an entry in flight of each kind, two that wait. And a publication: how many
 -- bytes its PUBLISH has after the header, counted by hand.
 use Rattle.std.specs.Prelude.{◌≡◌, ℕ, true, false, List, [], ◌∷◌, ◌++◌, codes}
-use Rattle.packet.specs.packet_base.declared.qos.QoS.{QoS}
-use Rattle.packet.specs.packet_base.declared.qos.QoS.TheVariants as qualities
+use Rattle.packet_base.specs.declared.qos.QoS.{QoS}
+use Rattle.packet_base.specs.declared.qos.QoS.TheVariants as qualities
 use Rattle.session_base.specs.declared.publication.Publication.{Publication}
 use Rattle.session_base.specs.declared.awaits.Awaits.TheVariants as waits_for
 use Rattle.session_base.specs.Queue.{Queue}

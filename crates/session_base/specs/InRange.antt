@@ -2,11 +2,11 @@
 -- number, text and publication as the standard has it (MQTT 1.5.3, 2.3.1, 3.3, 4.7).
 use Rattle.std.specs.Prelude.{◌≡◌, ℕ, ◌+◌, ◌≤◌, IsTrue, false, length}
 use Rattle.std.specs.List.{AllByRecursion}
-use Rattle.packet_base.specs.topics.Text.{is_filter}
+use Rattle.topics.specs.Text.{is_filter}
 use Rattle.packet_base.specs.Spelling.{IsId}
 use Rattle.packet.specs.Spelling.{IsPacket}
 use Rattle.packet.specs.declared.packet.Packet.TheVariants as packets
-use Rattle.packet.specs.packet_base.declared.qos.QoS.TheVariants as qualities
+use Rattle.packet_base.specs.declared.qos.QoS.TheVariants as qualities
 use Rattle.session_base.specs.declared.publication.Publication.{Publication}
 use Rattle.session_base.specs.declared.awaits.Awaits.TheVariants as waits_for
 use Rattle.session_base.specs.Publication.{publish_of, is_answered}

@@ -19,4 +19,3 @@ pub mod FormRows
 pub use Rattle.lists.specs as lists
 pub use Rattle.packet.specs as packet
 pub use Rattle.packet_base.specs as packet_base
-pub use Rattle.packet_base.specs.topics as topics

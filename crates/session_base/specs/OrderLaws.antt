@@ -2,7 +2,7 @@
 use Rattle.std.specs.Prelude.{◌≡◌, ℕ, true, false, ◌⊎◌, List, [], ◌∷◌, ◌++◌, length, filter}
 use Rattle.std.specs.List.{list_any}
 use Rattle.packet.specs.declared.packet.Packet.TheVariants as packets
-use Rattle.packet.specs.packet_base.declared.qos.QoS.TheVariants as qualities
+use Rattle.packet_base.specs.declared.qos.QoS.TheVariants as qualities
 use Rattle.session_base.specs.declared.publication.Publication.{Publication}
 use Rattle.session_base.specs.declared.awaits.Awaits.TheVariants as waits_for
 use Rattle.session_base.specs.Publication.{publish_of}

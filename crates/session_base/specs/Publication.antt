@@ -1,7 +1,7 @@
 -- Publications, and the packets that carry them (MQTT 3.3).
 use Rattle.std.specs.Prelude.{ℕ, Bool, true, false}
-use Rattle.packet.specs.packet_base.declared.qos.QoS.{QoS}
-use Rattle.packet.specs.packet_base.declared.qos.QoS.TheVariants as qualities
+use Rattle.packet_base.specs.declared.qos.QoS.{QoS}
+use Rattle.packet_base.specs.declared.qos.QoS.TheVariants as qualities
 use Rattle.packet.specs.declared.delivery.Delivery.{Delivery}
 use Rattle.packet.specs.declared.delivery.Delivery.TheVariants as deliveries
 use Rattle.packet.specs.declared.publish.Publish.{Publish}

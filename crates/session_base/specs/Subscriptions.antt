@@ -3,9 +3,9 @@
 use Rattle.std.specs.Prelude.{ℕ, Bool, not, if◌then◌else◌, List, [], ◌∷◌, filter, bytes_eq, Option}
 use Rattle.std.specs.Prelude.{Some, None}
 use Rattle.std.specs.List.{list_any}
-use Rattle.packet_base.specs.topics.Matching.{is_match}
-use Rattle.packet.specs.packet_base.declared.qos.QoS.{QoS}
-use Rattle.packet.specs.packet_base.QoS.{greater_qos}
+use Rattle.topics.specs.Matching.{is_match}
+use Rattle.packet_base.specs.declared.qos.QoS.{QoS}
+use Rattle.packet_base.specs.QoS.{greater_qos}
 
 -- a filter of a session, with the QoS at which it was granted last
 abbrev pub GrantedFilter : Type 0

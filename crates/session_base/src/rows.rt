@@ -1,7 +1,7 @@
 // Rows of the definitions. The calls do nothing; their contracts are the rows.
 
 ghost use Rattle.std.specs.Prelude.{◌≡◌};
-ghost use Rattle.packet.specs.packet_base.declared.qos.QoS.TheVariants.{AtMostOnce, AtLeastOnce, ExactlyOnce};
+ghost use Rattle.packet_base.specs.declared.qos.QoS.TheVariants.{AtMostOnce, AtLeastOnce, ExactlyOnce};
 ghost use Rattle.session_base.specs.Form.{body_length};
 ghost use Rattle.session_base.specs.FormRows.{one_and_two_bytes};
 

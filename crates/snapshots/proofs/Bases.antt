@@ -4,7 +4,7 @@ use Rattle.std.proofs.Common.{cond, Bool, ◌≡◌, ℕ, ◌+◌, ◌<◌, ◌�
 use Rattle.std.specs.Prelude.{nat_lt, nat_le, ◌&&◌, ◌==◌}
 use Rattle.std.specs.List.{list_any}
 use Rattle.std.proofs.lemmas.Bool.{and_parts, cases_lt, leb-true, lt-ltb, le-ltb}
-use Rattle.agreement.specs.machine.Machine.{Rules}
+use Rattle.machine.specs.Machine.{Rules}
 use Rattle.agreement.specs.ballot_base.declared.status.Progress.{Progress}
 use Rattle.agreement.specs.ballot_base.Replica.{is_active, is_installing, others, progress_at, ReplicaState}
 use Rattle.agreement.specs.ballot_base.declared.status.Role.TheVariants.{Backup, Fetching, Installing, Active}

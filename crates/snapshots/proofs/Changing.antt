@@ -2,7 +2,7 @@
 use Rattle.std.proofs.Common.{cond, Bool, ◌≡◌, ℕ, true, false, List, [], ◌∷◌, length, take, drop, refl, ap, sym, ◌∙◌, subst, arith}
 use Rattle.std.specs.Prelude.{nat_lt, nat_le, ◌&&◌, ◌==◌}
 use Rattle.std.specs.List.{list_any}
-use Rattle.agreement.specs.machine.Machine.{Rules, replay_from}
+use Rattle.machine.specs.Machine.{Rules, replay_from}
 use Rattle.agreement.specs.whole.Messages.{Effect as effects}
 use Rattle.agreement.specs.whole.Replica.{ReplicaState as WholeState}
 use Rattle.agreement.specs.ballot_base.Replica.{is_installing, others, progress_at, ReplicaState}

@@ -6,7 +6,7 @@ use Rattle.agreement.specs.lists.Lists.{In, IsPrefixOf}
 use Rattle.agreement.specs.lists.Lists.In.{here, there}
 use Rattle.agreement.specs.ballot_base.declared.config.Config.{Config}
 use Rattle.agreement.specs.whole.Replica.{ReplicaState as WholeState}
-use Rattle.agreement.specs.machine.Machine.{Rules}
+use Rattle.machine.specs.Machine.{Rules}
 use Rattle.agreement.specs.whole.Messages.{Message as WholeMessage}
 use Rattle.agreement.specs.whole.Messages.Body.{Held, Installed}
 use Rattle.agreement.specs.Leaving.{LeftInOrder}

@@ -3,7 +3,7 @@ use Rattle.std.proofs.Common.{cond, [], ◌≡◌, ℕ, ◌<◌, ◌≤◌, ◌�
 use Rattle.std.specs.Prelude.{◌==◌, slice_get}
 use Rattle.std.proofs.lemmas.Bool.{cases_eq, cases_lt, lt-ltb, le-ltb}
 use Rattle.std.proofs.lemmas.List.{take-take}
-use Rattle.agreement.specs.machine.Machine.{Rules, replay}
+use Rattle.machine.specs.Machine.{Rules, replay}
 use Rattle.agreement.specs.lists.Lists.{In}
 use Rattle.agreement.specs.lists.Lists.In.{there}
 use Rattle.agreement.specs.whole.Applying.{applied_to as whole_applied_to}

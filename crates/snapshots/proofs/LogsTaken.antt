@@ -1,7 +1,7 @@
 -- LogsTaken.antt: State and Install on whole logs, by what the replica is after it took the log.
 use Rattle.std.proofs.Common.{◌≡◌, ℕ, ◌≤◌, List, [], ◌∷◌, length, Some, Option, refl, ap, sym, ◌∙◌, subst}
 use Rattle.std.specs.Prelude.{nat_lt, nat_le, ◌&&◌, ◌||◌, ◌==◌}
-use Rattle.agreement.specs.machine.Machine.{Rules}
+use Rattle.machine.specs.Machine.{Rules}
 use Rattle.agreement.specs.whole.Applying.{applied_to as whole_applied_to}
 use Rattle.agreement.specs.whole.Messages.{Body as bodies}
 use Rattle.agreement.specs.whole.Changing.{on_state as whole_on_state, on_install as whole_on_install, installs as whole_installs}

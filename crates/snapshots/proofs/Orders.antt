@@ -2,7 +2,7 @@
 use Rattle.std.proofs.Common.{◌≡◌, ℕ, zero, suc, ◌≤◌, ◌⊎◌, inl, inr, Bool, true, false, cond, List, [], ◌∷◌, ◌++◌, length, map, Some, None, Option, ap, sym, refl, ◌∙◌, subst, append_assoc, arith}
 use Rattle.std.specs.Prelude.{filter, slice_get, nat_lt, ◌==◌}
 use Rattle.std.proofs.lemmas.List.{append-nil, length-take-le}
-use Rattle.agreement.specs.machine.Machine.{Rules}
+use Rattle.machine.specs.Machine.{Rules}
 use Rattle.agreement.specs.lists.Lists.{In, IsPrefixOf}
 use Rattle.agreement.proofs.of_lists.Prefixes.{prefix_length, take_prefix}
 use Rattle.agreement.specs.ballot_base.declared.config.Config.{Config}

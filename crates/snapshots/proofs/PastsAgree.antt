@@ -1,6 +1,6 @@
 -- PastsAgree.antt: the laws of groups whose nodes cut their logs.
 use Rattle.std.proofs.Common.{◌∷◌, map}
-use Rattle.agreement.specs.machine.Machine.{Rules}
+use Rattle.machine.specs.Machine.{Rules}
 use Rattle.agreement.proofs.Agreed.OnePrimary as primaries
 use Rattle.agreement.proofs.Agreed.PastAgrees as wholes
 use Rattle.agreement.proofs.Agreed.PastGrows as growing

@@ -1,6 +1,6 @@
 -- PastsKept.antt: what is kept holds after each step of a group that cuts its logs, and so at each moment of its pasts.
 use Rattle.std.proofs.Common.{cond, Bool, ◌≡◌, ℕ, true, false, List, [], ◌∷◌, ◌++◌, map, None, Some, Option, refl, ap, sym, ◌∙◌, subst}
-use Rattle.agreement.specs.machine.Machine.{Rules}
+use Rattle.machine.specs.Machine.{Rules}
 use Rattle.agreement.specs.whole.Messages.Body.{Activated as whole_activated, Superseded as whole_superseded}
 use Rattle.agreement.specs.whole.Messages.{Body as WholeBody}
 use Rattle.agreement.specs.MasterState.{MasterState, AssignRefusal, activating, is_granted, master_after, opening_master, refusal}

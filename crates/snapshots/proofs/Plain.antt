@@ -1,6 +1,6 @@
 -- Plain.antt: the step of a node that takes no log is the one on whole logs.
 use Rattle.std.proofs.Common.{ℕ, List}
-use Rattle.agreement.specs.machine.Machine.{Rules}
+use Rattle.machine.specs.Machine.{Rules}
 use Rattle.agreement.specs.whole.Protocol.{ticked as whole_ticked, replica_step as whole_step, received as whole_received}
 use Rattle.agreement.specs.ballot_base.declared.status.Role.{Role}
 use Rattle.agreement.specs.ballot_base.declared.status.Role.TheVariants.{Backup, Fetching, Installing, Active}

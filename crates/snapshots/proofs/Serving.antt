@@ -3,7 +3,7 @@ use Rattle.std.proofs.Common.{cond, Bool, ◌≡◌, ℕ, ◌+◌, ◌≤◌, �
 use Rattle.std.specs.Prelude.{slice_get, nat_lt, nat_le, ◌&&◌, ◌==◌}
 use Rattle.std.proofs.lemmas.Bool.{cases_Bool, cases_lt, lt-ltb}
 use Rattle.std.proofs.lemmas.List.{map-append}
-use Rattle.agreement.specs.machine.Machine.{Rules, replay_from}
+use Rattle.machine.specs.Machine.{Rules, replay_from}
 use Rattle.agreement.specs.whole.Messages.{Effect as WholeEffect}
 use Rattle.agreement.specs.whole.Messages.{Effect as effects}
 use Rattle.agreement.specs.whole.Messages.{Body as bodies}

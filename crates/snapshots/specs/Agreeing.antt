@@ -1,6 +1,6 @@
 -- What nodes that cut their logs agree on, said about their whole logs.
 use Rattle.std.specs.Prelude.{ℕ, List, map}
-use Rattle.agreement.specs.machine.Machine.{Rules}
+use Rattle.machine.specs.Machine.{Rules}
 use Rattle.agreement.specs.Agreement.{Agrees as AgreesWhole, Holds as HoldsWhole}
 use Rattle.agreement.specs.Leaving.{LeftInOrder as LeftInOrderWhole}
 use Rattle.agreement.specs.MasterState.{MasterState}

@@ -1,6 +1,6 @@
 -- The outputs of one node of a group that cuts its logs, in a step and while it leads one ballot.
 use Rattle.std.specs.Prelude.{ℕ, ◌==◌, List, [], ◌∷◌, ◌++◌, if◌then◌else◌}
-use Rattle.agreement.specs.machine.Machine.{Rules}
+use Rattle.machine.specs.Machine.{Rules}
 use Rattle.agreement.specs.MasterState.{MasterState}
 use Rattle.agreement.specs.Primaries.{IsPrimary}
 use Rattle.agreement.specs.ballot_base.declared.config.Config.{Config}

@@ -1,6 +1,6 @@
 -- The moments of a group whose nodes cut their logs, from its opening on.
 use Rattle.std.specs.Prelude.{ℕ, zero, suc, ◌+◌, ◌≡◌, true, List, [], ◌∷◌, ◌++◌, map}
-use Rattle.agreement.specs.machine.Machine.{Rules}
+use Rattle.machine.specs.Machine.{Rules}
 use Rattle.agreement.specs.MasterState.{MasterState, opening_master}
 use Rattle.agreement.specs.Moments.{IsAgreed as IsAgreedWhole, Moment as WholeMoment}
 use Rattle.agreement.specs.World.{can_open}

@@ -2,7 +2,7 @@
 -- its logs. What is said about logs is said about whole ones.
 use Rattle.std.specs.Prelude.{ℕ, Bool, ◌≤◌, ◌≡◌, List, [], ◌∷◌, ◌++◌, filter, length, map}
 use Rattle.std.specs.Prelude.{slice_get, Some}
-use Rattle.agreement.specs.machine.Machine.{Rules}
+use Rattle.machine.specs.Machine.{Rules}
 use Rattle.agreement.specs.lists.Lists.{In, IsPrefixOf}
 use Rattle.agreement.specs.whole.Applying.{outputs_between}
 use Rattle.agreement.specs.Giving.{GivesNext}

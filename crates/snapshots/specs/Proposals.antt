@@ -1,7 +1,7 @@
 -- What was proposed to the nodes of a group that cuts its logs, in order, and which of it they
 -- took.
 use Rattle.std.specs.Prelude.{ℕ, ◌==◌, List, [], ◌∷◌, ◌++◌, nat_lt, if◌then◌else◌}
-use Rattle.agreement.specs.machine.Machine.{Rules}
+use Rattle.machine.specs.Machine.{Rules}
 use Rattle.agreement.specs.MasterState.{MasterState}
 use Rattle.agreement.specs.ballot_base.declared.config.Config.{Config}
 use Rattle.agreement.specs.ballot_base.Logs.{places}

@@ -2,7 +2,7 @@
 -- log; its master answers an Assign, or receives an Activate. Messages of the master may be lost,
 -- too.
 use Rattle.std.specs.Prelude.{ℕ, [], ◌∷◌, ◌++◌, Option, Some, None}
-use Rattle.agreement.specs.machine.Machine.{Rules}
+use Rattle.machine.specs.Machine.{Rules}
 use Rattle.agreement.specs.lists.Lists.{In}
 use Rattle.agreement.specs.MasterState.{MasterState, AssignRefusal, master_after, refusal}
 use Rattle.agreement.specs.ballot_base.declared.config.Config.{Config}

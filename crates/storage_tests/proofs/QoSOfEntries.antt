@@ -2,7 +2,7 @@
 -- 1.
 use Rattle.std.proofs.Common.{◌≡◌, ℕ, Bool, true, false, not, ◌&&◌, ◌==◌, nat_lt, if◌then◌else◌, List, [], ◌∷◌, ◌++◌, length, map, Option, Some, None, refl}
 use Rattle.std.specs.List.{AllByRecursion}
-use Rattle.session.specs.packet.declared.packet.Packet.TheVariants as packets
+use Rattle.packet.specs.declared.packet.Packet.TheVariants as packets
 use Rattle.session.specs.session_base.declared.publication.Publication.{Publication}
 use Rattle.session.specs.session_base.Identifiers.{least_free}
 use Rattle.session.specs.session_base.Publication.{is_acknowledged}

@@ -2,8 +2,8 @@
 -- entry, by its QoS (MQTT 4.3.2, 4.3.3), and whom an Expel names.
 use Rattle.std.specs.Prelude.{◌≡◌, true, false, [], ◌∷◌, ◌++◌, Some, None, codes}
 use Rattle.std.specs.List.{AllByRecursion}
-use Rattle.session.specs.packet.declared.delivery.Delivery.TheVariants as deliveries
-use Rattle.session.specs.packet.declared.packet.Packet.TheVariants as packets
+use Rattle.packet.specs.declared.delivery.Delivery.TheVariants as deliveries
+use Rattle.packet.specs.declared.packet.Packet.TheVariants as packets
 use Rattle.session.specs.packet.packet_base.declared.qos.QoS.TheVariants as qualities
 use Rattle.session.specs.session_base.Publication.{is_acknowledged}
 use Rattle.broker_form.specs.broker_spec.Commands.{usual_limits}

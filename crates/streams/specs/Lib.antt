@@ -3,4 +3,3 @@ pub mod Listing
 pub mod Ports
 pub mod WriteTokens
 pub mod Tapping
-pub use Rattle.connection.specs as connection

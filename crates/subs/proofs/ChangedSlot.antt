@@ -4,7 +4,7 @@ use Rattle.std.specs.Prelude.{option_and_then}
 use Rattle.std.proofs.lemmas.Bool.{true≢false, eq-eqb, eqb-true}
 use Rattle.slab.specs.Slab.{Slab, get, Updates, with_value}
 use Rattle.slab.proofs.SlabLemmas.{Updates-with_value}
-use Rattle.subs_base.specs.packet_base.declared.qos.QoS.{QoS}
+use Rattle.packet_base.specs.declared.qos.QoS.{QoS}
 use Rattle.subs.specs.declared.node.Node.{Node}
 use Rattle.subs.specs.Changes.{same_side, SetsRow, SetsSide, SetsChild, WritesRow, Fills, Links, AddsNode, FreesNode, IsBare}
 use Rattle.subs.specs.Inside.{held_in, child_in, shape_of, HoldsNothing}

@@ -6,7 +6,7 @@ use Rattle.std.specs.Cmp.Lexicographic.{bytes_decides, slice_cmp, texts_ties}
 use Rattle.std.specs.Ordering.{nat_cmp, is_eq}
 use Rattle.std.proofs.lemmas.Bool.{true≢false, and_parts}
 use Rattle.std.proofs.lemmas.List.Splits.{join_with_byte-slice_split}
-use Rattle.subs_base.specs.packet_base.declared.qos.QoS.{QoS}
+use Rattle.packet_base.specs.declared.qos.QoS.{QoS}
 use Rattle.subs_base.specs.Content.{Content, with_row, without_row, without_client}
 use Rattle.subs_base.specs.ListIndex.{Filters, Clients, content_of, at}
 use Rattle.topics.specs.Text.{levels}

@@ -3,7 +3,7 @@ use Rattle.std.proofs.Common.{◌≡◌, ℕ, List, [], ◌∷◌, Bool, true, f
 use Rattle.std.specs.Prelude.{option_and_then}
 use Rattle.slab.specs.Slab.{Slab, get}
 use Rattle.topics.specs.Text.{Levels}
-use Rattle.subs_base.specs.packet_base.declared.qos.QoS.{QoS}
+use Rattle.packet_base.specs.declared.qos.QoS.{QoS}
 use Rattle.subs.specs.declared.node.Node.{Node}
 use Rattle.subs.specs.Shape.{Shape}
 use Rattle.subs.specs.Changes.{IsBare}

@@ -5,7 +5,7 @@ use Rattle.std.specs.BTreeMap.{get_by, is_at}
 use Rattle.std.specs.Map.{lookup}
 use Rattle.std.specs.Cmp.Lexicographic.{slice_cmp, bytes_decides}
 use Rattle.std.specs.Ordering.{nat_cmp}
-use Rattle.subs_base.specs.packet_base.declared.qos.QoS.{QoS}
+use Rattle.packet_base.specs.declared.qos.QoS.{QoS}
 use Rattle.subs.specs.declared.node.Node.{Node}
 use Rattle.subs.specs.declared.node_id.NodeId.{NodeId}
 use Rattle.subs.specs.Changes.{SetsRow, SetsChild}

@@ -13,8 +13,8 @@ use Rattle.std.proofs.lemmas.Map.Keys.{IsDistinct-from_sorted}
 use Rattle.std.proofs.lemmas.Map.Text.{is_eq-slice_cmp}
 use Rattle.std.proofs.lemmas.List.{length-append, length-take}
 use Rattle.topics.specs.Text.{Levels}
-use Rattle.subs_base.specs.packet_base.declared.qos.QoS.{QoS}
-use Rattle.subs_base.specs.packet_base.QoS.{qos_number}
+use Rattle.packet_base.specs.declared.qos.QoS.{QoS}
+use Rattle.packet_base.specs.QoS.{qos_number}
 use Rattle.subs_base.proofs.RowsAreGranted.{first}
 use Rattle.subs.specs.declared.rows.Rows.TheVariants as kept
 use Rattle.subs.specs.Rows.{row_at}

@@ -4,7 +4,7 @@ use Rattle.std.specs.Prelude.{option_and_then}
 use Rattle.std.proofs.lemmas.Bool.{true≢false, eq-eqb}
 use Rattle.topics.specs.Text.{Levels}
 use Rattle.topics.specs.Matching.{is_all}
-use Rattle.subs_base.specs.packet_base.declared.qos.QoS.{QoS}
+use Rattle.packet_base.specs.declared.qos.QoS.{QoS}
 use Rattle.subs.specs.Shape.{Shape, asked, rows}
 use Rattle.subs.specs.Ways.{reach, IsTree}
 use Rattle.subs.specs.Changes.{AddsNode, IsBare}

@@ -15,7 +15,7 @@ use Rattle.std.proofs.lemmas.Map.{lookup-none, update_all_push}
 use Rattle.std.proofs.lemmas.Map.Entries.{none_past_head}
 use Rattle.std.proofs.lemmas.Map.Keys.{sorted_tail, IsDistinct-from_sorted}
 use Rattle.std.proofs.lemmas.Map.Made.{lookup-map_values, update_all_distinct, update_all_none}
-use Rattle.subs_base.specs.packet_base.declared.qos.QoS.{QoS}
+use Rattle.packet_base.specs.declared.qos.QoS.{QoS}
 use Rattle.topics.specs.Text.{levels}
 use Rattle.subs_base.specs.Content.{Content, no_subscriptions, with_row}
 use Rattle.subs_base.specs.ListIndex.{Filters, Clients, at, content_of}

@@ -19,8 +19,8 @@ use Rattle.topics.specs.Matching.{Matches, is_all, is_hidden, matches_rest, star
 use Rattle.topics.proofs.MatchingIsTested.{tested}
 use Rattle.topics.proofs.OnePass.{bare, bare_levels}
 use Rattle.topics.proofs.LevelByLevel.{is_last_levels}
-use Rattle.subs_base.specs.packet_base.declared.qos.QoS.{QoS}
-use Rattle.subs_base.specs.packet_base.QoS.{qos_number}
+use Rattle.packet_base.specs.declared.qos.QoS.{QoS}
+use Rattle.packet_base.specs.QoS.{qos_number}
 use Rattle.subs_base.specs.Content.{Content}
 use Rattle.subs_base.specs.Granted.{Row, clients_of, IsGreatest, IsGranted, IsWanted}
 use Rattle.subs_base.proofs.RowsAreGranted.{later, first}

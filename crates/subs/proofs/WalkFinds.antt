@@ -10,8 +10,8 @@ use Rattle.topics.specs.Text.{Levels, levels, has_no_wildcard}
 use Rattle.topics.specs.Matching.{is_all, matches_rest}
 use Rattle.topics.proofs.OnePass.{bare}
 use Rattle.topics.proofs.FrontGoesBy.{no_plus, no_hash}
-use Rattle.subs_base.specs.packet_base.declared.qos.QoS.{QoS}
-use Rattle.subs_base.specs.packet_base.QoS.{qos_number}
+use Rattle.packet_base.specs.declared.qos.QoS.{QoS}
+use Rattle.packet_base.specs.QoS.{qos_number}
 use Rattle.subs.specs.Shape.{Shape, asked}
 use Rattle.subs.specs.Walk.{greatest, found_at, found_below}
 use Rattle.subs.proofs.Raising.{greatest_left, greatest_right, greatest_either}

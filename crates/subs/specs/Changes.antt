@@ -1,7 +1,7 @@
 -- The four changes of nodes: a client's row, a child, a new node, a node that is removed.
 use Rattle.std.specs.Prelude.{◌≡◌, ℕ, Bool, true, false, not, ◌&&◌, ◌||◌, ◌==◌, List, bytes_eq}
 use Rattle.std.specs.Prelude.{Option, None, if◌then◌else◌}
-use Rattle.subs_base.specs.packet_base.declared.qos.QoS.{QoS}
+use Rattle.packet_base.specs.declared.qos.QoS.{QoS}
 use Rattle.subs.specs.Shape.{Shape}
 
 -- whether two sides are the same

@@ -2,7 +2,7 @@
 use Rattle.std.specs.Prelude.{ℕ, List, [], ◌∷◌, bytes_eq, Option, None, option_and_then}
 use Rattle.std.specs.Prelude.{if◌then◌else◌, map}
 use Rattle.std.specs.Map.{lookup, update_all}
-use Rattle.subs_base.specs.packet_base.declared.qos.QoS.{QoS}
+use Rattle.packet_base.specs.declared.qos.QoS.{QoS}
 use Rattle.subs_base.specs.Content.{Content, with_row}
 use Rattle.subs_base.specs.ListIndex.{Filters, Clients}
 use Rattle.subs.specs.declared.group.Group.{Group}

@@ -3,7 +3,7 @@ use Rattle.std.specs.Prelude.{ℕ, Bool, true, false, List, [], ◌∷◌, Optio
 use Rattle.std.specs.Prelude.{option_and_then, if◌then◌else◌}
 use Rattle.topics.specs.Text.{Levels, levels}
 use Rattle.topics.specs.Matching.{is_all}
-use Rattle.subs_base.specs.packet_base.declared.qos.QoS.{QoS}
+use Rattle.packet_base.specs.declared.qos.QoS.{QoS}
 use Rattle.subs_base.specs.Content.{Content}
 
 -- the number of the node after each level of each node

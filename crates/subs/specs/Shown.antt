@@ -1,7 +1,7 @@
 -- What the vector of nodes shows from its root.
 use Rattle.std.specs.Prelude.{◌≡◌, ℕ, List, Option, Some, option_map}
 use Rattle.topics.specs.Text.{Levels, levels}
-use Rattle.subs_base.specs.packet_base.declared.qos.QoS.{QoS}
+use Rattle.packet_base.specs.declared.qos.QoS.{QoS}
 use Rattle.subs_base.specs.Content.{Content}
 use Rattle.subs.specs.declared.nodes.Nodes.{Nodes}
 use Rattle.subs.specs.Shape.{Shape, rows}

@@ -6,8 +6,8 @@ use Rattle.std.specs.Cmp.Lexicographic.{slice_cmp}
 use Rattle.std.specs.Ordering.{nat_cmp}
 use Rattle.topics.specs.Text.{Levels, levels}
 use Rattle.topics.specs.Matching.{starts_with}
-use Rattle.subs_base.specs.packet_base.declared.qos.QoS.{QoS}
-use Rattle.subs_base.specs.packet_base.QoS.{qos_number}
+use Rattle.packet_base.specs.declared.qos.QoS.{QoS}
+use Rattle.packet_base.specs.QoS.{qos_number}
 use Rattle.subs.specs.Shape.{Shape}
 
 -- the greater of two QoS, none being the least

@@ -15,8 +15,8 @@ use Rattle.std.proofs.lemmas.Map.Entries.{none_past_head}
 use Rattle.std.proofs.lemmas.Map.Keys.{sorted_tail, IsDistinct-from_sorted}
 use Rattle.std.proofs.lemmas.List.{length-take, take-append-le}
 use Rattle.std.proofs.lemmas.List.Elements.{All-nil, All-cons, All-weaker, Contains-append_right}
-use Rattle.packet.specs.topics.Matching.{Matches, is_match}
-use Rattle.packet.proofs.of_topics.MatchingIsTested.{tested}
+use Rattle.topics.specs.Matching.{Matches, is_match}
+use Rattle.topics.proofs.MatchingIsTested.{tested}
 use Rattle.packet_base.specs.declared.qos.QoS.{QoS}
 use Rattle.packet_base.specs.QoS.{greater_qos, qos_number}
 use Rattle.subs_base.specs.Granted.{Row, clients_of, IsGreatest, IsGranted, IsWanted, AppendsGranted, row_of}

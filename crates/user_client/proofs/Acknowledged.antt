@@ -1,7 +1,7 @@
 -- Acknowledged.antt: a publisher that disconnected keeps what it kept.
 use Rattle.std.proofs.Common.{◌≡◌, ℕ, List, [], sym, subst, ◌∙◌, Option}
 use Rattle.std.specs.Prelude.{Some, None}
-use Rattle.client.specs.packet.declared.publish.Publish.{Publish}
+use Rattle.packet.specs.declared.publish.Publish.{Publish}
 use Rattle.client.specs.client_base.State.{kept_count}
 use Rattle.user_client.specs.Tracing.{Called, Trace}
 use Rattle.user_client.specs.Publishing.{Publishing, IsAcknowledged, IsAcknowledgedAs, IsAcknowledgedBy, WasTaken, WasTakenBy}

@@ -3,7 +3,7 @@ use Rattle.std.proofs.Common.{◌≡◌, ℕ, Bool, true, List, Option, Some, No
 use Rattle.std.proofs.lemmas.Bool.{both_ways}
 use Rattle.client.specs.packet.packet_base.declared.qos.QoS.{QoS}
 use Rattle.client.specs.packet.packet_base.declared.qos.QoS.TheVariants as qualities
-use Rattle.client.specs.packet.declared.publish.Publish.{Publish}
+use Rattle.packet.specs.declared.publish.Publish.{Publish}
 use Rattle.client.specs.session_base.declared.publication.Publication.{Publication}
 use Rattle.client.specs.session_base.Publication.{is_answered}
 use Rattle.client.specs.client_base.declared.error.ClientError.{ClientError}

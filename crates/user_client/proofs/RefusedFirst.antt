@@ -3,13 +3,13 @@ use Rattle.std.proofs.Common.{◌≡◌, ℕ, Bool, true, false, not, if◌then�
 use Rattle.std.specs.Prelude.{◌⊎◌, option_map, unwrap_or}
 use Rattle.std.proofs.lemmas.Bool.{both_ways}
 use Rattle.std.specs.Io.KnownBytes.{Appends}
-use Rattle.client.specs.packet.declared.packet.Packet.{Packet}
-use Rattle.client.specs.packet.declared.packet.Packet.TheVariants as packets
+use Rattle.packet.specs.declared.packet.Packet.{Packet}
+use Rattle.packet.specs.declared.packet.Packet.TheVariants as packets
 use Rattle.client.specs.packet.packet_base.declared.qos.QoS.{QoS}
 use Rattle.client.specs.packet.packet_base.declared.qos.QoS.TheVariants as qualities
-use Rattle.client.specs.packet.declared.publish.Publish.{Publish}
-use Rattle.client.specs.packet.declared.delivery.Delivery.TheVariants as deliveries
-use Rattle.client.specs.packet.Spelling.{AppendsSpelling}
+use Rattle.packet.specs.declared.publish.Publish.{Publish}
+use Rattle.packet.specs.declared.delivery.Delivery.TheVariants as deliveries
+use Rattle.packet.specs.Spelling.{AppendsSpelling}
 use Rattle.client.specs.session_base.Publication.{is_answered}
 use Rattle.client.specs.client_base.declared.error.ClientError.{ClientError}
 use Rattle.client.specs.client_base.declared.error.ClientError.TheVariants as errors

@@ -5,5 +5,4 @@ pub mod Printing
 pub mod Publishing
 pub mod Refusals
 pub mod Tracing
-pub use Rattle.client.specs as client
 pub use Rattle.client.specs.client_base as client_base

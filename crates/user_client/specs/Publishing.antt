@@ -1,10 +1,10 @@
 -- A client that publishes once.
 use Rattle.std.specs.Prelude.{◌≡◌, ℕ, List, [], ◌∷◌, Option, Some, None}
 use Rattle.std.specs.Io.KnownBytes.{Appends}
-use Rattle.client.specs.packet.Spelling.{AppendsSpelling}
-use Rattle.client.specs.packet.declared.delivery.Delivery.TheVariants as deliveries
-use Rattle.client.specs.packet.declared.packet.Packet.TheVariants as packets
-use Rattle.client.specs.packet.declared.publish.Publish.{Publish}
+use Rattle.packet.specs.Spelling.{AppendsSpelling}
+use Rattle.packet.specs.declared.delivery.Delivery.TheVariants as deliveries
+use Rattle.packet.specs.declared.packet.Packet.TheVariants as packets
+use Rattle.packet.specs.declared.publish.Publish.{Publish}
 use Rattle.client.specs.packet.packet_base.declared.qos.QoS.{QoS}
 use Rattle.client.specs.packet.packet_base.declared.qos.QoS.TheVariants as qualities
 use Rattle.client.specs.session_base.declared.publication.Publication.{Publication}

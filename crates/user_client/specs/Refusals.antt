@@ -6,12 +6,12 @@ use Rattle.client.specs.client_base.State.{new_client}
 use Rattle.client.specs.client_base.declared.error.ClientError.{ClientError}
 use Rattle.client.specs.client_base.declared.error.ClientError.TheVariants as errors
 use Rattle.client.specs.packet.ClientId.{client_fault}
-use Rattle.client.specs.packet.declared.packet.Packet.{Packet}
+use Rattle.packet.specs.declared.packet.Packet.{Packet}
 use Rattle.client.specs.session_base.declared.publication.Publication.{Publication}
-use Rattle.client.specs.topics.Refusals.{number_of}
-use Rattle.client.specs.topics.Text.{filter_fault, topic_fault}
-use Rattle.client.specs.topics.declared.malformed.MalformedKind.{MalformedKind}
-use Rattle.client.specs.topics.declared.malformed.MalformedKind.TheVariants as kinds
+use Rattle.topics.specs.Refusals.{number_of}
+use Rattle.topics.specs.Text.{filter_fault, topic_fault}
+use Rattle.topics.specs.declared.malformed.MalformedKind.{MalformedKind}
+use Rattle.topics.specs.declared.malformed.MalformedKind.TheVariants as kinds
 use Rattle.user_client.specs.declared.user_client_error.UserClientError.{UserClientError}
 use Rattle.user_client.specs.declared.user_client_error.UserClientError.TheVariants as faults
 

@@ -2,7 +2,7 @@
 
 ghost use Rattle.std.specs.Prelude.{◌≡◌, None, IfErr, IfOk, OnOk};
 ghost use Rattle.client.specs.packet.ClientId.{client_fault};
-ghost use Rattle.client.specs.topics.Text.{filter_fault, topic_fault};
+ghost use Rattle.topics.specs.Text.{filter_fault, topic_fault};
 ghost use Rattle.user_client.specs.Refusals.{IsRefusedBy};
 
 use crate::user_client_error::UserClientError;

@@ -4,7 +4,7 @@ ghost use Rattle.std.specs.Prelude.{◌≡◌, ◌≢◌, true, false, [], OnOk,
 ghost use Rattle.client.specs.Core.{publication_with};
 ghost use Rattle.client.specs.client_base.State.{kept_count};
 ghost use Rattle.client.specs.client_base.Publishing.{is_over_limit};
-ghost use Rattle.client.specs.packet.declared.packet.Packet.TheVariants as packets;
+ghost use Rattle.packet.specs.declared.packet.Packet.TheVariants as packets;
 ghost use Rattle.client.specs.packet.packet_base.declared.qos.QoS.TheVariants as qualities;
 ghost use Rattle.client.specs.session_base.Publication.{is_answered};
 ghost use Rattle.user_client.specs.Losing.{IsGivenUp, IsLostBy};

@@ -2,7 +2,7 @@
 use Rattle.std.proofs.Common.{◌≡◌, ℕ, ◌+◌, ◌<◌, List, [], ◌∷◌, ◌++◌, length, false, Some, None, Option, refl, ap, sym, ◌∙◌, subst, arith, length-append, map}
 use Rattle.std.specs.Prelude.{slice_get}
 use Rattle.std.proofs.lemmas.Bool.{eq-eqb}
-use Rattle.snapshots.specs.machine.Machine.{Rules}
+use Rattle.machine.specs.Machine.{Rules}
 use Rattle.snapshots.specs.whole.Applying.{applied_to, outputs_to}
 use Rattle.snapshots.specs.whole.Messages.Body.{Activate, Activated, Append, Held}
 use Rattle.snapshots.specs.whole.Config.{Config}

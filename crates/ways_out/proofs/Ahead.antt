@@ -7,7 +7,7 @@ use Rattle.std.proofs.lemmas.Bool.{and_parts, and_from, both_ways, cases_Bool, f
 use Rattle.snapshots.specs.lists.Lists.{IsPrefixOf}
 use Rattle.std.proofs.lemmas.List.{append-nil}
 use Rattle.snapshots.proofs.of_lists.Prefixes.{prefix_length, take_prefix}
-use Rattle.snapshots.specs.machine.Machine.{Rules, replay, replay_from}
+use Rattle.machine.specs.Machine.{Rules, replay, replay_from}
 use Rattle.snapshots.specs.whole.Messages.{Body}
 use Rattle.snapshots.specs.whole.Messages.Body.{NewBallot, Join, State, Install, Installed, Activate, Activated, Superseded, Append, Held, Commit}
 use Rattle.snapshots.specs.whole.Role.TheVariants.{Active, Backup}

@@ -3,7 +3,7 @@
 use Rattle.std.proofs.Common.{◌≡◌, ℕ, ◌+◌, ◌*◌, ◌<◌, List, [], ◌∷◌, ◌++◌, length, map, Some, refl, ap, sym, ◌∙◌, subst, arith, length-append}
 use Rattle.std.specs.Prelude.{slice_get}
 use Rattle.std.proofs.lemmas.List.{take_all}
-use Rattle.snapshots.specs.machine.Machine.{Rules, replay}
+use Rattle.machine.specs.Machine.{Rules, replay}
 use Rattle.snapshots.specs.lists.Lists.{In}
 use Rattle.snapshots.proofs.of_lists.Members.{in_right}
 use Rattle.snapshots.proofs.of_lists.Places.{get_set, get_set_other}

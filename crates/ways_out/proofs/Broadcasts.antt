@@ -1,7 +1,7 @@
 -- Broadcasts.antt: a message comes to each of some nodes, and each of them answers it to one.
 use Rattle.std.proofs.Common.{◌≡◌, ℕ, ◌+◌, List, [], ◌∷◌, ◌++◌, length, map, false, Some, refl, ap, sym, ◌∙◌, subst, append_assoc}
 use Rattle.std.specs.Prelude.{slice_get}
-use Rattle.snapshots.specs.machine.Machine.{Rules}
+use Rattle.machine.specs.Machine.{Rules}
 use Rattle.snapshots.specs.whole.Messages.{Body, Effect, Message}
 use Rattle.snapshots.specs.whole.Messages.Effect.{To}
 use Rattle.snapshots.specs.whole.Protocol.{received}

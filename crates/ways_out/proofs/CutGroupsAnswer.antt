@@ -5,7 +5,7 @@ use Rattle.std.proofs.lemmas.Bool.{cases_eq}
 use Rattle.std.proofs.lemmas.List.{length-map, map-append}
 use Rattle.snapshots.specs.lists.Lists.{In}
 use Rattle.snapshots.proofs.of_lists.Places.{get_set, get_set_other}
-use Rattle.snapshots.specs.machine.Machine.{Rules, replay}
+use Rattle.machine.specs.Machine.{Rules, replay}
 use Rattle.snapshots.specs.agreement.Moments.{Moment as WholeMoment, Moments as WholeMoments}
 use Rattle.snapshots.specs.agreement.Moments.Moments.{went_on as whole_went_on}
 use Rattle.snapshots.specs.agreement.Steps.MayHappen.{node_takes}

@@ -2,7 +2,7 @@
 use Rattle.std.proofs.Common.{◌≡◌, ℕ, zero, suc, ◌+◌, ◌<◌, ◌≤◌, ◌⊎◌, inl, inr, List, [], ◌∷◌, ◌++◌, length, false, true, cond, Bool, Some, Option, refl, ap, sym, ◌∙◌, subst, arith, length-append}
 use Rattle.std.specs.Prelude.{slice_get, nat_le, nat_lt}
 use Rattle.std.proofs.lemmas.Bool.{cases_eq, le-leb, le-ltb, cases_lt, lt-ltb}
-use Rattle.snapshots.specs.machine.Machine.{Rules}
+use Rattle.machine.specs.Machine.{Rules}
 use Rattle.snapshots.specs.whole.Messages.{Body, Message}
 use Rattle.snapshots.specs.whole.Messages.Body.{NewBallot, Join, State}
 use Rattle.snapshots.specs.whole.Config.{Config}

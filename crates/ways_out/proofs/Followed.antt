@@ -8,7 +8,7 @@ use Rattle.snapshots.specs.lists.Lists.{In, IsPrefixOf}
 use Rattle.snapshots.proofs.of_lists.Prefixes.{prefix_then}
 use Rattle.snapshots.proofs.of_lists.Members.{in_at}
 use Rattle.snapshots.proofs.of_lists.Places.{get_set, get_set_other}
-use Rattle.snapshots.specs.machine.Machine.{Rules}
+use Rattle.machine.specs.Machine.{Rules}
 use Rattle.snapshots.proofs.of_agreement.Agreed.PastAgrees.{machines_replay}
 use Rattle.snapshots.proofs.of_agreement.Agreed.PastKnown.{past_known}
 use Rattle.snapshots.specs.agreement.MasterState.{MasterState, activating, is_granted}

@@ -1,7 +1,7 @@
 -- Gathers.antt: one node takes the answers of all others but the last, and gives nothing for them.
 use Rattle.std.proofs.Common.{◌≡◌, ℕ, ◌+◌, List, [], ◌∷◌, ◌++◌, length, false, Some, refl, ap, sym, ◌∙◌, append_assoc}
 use Rattle.std.specs.Prelude.{slice_get}
-use Rattle.snapshots.specs.machine.Machine.{Rules}
+use Rattle.machine.specs.Machine.{Rules}
 use Rattle.snapshots.specs.whole.Messages.{Body}
 use Rattle.snapshots.specs.whole.Protocol.{received}
 use Rattle.snapshots.specs.whole.Replica.{ReplicaState}

@@ -1,7 +1,7 @@
 -- HasWayOut.antt: from every moment of a group whose starts give nothing there is a way out.
 use Rattle.std.proofs.Common.{◌≡◌, ℕ, ◌+◌, ◌-◌, ◌*◌, ◌⊎◌, inl, inr, true, false, List, [], ◌∷◌, ◌++◌, length, length-append, Some, refl, ap, sym, ◌∙◌, subst, arith}
 use Rattle.std.specs.Prelude.{slice_get}
-use Rattle.snapshots.specs.machine.Machine.{Rules}
+use Rattle.machine.specs.Machine.{Rules}
 use Rattle.snapshots.specs.lists.Lists.{In}
 use Rattle.snapshots.proofs.of_lists.Members.{in_at}
 use Rattle.snapshots.specs.whole.Messages.Body.{Held}

@@ -1,7 +1,7 @@
 -- Holding.antt: a command that a primary has added comes to all others, and is committed.
 use Rattle.std.proofs.Common.{◌≡◌, ℕ, ◌+◌, List, [], ◌∷◌, ◌++◌, length, Some, refl, ap, sym, ◌∙◌, subst, arith, length-append, map}
 use Rattle.std.specs.Prelude.{slice_get}
-use Rattle.snapshots.specs.machine.Machine.{Rules}
+use Rattle.machine.specs.Machine.{Rules}
 use Rattle.snapshots.specs.whole.Applying.{applied_to}
 use Rattle.snapshots.specs.whole.Messages.{Body, Effect, Message}
 use Rattle.snapshots.specs.whole.Messages.Body.{Append, Held, Commit}

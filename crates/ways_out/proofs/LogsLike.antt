@@ -5,7 +5,7 @@ use Rattle.std.specs.Prelude.{nat_lt, nat_le, slice_get, ◌&&◌, ◌||◌, ◌
 use Rattle.std.proofs.lemmas.Bool.{and_parts, cases_Bool, cases_lt, eqb-true, lt-ltb, le-ltb}
 use Rattle.std.proofs.lemmas.List.{take-take}
 use Rattle.snapshots.specs.lists.Lists.{In}
-use Rattle.snapshots.specs.machine.Machine.{Rules, replay}
+use Rattle.machine.specs.Machine.{Rules, replay}
 use Rattle.snapshots.proofs.of_agreement.Agreed.PastAgrees.{machines_replay}
 use Rattle.snapshots.proofs.of_whole.AppliesInOrder.{replay_goes_on}
 use Rattle.snapshots.proofs.of_whole.ChangeRows.{on_install-answers, on_install-stays, on_install-takes, on_state-stays, on_state-takes}

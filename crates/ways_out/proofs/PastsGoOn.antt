@@ -1,7 +1,7 @@
 -- PastsGoOn.antt: what comes in a way out is a past that continues, so what was agreed begins what
 -- is agreed after it.
 use Rattle.std.proofs.Common.{◌≡◌, ℕ, ◌+◌, inl, List, [], ◌∷◌, ◌++◌, None, Option, refl, subst}
-use Rattle.snapshots.specs.machine.Machine.{Rules}
+use Rattle.machine.specs.Machine.{Rules}
 use Rattle.snapshots.specs.lists.Lists.{IsPrefixOf}
 use Rattle.snapshots.proofs.of_lists.Prefixes.{prefix_then}
 use Rattle.snapshots.proofs.of_lists.Members.{in_at}

@@ -3,7 +3,7 @@
 use Rattle.std.proofs.Common.{◌≡◌, ℕ, ◌+◌, ◌<◌, ◌≤◌, ◌⊎◌, inl, inr, false, List, ◌∷◌, length, Some, refl, sym, subst, arith}
 use Rattle.std.specs.Prelude.{slice_get}
 use Rattle.std.proofs.lemmas.List.{length-take-le}
-use Rattle.snapshots.specs.machine.Machine.{Rules}
+use Rattle.machine.specs.Machine.{Rules}
 use Rattle.snapshots.specs.lists.Lists.{In}
 use Rattle.snapshots.specs.lists.Lists.In.{here}
 use Rattle.snapshots.proofs.of_lists.Prefixes.{prefix_length}

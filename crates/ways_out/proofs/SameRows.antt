@@ -4,7 +4,7 @@ use Rattle.std.proofs.Common.{cond, Bool, ◌≡◌, ℕ, ◌≤◌, true, false
 use Rattle.std.specs.Prelude.{nat_lt, nat_le, ◌&&◌, ◌==◌}
 use Rattle.std.specs.List.{list_any}
 use Rattle.std.proofs.lemmas.List.{map-append}
-use Rattle.snapshots.specs.machine.Machine.{Rules, replay_from}
+use Rattle.machine.specs.Machine.{Rules, replay_from}
 use Rattle.snapshots.specs.whole.Messages.{Body as bodies}
 use Rattle.snapshots.specs.whole.Messages.{Effect as WholeEffect}
 use Rattle.snapshots.specs.whole.Messages.{Effect as effects}

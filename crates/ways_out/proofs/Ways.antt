@@ -1,7 +1,7 @@
 -- Ways.antt: from every moment there is a way out: the messages of `way_out` come, and the next ballot is led to its start.
 use Rattle.std.proofs.Common.{◌≡◌, ℕ, zero, suc, ◌+◌, ◌*◌, ◌<◌, List, [], ◌∷◌, ◌++◌, length, Some, refl, ap, sym, ◌∙◌, subst, arith, length-append}
 use Rattle.std.specs.Prelude.{slice_get}
-use Rattle.snapshots.specs.machine.Machine.{Rules}
+use Rattle.machine.specs.Machine.{Rules}
 use Rattle.snapshots.specs.lists.Lists.{In}
 use Rattle.snapshots.specs.whole.Messages.Body.{Held}
 use Rattle.snapshots.specs.whole.Config.{Config}

@@ -1,7 +1,7 @@
 -- What all members hold is agreed, and the primary that they follow answers commands.
 use Rattle.std.specs.Prelude.{ℕ, ◌+◌, ◌*◌, ◌<◌, ◌≡◌, false, List, [], ◌∷◌, ◌++◌, length, map}
 use Rattle.std.specs.Prelude.{slice_get, Some}
-use Rattle.snapshots.specs.machine.Machine.{Rules, replay}
+use Rattle.machine.specs.Machine.{Rules, replay}
 use Rattle.snapshots.specs.lists.Lists.{In}
 use Rattle.snapshots.specs.whole.Messages.Body.{Held}
 use Rattle.snapshots.specs.whole.Config.{Config}

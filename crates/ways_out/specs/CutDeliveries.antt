@@ -1,7 +1,7 @@
 -- Messages that come to their receivers one after another, exactly, each named by its number, if
 -- nodes cut their logs. The numbers are those of `ways_out`.
 use Rattle.std.specs.Prelude.{ℕ, ◌+◌, ◌≡◌, false, List, [], ◌∷◌, slice_get, Some}
-use Rattle.snapshots.specs.machine.Machine.{Rules}
+use Rattle.machine.specs.Machine.{Rules}
 use Rattle.snapshots.specs.agreement.MasterState.{assigning}
 use Rattle.snapshots.specs.ballot_base.declared.config.Config.{Config}
 use Rattle.snapshots.specs.ballot_base.declared.message.Body.TheVariants.{Activate}

@@ -1,7 +1,7 @@
 -- The way to the next ballot, for groups whose nodes cut their logs. What is said about
 -- logs is said about whole ones.
 use Rattle.std.specs.Prelude.{ℕ, ◌+◌, ◌-◌, ◌*◌, ◌≡◌, List, [], ◌∷◌, ◌++◌, length}
-use Rattle.snapshots.specs.machine.Machine.{Rules}
+use Rattle.machine.specs.Machine.{Rules}
 use Rattle.snapshots.specs.lists.Lists.{IsPrefixOf}
 use Rattle.snapshots.specs.ballot_base.declared.config.Config.{Config}
 use Rattle.snapshots.specs.Moments.{IsAgreed, Moment, Moments, whole_moment}

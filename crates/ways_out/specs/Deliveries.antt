@@ -2,7 +2,7 @@
 -- the numbers of those that lead a new ballot to its start.
 use Rattle.snapshots.specs.lists.Lists.{In}
 use Rattle.std.specs.Prelude.{ℕ, zero, suc, ◌+◌, ◌≡◌, false, List, [], ◌∷◌, ◌++◌, slice_get, Some}
-use Rattle.snapshots.specs.machine.Machine.{Rules}
+use Rattle.machine.specs.Machine.{Rules}
 use Rattle.snapshots.specs.whole.Messages.Body.{Activate}
 use Rattle.snapshots.specs.whole.Config.{Config}
 use Rattle.snapshots.specs.whole.Messages.{Message}

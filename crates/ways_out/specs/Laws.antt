@@ -2,7 +2,7 @@
 -- by which messages, in which order, and what is agreed after them.
 use Rattle.std.specs.Prelude.{ℕ, ◌+◌, ◌-◌, ◌*◌, ◌<◌, ◌≡◌, List, [], ◌∷◌, ◌++◌, length, None}
 use Rattle.std.specs.Prelude.{slice_get, Some}
-use Rattle.snapshots.specs.machine.Machine.{Rules}
+use Rattle.machine.specs.Machine.{Rules}
 use Rattle.snapshots.specs.lists.Lists.{In, IsPrefixOf}
 use Rattle.snapshots.specs.whole.Messages.Body.{Held}
 use Rattle.snapshots.specs.whole.Config.{Config}

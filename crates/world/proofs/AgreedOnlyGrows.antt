@@ -9,7 +9,7 @@ use Rattle.headline.proofs.of_snapshots.PastsAgree.{has_agreed, nodes_agree}
 use Rattle.headline.specs.broker_spec.declared.command.Command.{Command}
 use Rattle.headline.specs.broker_spec.declared.command.Output.{Output}
 use Rattle.headline.specs.broker_base.State.{State}
-use Rattle.headline.specs.world_base.Core.{rules}
+use Rattle.world_base.specs.Core.{rules}
 use Rattle.headline.specs.node_group.Group.{Group, moment_of}
 use Rattle.headline.specs.node_group.Steps.{GroupTrace, all_put, groups_of, put_in_step}
 use Rattle.headline.specs.node_group.Steps.GroupTrace.{then_went}
@@ -19,7 +19,7 @@ use Rattle.headline.proofs.of_node_group.GroupsArePasts.{goes_on as past_goes_on
 use Rattle.headline.proofs.of_node_group.NamesInGroups.{puts_in_the_ballot_of_the_name}
 use Rattle.headline.proofs.of_node_group.Ordered.{groups_keep_the_order, in_agreed}
 use Rattle.headline.proofs.of_node_group.Packets.{packets_join}
-use Rattle.escaping_nodes.specs.world_nodes.Nodes.{NodesState}
+use Rattle.world_nodes.specs.Nodes.{NodesState}
 use Rattle.world.specs.Trace.{AgreedGrows}
 use Rattle.world_clients.specs.NodesGoOn.{StepsOfGroup, NodesGo}
 use Rattle.world_clients.specs.NodesGoOn.StepsOfGroup.{rests, goes_on}

@@ -8,9 +8,9 @@ use Rattle.headline.specs.broker_spec.declared.command.Output.{Output}
 use Rattle.headline.specs.broker_base.State.{State}
 use Rattle.escaping_client.specs.client.Core.{Core}
 use Rattle.escaping_nodes.specs.Answered.{CanAsk, begun}
-use Rattle.escaping_nodes.specs.ways_out.CutDeliveries.Delivered.{all_came}
-use Rattle.escaping_nodes.specs.ways_out.Deliveries.{NumbersAreApart, NodeIs}
-use Rattle.escaping_nodes.specs.ways_out.Following.{Follows}
+use Rattle.ways_out.specs.CutDeliveries.Delivered.{all_came}
+use Rattle.ways_out.specs.Deliveries.{NumbersAreApart, NodeIs}
+use Rattle.ways_out.specs.Following.{Follows}
 use Rattle.escaping_nodes.proofs.ClientAnswered.{AwaitsOthers, others_are_awaited, others_let_the_client_be_answered, sole_member_answers_the_client, waits_on}
 use Rattle.escaping_nodes.proofs.NodesFollow.{deliveries_are_followed}
 use Rattle.headline.specs.snapshots.Moments.{Moment, Moments, whole_moment}
@@ -18,14 +18,14 @@ use Rattle.headline.specs.node_moves.Moves.{NodeCall}
 use Rattle.headline.specs.node_moves.Moves.NodeCall.{takes}
 use Rattle.escaping_client.specs.lists.Lists.{In}
 use Rattle.escaping_client.proofs.of_lists.Places.{get_set}
-use Rattle.escaping_client.specs.packet.declared.connect.Connect.{Connect}
-use Rattle.headline.specs.world_base.Core.{CountedCore, rules}
-use Rattle.headline.specs.world_base.declared.item.Item.{Item}
-use Rattle.headline.specs.world_base.declared.item.Item.TheVariants.{Bytes}
-use Rattle.headline.specs.world_base.Step.{node_step}
-use Rattle.escaping_nodes.specs.world_nodes.ExactSteps.{after_node_call}
-use Rattle.escaping_nodes.specs.world_nodes.Nodes.{NodesState}
-use Rattle.escaping_nodes.proofs.of_world_nodes.Acts.{acts}
+use Rattle.packet.specs.declared.connect.Connect.{Connect}
+use Rattle.world_base.specs.Core.{CountedCore, rules}
+use Rattle.world_base.specs.declared.item.Item.{Item}
+use Rattle.world_base.specs.declared.item.Item.TheVariants.{Bytes}
+use Rattle.world_base.specs.Step.{node_step}
+use Rattle.world_nodes.specs.ExactSteps.{after_node_call}
+use Rattle.world_nodes.specs.Nodes.{NodesState}
+use Rattle.world_nodes.proofs.Acts.{acts}
 use Rattle.world_events.specs.declared.event.Event.{Event}
 use Rattle.world_events.specs.declared.event.Event.TheVariants as events
 use Rattle.world_clients.specs.Clients.{is_named}

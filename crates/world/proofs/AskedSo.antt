@@ -9,12 +9,12 @@ use Rattle.escaping_client.specs.client_base.Steps.{Call}
 use Rattle.escaping_client.specs.client_base.declared.error.ClientError.{ClientError}
 use Rattle.escaping_client.specs.client_base.declared.error.ClientError.TheVariants as errors
 use Rattle.escaping_nodes.specs.master.declared.event.Idle.{Idle}
-use Rattle.escaping_client.specs.session_base.declared.publication.Publication.{Publication}
-use Rattle.world_events.specs.world_pipes.declared.sending.Sending.{Sending}
-use Rattle.world_events.specs.world_pipes.declared.sending.Sending.TheVariants as sendings
-use Rattle.world_events.specs.world_pipes.Following.{CallingFollows}
-use Rattle.world_events.specs.world_pipes.Piped.{Piped}
-use Rattle.world_events.proofs.of_world_pipes.CallingFollows.{calling_goes}
+use Rattle.session_base.specs.declared.publication.Publication.{Publication}
+use Rattle.world_pipes.specs.declared.sending.Sending.{Sending}
+use Rattle.world_pipes.specs.declared.sending.Sending.TheVariants as sendings
+use Rattle.world_pipes.specs.Following.{CallingFollows}
+use Rattle.world_pipes.specs.Piped.{Piped}
+use Rattle.world_pipes.proofs.CallingFollows.{calling_goes}
 use Rattle.world_events.specs.declared.event.Event.{Event}
 use Rattle.world_events.specs.declared.event.Event.TheVariants as events
 use Rattle.world_clients.specs.declared.world_client.WorldClient.{WorldClient}

@@ -15,18 +15,18 @@ use Rattle.headline.specs.broker_base.State.{State}
 use Rattle.escaping_client.specs.client.Core.{Core}
 use Rattle.escaping_nodes.specs.Answered.{CanAsk, begun}
 use Rattle.escaping_nodes.specs.Opened.{IsOpened, first_of}
-use Rattle.escaping_nodes.specs.ways_out.Deliveries.{NumbersAreApart, NodeIs, asked_and_answered}
-use Rattle.escaping_nodes.specs.ways_out.Following.{Follows}
+use Rattle.ways_out.specs.Deliveries.{NumbersAreApart, NodeIs, asked_and_answered}
+use Rattle.ways_out.specs.Following.{Follows}
 use Rattle.headline.specs.snapshots.Moments.{Moment, Moments, whole_moment}
 use Rattle.headline.specs.node_moves.Moves.NodeCall.{takes}
 use Rattle.escaping_client.specs.lists.Lists.{In}
-use Rattle.escaping_client.specs.packet.declared.connect.Connect.{Connect}
-use Rattle.escaping_client.specs.packet.declared.packet.Packet.TheVariants as packets
-use Rattle.escaping_client.specs.packet.Verdict.{verdict}
-use Rattle.headline.specs.world_base.Core.{rules}
-use Rattle.headline.specs.world_base.declared.item.Item.TheVariants.{Bytes}
-use Rattle.escaping_nodes.specs.world_nodes.ExactSteps.{after_node_call}
-use Rattle.escaping_nodes.specs.world_nodes.Nodes.{NodesState}
+use Rattle.packet.specs.declared.connect.Connect.{Connect}
+use Rattle.packet.specs.declared.packet.Packet.TheVariants as packets
+use Rattle.packet.specs.Verdict.{verdict}
+use Rattle.world_base.specs.Core.{rules}
+use Rattle.world_base.specs.declared.item.Item.TheVariants.{Bytes}
+use Rattle.world_nodes.specs.ExactSteps.{after_node_call}
+use Rattle.world_nodes.specs.Nodes.{NodesState}
 use Rattle.world_events.specs.declared.event.Event.{Event}
 use Rattle.world_events.specs.declared.event.Event.TheVariants as events
 use Rattle.world_clients.specs.Clients.{is_named}

@@ -5,11 +5,11 @@ use Rattle.std.proofs.lemmas.Bool.{both_ways}
 use Rattle.escaping_client.specs.client_base.declared.error.ClientError.{ClientError}
 use Rattle.escaping_client.specs.client_base.declared.error.ClientError.TheVariants as errors
 use Rattle.escaping_nodes.specs.master.declared.event.Idle.{Idle}
-use Rattle.world_events.specs.world_pipes.declared.sending.Sending.{Sending}
-use Rattle.world_events.specs.world_pipes.declared.sending.Sending.TheVariants as sendings
-use Rattle.world_events.specs.world_pipes.Following.{CallingFollows, FollowsAll}
-use Rattle.world_events.specs.world_pipes.Piped.{Piped}
-use Rattle.world_events.proofs.of_world_pipes.CallingFollows.{calling_goes}
+use Rattle.world_pipes.specs.declared.sending.Sending.{Sending}
+use Rattle.world_pipes.specs.declared.sending.Sending.TheVariants as sendings
+use Rattle.world_pipes.specs.Following.{CallingFollows, FollowsAll}
+use Rattle.world_pipes.specs.Piped.{Piped}
+use Rattle.world_pipes.proofs.CallingFollows.{calling_goes}
 use Rattle.world_clients.specs.declared.world_client.WorldClient.{WorldClient}
 use Rattle.world.specs.Inside.Calling.{CountsRefusal, with_loss}
 use Rattle.world.specs.Inside.Steps.{IsTrace}

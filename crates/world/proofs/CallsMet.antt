@@ -16,11 +16,11 @@ use Rattle.escaping_client.specs.client_base.declared.stage.Stage.{Stage}
 use Rattle.escaping_client.specs.client_base.declared.stage.Stage.TheVariants as stages
 use Rattle.escaping_nodes.specs.master.declared.event.Idle.{Idle}
 use Rattle.escaping_client.specs.packet.packet_base.declared.qos.QoS.{QoS}
-use Rattle.escaping_client.specs.session_base.declared.publication.Publication.{Publication}
-use Rattle.world_events.specs.world_pipes.declared.sending.Sending.{Sending}
-use Rattle.world_events.specs.world_pipes.declared.sending.Sending.TheVariants as sendings
-use Rattle.world_events.specs.world_pipes.Following.{CallingFollows}
-use Rattle.world_events.specs.world_pipes.Piped.{Piped, TakesLeave}
+use Rattle.session_base.specs.declared.publication.Publication.{Publication}
+use Rattle.world_pipes.specs.declared.sending.Sending.{Sending}
+use Rattle.world_pipes.specs.declared.sending.Sending.TheVariants as sendings
+use Rattle.world_pipes.specs.Following.{CallingFollows}
+use Rattle.world_pipes.specs.Piped.{Piped, TakesLeave}
 use Rattle.world_events.specs.declared.event.Event.TheVariants as events
 use Rattle.world_clients.specs.declared.world_client.WorldClient.{WorldClient}
 use Rattle.world.specs.Found.{core_named, with_piped}

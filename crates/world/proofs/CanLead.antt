@@ -13,9 +13,9 @@ use Rattle.headline.specs.broker_spec.declared.command.Output.{Output}
 use Rattle.headline.specs.broker_spec.Place.{Client}
 use Rattle.headline.specs.broker_base.State.{State}
 use Rattle.escaping_nodes.specs.Coming.{IsSeen}
-use Rattle.escaping_nodes.specs.ways_out.Deliveries.{NodeIs}
-use Rattle.escaping_nodes.specs.ways_out.Following.{IsRunning}
-use Rattle.escaping_nodes.specs.ways_out.Laws.{CanBeLed}
+use Rattle.ways_out.specs.Deliveries.{NodeIs}
+use Rattle.ways_out.specs.Following.{IsRunning}
+use Rattle.ways_out.specs.Laws.{CanBeLed}
 use Rattle.escaping_nodes.proofs.NodesFollow.{replica_at}
 use Rattle.headline.specs.node_group.Group.{Group, moment_of, replica_of}
 use Rattle.headline.specs.snapshots.Moments.{Moment, Moments, whole_moment}
@@ -25,10 +25,10 @@ use Rattle.headline.proofs.of_snapshots.PastsKept.{past_stands}
 use Rattle.headline.proofs.of_snapshots.Views.{get_whole}
 use Rattle.escaping_client.specs.lists.Lists.{In}
 use Rattle.escaping_client.specs.lists.Lists.In.{here, there}
-use Rattle.headline.specs.world_base.Core.{CountedCore, rules}
-use Rattle.escaping_nodes.specs.world_nodes.Asking.{log_in, log_of}
-use Rattle.escaping_nodes.specs.world_nodes.Running.{is_running, is_up, node_of}
-use Rattle.escaping_nodes.specs.world_nodes.Nodes.{NodesState, NodesStandFor}
+use Rattle.world_base.specs.Core.{CountedCore, rules}
+use Rattle.world_nodes.specs.Asking.{log_in, log_of}
+use Rattle.world_nodes.specs.Running.{is_running, is_up, node_of}
+use Rattle.world_nodes.specs.Nodes.{NodesState, NodesStandFor}
 use Rattle.world.specs.Escaping.{CanEscape, configuration_of, held_in}
 use Rattle.world.specs.World.{WorldState}
 

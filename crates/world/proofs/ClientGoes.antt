@@ -4,11 +4,11 @@ use Rattle.std.proofs.lemmas.List.{append-nil, map-append, set-set}
 use Rattle.escaping_client.proofs.of_lists.Places.{get_set}
 use Rattle.headline.specs.byte_world.World.{ClientPipes, World, with_client}
 use Rattle.headline.specs.byte_world.Published.{from_client}
-use Rattle.escaping_client.specs.session_base.declared.publication.Publication.{Publication}
-use Rattle.world_events.specs.world_pipes.Following.{FollowsAll, FollowsBy}
-use Rattle.world_events.specs.world_pipes.Steps.{ClientGoes, published_along as published_with, published_with as published_with_one}
-use Rattle.world_events.specs.world_pipes.Piped.{Piped}
-use Rattle.world_events.proofs.of_world_pipes.StepsInWorlds.{steps_in_worlds}
+use Rattle.session_base.specs.declared.publication.Publication.{Publication}
+use Rattle.world_pipes.specs.Following.{FollowsAll, FollowsBy}
+use Rattle.world_pipes.specs.Steps.{ClientGoes, published_along as published_with, published_with as published_with_one}
+use Rattle.world_pipes.specs.Piped.{Piped}
+use Rattle.world_pipes.proofs.StepsInWorlds.{steps_in_worlds}
 use Rattle.world_clients.specs.declared.connection_slot.ConnectionSlot.{ConnectionSlot}
 use Rattle.world_clients.specs.declared.world_client.WorldClient.{WorldClient}
 use Rattle.world_clients.specs.SlotsAreValid.{SlotsAreValid, leads, leads_of}

@@ -2,8 +2,8 @@
 use Rattle.std.proofs.Common.{◌≡◌, ℕ, zero, suc, List, [], ◌∷◌, Some, set, slice_get, refl, subst}
 use Rattle.std.proofs.lemmas.Option.{same_Some, none-some}
 use Rattle.headline.specs.byte_world.World.{ClientPipes}
-use Rattle.world_events.specs.world_pipes.Piped.{Piped}
-use Rattle.world_events.specs.world_pipes.StandsFor.{ClientStandsFor}
+use Rattle.world_pipes.specs.Piped.{Piped}
+use Rattle.world_pipes.specs.StandsFor.{ClientStandsFor}
 use Rattle.world_clients.specs.declared.world_client.WorldClient.{WorldClient}
 use Rattle.world_clients.specs.Clients.{ClientsStand}
 

@@ -2,15 +2,15 @@
 use Rattle.std.proofs.Common.{◌≡◌, ◌-◌, ◌≤◌, ℕ, suc, List, [], ◌++◌, take, drop, length, slice_get, Some, refl, sym, ap, ◌∙◌, subst, arith}
 use Rattle.std.proofs.lemmas.List.{take-append-drop, take-append-le, drop-append-le}
 use Rattle.std.proofs.lemmas.Option.{same_Some}
-use Rattle.headline.specs.world_base.declared.item.Item.TheVariants.{Bytes}
-use Rattle.headline.specs.world_base.declared.Port.{Port}
+use Rattle.world_base.specs.declared.item.Item.TheVariants.{Bytes}
+use Rattle.world_base.specs.declared.Port.{Port}
 use Rattle.headline.specs.node_moves.Moves.NodeCall.{takes}
 use Rattle.headline.specs.byte_world.World.{HasPipe, Pipe, World, with_client, with_pipe}
 use Rattle.headline.specs.byte_world.Steps.WorldStep.{comes_up}
-use Rattle.escaping_nodes.specs.world_nodes.ExactSteps.{NodeDoesCall}
-use Rattle.escaping_nodes.specs.world_nodes.Nodes.{NodesState}
-use Rattle.world_events.specs.world_pipes.declared.way.Way.{Way}
-use Rattle.world_events.specs.world_pipes.Piped.{Piped}
+use Rattle.world_nodes.specs.ExactSteps.{NodeDoesCall}
+use Rattle.world_nodes.specs.Nodes.{NodesState}
+use Rattle.world_pipes.specs.declared.way.Way.{Way}
+use Rattle.world_pipes.specs.Piped.{Piped}
 use Rattle.world_clients.specs.declared.connection_slot.ConnectionSlot.{ConnectionSlot}
 use Rattle.world_clients.specs.declared.world_client.WorldClient.{WorldClient}
 use Rattle.world_clients.specs.SlotsAreValid.{LeadsThere, leads_of}

@@ -13,10 +13,10 @@ use Rattle.escaping_client.proofs.ConnackServed.{connack_serves}
 use Rattle.escaping_nodes.specs.Answered.{session_present}
 use Rattle.escaping_client.specs.lists.Lists.{IsPrefixOf}
 use Rattle.escaping_client.proofs.of_lists.Places.{get_pushed, get_set}
-use Rattle.escaping_client.specs.packet.Spelling.{spelling}
-use Rattle.escaping_client.specs.packet.Verdict.{verdict}
-use Rattle.world_events.specs.world_pipes.declared.way.Way.{Way}
-use Rattle.world_events.specs.world_pipes.Piped.{CarriesDown, Piped, broken, come_down, sent_up}
+use Rattle.packet.specs.Spelling.{spelling}
+use Rattle.packet.specs.Verdict.{verdict}
+use Rattle.world_pipes.specs.declared.way.Way.{Way}
+use Rattle.world_pipes.specs.Piped.{CarriesDown, Piped, broken, come_down, sent_up}
 use Rattle.world_events.specs.declared.event.Event.TheVariants as events
 use Rattle.world_clients.specs.declared.connection_slot.ConnectionSlot.{ConnectionSlot}
 use Rattle.world_clients.specs.declared.world_client.WorldClient.{WorldClient}

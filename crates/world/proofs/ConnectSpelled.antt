@@ -3,16 +3,16 @@ use Rattle.std.proofs.Common.{◌≡◌, ◌+◌, ◌<◌, ℕ, true, false, IsT
 use Rattle.std.specs.Prelude.{nat_lt}
 use Rattle.std.proofs.lemmas.Bool.{and_parts, lt-ltb, ltb-true}
 use Rattle.std.proofs.lemmas.List.{append-nil}
-use Rattle.escaping_client.specs.packet.declared.connect.Connect.{Connect}
-use Rattle.escaping_client.specs.packet.declared.packet.Packet.{Packet}
-use Rattle.escaping_client.specs.packet.declared.packet.Packet.TheVariants as packets
+use Rattle.packet.specs.declared.connect.Connect.{Connect}
+use Rattle.packet.specs.declared.packet.Packet.{Packet}
+use Rattle.packet.specs.declared.packet.Packet.TheVariants as packets
 use Rattle.escaping_client.specs.packet.ClientId.{is_client}
 use Rattle.escaping_client.specs.packet.Stop.{Stop}
-use Rattle.escaping_client.specs.packet.Spelling.{IsPacket, body, spelling}
-use Rattle.escaping_client.specs.packet.Verdict.{verdict}
+use Rattle.packet.specs.Spelling.{IsPacket, body, spelling}
+use Rattle.packet.specs.Verdict.{verdict}
 use Rattle.escaping_client.proofs.of_packet.Clients.{client_parts, client_short}
-use Rattle.escaping_client.proofs.of_packet.OneSpelling.{spelling_is}
-use Rattle.escaping_client.proofs.of_packet.PacketReads.{verdict_again}
+use Rattle.packet.proofs.OneSpelling.{spelling_is}
+use Rattle.packet.proofs.PacketReads.{verdict_again}
 use Rattle.escaping_client.specs.client.Core.{AppendsAll}
 use Rattle.escaping_nodes.specs.Answered.{session_present}
 

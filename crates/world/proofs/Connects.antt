@@ -6,21 +6,21 @@ use Rattle.std.proofs.lemmas.Bool.{both_ways, ne_eqb}
 use Rattle.std.proofs.lemmas.List.{reverse-reverse}
 use Rattle.std.proofs.lemmas.Option.{none-some}
 use Rattle.escaping_client.proofs.of_lists.Tests.{none_or}
-use Rattle.headline.specs.world_base.declared.item.Item.TheVariants.{Opened}
-use Rattle.headline.specs.world_base.declared.Port.{Port}
-use Rattle.headline.specs.world_base.Core.{CoreState, CountedCore}
-use Rattle.headline.specs.world_base.Handing.{listed_at}
+use Rattle.world_base.specs.declared.item.Item.TheVariants.{Opened}
+use Rattle.world_base.specs.declared.Port.{Port}
+use Rattle.world_base.specs.Core.{CoreState, CountedCore}
+use Rattle.world_base.specs.Handing.{listed_at}
 use Rattle.headline.specs.node_moves.Moves.NodeCall.{takes}
 use Rattle.headline.proofs.of_node_group.Placed.{get_mapped}
 use Rattle.headline.specs.byte_world.World.{ClientPipes, Pipe, World, is_used, leads_to, with_client}
 use Rattle.headline.specs.byte_world.ClientSteps.{after_connecting}
 use Rattle.headline.specs.byte_world.Steps.WorldStep.{connects}
-use Rattle.escaping_nodes.specs.world_nodes.ExactSteps.{NodeDoesCall}
-use Rattle.escaping_nodes.specs.world_nodes.Running.{node_of}
-use Rattle.escaping_nodes.specs.world_nodes.Nodes.{NodesState, NodesStandFor}
-use Rattle.world_events.specs.world_pipes.declared.way.Way.{Way}
-use Rattle.world_events.specs.world_pipes.Following.{ConnectingFollows}
-use Rattle.world_events.specs.world_pipes.StandsFor.{AreWays}
+use Rattle.world_nodes.specs.ExactSteps.{NodeDoesCall}
+use Rattle.world_nodes.specs.Running.{node_of}
+use Rattle.world_nodes.specs.Nodes.{NodesState, NodesStandFor}
+use Rattle.world_pipes.specs.declared.way.Way.{Way}
+use Rattle.world_pipes.specs.Following.{ConnectingFollows}
+use Rattle.world_pipes.specs.StandsFor.{AreWays}
 use Rattle.world_clients.specs.declared.world_client.WorldClient.{WorldClient}
 use Rattle.world_clients.specs.SlotsAreValid.{SlotsAreValid, leads, leads_of}
 use Rattle.world.specs.Inside.Connecting.{ConnectsAt}

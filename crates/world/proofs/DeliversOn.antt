@@ -9,8 +9,8 @@ use Rattle.headline.specs.ballot.Replica.{ReplicaState}
 use Rattle.headline.specs.broker_spec.declared.command.Command.{Command}
 use Rattle.headline.specs.broker_spec.declared.command.Output.{Output}
 use Rattle.headline.specs.broker_base.State.{State}
-use Rattle.escaping_nodes.specs.ways_out.CutDeliveries.{Delivered, after_activate, after_outcome}
-use Rattle.escaping_nodes.specs.ways_out.CutDeliveries.Delivered.{all_came, to_node, to_master}
+use Rattle.ways_out.specs.CutDeliveries.{Delivered, after_activate, after_outcome}
+use Rattle.ways_out.specs.CutDeliveries.Delivered.{all_came, to_node, to_master}
 use Rattle.escaping_nodes.specs.Coming.{AreCalm, Come, IsSeen}
 use Rattle.escaping_nodes.specs.Coming.Come.{all_came as none_comes, to_node as comes_to_node, to_master as comes_to_master}
 use Rattle.escaping_nodes.proofs.NodesFollow.{deliveries_are_followed}
@@ -19,13 +19,13 @@ use Rattle.headline.specs.snapshots.Moments.{Moment}
 use Rattle.headline.specs.node_moves.Moves.NodeCall.{takes}
 use Rattle.escaping_client.specs.lists.Lists.{In}
 use Rattle.escaping_client.proofs.of_lists.Members.{in_at}
-use Rattle.headline.specs.world_base.Core.{CoreState, CountedCore, rules}
-use Rattle.headline.specs.world_base.declared.item.Item.TheVariants.{Peer}
-use Rattle.escaping_nodes.specs.world_nodes.ExactSteps.{MessageArrives, ComesToNobody, TakesExactly, after_answer, after_node_call}
-use Rattle.escaping_nodes.specs.world_nodes.Running.{running, unless_stopped}
-use Rattle.escaping_nodes.specs.world_nodes.Nodes.{NodesState, cores_of}
-use Rattle.escaping_nodes.proofs.of_world_nodes.Acts.{acts}
-use Rattle.escaping_nodes.proofs.of_world_nodes.MasterActs.{answers_exactly}
+use Rattle.world_base.specs.Core.{CoreState, CountedCore, rules}
+use Rattle.world_base.specs.declared.item.Item.TheVariants.{Peer}
+use Rattle.world_nodes.specs.ExactSteps.{MessageArrives, ComesToNobody, TakesExactly, after_answer, after_node_call}
+use Rattle.world_nodes.specs.Running.{running, unless_stopped}
+use Rattle.world_nodes.specs.Nodes.{NodesState, cores_of}
+use Rattle.world_nodes.proofs.Acts.{acts}
+use Rattle.world_nodes.proofs.MasterActs.{answers_exactly}
 use Rattle.world_events.specs.declared.event.Event.TheVariants as events
 use Rattle.world.specs.Cannot.{CannotHappen}
 use Rattle.world.specs.Doing.{DoesEvent, receiver_of}

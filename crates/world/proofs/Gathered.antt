@@ -1,7 +1,7 @@
 -- Gathered.antt: connections are asked one after another, from the newest to the oldest.
 use Rattle.std.proofs.Common.{◌≡◌, inl, inr, ◌<◌, ◌-◌, ℕ, zero, suc, Bool, true, false, List, ◌++◌, Some, length, set, slice_get, refl, sym, ap, ◌∙◌, subst, arith}
-use Rattle.escaping_nodes.specs.world_nodes.Running.{node_of}
-use Rattle.escaping_nodes.specs.world_nodes.Steps.{nodes_with_loss}
+use Rattle.world_nodes.specs.Running.{node_of}
+use Rattle.world_nodes.specs.Steps.{nodes_with_loss}
 use Rattle.world_clients.specs.declared.connection_slot.ConnectionSlot.{ConnectionSlot}
 use Rattle.world.specs.Found.{slot_numbered, port_of, with_piped}
 use Rattle.world_clients.specs.Handing.{with_down}

@@ -7,11 +7,11 @@ use Rattle.headline.specs.broker_spec.Place.{Client}
 use Rattle.escaping_client.specs.lists.Lists.{In}
 use Rattle.escaping_client.proofs.of_lists.Tests.{eq_is}
 use Rattle.headline.proofs.of_exactly_once.Takes.{same_name_self}
-use Rattle.headline.specs.world_base.declared.Connection.{Connection as NodesEnd}
-use Rattle.headline.specs.world_base.declared.Port.{Port}
+use Rattle.world_base.specs.declared.Connection.{Connection as NodesEnd}
+use Rattle.world_base.specs.declared.Port.{Port}
 use Rattle.headline.specs.world_base.Connections.{is_at}
-use Rattle.headline.specs.world_base.Core.{CoreState, CountedCore}
-use Rattle.headline.specs.world_base.Handing.{bytes_of, listed_at}
+use Rattle.world_base.specs.Core.{CoreState, CountedCore}
+use Rattle.world_base.specs.Handing.{bytes_of, listed_at}
 use Rattle.headline.specs.node_moves.Moves.NodeCall.{gives}
 use Rattle.headline.proofs.of_node_moves.Views.{found_passes}
 use Rattle.headline.specs.node_group.Streams.{bytes_named}
@@ -22,10 +22,10 @@ use Rattle.headline.specs.byte_world.Steps.WorldStep.{goes_down}
 use Rattle.headline.proofs.of_byte_world.NodesGoOn.{carries_with}
 use Rattle.headline.proofs.of_byte_world.PipesHold.{found_in}
 use Rattle.headline.proofs.of_byte_world.PipesInOrder.{reached_holds}
-use Rattle.escaping_nodes.specs.world_nodes.ExactSteps.{NodeDoesCall, HandsOver}
-use Rattle.escaping_nodes.specs.world_nodes.Nodes.{NodesState}
-use Rattle.world_events.specs.world_pipes.declared.way.Way.{Way}
-use Rattle.world_events.specs.world_pipes.Piped.{Piped}
+use Rattle.world_nodes.specs.ExactSteps.{NodeDoesCall, HandsOver}
+use Rattle.world_nodes.specs.Nodes.{NodesState}
+use Rattle.world_pipes.specs.declared.way.Way.{Way}
+use Rattle.world_pipes.specs.Piped.{Piped}
 use Rattle.world_clients.specs.declared.connection_slot.ConnectionSlot.{ConnectionSlot}
 use Rattle.world_clients.specs.declared.world_client.WorldClient.{WorldClient}
 use Rattle.world_clients.specs.SlotsAreValid.{LeadsThere, leads_of}

@@ -8,17 +8,17 @@ use Rattle.headline.specs.ballot.Message.{Message}
 use Rattle.headline.specs.broker_spec.declared.command.Command.{Command}
 use Rattle.headline.specs.broker_spec.Place.{Client}
 use Rattle.escaping_nodes.specs.master.declared.event.Idle.{Idle}
-use Rattle.headline.specs.world_base.declared.item.Item.TheVariants.{Cut, Expel, Peer}
+use Rattle.world_base.specs.declared.item.Item.TheVariants.{Cut, Expel, Peer}
 use Rattle.headline.specs.node_moves.Moves.{NodeCall}
 use Rattle.headline.specs.node_moves.Moves.NodeCall.{takes}
 use Rattle.headline.specs.node_group.Group.{Group}
 use Rattle.headline.specs.byte_world.World.{World}
 use Rattle.headline.specs.byte_world.Steps.{is_apart}
 use Rattle.headline.specs.byte_world.Steps.WorldStep.{goes_on as group_goes}
-use Rattle.escaping_nodes.specs.world_nodes.Nodes.{NodesState, NodesStandFor}
-use Rattle.escaping_nodes.specs.world_nodes.ExactSteps.{NodeDoesCall, GoesBy}
-use Rattle.escaping_nodes.specs.world_nodes.Steps.{nodes_with_loss}
-use Rattle.escaping_nodes.specs.world_nodes.GroupSteps.{ActsOrRests, ComesOrRests, MasterGoesOrRests, MasterHears}
+use Rattle.world_nodes.specs.Nodes.{NodesState, NodesStandFor}
+use Rattle.world_nodes.specs.ExactSteps.{NodeDoesCall, GoesBy}
+use Rattle.world_nodes.specs.Steps.{nodes_with_loss}
+use Rattle.world_nodes.specs.GroupSteps.{ActsOrRests, ComesOrRests, MasterGoesOrRests, MasterHears}
 use Rattle.world_clients.specs.NodesGoOn.{NodesGo, NodesStay}
 use Rattle.world.specs.Inside.Steps.{IsTrace}
 use Rattle.world.specs.StandsFor.{FollowsModel}

@@ -9,14 +9,14 @@ use Rattle.headline.specs.agreement.MasterState.{refusal}
 use Rattle.headline.specs.ballot.Config.{Config}
 use Rattle.headline.specs.ballot.Losses.{one_more}
 use Rattle.escaping_nodes.specs.master.declared.event.Idle.{Idle}
-use Rattle.headline.specs.world_base.declared.item.Item.{Item}
-use Rattle.headline.specs.world_base.declared.item.Item.TheVariants.{Bytes, Crash, Ended, Expel, Tick}
-use Rattle.escaping_nodes.specs.world_nodes.ExactSteps.{MessageArrives, ComesToNobody, CutsExactly, TakesExactly}
-use Rattle.escaping_nodes.specs.world_nodes.Running.{cutting, proposing, running}
-use Rattle.escaping_nodes.specs.world_nodes.Nodes.{NodesState}
-use Rattle.escaping_nodes.specs.world_nodes.Steps.{ComesIn, CutsIn, ExpelsIn, GivesIn, NodesLoseNothing, TakesIn}
-use Rattle.world_events.specs.world_pipes.declared.way.Way.{Way}
-use Rattle.world_events.specs.world_pipes.Piped.{Piped, is_holding}
+use Rattle.world_base.specs.declared.item.Item.{Item}
+use Rattle.world_base.specs.declared.item.Item.TheVariants.{Bytes, Crash, Ended, Expel, Tick}
+use Rattle.world_nodes.specs.ExactSteps.{MessageArrives, ComesToNobody, CutsExactly, TakesExactly}
+use Rattle.world_nodes.specs.Running.{cutting, proposing, running}
+use Rattle.world_nodes.specs.Nodes.{NodesState}
+use Rattle.world_nodes.specs.Steps.{ComesIn, CutsIn, ExpelsIn, GivesIn, NodesLoseNothing, TakesIn}
+use Rattle.world_pipes.specs.declared.way.Way.{Way}
+use Rattle.world_pipes.specs.Piped.{Piped, is_holding}
 use Rattle.world_events.specs.declared.event.Event.{Event}
 use Rattle.world_events.specs.declared.event.Event.TheVariants as events
 use Rattle.world_clients.specs.declared.connection_slot.ConnectionSlot.{ConnectionSlot}

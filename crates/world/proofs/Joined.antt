@@ -6,12 +6,12 @@ use Rattle.headline.specs.ballot.Losses.{one_more}
 use Rattle.headline.specs.broker_spec.Place.{Client}
 use Rattle.headline.proofs.WorldsExact.{worlds_are_exact}
 use Rattle.headline.specs.packet_world.World.{ClientsAreApart}
-use Rattle.escaping_client.specs.session_base.declared.publication.Publication.{Publication}
+use Rattle.session_base.specs.declared.publication.Publication.{Publication}
 use Rattle.headline.specs.byte_world.World.{World}
 use Rattle.headline.specs.byte_world.Steps.{Reached}
 use Rattle.headline.specs.byte_world.Steps.Reached.{goes_on as reached_more}
 use Rattle.headline.specs.byte_world.Published.{published_in, published_on}
-use Rattle.escaping_nodes.specs.world_nodes.Nodes.{NodesState, NodesStandFor}
+use Rattle.world_nodes.specs.Nodes.{NodesState, NodesStandFor}
 use Rattle.world.specs.Trace.{WorldLosesNothing, KeepsGroup}
 use Rattle.world.specs.Inside.Steps.{IsTrace, IsTraceAsking}
 use Rattle.world_clients.specs.declared.world_client.WorldClient.{WorldClient}

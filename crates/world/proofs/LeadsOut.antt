@@ -13,17 +13,17 @@ use Rattle.escaping_client.specs.client.Core.{AppendsAll, Core}
 use Rattle.escaping_client.specs.client.State.{is_open}
 use Rattle.escaping_nodes.specs.Answered.{begun}
 use Rattle.escaping_nodes.specs.Opened.{CanOpen}
-use Rattle.escaping_nodes.specs.ways_out.Deliveries.{asked_and_answered}
+use Rattle.ways_out.specs.Deliveries.{asked_and_answered}
 use Rattle.headline.specs.node_group.Group.{Group, moment_of}
 use Rattle.headline.specs.snapshots.Moments.{Moment, Moments}
 use Rattle.headline.specs.byte_world.Carried.{trace_of}
 use Rattle.escaping_client.specs.lists.Lists.{IsPrefixOf}
-use Rattle.escaping_client.specs.packet.declared.packet.Packet.TheVariants as packets
-use Rattle.headline.specs.world_base.Core.{rules}
-use Rattle.escaping_nodes.specs.world_nodes.Agreed.{AgreeOn}
-use Rattle.escaping_nodes.specs.world_nodes.Asking.{log_of}
-use Rattle.escaping_nodes.specs.world_nodes.Nodes.{NodesState}
-use Rattle.world_events.specs.world_pipes.StandsFor.{CanGoOut}
+use Rattle.packet.specs.declared.packet.Packet.TheVariants as packets
+use Rattle.world_base.specs.Core.{rules}
+use Rattle.world_nodes.specs.Agreed.{AgreeOn}
+use Rattle.world_nodes.specs.Asking.{log_of}
+use Rattle.world_nodes.specs.Nodes.{NodesState}
+use Rattle.world_pipes.specs.StandsFor.{CanGoOut}
 use Rattle.world_events.specs.declared.event.Event.{Event}
 use Rattle.world_events.specs.declared.event.Event.TheVariants as events
 use Rattle.world_clients.specs.declared.connection_slot.ConnectionSlot.{ConnectionSlot}

@@ -5,7 +5,7 @@ use Rattle.std.proofs.lemmas.Option.{same_Some}
 use Rattle.escaping_client.specs.client.Core.{Core, gone}
 use Rattle.escaping_client.specs.client.State.{is_open}
 use Rattle.escaping_client.proofs.of_lists.Places.{get_set}
-use Rattle.world_events.specs.world_pipes.Piped.{Piped}
+use Rattle.world_pipes.specs.Piped.{Piped}
 use Rattle.world_events.specs.declared.event.Event.{Event}
 use Rattle.world_events.specs.declared.event.Event.TheVariants as events
 use Rattle.world_clients.specs.declared.world_client.WorldClient.{WorldClient}

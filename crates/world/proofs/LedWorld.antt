@@ -12,18 +12,18 @@ use Rattle.headline.specs.broker_spec.declared.command.Output.{Output}
 use Rattle.headline.specs.broker_spec.Place.{Client}
 use Rattle.headline.specs.broker_base.State.{State}
 use Rattle.escaping_nodes.specs.Coming.{AreCalm, AreFollowed, IsSeen}
-use Rattle.escaping_nodes.specs.ways_out.CutDeliveries.{Delivered, assigned_moment}
-use Rattle.escaping_nodes.specs.ways_out.CutLaws.{LeadsOut}
-use Rattle.escaping_nodes.specs.ways_out.Deliveries.{way_out}
+use Rattle.ways_out.specs.CutDeliveries.{Delivered, assigned_moment}
+use Rattle.ways_out.specs.CutLaws.{LeadsOut}
+use Rattle.ways_out.specs.Deliveries.{way_out}
 use Rattle.escaping_nodes.proofs.LedOut.{assigned_seen, low_before, way_of}
 use Rattle.escaping_nodes.proofs.NodesFollow.{deliveries_are_followed}
 use Rattle.headline.specs.node_group.Group.{Group, moment_of}
 use Rattle.headline.specs.snapshots.Moments.{Moment, Moments}
-use Rattle.headline.specs.world_base.Core.{rules}
-use Rattle.escaping_nodes.specs.world_nodes.Asking.{log_of}
-use Rattle.escaping_nodes.specs.world_nodes.ExactSteps.{after_giving}
-use Rattle.escaping_nodes.specs.world_nodes.Nodes.{NodesState, NodesStandFor}
-use Rattle.escaping_nodes.proofs.of_world_nodes.MasterActs.{gives_exactly}
+use Rattle.world_base.specs.Core.{rules}
+use Rattle.world_nodes.specs.Asking.{log_of}
+use Rattle.world_nodes.specs.ExactSteps.{after_giving}
+use Rattle.world_nodes.specs.Nodes.{NodesState, NodesStandFor}
+use Rattle.world_nodes.proofs.MasterActs.{gives_exactly}
 use Rattle.world_events.specs.declared.event.Event.{Event}
 use Rattle.world_events.specs.declared.event.Event.TheVariants as events
 use Rattle.world.specs.Escaping.{CanEscape, configuration_of}

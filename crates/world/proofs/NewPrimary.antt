@@ -15,11 +15,11 @@ use Rattle.headline.specs.broker_spec.Place.{Client}
 use Rattle.headline.specs.broker_base.State.{State}
 use Rattle.escaping_nodes.specs.Answered.{begun}
 use Rattle.escaping_nodes.specs.Opened.{CanOpen}
-use Rattle.escaping_nodes.specs.ways_out.Deliveries.{NumbersAreApart, NodeIs}
-use Rattle.escaping_nodes.specs.ways_out.Following.{Follows, Serves}
+use Rattle.ways_out.specs.Deliveries.{NumbersAreApart, NodeIs}
+use Rattle.ways_out.specs.Following.{Follows, Serves}
 use Rattle.escaping_nodes.proofs.LedOut.{low_before}
-use Rattle.escaping_nodes.proofs.of_ways_out.RisingMembers.{rising_apart}
-use Rattle.escaping_nodes.proofs.of_ways_out.Rows.{others_first}
+use Rattle.ways_out.proofs.RisingMembers.{rising_apart}
+use Rattle.ways_out.proofs.Rows.{others_first}
 use Rattle.headline.specs.node_group.Group.{moment_of, replica_of}
 use Rattle.headline.specs.snapshots.Moments.{Moment, Moments, whole_moment}
 use Rattle.headline.specs.snapshots.Whole.{whole}
@@ -29,10 +29,10 @@ use Rattle.headline.proofs.of_node_group.Placed.{get_mapped}
 use Rattle.headline.proofs.of_byte_world.NodesHoused.{nodes_are_orderly}
 use Rattle.escaping_client.specs.lists.Lists.{In}
 use Rattle.escaping_client.specs.lists.Lists.In.{here}
-use Rattle.headline.specs.world_base.Core.{CoreState, CountedCore, rules}
-use Rattle.escaping_nodes.specs.world_nodes.Asking.{log_of}
-use Rattle.escaping_nodes.specs.world_nodes.Nodes.{cores_of}
-use Rattle.escaping_nodes.specs.world_nodes.Running.{is_running}
+use Rattle.world_base.specs.Core.{CoreState, CountedCore, rules}
+use Rattle.world_nodes.specs.Asking.{log_of}
+use Rattle.world_nodes.specs.Nodes.{cores_of}
+use Rattle.world_nodes.specs.Running.{is_running}
 use Rattle.world_events.specs.declared.event.Event.{Event}
 use Rattle.world.specs.Escaping.{CanEscape}
 use Rattle.world.specs.Found.{port_of}

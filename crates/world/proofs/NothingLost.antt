@@ -9,14 +9,14 @@ use Rattle.headline.specs.broker_spec.declared.command.Command.{Command}
 use Rattle.headline.specs.broker_spec.Place.{Client}
 use Rattle.headline.specs.snapshots.World.{recorded}
 use Rattle.headline.specs.node_moves.Moves.NodeCall.{takes}
-use Rattle.headline.specs.world_base.Core.{CountedCore}
-use Rattle.headline.specs.world_base.declared.item.Item.{Item}
-use Rattle.headline.specs.world_base.declared.item.Item.TheVariants.{Cut, Expel, Peer}
-use Rattle.headline.specs.world_base.declared.Port.{Port}
-use Rattle.escaping_nodes.specs.world_nodes.ExactSteps.{after_node_call}
-use Rattle.escaping_nodes.specs.world_nodes.Nodes.{NodesState}
-use Rattle.escaping_nodes.specs.world_nodes.Steps.{ActsWithLosses, ComesIn, CutsIn, CutsWithLosses, ExpelsIn, HearsIn, NodesLoseNothing, TakesIn, nodes_with_loss}
-use Rattle.escaping_nodes.proofs.of_world_nodes.Exactly.{exactly}
+use Rattle.world_base.specs.Core.{CountedCore}
+use Rattle.world_base.specs.declared.item.Item.{Item}
+use Rattle.world_base.specs.declared.item.Item.TheVariants.{Cut, Expel, Peer}
+use Rattle.world_base.specs.declared.Port.{Port}
+use Rattle.world_nodes.specs.ExactSteps.{after_node_call}
+use Rattle.world_nodes.specs.Nodes.{NodesState}
+use Rattle.world_nodes.specs.Steps.{ActsWithLosses, ComesIn, CutsIn, CutsWithLosses, ExpelsIn, HearsIn, NodesLoseNothing, TakesIn, nodes_with_loss}
+use Rattle.world_nodes.proofs.Exactly.{exactly}
 use Rattle.world.specs.Found.{slot_numbered, port_of}
 use Rattle.world.specs.Gathering.{GatheredWhere, Gathers, GathersAmong, MayBeGathered, TakesItem, is_open_at}
 use Rattle.world_clients.specs.Handing.{HandsOverBytes}

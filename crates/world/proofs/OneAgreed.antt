@@ -11,8 +11,8 @@ use Rattle.headline.specs.broker_spec.declared.command.Command.{Command}
 use Rattle.headline.specs.broker_spec.declared.command.Output.{Output}
 use Rattle.headline.specs.broker_spec.Place.{Client}
 use Rattle.headline.specs.broker_base.State.{State}
-use Rattle.escaping_nodes.specs.world_nodes.Agreed.{AgreeOn}
-use Rattle.escaping_nodes.specs.world_nodes.Nodes.{NodesState}
+use Rattle.world_nodes.specs.Agreed.{AgreeOn}
+use Rattle.world_nodes.specs.Nodes.{NodesState}
 use Rattle.world.specs.World.{WorldState}
 use Rattle.world.specs.Trace.{AreReached}
 use Rattle.world.specs.StandsFor.{IsReached}

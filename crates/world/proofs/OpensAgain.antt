@@ -16,10 +16,10 @@ use Rattle.headline.proofs.of_byte_world.NodesHoused.{nodes_are_orderly, ports_h
 use Rattle.escaping_client.proofs.of_lists.Tests.{eq_is}
 use Rattle.escaping_client.specs.lists.Lists.{Each, In}
 use Rattle.escaping_client.specs.lists.Lists.In.{here, there}
-use Rattle.headline.specs.world_base.declared.Connection.{Connection}
-use Rattle.headline.specs.world_base.declared.Port.{Port}
+use Rattle.world_base.specs.declared.Connection.{Connection}
+use Rattle.world_base.specs.declared.Port.{Port}
 use Rattle.headline.specs.world_base.Connections.{is_at, is_open_named, is_closed}
-use Rattle.headline.specs.world_base.Core.{CoreState, CountedCore}
+use Rattle.world_base.specs.Core.{CoreState, CountedCore}
 use Rattle.world.specs.Found.{port_of}
 use Rattle.world.specs.StandsFor.{WorldStandsFor}
 use Rattle.world.specs.World.{WorldState}

@@ -5,20 +5,20 @@ use Rattle.std.specs.List.{position}
 use Rattle.std.specs.Option.{is_some}
 use Rattle.std.proofs.lemmas.Bool.{both_ways}
 use Rattle.std.proofs.lemmas.Option.{none-some}
-use Rattle.headline.specs.world_base.declared.item.Item.TheVariants.{Opened}
-use Rattle.headline.specs.world_base.declared.Port.{Port}
-use Rattle.headline.specs.world_base.Core.{CoreState, CountedCore}
-use Rattle.headline.specs.world_base.Handing.{listed_at}
+use Rattle.world_base.specs.declared.item.Item.TheVariants.{Opened}
+use Rattle.world_base.specs.declared.Port.{Port}
+use Rattle.world_base.specs.Core.{CoreState, CountedCore}
+use Rattle.world_base.specs.Handing.{listed_at}
 use Rattle.headline.specs.node_moves.Moves.NodeCall.{takes}
 use Rattle.headline.proofs.of_node_group.Placed.{get_mapped}
 use Rattle.headline.specs.byte_world.World.{World}
 use Rattle.headline.specs.byte_world.Steps.WorldStep.{is_taken_back}
-use Rattle.escaping_nodes.specs.world_nodes.ExactSteps.{NodeDoesCall}
-use Rattle.escaping_nodes.specs.world_nodes.Running.{node_of}
-use Rattle.escaping_nodes.specs.world_nodes.Nodes.{NodesState}
-use Rattle.escaping_nodes.specs.world_nodes.Steps.{NodesLoseNothing}
-use Rattle.world_events.specs.world_pipes.Following.{FollowsAll}
-use Rattle.world_events.specs.world_pipes.Piped.{Piped, is_holding}
+use Rattle.world_nodes.specs.ExactSteps.{NodeDoesCall}
+use Rattle.world_nodes.specs.Running.{node_of}
+use Rattle.world_nodes.specs.Nodes.{NodesState}
+use Rattle.world_nodes.specs.Steps.{NodesLoseNothing}
+use Rattle.world_pipes.specs.Following.{FollowsAll}
+use Rattle.world_pipes.specs.Piped.{Piped, is_holding}
 use Rattle.world_clients.specs.NodesGoOn.{NodesGoOn}
 use Rattle.world_clients.specs.SlotsAreValid.{SlotsAreValid, leads_of}
 use Rattle.world_events.specs.declared.event.Event.TheVariants as events

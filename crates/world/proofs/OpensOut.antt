@@ -21,15 +21,15 @@ use Rattle.headline.specs.snapshots.Moments.{Moment}
 use Rattle.headline.specs.node_moves.Moves.{NodeCall}
 use Rattle.headline.specs.node_moves.Moves.NodeCall.{takes}
 use Rattle.escaping_client.proofs.of_lists.Places.{get_pushed, get_set}
-use Rattle.headline.specs.world_base.Core.{CountedCore}
-use Rattle.headline.specs.world_base.declared.item.Item.{Item}
-use Rattle.headline.specs.world_base.declared.item.Item.TheVariants.{Opened}
-use Rattle.escaping_nodes.specs.world_nodes.ExactSteps.{after_node_call}
-use Rattle.escaping_nodes.specs.world_nodes.Running.{node_of}
-use Rattle.escaping_nodes.specs.world_nodes.Nodes.{NodesState}
-use Rattle.escaping_nodes.proofs.of_world_nodes.Acts.{acts}
-use Rattle.world_events.specs.world_pipes.declared.way.Way.{Way}
-use Rattle.world_events.specs.world_pipes.Piped.{Piped, new_way}
+use Rattle.world_base.specs.Core.{CountedCore}
+use Rattle.world_base.specs.declared.item.Item.{Item}
+use Rattle.world_base.specs.declared.item.Item.TheVariants.{Opened}
+use Rattle.world_nodes.specs.ExactSteps.{after_node_call}
+use Rattle.world_nodes.specs.Running.{node_of}
+use Rattle.world_nodes.specs.Nodes.{NodesState}
+use Rattle.world_nodes.proofs.Acts.{acts}
+use Rattle.world_pipes.specs.declared.way.Way.{Way}
+use Rattle.world_pipes.specs.Piped.{Piped, new_way}
 use Rattle.world_events.specs.declared.event.Event.{Event}
 use Rattle.world_events.specs.declared.event.Event.TheVariants as events
 use Rattle.world_clients.specs.declared.connection_slot.ConnectionSlot.{ConnectionSlot}

@@ -6,11 +6,11 @@ use Rattle.headline.specs.agreement.World.{can_open}
 use Rattle.headline.specs.broker_spec.Place.{Client}
 use Rattle.headline.specs.packet_world.World.{ClientsAreApart}
 use Rattle.headline.specs.node_group.Group.{opening_group}
-use Rattle.headline.specs.world_base.declared.Port.{Port}
+use Rattle.world_base.specs.declared.Port.{Port}
 use Rattle.headline.specs.byte_world.World.{ClientPipes, Pipe, new_client, opening}
 use Rattle.headline.specs.byte_world.Steps.Reached.{begins}
-use Rattle.escaping_nodes.specs.world_nodes.Nodes.{NodesStandFor}
-use Rattle.world_events.specs.world_pipes.declared.way.Way.{Way}
+use Rattle.world_nodes.specs.Nodes.{NodesStandFor}
+use Rattle.world_pipes.specs.declared.way.Way.{Way}
 use Rattle.world_clients.specs.declared.world_client.WorldClient.{WorldClient}
 use Rattle.world_clients.specs.SlotsAreValid.{SlotsAreValid, leads, leads_of}
 use Rattle.world_clients.specs.Clients.{ClientsStand}

@@ -8,14 +8,14 @@ use Rattle.escaping_nodes.specs.Coming.{Come}
 use Rattle.escaping_nodes.specs.Coming.Come.{all_came as none_comes, hands, to_node as comes_to_node, to_master as comes_to_master}
 use Rattle.headline.specs.node_moves.Moves.NodeCall.{gives}
 use Rattle.headline.proofs.of_node_group.Placed.{get_mapped}
-use Rattle.headline.specs.world_base.Core.{CountedCore}
-use Rattle.headline.specs.world_base.Handing.{bytes_of, listed_at}
-use Rattle.headline.specs.world_base.declared.Port.{Port}
-use Rattle.escaping_nodes.specs.world_nodes.Running.{node_of}
-use Rattle.escaping_nodes.specs.world_nodes.Nodes.{NodesState}
-use Rattle.escaping_nodes.proofs.of_world_nodes.Exactly.{at_place, gives_acts}
-use Rattle.world_events.specs.world_pipes.declared.way.Way.{Way}
-use Rattle.world_events.specs.world_pipes.Piped.{Piped}
+use Rattle.world_base.specs.Core.{CountedCore}
+use Rattle.world_base.specs.Handing.{bytes_of, listed_at}
+use Rattle.world_base.specs.declared.Port.{Port}
+use Rattle.world_nodes.specs.Running.{node_of}
+use Rattle.world_nodes.specs.Nodes.{NodesState}
+use Rattle.world_nodes.proofs.Exactly.{at_place, gives_acts}
+use Rattle.world_pipes.specs.declared.way.Way.{Way}
+use Rattle.world_pipes.specs.Piped.{Piped}
 use Rattle.world_clients.specs.declared.connection_slot.ConnectionSlot.{ConnectionSlot}
 use Rattle.world_clients.specs.declared.world_client.WorldClient.{WorldClient}
 use Rattle.world.specs.Found.{slot_numbered, port_of}

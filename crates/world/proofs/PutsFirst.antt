@@ -9,19 +9,19 @@ use Rattle.escaping_client.specs.client.Core.{Core}
 use Rattle.escaping_nodes.specs.Answered.{PutsOutAtLast, last_held, session_present}
 use Rattle.escaping_nodes.specs.Coming.{Come}
 use Rattle.escaping_nodes.specs.Coming.Come.{all_came as none_comes, hands}
-use Rattle.escaping_nodes.specs.ways_out.Deliveries.{asked_and_answered, numbers_from}
+use Rattle.ways_out.specs.Deliveries.{asked_and_answered, numbers_from}
 use Rattle.escaping_nodes.specs.escaping.Answering.{PutsOutFirst}
 use Rattle.headline.specs.node_moves.Moves.NodeCall.{takes}
 use Rattle.escaping_client.specs.lists.Lists.{IsPrefixOf}
 use Rattle.escaping_client.proofs.of_lists.Places.{get_set}
-use Rattle.escaping_client.specs.packet.Spelling.{spelling}
-use Rattle.headline.specs.world_base.Core.{CountedCore}
-use Rattle.headline.specs.world_base.declared.item.Item.TheVariants.{Peer}
-use Rattle.headline.specs.world_base.Handing.{bytes_of}
-use Rattle.headline.specs.world_base.Step.{node_step}
-use Rattle.escaping_nodes.specs.world_nodes.ExactSteps.{ComesToNobody, after_node_call}
-use Rattle.escaping_nodes.specs.world_nodes.Running.{node_of, running}
-use Rattle.escaping_nodes.specs.world_nodes.Nodes.{NodesState}
+use Rattle.packet.specs.Spelling.{spelling}
+use Rattle.world_base.specs.Core.{CountedCore}
+use Rattle.world_base.specs.declared.item.Item.TheVariants.{Peer}
+use Rattle.world_base.specs.Handing.{bytes_of}
+use Rattle.world_base.specs.Step.{node_step}
+use Rattle.world_nodes.specs.ExactSteps.{ComesToNobody, after_node_call}
+use Rattle.world_nodes.specs.Running.{node_of, running}
+use Rattle.world_nodes.specs.Nodes.{NodesState}
 use Rattle.world_events.specs.declared.event.Event.{Event}
 use Rattle.world_events.specs.declared.event.Event.TheVariants as events
 use Rattle.world_clients.specs.Clients.{is_named}

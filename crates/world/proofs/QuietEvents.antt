@@ -7,16 +7,16 @@ use Rattle.headline.specs.ballot.Body.TheVariants.{NewBallot, Join, State, Insta
 use Rattle.headline.specs.ballot.Message.{Message}
 use Rattle.headline.specs.broker_spec.declared.command.Command.{Command}
 use Rattle.escaping_nodes.specs.master.declared.event.Idle.{Idle}
-use Rattle.headline.specs.world_base.Core.{CountedCore}
-use Rattle.headline.specs.world_base.Losses.{WaitsNothing}
-use Rattle.headline.specs.world_base.Step.{node_step}
-use Rattle.headline.specs.world_base.declared.item.Item.{Item}
-use Rattle.headline.specs.world_base.declared.item.Item.TheVariants.{Peer}
-use Rattle.headline.proofs.of_world_base.Calmly.{step_waits}
-use Rattle.escaping_nodes.specs.world_nodes.ExactSteps.{MessageArrives, HeardByMaster, TakesExactly}
-use Rattle.escaping_nodes.specs.world_nodes.Running.{node_of, running, unless_stopped}
-use Rattle.escaping_nodes.specs.world_nodes.Nodes.{NodesState}
-use Rattle.escaping_nodes.specs.world_nodes.Quiet.{ComesUnheeded, IsUnheeded, RestsAt}
+use Rattle.world_base.specs.Core.{CountedCore}
+use Rattle.world_base.specs.Losses.{WaitsNothing}
+use Rattle.world_base.specs.Step.{node_step}
+use Rattle.world_base.specs.declared.item.Item.{Item}
+use Rattle.world_base.specs.declared.item.Item.TheVariants.{Peer}
+use Rattle.world_base.proofs.Calmly.{step_waits}
+use Rattle.world_nodes.specs.ExactSteps.{MessageArrives, HeardByMaster, TakesExactly}
+use Rattle.world_nodes.specs.Running.{node_of, running, unless_stopped}
+use Rattle.world_nodes.specs.Nodes.{NodesState}
+use Rattle.world_nodes.specs.Quiet.{ComesUnheeded, IsUnheeded, RestsAt}
 use Rattle.world_events.specs.declared.event.Event.{Event}
 use Rattle.world_clients.specs.declared.connection_slot.ConnectionSlot.{ConnectionSlot}
 use Rattle.world.specs.Cannot.{CannotHappen}

@@ -7,10 +7,10 @@ use Rattle.std.proofs.lemmas.Option.{same_Some}
 use Rattle.escaping_client.proofs.of_lists.Places.{get_set, get_set_other}
 use Rattle.escaping_client.specs.client.Core.{Core}
 use Rattle.headline.proofs.of_packet_world.Lists.{same_or_other}
-use Rattle.headline.specs.world_base.Core.{CountedCore}
-use Rattle.headline.specs.world_base.declared.Port.{Port}
-use Rattle.escaping_nodes.specs.world_nodes.Running.{node_of}
-use Rattle.world_events.specs.world_pipes.declared.way.Way.{Way}
+use Rattle.world_base.specs.Core.{CountedCore}
+use Rattle.world_base.specs.declared.Port.{Port}
+use Rattle.world_nodes.specs.Running.{node_of}
+use Rattle.world_pipes.specs.declared.way.Way.{Way}
 use Rattle.world_clients.specs.declared.connection_slot.ConnectionSlot.{ConnectionSlot}
 use Rattle.world_clients.specs.declared.world_client.WorldClient.{WorldClient}
 use Rattle.world.specs.Found.{slot_numbered, port_of}

@@ -2,12 +2,12 @@
 use Rattle.std.proofs.Common.{◌-◌, ℕ}
 use Rattle.headline.specs.ballot.Config.{Config}
 use Rattle.headline.proofs.of_snapshots.PastsAgree.{has_agreed, nodes_agree}
-use Rattle.headline.specs.world_base.Core.{rules}
+use Rattle.world_base.specs.Core.{rules}
 use Rattle.headline.specs.node_group.Group.{Group, moment_of}
 use Rattle.headline.specs.node_group.Steps.{GroupTrace}
 use Rattle.headline.specs.node_group.Steps.GroupTrace.{then_went}
 use Rattle.headline.proofs.of_node_group.Ordered.{groups_keep_the_order}
-use Rattle.escaping_nodes.specs.world_nodes.Nodes.{NodesState, NodesStandFor}
+use Rattle.world_nodes.specs.Nodes.{NodesState, NodesStandFor}
 use Rattle.world.specs.Trace.{AreReached, StaysReached}
 use Rattle.world_clients.specs.NodesGoOn.{StepsOfGroup, NodesGo}
 use Rattle.world_clients.specs.NodesGoOn.StepsOfGroup.{rests, goes_on}

@@ -10,8 +10,8 @@ use Rattle.headline.specs.broker_spec.Connection.{ConnectionName, same_connectio
 use Rattle.headline.specs.broker_spec.declared.command.Output.{Output}
 use Rattle.headline.specs.broker_base.State.{State}
 use Rattle.escaping_client.specs.client.Core.{Core}
-use Rattle.escaping_nodes.specs.ways_out.CutDeliveries.{Delivered, after_activate, after_outcome}
-use Rattle.escaping_nodes.specs.ways_out.CutDeliveries.Delivered.{all_came, to_node, to_master}
+use Rattle.ways_out.specs.CutDeliveries.{Delivered, after_activate, after_outcome}
+use Rattle.ways_out.specs.CutDeliveries.Delivered.{all_came, to_node, to_master}
 use Rattle.escaping_nodes.specs.escaping.Waiting.{AwaitsAnswer}
 use Rattle.escaping_nodes.specs.Coming.{AreCalm, IsSeen}
 use Rattle.escaping_nodes.specs.Coming.Come.{all_came as none_comes, to_node as comes_to_node}
@@ -20,17 +20,17 @@ use Rattle.escaping_nodes.proofs.NodesFollow.{deliveries_are_followed}
 use Rattle.headline.specs.snapshots.Moments.{Moment}
 use Rattle.headline.specs.node_moves.Moves.NodeCall.{takes}
 use Rattle.headline.proofs.of_node_moves.Views.{found_passes}
-use Rattle.headline.specs.world_base.declared.Connection.{Connection}
-use Rattle.headline.specs.world_base.declared.Handed.{Handed}
-use Rattle.headline.specs.world_base.declared.Handed.TheVariants as answers
-use Rattle.headline.specs.world_base.declared.Port.{Port}
-use Rattle.headline.specs.world_base.declared.item.Item.TheVariants.{Peer}
+use Rattle.world_base.specs.declared.Connection.{Connection}
+use Rattle.world_base.specs.declared.Handed.{Handed}
+use Rattle.world_base.specs.declared.Handed.TheVariants as answers
+use Rattle.world_base.specs.declared.Port.{Port}
+use Rattle.world_base.specs.declared.item.Item.TheVariants.{Peer}
 use Rattle.headline.specs.world_base.Connections.{is_open_named, is_closed}
-use Rattle.headline.specs.world_base.Core.{CountedCore, rules}
-use Rattle.headline.specs.world_base.Handing.{answer_of, bytes_of}
-use Rattle.escaping_nodes.specs.world_nodes.ExactSteps.{after_answer, after_node_call}
-use Rattle.escaping_nodes.specs.world_nodes.Running.{node_of}
-use Rattle.escaping_nodes.specs.world_nodes.Nodes.{NodesState}
+use Rattle.world_base.specs.Core.{CountedCore, rules}
+use Rattle.world_base.specs.Handing.{answer_of, bytes_of}
+use Rattle.world_nodes.specs.ExactSteps.{after_answer, after_node_call}
+use Rattle.world_nodes.specs.Running.{node_of}
+use Rattle.world_nodes.specs.Nodes.{NodesState}
 use Rattle.world_events.specs.declared.event.Event.TheVariants as events
 use Rattle.world.specs.Found.{port_of}
 use Rattle.world.specs.Gathering.{Gathers}

@@ -4,9 +4,9 @@ use Rattle.std.proofs.lemmas.List.{length-set}
 use Rattle.std.proofs.lemmas.Option.{same_Some, none-some}
 use Rattle.headline.specs.exactly_once.Sides.{ClientConnection}
 use Rattle.headline.specs.byte_world.World.{ClientPipes, Pipe, with_pipe}
-use Rattle.world_events.specs.world_pipes.declared.way.Way.{Way}
-use Rattle.world_events.specs.world_pipes.Piped.{Piped}
-use Rattle.world_events.specs.world_pipes.StandsFor.{AreWays, IsHolding, IsWay, ClientStandsFor}
+use Rattle.world_pipes.specs.declared.way.Way.{Way}
+use Rattle.world_pipes.specs.Piped.{Piped}
+use Rattle.world_pipes.specs.StandsFor.{AreWays, IsHolding, IsWay, ClientStandsFor}
 use Rattle.world_clients.proofs.Turned.{IsTurned, beside, last_turned, turned_at, turned_last}
 
 -- ---- all connections of a client

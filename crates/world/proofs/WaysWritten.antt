@@ -13,13 +13,13 @@ use Rattle.headline.specs.ballot.Serving.{max_places}
 use Rattle.headline.specs.broker_spec.Commands.{past_from, past_of, usual_limits}
 use Rattle.headline.specs.broker_spec.Past.{session_of}
 use Rattle.headline.specs.broker_spec.Place.{Client}
-use Rattle.escaping_nodes.specs.ways_out.Deliveries.{asked_and_answered, way_out}
+use Rattle.ways_out.specs.Deliveries.{asked_and_answered, way_out}
 use Rattle.escaping_nodes.proofs.WelcomedKept.{welcomed_are_kept}
-use Rattle.escaping_nodes.specs.ways_out.Lengths.{WaysAreShort}
-use Rattle.headline.specs.world_base.Core.{CountedCore}
-use Rattle.escaping_nodes.specs.world_nodes.Asking.{log_in, log_of, welcomes_back}
-use Rattle.escaping_nodes.specs.world_nodes.Running.{is_running, node_of}
-use Rattle.escaping_nodes.specs.world_nodes.Nodes.{NodesState}
+use Rattle.ways_out.specs.Lengths.{WaysAreShort}
+use Rattle.world_base.specs.Core.{CountedCore}
+use Rattle.world_nodes.specs.Asking.{log_in, log_of, welcomes_back}
+use Rattle.world_nodes.specs.Running.{is_running, node_of}
+use Rattle.world_nodes.specs.Nodes.{NodesState}
 use Rattle.world_events.specs.declared.event.Event.{Event}
 use Rattle.world_events.specs.declared.event.Event.TheVariants as events
 use Rattle.world_clients.specs.declared.world_client.WorldClient.{WorldClient}

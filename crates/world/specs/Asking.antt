@@ -3,8 +3,8 @@ use Rattle.std.specs.Prelude.{◌≡◌, ◌⊎◌, ℕ, false, List, [], ◌∷
 use Rattle.headline.specs.ballot.Losses.{one_more}
 use Rattle.escaping_client.specs.client_base.Steps.{Call}
 use Rattle.escaping_nodes.specs.master.declared.event.Idle.{Idle}
-use Rattle.escaping_client.specs.session_base.declared.publication.Publication.{Publication}
-use Rattle.world_events.specs.world_pipes.Piped.{Piped}
+use Rattle.session_base.specs.declared.publication.Publication.{Publication}
+use Rattle.world_pipes.specs.Piped.{Piped}
 use Rattle.world_events.specs.declared.event.Event.{Event}
 use Rattle.world_events.specs.declared.event.Event.TheVariants as events
 use Rattle.world.specs.Found.{Named, with_piped}

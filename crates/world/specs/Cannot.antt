@@ -5,11 +5,11 @@ use Rattle.headline.specs.agreement.MasterState.{refusal}
 use Rattle.escaping_client.specs.client.Core.{Core}
 use Rattle.escaping_client.specs.client_base.State.{is_open}
 use Rattle.escaping_client.specs.client_base.Steps.{Call, keeper_step}
-use Rattle.headline.specs.world_base.Core.{CountedCore, serves}
-use Rattle.escaping_nodes.specs.world_nodes.ExactSteps.{ComesToNobody}
-use Rattle.escaping_nodes.specs.world_nodes.Running.{cutting, node_of, proposing, running}
-use Rattle.world_events.specs.world_pipes.declared.way.Way.{Way}
-use Rattle.world_events.specs.world_pipes.Piped.{is_holding}
+use Rattle.world_base.specs.Core.{CountedCore, serves}
+use Rattle.world_nodes.specs.ExactSteps.{ComesToNobody}
+use Rattle.world_nodes.specs.Running.{cutting, node_of, proposing, running}
+use Rattle.world_pipes.specs.declared.way.Way.{Way}
+use Rattle.world_pipes.specs.Piped.{is_holding}
 use Rattle.world_events.specs.declared.event.Event.{Event}
 use Rattle.world_events.specs.declared.event.Event.TheVariants as events
 use Rattle.world_clients.specs.declared.connection_slot.ConnectionSlot.{ConnectionSlot}

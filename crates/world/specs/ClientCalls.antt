@@ -2,9 +2,9 @@
 -- with losses.
 use Rattle.std.specs.Prelude.{◌≡◌, ℕ, Bool, true, false, List, Ok}
 use Rattle.escaping_client.specs.client_base.Steps.{Call, keeper_step}
-use Rattle.world_events.specs.world_pipes.declared.sending.Sending.{Sending}
-use Rattle.world_events.specs.world_pipes.declared.sending.Sending.TheVariants as sendings
-use Rattle.world_events.specs.world_pipes.Piped.{Calls, Piped, TakesLeave}
+use Rattle.world_pipes.specs.declared.sending.Sending.{Sending}
+use Rattle.world_pipes.specs.declared.sending.Sending.TheVariants as sendings
+use Rattle.world_pipes.specs.Piped.{Calls, Piped, TakesLeave}
 use Rattle.world.specs.Found.{Named, with_piped}
 use Rattle.world.specs.World.{WorldState}
 

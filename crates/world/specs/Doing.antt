@@ -5,11 +5,11 @@ use Rattle.headline.specs.ballot.Message.{Message}
 use Rattle.headline.specs.broker_spec.declared.command.Command.{Command}
 use Rattle.escaping_client.specs.client_base.Steps.{Call}
 use Rattle.escaping_client.specs.client_base.declared.error.ClientError.TheVariants as errors
-use Rattle.headline.specs.world_base.declared.item.Item.TheVariants as items
-use Rattle.escaping_nodes.specs.world_nodes.ExactSteps.{MessageArrives, CutsExactly, TakesExactly, after_giving}
-use Rattle.escaping_nodes.specs.world_nodes.Nodes.{NodesState}
-use Rattle.escaping_nodes.specs.world_nodes.Steps.{ComesIn, CutsIn, ExpelsIn, GivesIn}
-use Rattle.world_events.specs.world_pipes.Piped.{CarriesDown, Piped}
+use Rattle.world_base.specs.declared.item.Item.TheVariants as items
+use Rattle.world_nodes.specs.ExactSteps.{MessageArrives, CutsExactly, TakesExactly, after_giving}
+use Rattle.world_nodes.specs.Nodes.{NodesState}
+use Rattle.world_nodes.specs.Steps.{ComesIn, CutsIn, ExpelsIn, GivesIn}
+use Rattle.world_pipes.specs.Piped.{CarriesDown, Piped}
 use Rattle.world_events.specs.declared.event.Event.{Event}
 use Rattle.world_events.specs.declared.event.Event.TheVariants as events
 use Rattle.world.specs.Found.{Connected, port_of, with_piped}

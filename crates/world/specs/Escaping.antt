@@ -12,10 +12,10 @@ use Rattle.headline.specs.broker_spec.Past.{session_of}
 use Rattle.headline.specs.broker_spec.Place.{Client}
 use Rattle.escaping_client.specs.client.Core.{Core}
 use Rattle.escaping_client.specs.client_base.State.{is_online}
-use Rattle.headline.specs.world_base.Core.{CountedCore}
-use Rattle.escaping_nodes.specs.world_nodes.Agreed.{AgreeOn}
-use Rattle.escaping_nodes.specs.world_nodes.Asking.{log_of}
-use Rattle.escaping_nodes.specs.world_nodes.Running.{is_running, node_of}
+use Rattle.world_base.specs.Core.{CountedCore}
+use Rattle.world_nodes.specs.Agreed.{AgreeOn}
+use Rattle.world_nodes.specs.Asking.{log_of}
+use Rattle.world_nodes.specs.Running.{is_running, node_of}
 use Rattle.world_events.specs.declared.event.Event.{Event}
 use Rattle.world.specs.Found.{core_named}
 use Rattle.world.specs.Trace.{WorldLosesNothing}

@@ -2,9 +2,9 @@
 use Rattle.std.specs.Prelude.{◌≡◌, ℕ, ◌-◌, ◌==◌, if◌then◌else◌, List, Option, Some, None, set, slice_get}
 use Rattle.std.specs.List.{position}
 use Rattle.escaping_client.specs.client.Core.{Core}
-use Rattle.headline.specs.world_base.declared.Port.{Port}
-use Rattle.world_events.specs.world_pipes.declared.way.Way.{Way}
-use Rattle.world_events.specs.world_pipes.Piped.{Piped}
+use Rattle.world_base.specs.declared.Port.{Port}
+use Rattle.world_pipes.specs.declared.way.Way.{Way}
+use Rattle.world_pipes.specs.Piped.{Piped}
 use Rattle.world_clients.specs.declared.connection_slot.ConnectionSlot.{ConnectionSlot}
 use Rattle.world_clients.specs.declared.world_client.WorldClient.{WorldClient}
 use Rattle.world.specs.World.{WorldState}

@@ -2,12 +2,12 @@
 -- false), perhaps with losses.
 use Rattle.std.specs.Prelude.{◌≡◌, ◌⊎◌, ℕ, zero, suc, ◌-◌, ◌==◌, ◌&&◌, Bool, true, false, ◌++◌, Option, Some, None, length, set}
 use Rattle.headline.specs.node_moves.Moves.NodeCall.{gives}
-use Rattle.headline.specs.world_base.Core.{CountedCore}
-use Rattle.headline.specs.world_base.declared.item.Item.{Item}
-use Rattle.escaping_nodes.specs.world_nodes.ExactSteps.{TakesExactly}
-use Rattle.escaping_nodes.specs.world_nodes.Running.{node_of}
-use Rattle.escaping_nodes.specs.world_nodes.Nodes.{NodesState}
-use Rattle.escaping_nodes.specs.world_nodes.Steps.{TakesIn, nodes_with_loss}
+use Rattle.world_base.specs.Core.{CountedCore}
+use Rattle.world_base.specs.declared.item.Item.{Item}
+use Rattle.world_nodes.specs.ExactSteps.{TakesExactly}
+use Rattle.world_nodes.specs.Running.{node_of}
+use Rattle.world_nodes.specs.Nodes.{NodesState}
+use Rattle.world_nodes.specs.Steps.{TakesIn, nodes_with_loss}
 use Rattle.world_clients.specs.declared.connection_slot.ConnectionSlot.{ConnectionSlot}
 use Rattle.world.specs.Found.{Connected, slot_numbered, port_of, with_piped}
 use Rattle.world_clients.specs.Handing.{with_down}

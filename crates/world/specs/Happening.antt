@@ -5,8 +5,8 @@ use Rattle.headline.specs.ballot.Losses.{greatest_count, one_more}
 use Rattle.headline.specs.broker_spec.Place.{Client}
 use Rattle.headline.specs.node_group.Group.{opening_group}
 use Rattle.escaping_nodes.specs.master.declared.event.Idle.{Idle}
-use Rattle.escaping_nodes.specs.world_nodes.Nodes.{NodesStandFor}
-use Rattle.escaping_nodes.specs.world_nodes.Steps.{NodesLoseNothing}
+use Rattle.world_nodes.specs.Nodes.{NodesStandFor}
+use Rattle.world_nodes.specs.Steps.{NodesLoseNothing}
 use Rattle.world_events.specs.declared.event.Event.{Event}
 use Rattle.world.specs.World.{WorldState}
 use Rattle.world.specs.Cannot.{CannotHappen}

@@ -2,8 +2,8 @@
 use Rattle.std.specs.Prelude.{◌≡◌, ◌<◌, ◌≤◌, ℕ, false, List, Some, Ok}
 use Rattle.headline.specs.ballot.Losses.{greatest_count}
 use Rattle.headline.specs.broker_spec.Connection.{max_ballot, max_count}
-use Rattle.headline.specs.world_base.Core.{CountedCore}
-use Rattle.escaping_nodes.specs.world_nodes.Running.{node_of}
+use Rattle.world_base.specs.Core.{CountedCore}
+use Rattle.world_nodes.specs.Running.{node_of}
 use Rattle.world_events.specs.declared.event.Event.{Event}
 use Rattle.world_events.specs.declared.event.Event.TheVariants as events
 use Rattle.world.specs.Opening.{has_no_name_left}

@@ -2,12 +2,12 @@
 use Rattle.std.specs.Prelude.{◌≡◌, ◌⊎◌, ℕ, suc, ◌-◌, Bool, true, false, not, List, [], ◌∷◌, ◌++◌, Option, Some, None, Ok, length}
 use Rattle.headline.specs.broker_spec.Connection.{is_connection_name}
 use Rattle.escaping_client.specs.client_base.Steps.{Call, keeper_step}
-use Rattle.headline.specs.world_base.Core.{CountedCore}
-use Rattle.headline.specs.world_base.Step.{next_name}
-use Rattle.headline.specs.world_base.declared.item.Item.TheVariants as items
-use Rattle.escaping_nodes.specs.world_nodes.Running.{node_of}
-use Rattle.escaping_nodes.specs.world_nodes.Nodes.{NodesState}
-use Rattle.world_events.specs.world_pipes.Piped.{SendsConnect, Piped}
+use Rattle.world_base.specs.Core.{CountedCore}
+use Rattle.world_base.specs.Step.{next_name}
+use Rattle.world_base.specs.declared.item.Item.TheVariants as items
+use Rattle.world_nodes.specs.Running.{node_of}
+use Rattle.world_nodes.specs.Nodes.{NodesState}
+use Rattle.world_pipes.specs.Piped.{SendsConnect, Piped}
 use Rattle.world.specs.Found.{Named, port_of, with_piped}
 use Rattle.world.specs.Gathering.{TakesItem}
 use Rattle.world.specs.World.{WorldState}

@@ -2,11 +2,11 @@
 use Rattle.std.specs.Prelude.{◌≡◌, ℕ, zero, suc, true, Option, Some, None, slice_get}
 use Rattle.headline.specs.ballot.Message.{Message}
 use Rattle.headline.specs.broker_spec.declared.command.Command.{Command}
-use Rattle.headline.specs.world_base.declared.item.Item.{Item}
-use Rattle.headline.specs.world_base.declared.item.Item.TheVariants as items
-use Rattle.escaping_nodes.specs.world_nodes.Running.{node_of}
-use Rattle.escaping_nodes.specs.world_nodes.Nodes.{NodesState}
-use Rattle.escaping_nodes.specs.world_nodes.Quiet.{IsUnheeded, RestsAt}
+use Rattle.world_base.specs.declared.item.Item.{Item}
+use Rattle.world_base.specs.declared.item.Item.TheVariants as items
+use Rattle.world_nodes.specs.Running.{node_of}
+use Rattle.world_nodes.specs.Nodes.{NodesState}
+use Rattle.world_nodes.specs.Quiet.{IsUnheeded, RestsAt}
 use Rattle.world_events.specs.declared.event.Event.{Event}
 use Rattle.world_events.specs.declared.event.Event.TheVariants as events
 use Rattle.world_clients.specs.declared.connection_slot.ConnectionSlot.{ConnectionSlot}

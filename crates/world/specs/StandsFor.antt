@@ -3,13 +3,13 @@ use Rattle.std.specs.Prelude.{◌≡◌, ℕ, List, [], ◌++◌, Option, Some, 
 use Rattle.headline.specs.ballot.Config.{Config}
 use Rattle.headline.specs.broker_spec.Place.{Client}
 use Rattle.headline.specs.packet_world.World.{ClientsAreApart}
-use Rattle.escaping_client.specs.session_base.declared.publication.Publication.{Publication}
+use Rattle.session_base.specs.declared.publication.Publication.{Publication}
 use Rattle.headline.specs.exactly_once.Sides.{ClientConnection}
 use Rattle.headline.specs.Exact.{IsExact}
 use Rattle.headline.specs.byte_world.World.{ClientPipes, World}
 use Rattle.headline.specs.byte_world.Steps.{Reached, WorldStep}
 use Rattle.headline.specs.byte_world.Published.{published_in, published_on}
-use Rattle.escaping_nodes.specs.world_nodes.Nodes.{NodesStandFor}
+use Rattle.world_nodes.specs.Nodes.{NodesStandFor}
 use Rattle.world.specs.World.{WorldState}
 use Rattle.world_clients.specs.Clients.{ClientsStand}
 

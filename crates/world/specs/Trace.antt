@@ -6,11 +6,11 @@ use Rattle.headline.specs.ballot.Config.{Config}
 use Rattle.headline.specs.snapshots.Agreeing.{Agrees, Holds, LeftInOrder}
 use Rattle.headline.specs.snapshots.Moments.{IsAgreed}
 use Rattle.headline.specs.broker_spec.declared.command.Command.{Command}
-use Rattle.headline.specs.world_base.Core.{rules}
+use Rattle.world_base.specs.Core.{rules}
 use Rattle.headline.specs.node_group.Group.{Group, moment_of}
 use Rattle.headline.specs.node_group.Steps.{GroupTrace, all_put, groups_of}
 use Rattle.headline.specs.node_group.Order.{KeepsOrder}
-use Rattle.escaping_nodes.specs.world_nodes.Nodes.{NodesState, NodesStandFor}
+use Rattle.world_nodes.specs.Nodes.{NodesState, NodesStandFor}
 use Rattle.world.specs.World.{WorldState}
 use Rattle.world_clients.specs.NodesGoOn.{NodesGo}
 

@@ -2,7 +2,7 @@
 use Rattle.std.specs.Prelude.{ℕ, List}
 use Rattle.world_clients.specs.declared.connection_slot.ConnectionSlot.{ConnectionSlot}
 use Rattle.world_clients.specs.declared.world_client.WorldClient.{WorldClient}
-use Rattle.escaping_nodes.specs.world_nodes.Nodes.{NodesState}
+use Rattle.world_nodes.specs.Nodes.{NodesState}
 
 -- The nodes with their master; the clients, each with its identifier and all its connections; the
 -- state of each connection, the first opened first; and the count of steps in which memory ran out,

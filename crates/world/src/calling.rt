@@ -1,8 +1,8 @@
 // What clients do in a world.
 
 ghost use Rattle.std.specs.Prelude.{◌≡◌, ◌<◌, true, false, length, slice_get, IfSome};
-ghost use Rattle.escaping_nodes.specs.world_nodes.Running.{node_of};
-ghost use Rattle.world_events.specs.world_pipes.Piped.{is_holding};
+ghost use Rattle.world_nodes.specs.Running.{node_of};
+ghost use Rattle.world_pipes.specs.Piped.{is_holding};
 ghost use Rattle.world.specs.Trace.{CountsOnce};
 ghost use Rattle.world.specs.Opening.{has_no_name_left};
 ghost use Rattle.world.specs.Quiet.{EventTakesNoMemory};

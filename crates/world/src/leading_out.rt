@@ -5,11 +5,11 @@ ghost use Rattle.std.specs.List.{list_all, position};
 ghost use Rattle.headline.specs.agreement.MasterState.{refusal};
 ghost use Rattle.headline.specs.broker_spec.Commands.{past_of, usual_limits};
 ghost use Rattle.headline.specs.broker_spec.Past.{session_of};
-ghost use Rattle.escaping_nodes.specs.world_nodes.Asking.{log_of};
+ghost use Rattle.world_nodes.specs.Asking.{log_of};
 ghost use Rattle.world_events.specs.EscapeEvents.{connect_bytes};
-ghost use Rattle.world_events.specs.world_pipes.Piped.{is_holding};
+ghost use Rattle.world_pipes.specs.Piped.{is_holding};
 ghost use Rattle.world_clients.specs.declared.world_client.WorldClient.{WorldClient};
-ghost use Rattle.escaping_nodes.specs.world_nodes.Running.{is_running, node_of};
+ghost use Rattle.world_nodes.specs.Running.{is_running, node_of};
 ghost use Rattle.world.specs.Escaping.{CanEscape, LeadsClientOut, configuration_of, held_in};
 ghost use Rattle.world.specs.Inside.Escaping.{IsFetchedFrom, escaping_events};
 

@@ -4,7 +4,7 @@ ghost use Rattle.std.specs.Prelude.{ℕ, List, ◌≡◌, ◌<◌, ◌-◌, ◌+
 ghost use Rattle.std.specs.List.{position};
 ghost use Rattle.headline.specs.ballot.Config.{Config};
 ghost use Rattle.headline.specs.broker_spec.Place.{Client};
-ghost use Rattle.escaping_nodes.specs.world_nodes.Agreed.{AgreeOn, AgreeOnSoMany};
+ghost use Rattle.world_nodes.specs.Agreed.{AgreeOn, AgreeOnSoMany};
 ghost use Rattle.world.specs.Found.{core_named, slot_numbered, way_of};
 ghost use Rattle.world_clients.specs.Clients.{is_named};
 ghost use Rattle.world.specs.Trace.{AreReached};

@@ -1,7 +1,7 @@
 // A world.
 
 ghost use Rattle.std.specs.Prelude.{ℕ, List, [], ◌≡◌, ◌≤◌, ◌<◌, ◌↔◌, true, false, length, IfOk, IsErr, IsErrOf, OnErr};
-ghost use Rattle.escaping_client.specs.session_base.declared.publication.Publication.{Publication};
+ghost use Rattle.session_base.specs.declared.publication.Publication.{Publication};
 ghost use Rattle.headline.specs.agreement.World.{can_open};
 ghost use Rattle.headline.specs.ballot.Losses.{greatest_count, one_more};
 ghost use Rattle.headline.specs.packet_world.World.{ClientsAreApart};

@@ -4,8 +4,8 @@ use Rattle.std.specs.Prelude.{OnOk, OnErr, IsErr}
 use Rattle.std.specs.Result.{is_ok, IsErrOf}
 use Rattle.std.proofs.lemmas.Bool.{lt-ltb, le-ltb, cases_lt}
 use Rattle.broker.specs.broker_base.State.{State}
-use Rattle.node_connections.specs.broker_spec.declared.command.Command.{Command}
-use Rattle.node_connections.specs.broker_spec.declared.command.Output.{Output}
+use Rattle.broker_spec.specs.declared.command.Command.{Command}
+use Rattle.broker_spec.specs.declared.command.Output.{Output}
 use Rattle.ballot.specs.Logs.{places}
 use Rattle.ballot.specs.ProposeError.{ProposeError}
 use Rattle.ballot.specs.ProposeError.TheVariants.{NotActive, LogFull, Memory, Halted}

@@ -2,8 +2,8 @@
 use Rattle.std.proofs.Common.{◌≡◌, ◌⊎◌, inl, inr, Bool, true, false, if◌then◌else◌, Option, Some, None, List, [], ◌∷◌, length, map, refl, sym, ap, subst, ◌∙◌}
 use Rattle.std.specs.List.{filter, find}
 use Rattle.ballot.specs.lists.Lists.{Each}
-use Rattle.node_connections.specs.broker_spec.declared.command.Command.{Command}
-use Rattle.node_connections.specs.broker_spec.declared.command.Output.{Output}
+use Rattle.broker_spec.specs.declared.command.Command.{Command}
+use Rattle.broker_spec.specs.declared.command.Output.{Output}
 use Rattle.ballot.specs.Effect.{Effect}
 use Rattle.ballot.specs.Message.{Message}
 use Rattle.ballot.specs.Protocol.Input.{Receives}

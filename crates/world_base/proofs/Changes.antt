@@ -3,7 +3,7 @@
 use Rattle.std.proofs.Common.{◌≡◌, ℕ, Bool, true, false, Option, Some, None, Result, Ok, Err, List, get_or, set, sym, ap, ◌∙◌}
 use Rattle.std.specs.List.{position}
 use Rattle.std.specs.Result.{is_ok, OnOk}
-use Rattle.node_connections.specs.broker_spec.Connection.{ConnectionName}
+use Rattle.broker_spec.specs.Connection.{ConnectionName}
 use Rattle.node_connections.specs.declared.port.Port.{Port}
 use Rattle.node_connections.specs.declared.connection.Connection.{Connection}
 use Rattle.node_connections.specs.Connections.{is_open_at, is_open_named}

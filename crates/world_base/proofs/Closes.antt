@@ -1,9 +1,9 @@
 -- Closes.antt: how a connection is closed as lost, and by a refused proposal.
 use Rattle.std.proofs.Common.{◌≡◌, ◌<◌, ◌≤◌, ◌⊎◌, inl, inr, Bool, true, false, if◌then◌else◌, ◌&&◌, nat_lt, List, length, Some, None, refl, sym, subst}
 use Rattle.std.proofs.lemmas.Bool.{lt-ltb, cases_lt}
-use Rattle.node_connections.specs.broker_spec.declared.command.Command.{Command}
-use Rattle.node_connections.specs.broker_spec.declared.command.Command.TheVariants as commands
-use Rattle.node_connections.specs.broker_spec.declared.command.Output.{Output}
+use Rattle.broker_spec.specs.declared.command.Command.{Command}
+use Rattle.broker_spec.specs.declared.command.Command.TheVariants as commands
+use Rattle.broker_spec.specs.declared.command.Output.{Output}
 use Rattle.ballot.specs.Logs.{places}
 use Rattle.ballot.specs.Effect.{Effect}
 use Rattle.ballot.specs.Serving.{max_places}

@@ -1,16 +1,16 @@
 -- ConnectionsGoOn.antt: what changes and outputs make of each connection.
 use Rattle.std.proofs.Common.{◌≡◌, ◌⊎◌, inl, inr, ℕ, Bool, true, false, if◌then◌else◌, not, ◌&&◌, nat_le, ◌+◌, List, [], ◌∷◌, ◌++◌, length, append_assoc, refl, sym, ap, subst, ◌∙◌}
 use Rattle.std.proofs.lemmas.List.{append-nil}
-use Rattle.node_connections.specs.packet.declared.packet.Packet.{Packet}
+use Rattle.packet.specs.declared.packet.Packet.{Packet}
 use Rattle.node_connections.specs.packet.RefusalCode.{RefusalCode}
-use Rattle.node_connections.specs.packet.declared.packet.Packet.TheVariants as packets
-use Rattle.node_connections.specs.packet.declared.connack.Connack.TheVariants as connacks
-use Rattle.node_connections.specs.packet.Spelling.{spelling}
-use Rattle.node_connections.specs.broker_spec.Connection.{ConnectionName, same_connection}
-use Rattle.node_connections.specs.broker_spec.declared.command.Command.{Command}
-use Rattle.node_connections.specs.broker_spec.declared.command.Output.{Output}
-use Rattle.node_connections.specs.broker_spec.declared.command.Output.TheVariants as outputs
-use Rattle.node_connections.proofs.of_broker_spec.ConnectionNames.{same_name}
+use Rattle.packet.specs.declared.packet.Packet.TheVariants as packets
+use Rattle.packet.specs.declared.connack.Connack.TheVariants as connacks
+use Rattle.packet.specs.Spelling.{spelling}
+use Rattle.broker_spec.specs.Connection.{ConnectionName, same_connection}
+use Rattle.broker_spec.specs.declared.command.Command.{Command}
+use Rattle.broker_spec.specs.declared.command.Output.{Output}
+use Rattle.broker_spec.specs.declared.command.Output.TheVariants as outputs
+use Rattle.broker_spec.proofs.ConnectionNames.{same_name}
 use Rattle.ballot.specs.lists.Lists.{Each}
 use Rattle.ballot.specs.Effect.{Effect}
 use Rattle.ballot.specs.Effect.TheVariants.{To, Out}

@@ -2,7 +2,7 @@
 use Rattle.std.proofs.Common.{◌≡◌, ℕ, ◌⊎◌, inl, inr, ◌+◌, ◌-◌, ◌^◌, ◌<◌, Bool, true, false, min, Some, refl, sym, ap, ap₂, ◌∙◌, arith}
 use Rattle.std.proofs.lemmas.Bool.{cases_Bool}
 use Rattle.broker.specs.broker_base.State.{State}
-use Rattle.node_connections.specs.broker_spec.declared.command.Command.{Command}
+use Rattle.broker_spec.specs.declared.command.Command.{Command}
 use Rattle.ballot.specs.Cutting.{can_cut, cut}
 use Rattle.ballot.specs.Losses.{one_more}
 use Rattle.ballot.specs.Replica.{CountedReplica, ReplicaState}

@@ -1,10 +1,10 @@
 -- EndsRun.antt: how connections end and what is asked for them, if memory may have run out.
 use Rattle.std.proofs.Common.{◌≡◌, ◌⊎◌, inl, inr, ℕ, Bool, true, false, List, Some, None, refl, sym, ap, subst, ◌∙◌}
 use Rattle.std.specs.List.{find}
-use Rattle.node_connections.specs.broker_spec.Connection.{ConnectionName}
-use Rattle.node_connections.specs.broker_spec.declared.command.Command.{Command}
-use Rattle.node_connections.specs.broker_spec.declared.command.Command.TheVariants as commands
-use Rattle.node_connections.specs.broker_spec.declared.command.Output.{Output}
+use Rattle.broker_spec.specs.Connection.{ConnectionName}
+use Rattle.broker_spec.specs.declared.command.Command.{Command}
+use Rattle.broker_spec.specs.declared.command.Command.TheVariants as commands
+use Rattle.broker_spec.specs.declared.command.Output.{Output}
 use Rattle.ballot.specs.Effect.{Effect}
 use Rattle.node_connections.specs.declared.port.Port.{Port}
 use Rattle.node_connections.specs.declared.connection.Connection.{Connection}

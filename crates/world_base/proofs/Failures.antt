@@ -1,9 +1,9 @@
 -- Failures.antt: the first connection that failed, and that it is reported to the broker.
 use Rattle.std.proofs.Common.{◌≡◌, List, Some, None, refl, ap, subst, ◌∙◌}
 use Rattle.std.specs.List.{find}
-use Rattle.node_connections.specs.broker_spec.declared.command.Command.{Command}
-use Rattle.node_connections.specs.broker_spec.declared.command.Command.TheVariants as commands
-use Rattle.node_connections.specs.broker_spec.declared.command.Output.{Output}
+use Rattle.broker_spec.specs.declared.command.Command.{Command}
+use Rattle.broker_spec.specs.declared.command.Command.TheVariants as commands
+use Rattle.broker_spec.specs.declared.command.Output.{Output}
 use Rattle.ballot.specs.Effect.{Effect}
 use Rattle.node_connections.specs.declared.connection.Connection.{Connection}
 use Rattle.node_connections.specs.Connections.{has_failed}

@@ -2,12 +2,12 @@
 -- have run out.
 use Rattle.std.proofs.Common.{◌≡◌, ℕ, Bool, true, false, if◌then◌else◌, List, Option, Some, None, ◌⊎◌, inl, inr, refl, sym, ap, subst, ◌∙◌}
 use Rattle.node_connections.specs.packet.RefusalCode.{RefusalCode}
-use Rattle.node_connections.specs.packet.declared.packet.Packet.{Packet}
-use Rattle.node_connections.specs.packet.declared.packet.Packet.TheVariants as packets
-use Rattle.node_connections.specs.packet.declared.connect.Connect.{Connect}
-use Rattle.node_connections.specs.broker_spec.Connection.{ConnectionName}
-use Rattle.node_connections.specs.broker_spec.declared.command.Command.{Command}
-use Rattle.node_connections.specs.broker_spec.declared.command.Output.{Output}
+use Rattle.packet.specs.declared.packet.Packet.{Packet}
+use Rattle.packet.specs.declared.packet.Packet.TheVariants as packets
+use Rattle.packet.specs.declared.connect.Connect.{Connect}
+use Rattle.broker_spec.specs.Connection.{ConnectionName}
+use Rattle.broker_spec.specs.declared.command.Command.{Command}
+use Rattle.broker_spec.specs.declared.command.Output.{Output}
 use Rattle.ballot.specs.Effect.{Effect}
 use Rattle.node_connections.specs.declared.port.Port.{Port}
 use Rattle.node_connections.specs.declared.front.Front.{Front}

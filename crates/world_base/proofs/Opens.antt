@@ -1,7 +1,7 @@
 -- Opens.antt: what the tests before a connection is accepted decide.
 use Rattle.std.proofs.Common.{◌≡◌, ℕ, true, false, List, [], ◌∷◌, ◌++◌, Option, Some, None, OnSome, IfNone, refl, sym, ap, ◌∙◌}
 use Rattle.std.specs.List.{list_any}
-use Rattle.node_connections.specs.broker_spec.Connection.{ConnectionName, is_connection_name}
+use Rattle.broker_spec.specs.Connection.{ConnectionName, is_connection_name}
 use Rattle.node_connections.specs.declared.port.Port.{Port}
 use Rattle.node_connections.specs.declared.connection.Connection.{Connection}
 use Rattle.node_connections.specs.Connections.{is_at, fresh}

@@ -2,8 +2,8 @@
 -- once.
 use Rattle.std.proofs.Common.{◌≡◌, true, false, List, refl, ap, subst, ◌∙◌}
 use Rattle.broker.specs.broker_base.State.{State}
-use Rattle.node_connections.specs.broker_spec.declared.command.Command.{Command}
-use Rattle.node_connections.specs.broker_spec.declared.command.Output.{Output}
+use Rattle.broker_spec.specs.declared.command.Command.{Command}
+use Rattle.broker_spec.specs.declared.command.Output.{Output}
 use Rattle.ballot.specs.Effect.{Effect}
 use Rattle.ballot.specs.Protocol.{Input}
 use Rattle.ballot.specs.Sending.{Outcome}

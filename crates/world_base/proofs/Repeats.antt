@@ -1,8 +1,8 @@
 -- Repeats.antt: one more of a thing that is done several times, and that no more are done once it does nothing.
 use Rattle.std.proofs.Common.{◌≡◌, ℕ, zero, suc, ◌+◌, ◌-◌, ◌≤◌, false, List, ◌++◌, append_assoc, refl, sym, ap, subst, ◌∙◌, arith}
 use Rattle.std.proofs.lemmas.List.{append-nil}
-use Rattle.node_connections.specs.broker_spec.declared.command.Command.{Command}
-use Rattle.node_connections.specs.broker_spec.declared.command.Output.{Output}
+use Rattle.broker_spec.specs.declared.command.Command.{Command}
+use Rattle.broker_spec.specs.declared.command.Output.{Output}
 use Rattle.ballot.specs.Effect.{Effect}
 use Rattle.world_base.specs.Core.{CoreState, StepOutcome}
 use Rattle.world_base.specs.Inside.{Running, DoesOutcome}

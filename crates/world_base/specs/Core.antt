@@ -2,9 +2,9 @@
 use Rattle.std.specs.Prelude.{ℕ, Bool, not, ◌&&◌, List, []}
 use Rattle.ballot.specs.Machine.{Rules}
 use Rattle.broker.specs.broker_base.State.{State}
-use Rattle.node_connections.specs.broker_spec.Connection.{ConnectionName}
-use Rattle.node_connections.specs.broker_spec.declared.command.Command.{Command}
-use Rattle.node_connections.specs.broker_spec.declared.command.Output.{Output}
+use Rattle.broker_spec.specs.Connection.{ConnectionName}
+use Rattle.broker_spec.specs.declared.command.Command.{Command}
+use Rattle.broker_spec.specs.declared.command.Output.{Output}
 use Rattle.broker.specs.StandsFor.{broker_rules}
 use Rattle.ballot.specs.Config.{Config}
 use Rattle.ballot.specs.Effect.{Effect}

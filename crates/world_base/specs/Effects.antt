@@ -2,10 +2,10 @@
 use Rattle.std.specs.Prelude.{ℕ, zero, suc, Bool, true, false, ◌&&◌, nat_lt, if◌then◌else◌, List, [], ◌++◌, length, filter}
 use Rattle.std.specs.List.{fold}
 use Rattle.broker.specs.broker_base.State.{State}
-use Rattle.node_connections.specs.broker_spec.Connection.{ConnectionName}
-use Rattle.node_connections.specs.broker_spec.declared.command.Command.{Command}
-use Rattle.node_connections.specs.broker_spec.declared.command.Output.{Output}
-use Rattle.node_connections.specs.broker_spec.declared.command.Output.TheVariants as outputs
+use Rattle.broker_spec.specs.Connection.{ConnectionName}
+use Rattle.broker_spec.specs.declared.command.Command.{Command}
+use Rattle.broker_spec.specs.declared.command.Output.{Output}
+use Rattle.broker_spec.specs.declared.command.Output.TheVariants as outputs
 use Rattle.ballot.specs.Logs.{places}
 use Rattle.ballot.specs.Effect.{Effect}
 use Rattle.ballot.specs.Effect.TheVariants.{To, Out}
@@ -17,7 +17,7 @@ use Rattle.node_connections.specs.declared.connection.Connection.{Connection}
 use Rattle.node_connections.specs.Connections.{is_open_named}
 use Rattle.node_connections.specs.ConnectionChanges.{closed, put_out, changed}
 use Rattle.world_base.specs.Core.{CoreState, StepOutcome, rules, serves}
-use Rattle.node_connections.specs.packet.Spelling.{spelling}
+use Rattle.packet.specs.Spelling.{spelling}
 
 -- the node as it is, and no message is sent
 abbrev pub without_messages : CoreState → StepOutcome

@@ -2,7 +2,7 @@
 -- reported to the broker.
 use Rattle.std.specs.Prelude.{length, Option, Some, None}
 use Rattle.std.specs.List.{find}
-use Rattle.node_connections.specs.broker_spec.declared.command.Command.TheVariants as commands
+use Rattle.broker_spec.specs.declared.command.Command.TheVariants as commands
 use Rattle.node_connections.specs.declared.connection.Connection.{Connection}
 use Rattle.node_connections.specs.Connections.{has_failed}
 use Rattle.node_connections.specs.ConnectionChanges.{closed, changed}

@@ -1,14 +1,14 @@
 -- How each connection changes in a step of a node in which memory may run out: one with a gap is
 -- closed.
 use Rattle.std.specs.Prelude.{◌≡◌, ◌⊎◌, ℕ, true, false, if◌then◌else◌, List, [], ◌∷◌, ◌++◌}
-use Rattle.node_connections.specs.broker_spec.Connection.{ConnectionName, same_connection}
-use Rattle.node_connections.specs.broker_spec.declared.command.Command.{Command}
-use Rattle.node_connections.specs.broker_spec.declared.command.Output.{Output}
-use Rattle.node_connections.specs.broker_spec.declared.command.Output.TheVariants as outputs
+use Rattle.broker_spec.specs.Connection.{ConnectionName, same_connection}
+use Rattle.broker_spec.specs.declared.command.Command.{Command}
+use Rattle.broker_spec.specs.declared.command.Output.{Output}
+use Rattle.broker_spec.specs.declared.command.Output.TheVariants as outputs
 use Rattle.node_connections.specs.packet.RefusalCode.{RefusalCode}
-use Rattle.node_connections.specs.packet.declared.packet.Packet.TheVariants as packets
-use Rattle.node_connections.specs.packet.declared.connack.Connack.TheVariants as connacks
-use Rattle.node_connections.specs.packet.Spelling.{spelling}
+use Rattle.packet.specs.declared.packet.Packet.TheVariants as packets
+use Rattle.packet.specs.declared.connack.Connack.TheVariants as connacks
+use Rattle.packet.specs.Spelling.{spelling}
 use Rattle.ballot.specs.lists.Lists.{Each, IsPrefixOf}
 use Rattle.ballot.specs.Effect.{Effect}
 use Rattle.ballot.specs.Effect.TheVariants.{To, Out}

@@ -20,9 +20,8 @@ pub use Rattle.ballot.specs.Replica
 pub use Rattle.ballot.specs.Effect
 pub use Rattle.ballot.specs.Message
 pub use Rattle.ballot.specs.Config
-pub use Rattle.node_connections.specs.broker_spec.declared.command.Command
-pub use Rattle.node_connections.specs.broker_spec.declared.command.Output
+pub use Rattle.broker_spec.specs.declared.command.Command
+pub use Rattle.broker_spec.specs.declared.command.Output
 pub use Rattle.ballot.specs as ballot
 pub use Rattle.node_connections.specs.cutter as cutter
 pub use Rattle.ballot.specs.lists as lists
-pub use Rattle.node_connections.specs.packet as packet

@@ -2,8 +2,8 @@
 use Rattle.std.specs.Prelude.{◌≡◌, ◌⊎◌, ◌<◌, Bool, false, List, [], ◌++◌, Option, Some, None}
 use Rattle.std.specs.List.{find}
 use Rattle.ballot.specs.lists.Lists.{Each}
-use Rattle.node_connections.specs.broker_spec.declared.command.Command.{Command}
-use Rattle.node_connections.specs.broker_spec.declared.command.Output.{Output}
+use Rattle.broker_spec.specs.declared.command.Command.{Command}
+use Rattle.broker_spec.specs.declared.command.Output.{Output}
 use Rattle.ballot.specs.Effect.{Effect}
 use Rattle.ballot.specs.Cutting.{can_cut}
 use Rattle.ballot.specs.Losses.{SendsAndAddsNothing, greatest_count, one_more}

@@ -1,6 +1,6 @@
 -- What is done with a proposal if memory may run out: it is taken, or the replica declines it.
 use Rattle.std.specs.Prelude.{◌≡◌, ◌⊎◌, true, false}
-use Rattle.node_connections.specs.broker_spec.declared.command.Command.{Command}
+use Rattle.broker_spec.specs.declared.command.Command.{Command}
 use Rattle.ballot.specs.Losses.{halted, one_more}
 use Rattle.ballot.specs.Serving.{proposed}
 use Rattle.world_base.specs.Core.{CoreState, rules, serves}

@@ -3,12 +3,12 @@ use Rattle.std.specs.Prelude.{ℕ, if◌then◌else◌, List, length, Option, So
 use Rattle.std.specs.List.{find}
 use Rattle.node_connections.specs.packet.Stop.{Stop}
 use Rattle.node_connections.specs.packet.Stop.TheVariants as stops
-use Rattle.node_connections.specs.packet.declared.packet.Packet.{Packet}
-use Rattle.node_connections.specs.packet.declared.packet.Packet.TheVariants as packets
-use Rattle.node_connections.specs.packet.declared.connect.Connect.{Connect}
-use Rattle.node_connections.specs.packet.Verdict.{verdict}
-use Rattle.node_connections.specs.broker_spec.Connection.{ConnectionName}
-use Rattle.node_connections.specs.broker_spec.declared.command.Command.TheVariants as commands
+use Rattle.packet.specs.declared.packet.Packet.{Packet}
+use Rattle.packet.specs.declared.packet.Packet.TheVariants as packets
+use Rattle.packet.specs.declared.connect.Connect.{Connect}
+use Rattle.packet.specs.Verdict.{verdict}
+use Rattle.broker_spec.specs.Connection.{ConnectionName}
+use Rattle.broker_spec.specs.declared.command.Command.TheVariants as commands
 use Rattle.node_connections.specs.declared.port.Port.{Port}
 use Rattle.node_connections.specs.declared.connection.Connection.{Connection}
 use Rattle.node_connections.specs.Connections.{is_open_at, is_first, is_proposed}

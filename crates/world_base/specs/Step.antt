@@ -1,8 +1,8 @@
 -- What one item does to a node.
 use Rattle.std.specs.Prelude.{ℕ, ◌+◌, Bool, not, ◌&&◌, ◌==◌, if◌then◌else◌, [], ◌∷◌, ◌++◌, map, filter}
 use Rattle.std.specs.List.{list_any}
-use Rattle.node_connections.specs.broker_spec.Connection.{ConnectionName, is_connection_name}
-use Rattle.node_connections.specs.broker_spec.declared.command.Command.TheVariants as commands
+use Rattle.broker_spec.specs.Connection.{ConnectionName, is_connection_name}
+use Rattle.broker_spec.specs.declared.command.Command.TheVariants as commands
 use Rattle.ballot.specs.Cutting.{can_cut, cut}
 use Rattle.ballot.specs.Losses.{halted}
 use Rattle.ballot.specs.Protocol.Input.{Receives, Ticks}

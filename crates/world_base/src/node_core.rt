@@ -7,7 +7,7 @@ ghost use Rattle.ballot.specs.Cutting.{can_cut};
 ghost use Rattle.ballot.specs.Logs.{places};
 ghost use Rattle.ballot.specs.Losses.{one_more};
 ghost use Rattle.ballot.specs.Replica.{status_of};
-ghost use Rattle.node_connections.specs.broker_spec.Connection.{is_connection_name};
+ghost use Rattle.broker_spec.specs.Connection.{is_connection_name};
 ghost use Rattle.world_base.specs.Core.{opening_core};
 ghost use Rattle.world_base.specs.Step.{next_name};
 ghost use Rattle.ballot.specs.lists.Lists.{IsPrefixOf};

@@ -2,7 +2,7 @@
 
 ghost use Rattle.std.specs.Prelude.{◌≡◌, ◌⊎◌, ◌≤◌, ◌↔◌, false, true, not, [], length, IfOk, IfSome, OnSome, IfNone, IsErrOf};
 ghost use Rattle.std.specs.List.{list_any, position};
-ghost use Rattle.node_connections.specs.broker_spec.Connection.{is_connection_name, max_count};
+ghost use Rattle.broker_spec.specs.Connection.{is_connection_name, max_count};
 ghost use Rattle.ballot.specs.LawfulConfig.{is_lawful};
 ghost use Rattle.ballot.specs.Cutting.{can_cut};
 ghost use Rattle.ballot.specs.Logs.{places};
@@ -12,7 +12,7 @@ ghost use Rattle.node_connections.specs.ConnectionChanges.{noted_proposed, close
 ghost use Rattle.world_base.specs.Core.{opening_core, serves};
 ghost use Rattle.world_base.specs.Inside.{DoesExactly};
 ghost use Rattle.world_base.specs.KeepAlive.{lowest_silent};
-ghost use Rattle.node_connections.specs.packet.Spelling.{spelling};
+ghost use Rattle.packet.specs.Spelling.{spelling};
 ghost use Rattle.world_base.specs.Reading.{changes, open_at, refused, unread_of};
 ghost use Rattle.world_base.specs.Step.{accepted, accepts, next_name, opens, settled};
 ghost use Rattle.world_base.specs.Effects.{changes_named, has_room};
@@ -53,7 +53,7 @@ impl Drop for SteppingNode {
 
 impl Model for SteppingNode {
     ghost use Rattle.std.specs.Prelude.{◌≤◌};
-    ghost use Rattle.node_connections.specs.broker_spec.Connection.{max_count};
+    ghost use Rattle.broker_spec.specs.Connection.{max_count};
     ghost use Rattle.world_base.specs.Inside.{Running};
 
     ghost Value = { Running };

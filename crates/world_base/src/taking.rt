@@ -2,8 +2,8 @@
 
 ghost use Rattle.std.specs.Prelude.{◌≡◌, false, if◌then◌else◌, None};
 ghost use Rattle.std.specs.List.{find};
-ghost use Rattle.node_connections.specs.broker_spec.declared.command.Command.TheVariants as commands;
-ghost use Rattle.node_connections.specs.broker_spec.Sized.{IsSized};
+ghost use Rattle.broker_spec.specs.declared.command.Command.TheVariants as commands;
+ghost use Rattle.broker_spec.specs.Sized.{IsSized};
 ghost use Rattle.node_connections.specs.Connections.{has_failed, is_first, is_proposed};
 ghost use Rattle.node_connections.specs.ConnectionChanges.{closed, holding};
 ghost use Rattle.world_base.specs.Inside.{TakesPacket, DoesOutcome, Ran, ReportsLost, WithoutFailure};

@@ -1,6 +1,6 @@
 -- CallsGiven.antt: what calls of a client do to it.
 use Rattle.std.proofs.Common.{◌≡◌, ℕ, List, refl, sym, ap, ◌∙◌, subst, Bool, Result, Ok, Err}
-use Rattle.client.specs.session_base.declared.publication.Publication.{Publication}
+use Rattle.session_base.specs.declared.publication.Publication.{Publication}
 use Rattle.world_pipes.specs.Following.{FollowsAll, FollowsLosing, after_losing}
 use Rattle.world_pipes.specs.Steps.{ClientGoes}
 use Rattle.world_pipes.specs.Piped.{Piped, Calls}

@@ -2,12 +2,12 @@
 use Rattle.std.proofs.Common.{◌≡◌, ◌-◌, ℕ, zero, suc, List, [], ◌∷◌, Some, Result, Ok, Err, OnErr, OnOk, slice_get, slice_set, refl, sym, ap, subst, arith}
 use Rattle.std.proofs.lemmas.Option.{none-some, same_Some}
 use Rattle.world_nodes.specs.master.declared.event.Idle.{Idle}
-use Rattle.byte_world.specs.world_base.Core.{CountedCore}
-use Rattle.byte_world.specs.world_base.Handing.{hands_over}
-use Rattle.byte_world.specs.world_base.Losses.{WaitsNothing}
-use Rattle.byte_world.specs.world_base.declared.Handed.{Handed}
-use Rattle.byte_world.specs.world_base.declared.Port.{Port}
-use Rattle.byte_world.proofs.of_world_base.Calmly.{hands_over_waits, nothing_handed}
+use Rattle.world_base.specs.Core.{CountedCore}
+use Rattle.world_base.specs.Handing.{hands_over}
+use Rattle.world_base.specs.Losses.{WaitsNothing}
+use Rattle.world_base.specs.declared.Handed.{Handed}
+use Rattle.world_base.specs.declared.Port.{Port}
+use Rattle.world_base.proofs.Calmly.{hands_over_waits, nothing_handed}
 use Rattle.world_nodes.specs.ExactSteps.{GivesExactly}
 use Rattle.world_nodes.specs.Running.{node_of}
 use Rattle.world_nodes.specs.Nodes.{NodesState}

@@ -2,16 +2,16 @@
 use Rattle.std.specs.Prelude.{◌≡◌, ◌⊎◌, ℕ, ◌-◌, Bool, true, false, Some, Ok, Err}
 use Rattle.client.specs.client_base.Steps.{Call, keeper_step}
 use Rattle.client.specs.client_base.declared.error.ClientError.{ClientError}
-use Rattle.byte_world.specs.world_base.Core.{CountedCore}
-use Rattle.byte_world.specs.world_base.declared.item.Item.TheVariants as items
-use Rattle.byte_world.specs.world_base.declared.Port.{Port}
+use Rattle.world_base.specs.Core.{CountedCore}
+use Rattle.world_base.specs.declared.item.Item.TheVariants as items
+use Rattle.world_base.specs.declared.Port.{Port}
 use Rattle.world_nodes.specs.Running.{node_of}
 use Rattle.world_nodes.specs.Nodes.{NodesState}
 use Rattle.world_nodes.specs.Steps.{TakesIn}
 use Rattle.world_pipes.specs.Piped.{SendsConnect, Piped, taken_back}
 use Rattle.std.specs.Option.{is_some}
-use Rattle.byte_world.specs.world_base.Handing.{listed_at}
-use Rattle.byte_world.specs.world_base.declared.item.Item.TheVariants.{Opened}
+use Rattle.world_base.specs.Handing.{listed_at}
+use Rattle.world_base.specs.declared.item.Item.TheVariants.{Opened}
 use Rattle.byte_world.specs.node_moves.Moves.NodeCall.{takes}
 use Rattle.world_nodes.specs.ExactSteps.{NodeDoesCall}
 use Rattle.world_pipes.specs.Following.{ConnectingFollows, FollowsAll}

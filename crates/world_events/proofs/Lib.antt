@@ -1,1 +1,0 @@
-pub use Rattle.world_pipes.proofs as of_world_pipes

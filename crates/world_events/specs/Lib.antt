@@ -1,3 +1,2 @@
 pub mod EscapeEvents
 pub mod Refusals
-pub use Rattle.world_pipes.specs as world_pipes

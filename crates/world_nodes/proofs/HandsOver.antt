@@ -4,10 +4,10 @@ use Rattle.std.specs.Prelude.{get_or, slice_get, slice_set}
 use Rattle.std.proofs.lemmas.List.{append-nil}
 use Rattle.master.specs.ballot.Message.{Message}
 use Rattle.byte_world.specs.broker_spec.declared.command.Command.{Command}
-use Rattle.byte_world.specs.world_base.declared.Handed.{Handed}
-use Rattle.byte_world.specs.world_base.declared.Port.{Port}
-use Rattle.byte_world.specs.world_base.Core.{CountedCore}
-use Rattle.byte_world.specs.world_base.Handing.{answer_of, bytes_of, hands_over, listed_at}
+use Rattle.world_base.specs.declared.Handed.{Handed}
+use Rattle.world_base.specs.declared.Port.{Port}
+use Rattle.world_base.specs.Core.{CountedCore}
+use Rattle.world_base.specs.Handing.{answer_of, bytes_of, hands_over, listed_at}
 use Rattle.byte_world.proofs.of_node_group.Placed.{set_same}
 use Rattle.world_nodes.specs.Nodes.{NodesState}
 use Rattle.world_nodes.specs.ExactSteps.{AnswersFor, GivesExactly, HandsOver}

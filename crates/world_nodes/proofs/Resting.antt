@@ -21,13 +21,13 @@ use Rattle.byte_world.specs.broker_spec.declared.command.Command.{Command}
 use Rattle.byte_world.specs.broker_spec.declared.command.Output.{Output}
 use Rattle.byte_world.specs.broker_base.State.{State as BrokerState}
 use Rattle.byte_world.specs.world_base.Connections.{has_failed}
-use Rattle.byte_world.specs.world_base.declared.item.Item.{Item}
-use Rattle.byte_world.specs.world_base.declared.item.Item.TheVariants.{Peer}
-use Rattle.byte_world.specs.world_base.Core.{CoreState, CountedCore, rules}
-use Rattle.byte_world.specs.world_base.Losses.{DoesNothing, IsExactly, IsHeardQuietly, IsIgnored, NodeStepped, ItemTakesNoMemory}
-use Rattle.byte_world.specs.world_base.LossyStep.{RunsOn}
-use Rattle.byte_world.specs.world_base.Step.{node_step}
-use Rattle.byte_world.proofs.of_world_base.Calmly.{says_nothing}
+use Rattle.world_base.specs.declared.item.Item.{Item}
+use Rattle.world_base.specs.declared.item.Item.TheVariants.{Peer}
+use Rattle.world_base.specs.Core.{CoreState, CountedCore, rules}
+use Rattle.world_base.specs.Losses.{DoesNothing, IsExactly, IsHeardQuietly, IsIgnored, NodeStepped, ItemTakesNoMemory}
+use Rattle.world_base.specs.LossyStep.{RunsOn}
+use Rattle.world_base.specs.Step.{node_step}
+use Rattle.world_base.proofs.Calmly.{says_nothing}
 use Rattle.byte_world.specs.node_group.Group.{moment_of}
 use Rattle.byte_world.specs.node_moves.Moves.NodeCall.{takes}
 use Rattle.world_nodes.specs.Nodes.{NodesState}

@@ -3,15 +3,15 @@
 use Rattle.std.specs.Prelude.{ℕ, Bool, false, List, [], ◌∷◌, ◌++◌, Option, Some, None}
 use Rattle.master.specs.ballot.Machine.{replay}
 use Rattle.master.specs.snapshots.Whole.{whole_log}
-use Rattle.byte_world.specs.packet.declared.connack.Connack.TheVariants.{Accepted}
-use Rattle.byte_world.specs.packet.declared.packet.Packet.TheVariants.{Connack}
+use Rattle.packet.specs.declared.connack.Connack.TheVariants.{Accepted}
+use Rattle.packet.specs.declared.packet.Packet.TheVariants.{Connack}
 use Rattle.byte_world.specs.broker_spec.declared.command.Command.{Command}
 use Rattle.byte_world.specs.broker_spec.declared.command.Command.TheVariants as commands
 use Rattle.byte_world.specs.broker_spec.Connection.{ConnectionName}
 use Rattle.byte_world.specs.broker_spec.declared.command.Output.{Output}
 use Rattle.byte_world.specs.broker_spec.declared.command.Output.TheVariants.{Send}
 use Rattle.byte_world.specs.broker_spec.Place.{Client}
-use Rattle.byte_world.specs.world_base.Core.{CountedCore, rules}
+use Rattle.world_base.specs.Core.{CountedCore, rules}
 use Rattle.world_nodes.specs.Running.{node_of}
 use Rattle.world_nodes.specs.Nodes.{NodesState}
 

@@ -8,12 +8,12 @@ use Rattle.master.specs.ballot.Sending.{master}
 use Rattle.master.specs.snapshots.Masters.{MasterOutcome, activated, assigned}
 use Rattle.master.specs.snapshots.World.{messages, recorded}
 use Rattle.byte_world.specs.broker_spec.declared.command.Command.{Command}
-use Rattle.byte_world.specs.world_base.Core.{CountedCore}
-use Rattle.byte_world.specs.world_base.declared.Handed.{Handed}
-use Rattle.byte_world.specs.world_base.declared.item.Item.{Item}
-use Rattle.byte_world.specs.world_base.declared.item.Item.TheVariants.{Cut, Peer}
-use Rattle.byte_world.specs.world_base.declared.Port.{Port}
-use Rattle.byte_world.specs.world_base.Handing.{answer_of, bytes_of, listed_at}
+use Rattle.world_base.specs.Core.{CountedCore}
+use Rattle.world_base.specs.declared.Handed.{Handed}
+use Rattle.world_base.specs.declared.item.Item.{Item}
+use Rattle.world_base.specs.declared.item.Item.TheVariants.{Cut, Peer}
+use Rattle.world_base.specs.declared.Port.{Port}
+use Rattle.world_base.specs.Handing.{answer_of, bytes_of, listed_at}
 use Rattle.byte_world.specs.node_moves.Moves.{NodeCall, done}
 use Rattle.byte_world.specs.node_moves.Moves.NodeCall.{takes, gives}
 use Rattle.byte_world.specs.node_group.Group.{Group}

@@ -5,7 +5,7 @@ use Rattle.master.specs.ballot.Body.{Body}
 use Rattle.master.specs.ballot.Body.TheVariants.{Activate}
 use Rattle.master.specs.ballot.Message.{Message}
 use Rattle.byte_world.specs.broker_spec.declared.command.Command.{Command}
-use Rattle.byte_world.specs.world_base.declared.item.Item.TheVariants.{Peer}
+use Rattle.world_base.specs.declared.item.Item.TheVariants.{Peer}
 use Rattle.byte_world.specs.node_moves.Moves.{NodeCall}
 use Rattle.byte_world.specs.node_moves.Moves.NodeCall.{takes}
 use Rattle.byte_world.specs.node_group.Group.{Group}

@@ -10,13 +10,13 @@ use Rattle.master.specs.ballot.Losses.{Thinned, greatest_count}
 use Rattle.master.specs.ballot.Message.{Message}
 use Rattle.byte_world.specs.broker_spec.declared.command.Command.{Command}
 use Rattle.byte_world.specs.broker_spec.declared.command.Output.{Output}
-use Rattle.byte_world.specs.world_base.declared.item.Item.{Item}
-use Rattle.byte_world.specs.world_base.declared.item.Item.TheVariants.{Cut, Peer}
-use Rattle.byte_world.specs.world_base.Core.{CountedCore, rules}
+use Rattle.world_base.specs.declared.item.Item.{Item}
+use Rattle.world_base.specs.declared.item.Item.TheVariants.{Cut, Peer}
+use Rattle.world_base.specs.Core.{CountedCore, rules}
 use Rattle.byte_world.specs.world_base.Connections.{has_failed}
-use Rattle.byte_world.specs.world_base.Losses.{DoesNothing, ItemTakesNoMemory}
-use Rattle.byte_world.specs.world_base.LossyStep.{RunsOn}
-use Rattle.byte_world.specs.world_base.Step.{node_step}
+use Rattle.world_base.specs.Losses.{DoesNothing, ItemTakesNoMemory}
+use Rattle.world_base.specs.LossyStep.{RunsOn}
+use Rattle.world_base.specs.Step.{node_step}
 use Rattle.master.specs.Inside.{IsGroup, ToldIn, held_by}
 use Rattle.byte_world.specs.node_group.Group.{Group, moment_of, replica_of}
 use Rattle.world_nodes.specs.Running.{running}

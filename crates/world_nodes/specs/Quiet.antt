@@ -7,12 +7,12 @@ use Rattle.master.specs.ballot.Body.TheVariants.{Activate}
 use Rattle.master.specs.ballot.Message.{Message}
 use Rattle.byte_world.specs.broker_spec.declared.command.Command.{Command}
 use Rattle.byte_world.specs.world_base.Connections.{has_failed}
-use Rattle.byte_world.specs.world_base.declared.item.Item.{Item}
-use Rattle.byte_world.specs.world_base.declared.item.Item.TheVariants.{Peer}
-use Rattle.byte_world.specs.world_base.declared.Port.{Port}
-use Rattle.byte_world.specs.world_base.Core.{CountedCore}
-use Rattle.byte_world.specs.world_base.Handing.{bytes_of, listed_at}
-use Rattle.byte_world.specs.world_base.Losses.{ItemTakesNoMemory}
+use Rattle.world_base.specs.declared.item.Item.{Item}
+use Rattle.world_base.specs.declared.item.Item.TheVariants.{Peer}
+use Rattle.world_base.specs.declared.Port.{Port}
+use Rattle.world_base.specs.Core.{CountedCore}
+use Rattle.world_base.specs.Handing.{bytes_of, listed_at}
+use Rattle.world_base.specs.Losses.{ItemTakesNoMemory}
 use Rattle.world_nodes.specs.Running.{node_of, running}
 use Rattle.world_nodes.specs.Nodes.{NodesState}
 

@@ -12,7 +12,7 @@ ghost use Rattle.world_nodes.specs.Running.{running};
 ghost use Rattle.world_nodes.specs.Quiet.{ComesUnheeded, RestsAt};
 ghost use Rattle.world_nodes.specs.Steps.{ComesIn, CutsIn, GivesIn, HearsIn, NodesLoseNothing, TakesIn, nodes_with_loss};
 ghost use Rattle.world_nodes.specs.GroupSteps.{ActsOrRests, ComesOrRests, MasterGoes};
-ghost use Rattle.byte_world.specs.world_base.Core.{CountedCore};
+ghost use Rattle.world_base.specs.Core.{CountedCore};
 ghost use Rattle.world_nodes.specs.Inside.{IsPassedOver, RunsAt, WasSent};
 
 use crate::nodes::Nodes;

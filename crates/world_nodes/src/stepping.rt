@@ -2,7 +2,7 @@
 
 ghost use Rattle.std.specs.Prelude.{◌≡◌, ◌<◌, true, take, length, slice_get, if◌then◌else◌, IfSome};
 ghost use Rattle.master.specs.ballot.Losses.{greatest_count};
-ghost use Rattle.byte_world.specs.world_base.Losses.{DoesNothing};
+ghost use Rattle.world_base.specs.Losses.{DoesNothing};
 ghost use Rattle.world_nodes.specs.Inside.{TookItem};
 
 use crate::keeping::keep_all;

@@ -4,12 +4,12 @@ use Rattle.std.specs.List.{list_any}
 use Rattle.std.proofs.lemmas.Bool.{both_ways}
 use Rattle.std.proofs.lemmas.List.{append-nil, map-append}
 use Rattle.std.proofs.lemmas.List.Elements.{filter-append}
-use Rattle.client.specs.packet.declared.connack.Connack.TheVariants as connacks
-use Rattle.client.specs.packet.declared.delivery.Delivery.{Delivery}
-use Rattle.client.specs.packet.declared.delivery.Delivery.TheVariants as deliveries
-use Rattle.client.specs.packet.declared.packet.Packet.{Packet}
-use Rattle.client.specs.packet.declared.packet.Packet.TheVariants as packets
-use Rattle.client.specs.packet.declared.publish.Publish.{Publish}
+use Rattle.packet.specs.declared.connack.Connack.TheVariants as connacks
+use Rattle.packet.specs.declared.delivery.Delivery.{Delivery}
+use Rattle.packet.specs.declared.delivery.Delivery.TheVariants as deliveries
+use Rattle.packet.specs.declared.packet.Packet.{Packet}
+use Rattle.packet.specs.declared.packet.Packet.TheVariants as packets
+use Rattle.packet.specs.declared.publish.Publish.{Publish}
 use Rattle.client.specs.packet.packet_base.declared.qos.QoS.{QoS}
 use Rattle.client.specs.session_base.declared.publication.Publication.{Publication}
 use Rattle.client.specs.session_base.Publication.{is_answered, publication_of}

@@ -2,7 +2,7 @@
 -- model's.
 use Rattle.std.proofs.Common.{◌≡◌, ℕ, false, List, [], ◌∷◌, IsTrue, Result, Ok, Err, refl, ap, ap₂, sym, subst, ◌∙◌}
 use Rattle.std.proofs.lemmas.Bool.{both_ways}
-use Rattle.client.specs.topics.Text.{is_filter, is_topic}
+use Rattle.topics.specs.Text.{is_filter, is_topic}
 use Rattle.client.specs.packet.packet_base.declared.qos.QoS.{QoS}
 use Rattle.client.specs.session_base.declared.publication.Publication.{Publication}
 use Rattle.client.specs.client_base.declared.error.ClientError.{ClientError}

@@ -3,7 +3,7 @@
 use Rattle.std.proofs.Common.{◌≡◌, suc, true, false, List, [], ◌∷◌, ◌++◌, length, reverse, Ok, refl, ap, ap₂, sym, subst, ◌∙◌, arith}
 use Rattle.std.proofs.lemmas.Bool.{both_ways}
 use Rattle.std.proofs.lemmas.List.{append-nil}
-use Rattle.client.specs.packet.Spelling.{IsPacket}
+use Rattle.packet.specs.Spelling.{IsPacket}
 use Rattle.client.specs.lists.Lists.{Each}
 use Rattle.client.specs.client_base.State.{ClientState, is_open}
 use Rattle.client.specs.client_base.Answered.{ClientOutcome}

@@ -3,15 +3,15 @@ use Rattle.std.proofs.Common.{◌≡◌, ℕ, zero, suc, ◌+◌, ◌^◌, ◌�
 use Rattle.std.proofs.lemmas.Bool.{ltb-false, ltb-true}
 use Rattle.std.proofs.lemmas.List.{length-append}
 use Rattle.std.specs.List.{All}
-use Rattle.client.specs.topics.Text.{is_filter, is_topic}
+use Rattle.topics.specs.Text.{is_filter, is_topic}
 use Rattle.client.specs.packet_base.Spelling.{IsId}
 use Rattle.client.proofs.of_packet_base.FieldsAgain.{filter_parts}
-use Rattle.client.specs.packet.Delivery.{FitsDelivery}
+use Rattle.packet.specs.Delivery.{FitsDelivery}
 use Rattle.client.specs.packet.packet_base.QoS.{qos_number}
-use Rattle.client.specs.packet.Spelling.{IsPacket, body, max_body}
-use Rattle.client.specs.packet.Subscribe.{FitsSubscription}
-use Rattle.client.specs.packet.declared.packet.Packet.{Packet}
-use Rattle.client.specs.packet.declared.packet.Packet.TheVariants as packets
+use Rattle.packet.specs.Spelling.{IsPacket, body, max_body}
+use Rattle.packet.specs.Subscribe.{FitsSubscription}
+use Rattle.packet.specs.declared.packet.Packet.{Packet}
+use Rattle.packet.specs.declared.packet.Packet.TheVariants as packets
 use Rattle.client.specs.packet.packet_base.declared.qos.QoS.{QoS}
 use Rattle.client.specs.packet.packet_base.declared.qos.QoS.TheVariants as qualities
 use Rattle.client.specs.session_base.declared.publication.Publication.{Publication}

@@ -4,8 +4,8 @@ use Rattle.std.proofs.lemmas.Bool.{both_ways}
 use Rattle.std.proofs.lemmas.List.{append-nil}
 use Rattle.client.specs.packet.ClientId.{is_client}
 use Rattle.client.proofs.of_packet.Clients.{client_short}
-use Rattle.client.specs.packet.Spelling.{IsPacket}
-use Rattle.client.specs.packet.declared.packet.Packet.TheVariants as packets
+use Rattle.packet.specs.Spelling.{IsPacket}
+use Rattle.packet.specs.declared.packet.Packet.TheVariants as packets
 use Rattle.byte_world.specs.broker_spec.Connection.{ConnectionName}
 use Rattle.client.specs.client_base.declared.error.ClientError.{ClientError}
 use Rattle.client.specs.client_base.State.{ClientState, is_open}
@@ -16,7 +16,7 @@ use Rattle.client.specs.client_base.Keeper.{Keeper}
 use Rattle.client.specs.client_base.Steps.{Call, keeper_step}
 use Rattle.client.specs.Core.{AppendsAll, Core, OpensConnection}
 use Rattle.byte_world.specs.node_moves.Puts.{spelled}
-use Rattle.byte_world.specs.world_base.declared.Port.{Port}
+use Rattle.world_base.specs.declared.Port.{Port}
 use Rattle.byte_world.specs.World.{ClientPipes, new_client}
 use Rattle.byte_world.specs.ClientSteps.{after_connecting}
 use Rattle.world_pipes.specs.declared.way.Way.{Way}

@@ -1,9 +1,9 @@
 -- PacketsHandled.antt: a client that handles the packets that came goes as the model's, packet by packet.
 use Rattle.std.proofs.Common.{◌≡◌, ℕ, true, List, [], ◌∷◌, ◌++◌, Some, Ok, refl, ap, ap₂, sym, subst, ◌∙◌, append_assoc}
 use Rattle.std.proofs.lemmas.List.{append-nil}
-use Rattle.client.specs.packet.Spelling.{IsPacket, spelling}
-use Rattle.client.specs.packet.declared.packet.Packet.{Packet}
-use Rattle.client.proofs.of_packet.OneSpelling.{spelling_is}
+use Rattle.packet.specs.Spelling.{IsPacket, spelling}
+use Rattle.packet.specs.declared.packet.Packet.{Packet}
+use Rattle.packet.proofs.OneSpelling.{spelling_is}
 use Rattle.client.specs.cutter.Stream.{Stream, Takes}
 use Rattle.client.specs.lists.Lists.{Each}
 use Rattle.client.specs.client_base.State.{ClientState, is_open}

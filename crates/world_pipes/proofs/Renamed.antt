@@ -1,10 +1,10 @@
 -- Renamed.antt: what a client does to a packet does not depend on the names of its connections.
 use Rattle.std.proofs.Common.{◌≡◌, ℕ, suc, Bool, true, false, if◌then◌else◌, refl}
-use Rattle.client.specs.packet.declared.connack.Connack.TheVariants as connacks
-use Rattle.client.specs.packet.declared.delivery.Delivery.{Delivery}
-use Rattle.client.specs.packet.declared.delivery.Delivery.TheVariants as deliveries
-use Rattle.client.specs.packet.declared.packet.Packet.{Packet}
-use Rattle.client.specs.packet.declared.packet.Packet.TheVariants as packets
+use Rattle.packet.specs.declared.connack.Connack.TheVariants as connacks
+use Rattle.packet.specs.declared.delivery.Delivery.{Delivery}
+use Rattle.packet.specs.declared.delivery.Delivery.TheVariants as deliveries
+use Rattle.packet.specs.declared.packet.Packet.{Packet}
+use Rattle.packet.specs.declared.packet.Packet.TheVariants as packets
 use Rattle.client.specs.session_base.declared.publication.Publication.{Publication}
 use Rattle.client.specs.session_base.Publication.{publication_of}
 use Rattle.client.specs.lists.Lists.{has_id}

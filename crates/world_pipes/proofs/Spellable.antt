@@ -2,15 +2,15 @@
 use Rattle.std.proofs.Common.{ℕ, Bool, true, false, not, if◌then◌else◌, List, [], ◌∷◌, ◌++◌, map, filter, None, arith}
 use Rattle.std.specs.List.{list_any}
 use Rattle.client.specs.packet_base.Spelling.{IsId}
-use Rattle.client.specs.packet.declared.connack.Connack.TheVariants as connacks
-use Rattle.client.specs.packet.declared.delivery.Delivery.{Delivery}
-use Rattle.client.specs.packet.declared.delivery.Delivery.TheVariants as deliveries
-use Rattle.client.specs.packet.declared.publish.Publish.{Publish}
+use Rattle.packet.specs.declared.connack.Connack.TheVariants as connacks
+use Rattle.packet.specs.declared.delivery.Delivery.{Delivery}
+use Rattle.packet.specs.declared.delivery.Delivery.TheVariants as deliveries
+use Rattle.packet.specs.declared.publish.Publish.{Publish}
 use Rattle.client.specs.packet.packet_base.declared.qos.QoS.{QoS}
 use Rattle.client.specs.packet.packet_base.declared.qos.QoS.TheVariants as qualities
-use Rattle.client.specs.packet.declared.packet.Packet.{Packet}
-use Rattle.client.specs.packet.declared.packet.Packet.TheVariants as packets
-use Rattle.client.specs.packet.Spelling.{Fits, IsPacket}
+use Rattle.packet.specs.declared.packet.Packet.{Packet}
+use Rattle.packet.specs.declared.packet.Packet.TheVariants as packets
+use Rattle.packet.specs.Spelling.{Fits, IsPacket}
 use Rattle.client.specs.lists.Lists.{Each, has_id}
 use Rattle.client.proofs.of_lists.OfEach.{each_append, each_then}
 use Rattle.client.specs.client_base.declared.unacknowledged_publication.UnacknowledgedPublication.{UnacknowledgedPublication}

@@ -3,7 +3,7 @@ use Rattle.std.proofs.Common.{◌≡◌, List, [], ◌∷◌, ◌++◌, length, 
 use Rattle.std.proofs.lemmas.List.{append-nil, reverse-append}
 use Rattle.std.proofs.lemmas.Bool.{both_ways}
 use Rattle.client.specs.lists.Lists.{Each}
-use Rattle.client.specs.packet.Spelling.{IsPacket}
+use Rattle.packet.specs.Spelling.{IsPacket}
 use Rattle.client.specs.client_base.Handled.{lost}
 use Rattle.client.proofs.of_client_base.FollowsHandled.{lost_stands}
 use Rattle.client.specs.Core.{Core, gone}

@@ -1,7 +1,7 @@
 -- What a `PipedClient` does is what clients of the model of worlds may do.
 use Rattle.std.specs.Prelude.{◌≡◌, ℕ, true, false, List, [], Result, Ok, Err}
-use Rattle.client.specs.packet.Spelling.{IsPacket}
-use Rattle.client.specs.packet.declared.packet.Packet.TheVariants as packets
+use Rattle.packet.specs.Spelling.{IsPacket}
+use Rattle.packet.specs.declared.packet.Packet.TheVariants as packets
 use Rattle.byte_world.specs.broker_spec.Commands.{usual_limits}
 use Rattle.byte_world.specs.broker_spec.Connection.{ConnectionName}
 use Rattle.client.specs.client_base.declared.error.ClientError.{ClientError}
@@ -9,7 +9,7 @@ use Rattle.client.specs.client_base.Handled.{lost}
 use Rattle.byte_world.specs.packet_world.Steps.{is_call}
 use Rattle.client.specs.session_base.declared.publication.Publication.{Publication}
 use Rattle.byte_world.specs.exactly_once.Story.{StoryStep, Story}
-use Rattle.byte_world.specs.world_base.declared.Port.{Port}
+use Rattle.world_base.specs.declared.Port.{Port}
 use Rattle.byte_world.specs.World.{ClientPipes, after_writing}
 use Rattle.byte_world.specs.ClientSteps.{WritesCanBeSpelled, after_connecting, story_alone}
 use Rattle.byte_world.specs.Published.{published_by}

@@ -2,7 +2,7 @@
 use Rattle.std.specs.Prelude.{◌≡◌, true, false, IsTrue, List, [], ◌∷◌, ◌++◌, length, reverse}
 use Rattle.client.specs.packet_base.Spelling.{IsId}
 use Rattle.client.specs.packet.ClientId.{is_client}
-use Rattle.client.specs.packet.Spelling.{IsPacket}
+use Rattle.packet.specs.Spelling.{IsPacket}
 use Rattle.client.specs.lists.Lists.{Each, IsPrefixOf}
 use Rattle.client.specs.client_base.declared.unacknowledged_publication.UnacknowledgedPublication.{UnacknowledgedPublication}
 use Rattle.client.specs.client_base.State.{ClientState, publish_kept}

@@ -1,6 +1,6 @@
 -- What one client of a world does without the nodes.
 use Rattle.std.specs.Prelude.{◌≡◌, ℕ, true, List, [], ◌∷◌, ◌++◌, Some, Ok, slice_get}
-use Rattle.client.specs.packet.declared.packet.Packet.{Packet}
+use Rattle.packet.specs.declared.packet.Packet.{Packet}
 use Rattle.client.specs.cutter.Stream.{Stream, Takes}
 use Rattle.byte_world.specs.broker_spec.Commands.{usual_limits}
 use Rattle.client.specs.session_base.declared.publication.Publication.{Publication}

@@ -1,6 +1,6 @@
 -- PastAgrees.antt: the nodes agree on the list that is agreed by the past.
 use Rattle.std.proofs.Common.{◌≡◌, ℕ, ◌⊎◌, inl, inr, List, [], ◌∷◌, refl, sym, subst}
-use Rattle.whole.specs.machine.Machine.{Rules}
+use Rattle.machine.specs.Machine.{Rules}
 use Rattle.whole.specs.lists.Lists.{IsPrefixOf}
 use Rattle.whole.specs.Config.{Config}
 use Rattle.agreement.specs.Inside.Chosen.{ChosenList, IsAgreedIn}

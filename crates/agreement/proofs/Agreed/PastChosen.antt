@@ -1,6 +1,6 @@
 -- PastChosen.antt: what is chosen by the past is so by the history, and the other way round.
 use Rattle.std.proofs.Common.{◌≡◌, ℕ, zero, suc, ◌+◌, ◌<◌, ◌≤◌, ◌⊎◌, inl, inr, List, [], ◌∷◌, length, take, Some, refl, ap, sym, ◌∙◌, subst, arith}
-use Rattle.whole.specs.machine.Machine.{Rules}
+use Rattle.machine.specs.Machine.{Rules}
 use Rattle.whole.specs.lists.Lists.{In, IsPrefixOf}
 use Rattle.whole.proofs.of_lists.Prefixes.{prefix_then, prefix_take, prefix_length, take_prefix}
 use Rattle.whole.specs.Config.{Config}

@@ -4,7 +4,7 @@ use Rattle.std.proofs.Common.{◌≡◌, ℕ, ◌⊎◌, inl, inr, List, [], ◌
 use Rattle.whole.specs.lists.Lists.{IsPrefixOf}
 use Rattle.whole.specs.lists.Lists.In.{there}
 use Rattle.whole.specs.Config.{Config}
-use Rattle.whole.specs.machine.Machine.{Rules}
+use Rattle.machine.specs.Machine.{Rules}
 use Rattle.agreement.specs.Laws.{AgreedGrows}
 use Rattle.agreement.specs.Moments.{Moment, HasConfig, WasActive, HasTold, IsChosen, IsAgreed}
 use Rattle.agreement.specs.Moments.HasConfig.{opened_with, was_assigned}

@@ -1,7 +1,7 @@
 -- Installs.antt: an Install that is taken.
 use Rattle.std.proofs.Common.{◌≡◌, ℕ, ◌+◌, ◌<◌, ◌≤◌, inl, inr, List, [], ◌∷◌, length, take, Some, refl, ap, sym, ◌∙◌, subst, arith}
 use Rattle.std.specs.Prelude.{slice_get}
-use Rattle.whole.specs.machine.Machine.{Rules}
+use Rattle.machine.specs.Machine.{Rules}
 use Rattle.whole.specs.Messages.Body.{Installed}
 use Rattle.whole.specs.Role.TheVariants.{Backup}
 use Rattle.whole.specs.Replica.{ReplicaState}

@@ -1,7 +1,7 @@
 -- StateTaken.antt: a State that is taken begins the list of its ballot.
 use Rattle.std.proofs.Common.{◌≡◌, ℕ, ◌+◌, ◌≤◌, ◌⊎◌, inl, inr, List, length, take, Some, Option, refl, ap, sym, ◌∙◌, subst, arith}
 use Rattle.std.specs.Prelude.{slice_get}
-use Rattle.whole.specs.machine.Machine.{Rules}
+use Rattle.machine.specs.Machine.{Rules}
 use Rattle.whole.specs.Role.TheVariants.{Installing}
 use Rattle.whole.specs.Replica.{ReplicaState, others}
 use Rattle.whole.specs.Changing.{installs}

@@ -2,7 +2,7 @@
 use Rattle.std.proofs.Common.{◌≡◌, ℕ, ◌+◌, ◌⊎◌, inl, inr, true, false, List, length, Some, sym, subst}
 use Rattle.std.specs.Prelude.{slice_get, nat_le, ◌&&◌, ◌==◌}
 use Rattle.std.proofs.lemmas.Bool.{cases_Bool, and_parts, leb-true, eqb-true}
-use Rattle.whole.specs.machine.Machine.{Rules}
+use Rattle.machine.specs.Machine.{Rules}
 use Rattle.whole.specs.Messages.Body.{State}
 use Rattle.whole.specs.Role.TheVariants.{Installing}
 use Rattle.whole.specs.Replica.{ReplicaState, is_fetching, others}

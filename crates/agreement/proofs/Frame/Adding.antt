@@ -1,6 +1,6 @@
 -- Adding.antt: a step that adds no more than it may adds no more than what is asked less strictly.
 use Rattle.std.proofs.Common.{ℕ}
-use Rattle.whole.specs.machine.Machine.{Rules}
+use Rattle.machine.specs.Machine.{Rules}
 use Rattle.whole.specs.Sending.{Outcome}
 use Rattle.agreement.specs.World.{World}
 use Rattle.agreement.specs.Inside.Ballots.{Line, History}

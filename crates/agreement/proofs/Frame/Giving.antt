@@ -5,7 +5,7 @@ use Rattle.std.specs.Prelude.{slice_get}
 use Rattle.std.specs.List.{flat_map}
 use Rattle.std.proofs.lemmas.Grind.{flat_map-append}
 use Rattle.std.proofs.lemmas.List.{append-nil, take-take}
-use Rattle.whole.specs.machine.Machine.{Rules, replay}
+use Rattle.machine.specs.Machine.{Rules, replay}
 use Rattle.whole.specs.Messages.{Effect}
 use Rattle.whole.specs.Replica.{ReplicaState}
 use Rattle.whole.specs.Applying.{outputs_from, outputs_between}

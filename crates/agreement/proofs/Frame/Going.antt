@@ -1,7 +1,7 @@
 -- Going.antt: going on is nothing, or one step after another.
 use Rattle.std.proofs.Common.{◌≡◌, ℕ, ◌+◌, ◌≤◌, ◌⊎◌, inl, inr, Some, refl, ◌∙◌, arith}
 use Rattle.std.specs.Prelude.{slice_get}
-use Rattle.whole.specs.machine.Machine.{Rules}
+use Rattle.machine.specs.Machine.{Rules}
 use Rattle.whole.specs.Replica.{ReplicaState}
 use Rattle.agreement.specs.World.{World}
 use Rattle.agreement.specs.Inside.Ballots.{History, Told}

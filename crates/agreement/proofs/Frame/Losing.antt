@@ -1,7 +1,7 @@
 -- Losing.antt: a step with losses keeps a world sound where the step itself does.
 use Rattle.std.proofs.Common.{◌≡◌, ℕ, inl, inr, List, [], Some, refl, sym, subst}
 use Rattle.std.specs.Prelude.{slice_get}
-use Rattle.whole.specs.machine.Machine.{Rules}
+use Rattle.machine.specs.Machine.{Rules}
 use Rattle.whole.specs.Messages.{Effect}
 use Rattle.whole.specs.Losses.{Loses, halted}
 use Rattle.whole.specs.Losses.Thinned.{none}

@@ -1,6 +1,6 @@
 -- Outputs.antt: outputs are no messages, and the least of the progress is at most each.
 use Rattle.std.proofs.Common.{◌≡◌, ℕ, ◌+◌, ◌≤◌, min, List, [], ◌∷◌, ◌++◌, map, refl, ap, ◌∙◌, arith}
-use Rattle.whole.specs.machine.Machine.{Rules}
+use Rattle.machine.specs.Machine.{Rules}
 use Rattle.whole.specs.Messages.Effect.{Out}
 use Rattle.whole.specs.Progress.{Progress}
 use Rattle.whole.specs.Applying.{outputs_from}

@@ -2,7 +2,7 @@
 -- stops.
 use Rattle.std.proofs.Common.{inl, ◌≡◌, ℕ, ◌≤◌, List, [], Some, refl, sym, ◌∙◌, subst, arith}
 use Rattle.std.specs.Prelude.{slice_get}
-use Rattle.whole.specs.machine.Machine.{Rules}
+use Rattle.machine.specs.Machine.{Rules}
 use Rattle.whole.specs.Messages.{Message, Effect}
 use Rattle.whole.specs.Losses.{halted}
 use Rattle.whole.specs.Replica.{ReplicaState}

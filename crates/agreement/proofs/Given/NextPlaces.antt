@@ -3,7 +3,7 @@ use Rattle.std.proofs.Common.{◌≡◌, ℕ, ◌≤◌, ◌⊎◌, inl, inr, tr
 use Rattle.std.specs.Prelude.{◌==◌, Option, None, slice_get}
 use Rattle.std.proofs.lemmas.Bool.{cases_eq, eq-eqb, ne_eqb}
 use Rattle.std.proofs.lemmas.List.{length-take-le}
-use Rattle.whole.specs.machine.Machine.{Rules, replay}
+use Rattle.machine.specs.Machine.{Rules, replay}
 use Rattle.whole.proofs.of_lists.Prefixes.{prefix_length}
 use Rattle.whole.proofs.of_lists.Places.{get_set, get_set_other}
 use Rattle.whole.specs.Applying.{outputs_between}

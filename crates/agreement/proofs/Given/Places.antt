@@ -1,7 +1,7 @@
 -- Places.antt: the outputs of places of a list: of none, of two parts that are joined, and in a list that begins so.
 use Rattle.std.proofs.Common.{◌≡◌, ℕ, ◌+◌, ◌≤◌, List, [], ◌++◌, length, take, drop, refl, ap, sym, ◌∙◌, arith}
 use Rattle.std.proofs.lemmas.List.{length-drop, length-take-le, take-take}
-use Rattle.whole.specs.machine.Machine.{Rules, replay, replay_from}
+use Rattle.machine.specs.Machine.{Rules, replay, replay_from}
 use Rattle.whole.specs.lists.Lists.{IsPrefixOf}
 use Rattle.whole.proofs.of_lists.Prefixes.{take_prefix}
 use Rattle.whole.specs.Applying.{outputs_from, outputs_between}

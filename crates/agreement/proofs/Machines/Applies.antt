@@ -2,7 +2,7 @@
 use Rattle.std.proofs.Common.{◌≡◌, ℕ, ◌+◌, ◌<◌, ◌≤◌, ◌⊎◌, inl, inr, List, [], ◌∷◌, ◌++◌, length, take, drop, refl, ap, sym, ◌∙◌, subst, arith}
 use Rattle.std.proofs.lemmas.Bool.{cases_lt}
 use Rattle.std.proofs.lemmas.List.{take-take, take-append-drop, take-append-le, drop-append-le, length-take-le}
-use Rattle.whole.specs.machine.Machine.{Rules, replay_from}
+use Rattle.machine.specs.Machine.{Rules, replay_from}
 use Rattle.whole.specs.Applying.{applied_to}
 use Rattle.whole.specs.Replica.{ReplicaState}
 use Rattle.whole.specs.Sending.{Outcome}

@@ -1,6 +1,6 @@
 -- Assigning.antt: the master gives the next ballot to a configuration.
 use Rattle.std.proofs.Common.{◌≡◌, ℕ, ◌+◌, ◌<◌, ◌≤◌, ◌⊎◌, inl, inr, Some, Option, refl, ap, sym, ◌∙◌, subst, arith}
-use Rattle.whole.specs.machine.Machine.{Rules}
+use Rattle.machine.specs.Machine.{Rules}
 use Rattle.whole.specs.Config.{Config}
 use Rattle.agreement.specs.World.{World}
 use Rattle.whole.specs.lists.Lists.{In}

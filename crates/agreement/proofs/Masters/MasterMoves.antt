@@ -1,7 +1,7 @@
 -- MasterMoves.antt: a world after a message of the master, or one that was lost.
 use Rattle.std.proofs.Common.{◌≡◌, ℕ, ◌<◌, List, [], ◌∷◌, length, Some, Option, subst}
 use Rattle.std.proofs.lemmas.List.{append-nil}
-use Rattle.whole.specs.machine.Machine.{Rules}
+use Rattle.machine.specs.Machine.{Rules}
 use Rattle.whole.specs.Messages.{Message}
 use Rattle.agreement.specs.World.{World}
 use Rattle.whole.specs.lists.Lists.{In}

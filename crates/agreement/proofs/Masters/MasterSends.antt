@@ -1,6 +1,6 @@
 -- MasterSends.antt: messages of the master keep a world sound.
 use Rattle.std.proofs.Common.{◌≡◌, ℕ, ◌+◌, ◌<◌, ◌⊎◌, inl, inr, List, [], ◌∷◌, ◌++◌, length, Some, Option, refl, ap, sym, ◌∙◌, subst, arith}
-use Rattle.whole.specs.machine.Machine.{Rules}
+use Rattle.machine.specs.Machine.{Rules}
 use Rattle.whole.specs.Messages.{Message}
 use Rattle.whole.specs.Messages.Body.{Held, Installed}
 use Rattle.agreement.specs.World.{World}

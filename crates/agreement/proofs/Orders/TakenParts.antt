@@ -1,7 +1,7 @@
 -- TakenParts.antt: what was taken are some of the proposals, in order.
 use Rattle.std.proofs.Common.{ℕ, ◌⊎◌, inl, inr, Bool, true, false, cond, List, [], ◌∷◌, ◌++◌, length}
 use Rattle.std.specs.Prelude.{nat_lt, ◌==◌}
-use Rattle.whole.specs.machine.Machine.{Rules}
+use Rattle.machine.specs.Machine.{Rules}
 use Rattle.whole.specs.lists.Lists.{In}
 use Rattle.whole.proofs.of_lists.Members.{in_append, in_left, in_right}
 use Rattle.whole.specs.Config.{Config}

@@ -1,7 +1,7 @@
 -- RunsGoOn.antt: every run of a sound group keeps it sound: its history continues, its machines are
 -- replays, its ballots begin with their starts.
 use Rattle.std.proofs.Common.{List, ◌≡◌, ◌⊎◌, ℕ, inl, subst, [], Option, refl, ap, sym, ◌∙◌}
-use Rattle.whole.specs.machine.Machine.{Rules}
+use Rattle.machine.specs.Machine.{Rules}
 use Rattle.whole.specs.Config.{Config}
 use Rattle.whole.specs.Losses.Thinned.{none}
 use Rattle.whole.specs.Protocol.Input.{Ticks}

@@ -3,7 +3,7 @@ use Rattle.std.proofs.Common.{◌≡◌, ℕ, ◌<◌, ◌≤◌, ◌+◌, ◌�
 use Rattle.std.specs.Prelude.{nat_lt, nat_le, ◌&&◌, ◌||◌, ◌==◌, slice_get}
 use Rattle.std.specs.List.{list_any}
 use Rattle.std.proofs.lemmas.Bool.{cases_Bool, cases_lt}
-use Rattle.whole.specs.machine.Machine.{Rules}
+use Rattle.machine.specs.Machine.{Rules}
 use Rattle.whole.specs.Applying.{outputs_from}
 use Rattle.whole.specs.Messages.{Body, Effect, Message}
 use Rattle.whole.specs.Messages.Body.{NewBallot, Join, State, Install, Installed, Activate, Activated, Superseded, Append, Held, Commit}

@@ -1,7 +1,7 @@
 -- Serves.antt: in a group whose master answers each Assign, some member of the active ballot is a node that holds the agreed list.
 use Rattle.std.proofs.Common.{◌⊎◌, inl, inr, ◌≡◌, ℕ, zero, suc, ◌+◌, ◌<◌, List, [], ◌∷◌, length, Some, None, Option, refl, subst, arith}
 use Rattle.std.specs.Prelude.{slice_get}
-use Rattle.whole.specs.machine.Machine.{Rules}
+use Rattle.machine.specs.Machine.{Rules}
 use Rattle.agreement.specs.Proposals.{proposal_of}
 use Rattle.agreement.specs.World.{World}
 use Rattle.whole.specs.lists.Lists.{In}

@@ -2,7 +2,7 @@
 -- its master.
 use Rattle.std.proofs.Common.{[], inl, ◌≡◌, ℕ, ◌+◌, List, Some, Option, refl, ap, sym, ◌∙◌, subst}
 use Rattle.std.specs.Prelude.{slice_get}
-use Rattle.whole.specs.machine.Machine.{Rules}
+use Rattle.machine.specs.Machine.{Rules}
 use Rattle.whole.specs.Messages.{Body}
 use Rattle.whole.specs.Messages.Body.{NewBallot, Join, State, Install, Installed, Activate, Activated, Superseded, Append, Held, Commit}
 use Rattle.whole.specs.Protocol.{Input, received, replica_step}

@@ -1,7 +1,7 @@
 -- AppendTaken.antt: an Append that is taken.
 use Rattle.std.proofs.Common.{◌≡◌, ℕ, ◌+◌, ◌≤◌, inr, List, [], ◌∷◌, length, take, Some, refl, ap, sym, ◌∙◌, subst, arith}
 use Rattle.std.specs.Prelude.{slice_get}
-use Rattle.whole.specs.machine.Machine.{Rules}
+use Rattle.machine.specs.Machine.{Rules}
 use Rattle.whole.specs.Messages.{Message}
 use Rattle.whole.specs.Messages.Body.{Append, Held}
 use Rattle.whole.specs.Replica.{ReplicaState}

@@ -1,7 +1,7 @@
 -- CommandAdded.antt: a command is added, sent and committed.
 use Rattle.std.proofs.Common.{◌≡◌, ℕ, ◌+◌, ◌≤◌, List, [], ◌∷◌, ◌++◌, length, take, Some, ap, sym, ◌∙◌, subst, arith}
 use Rattle.std.specs.Prelude.{slice_get}
-use Rattle.whole.specs.machine.Machine.{Rules, replay}
+use Rattle.machine.specs.Machine.{Rules, replay}
 use Rattle.whole.specs.Messages.Body.{Append}
 use Rattle.whole.specs.Replica.{ReplicaState}
 use Rattle.whole.specs.Sending.{Outcome, message_to_followed}

@@ -1,6 +1,6 @@
 -- What may happen in a group, if an Assign is not refused.
 use Rattle.std.specs.Prelude.{ℕ, ◌≡◌, false, List, [], slice_get, Some}
-use Rattle.whole.specs.machine.Machine.{Rules}
+use Rattle.machine.specs.Machine.{Rules}
 use Rattle.whole.specs.Config.{Config}
 use Rattle.whole.specs.Messages.Body.{Activate}
 use Rattle.whole.specs.Messages.{Effect}

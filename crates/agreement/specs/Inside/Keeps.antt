@@ -2,7 +2,7 @@
 -- not.
 use Rattle.agreement.specs.Inside.MovesAt.{with_lines}
 use Rattle.std.specs.Prelude.{◌⊎◌, ℕ, ◌≡◌, List, [], ◌∷◌, ◌++◌, Some, None}
-use Rattle.whole.specs.machine.Machine.{Rules}
+use Rattle.machine.specs.Machine.{Rules}
 use Rattle.whole.specs.Messages.{Effect}
 use Rattle.whole.specs.Losses.{Thinned}
 use Rattle.whole.specs.Sending.{Outcome}

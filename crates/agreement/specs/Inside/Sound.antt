@@ -2,7 +2,7 @@
 use Rattle.std.specs.Prelude.{ℕ, ◌+◌, ◌<◌, ◌≤◌, ◌≡◌, ◌⊎◌, List, [], length, take, slice_get}
 use Rattle.std.specs.Prelude.{Some, None}
 use Rattle.std.specs.List.{flat_map}
-use Rattle.whole.specs.machine.Machine.{Rules}
+use Rattle.machine.specs.Machine.{Rules}
 use Rattle.whole.specs.Messages.{Message}
 use Rattle.whole.specs.Progress.{Progress}
 use Rattle.whole.specs.Role.TheVariants.{Fetching, Installing, Active}

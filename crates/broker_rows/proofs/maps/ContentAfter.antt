@@ -4,7 +4,7 @@ use Rattle.std.specs.Prelude.{bytes_eq}
 use Rattle.std.specs.Cmp.Lexicographic.{bytes_decides, texts_ties}
 use Rattle.subs_base.specs.packet_base.declared.qos.QoS.{QoS}
 use Rattle.broker_spec.specs.session_base.Subscriptions.{GrantedFilter, with_subscription, with_subscriptions, without_filter, without_filters}
-use Rattle.broker_base.specs.Place.{Client, same_client}
+use Rattle.broker_spec.specs.Place.{Client, same_client}
 use Rattle.broker_base.specs.ClientSession.{ClientSession}
 use Rattle.broker_base.specs.State.{Sessions, session_in}
 use Rattle.subs_base.specs.Content.{Content, with_row, without_row, without_client}

@@ -5,11 +5,11 @@ use Rattle.std.specs.Map.{keys_of}
 use Rattle.std.specs.List.{list_any}
 use Rattle.std.specs.List.Sorted.{IsStrictlySortedBy}
 use Rattle.std.specs.Cmp.Lexicographic.{bytes_decides}
-use Rattle.broker_base.specs.Place.{Client, same_client}
+use Rattle.broker_spec.specs.Place.{Client, same_client}
 use Rattle.broker_base.specs.ClientSession.{ClientSession}
 use Rattle.broker_base.specs.State.{Sessions, keyed, session_in}
 use Rattle.broker_base.specs.StateLaws.{AreByClient}
-use Rattle.broker_base.proofs.ClientsInOrder.{same_is, same_self}
+use Rattle.broker_spec.proofs.ClientsInOrder.{same_is, same_self}
 use Rattle.broker_base.proofs.SessionsStayByClient.{ComesBefore}
 use Rattle.subs_base.specs.Content.{Content, without_client}
 use Rattle.broker_rows.specs.Served.{left_off}

@@ -5,14 +5,14 @@ use Rattle.std.specs.declared.cmp.Ordering.{Ordering}
 use Rattle.std.specs.declared.cmp.Ordering.TheVariants.{Less, Equal, Greater}
 use Rattle.std.specs.List.Sorted.{IsStrictlySortedBy}
 use Rattle.std.specs.Ordering.{is_eq, match_ordering}
-use Rattle.broker_base.specs.Connection.{ConnectionName, same_connection}
-use Rattle.broker_base.specs.Place.{Client, by_bytes, same_client}
-use Rattle.broker_base.specs.Past.{any_connection}
+use Rattle.broker_spec.specs.Connection.{ConnectionName, same_connection}
+use Rattle.broker_spec.specs.Place.{Client, by_bytes, same_client}
+use Rattle.broker_spec.specs.Past.{any_connection}
 use Rattle.broker_base.specs.ClientSession.{ClientSession}
 use Rattle.broker_base.specs.State.{Sessions, session_in, put_session}
 use Rattle.broker_base.specs.StepAnswers.{connection_of}
 use Rattle.broker_base.specs.StateLaws.{AreByClient, IsNobodys, ConnectionsAreApart}
-use Rattle.broker_base.proofs.ClientsInOrder.{equal_is}
+use Rattle.broker_spec.proofs.ClientsInOrder.{equal_is}
 use Rattle.broker_base.proofs.ConnectionsOfSessions.{same_turned}
 use Rattle.broker_base.proofs.SessionsStayByClient.{before_more}
 use Rattle.broker_rows.specs.Owners.{Owners, owners_in, with_owner, without_owner}

@@ -1,8 +1,8 @@
 -- A taken PUBLISH leaves every connection its owner, and every subscription.
 use Rattle.std.proofs.Common.{◌≡◌, ℕ, List, [], ◌∷◌, refl, ap, ◌∙◌}
 use Rattle.broker_spec.specs.session_base.declared.publication.Publication.{Publication}
-use Rattle.broker_base.specs.Connection.{ConnectionName}
-use Rattle.broker_base.specs.Place.{Client}
+use Rattle.broker_spec.specs.Connection.{ConnectionName}
+use Rattle.broker_spec.specs.Place.{Client}
 use Rattle.broker_base.specs.ClientSession.{ClientSession}
 use Rattle.broker_base.specs.State.{Sessions}
 use Rattle.subs_base.specs.Granted.{Row}

@@ -5,11 +5,11 @@ use Rattle.std.specs.declared.cmp.Ordering.TheVariants.{Less, Equal, Greater}
 use Rattle.std.specs.List.Sorted.{IsStrictlySortedBy}
 use Rattle.std.specs.Ordering.{is_eq, match_ordering, ordering_reverse}
 use Rattle.std.proofs.lemmas.Cmp.{nat_list_cmp_total}
-use Rattle.broker_base.specs.Place.{Client, by_bytes, same_client}
+use Rattle.broker_spec.specs.Place.{Client, by_bytes, same_client}
 use Rattle.broker_base.specs.ClientSession.{ClientSession}
 use Rattle.broker_base.specs.State.{Sessions, keyed, session_in, put_session}
 use Rattle.broker_base.specs.StateLaws.{AreByClient}
-use Rattle.broker_base.proofs.ClientsInOrder.{same_is, equal_is}
+use Rattle.broker_spec.proofs.ClientsInOrder.{same_is, equal_is}
 use Rattle.broker_base.proofs.SessionsStayByClient.{ComesBefore}
 use Rattle.broker_rows.specs.Touched.{written}
 use Rattle.broker_rows.proofs.OneRow.{written_here, written_after}

@@ -8,7 +8,7 @@ use Rattle.subs_base.specs.packet_base.declared.qos.QoS.{QoS}
 use Rattle.packet.specs.declared.delivery.Delivery.{Delivery}
 use Rattle.broker_spec.specs.session_base.declared.publication.Publication.{Publication}
 use Rattle.broker_spec.specs.session_base.Subscriptions.{granted_qos}
-use Rattle.broker_base.specs.Place.{Client}
+use Rattle.broker_spec.specs.Place.{Client}
 use Rattle.broker_base.specs.ClientSession.{ClientSession}
 use Rattle.broker_base.specs.State.{Sessions, session_in}
 use Rattle.broker_base.specs.StateLaws.{AreByClient}

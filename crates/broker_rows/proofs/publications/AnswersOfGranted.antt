@@ -8,16 +8,16 @@ use Rattle.broker_spec.specs.retained.Retained.{RetainedTopics}
 use Rattle.broker_spec.specs.session_base.Publication.{publication_of}
 use Rattle.subs_base.specs.packet_base.QoS.{lower_qos}
 use Rattle.broker_spec.specs.session_base.Sending.{copies_sent}
-use Rattle.broker_base.specs.Connection.{ConnectionName}
-use Rattle.broker_base.specs.Place.{Client, Mark, Place}
+use Rattle.broker_spec.specs.Connection.{ConnectionName}
+use Rattle.broker_spec.specs.Place.{Client, Mark, Place}
 use Rattle.broker_spec.specs.session_base.Subscriptions.{granted_qos}
-use Rattle.broker_base.specs.Entries.{copy_of}
+use Rattle.broker_spec.specs.Entries.{copy_of}
 use Rattle.broker_base.specs.ClientSession.{ClientSession}
 use Rattle.broker_base.specs.State.{Sessions, session_in}
 use Rattle.broker_base.specs.StepAnswers.{sent_on, copies_answered}
 use Rattle.broker_base.specs.StateLaws.{AreByClient}
-use Rattle.broker_base.specs.Command.TheVariants as commands
-use Rattle.broker_base.specs.Output.{Output}
+use Rattle.broker_spec.specs.declared.command.Command.TheVariants as commands
+use Rattle.broker_spec.specs.declared.command.Output.{Output}
 use Rattle.subs_base.specs.Granted.{row_of}
 use Rattle.broker_rows.specs.Published.{granted_rows, copy_answered}
 use Rattle.broker_rows.proofs.FindsEach.{Finds, finds_each}

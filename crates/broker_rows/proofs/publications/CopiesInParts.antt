@@ -10,7 +10,7 @@ use Rattle.broker_spec.specs.session_base.Publication.{is_answered, publish_of}
 use Rattle.broker_spec.specs.session_base.Queue.{Flight, Queue, started_flight, enqueue, fill, filled, room}
 use Rattle.broker_spec.specs.session_base.Copies.{copies_left}
 use Rattle.broker_spec.specs.session_base.Sending.{fill_sends, copies_sent}
-use Rattle.broker_base.specs.Entries.{queued}
+use Rattle.broker_spec.specs.Entries.{queued}
 use Rattle.broker_rows.specs.CopyLaws.{CopiesJoin, CopiesTakeRoom, CopiesFindRoom}
 
 -- ---- two parts

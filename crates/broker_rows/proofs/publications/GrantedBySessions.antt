@@ -8,13 +8,13 @@ use Rattle.packet.specs.topics.Matching.{is_match}
 use Rattle.subs_base.proofs.of_topics.MatchingIsTested.{tested}
 use Rattle.subs_base.specs.packet_base.declared.qos.QoS.{QoS}
 use Rattle.subs_base.specs.packet_base.QoS.{qos_number}
-use Rattle.broker_base.specs.Place.{Client, by_bytes, same_client}
+use Rattle.broker_spec.specs.Place.{Client, by_bytes, same_client}
 use Rattle.broker_spec.specs.session_base.Subscriptions.{granted_qos}
 use Rattle.broker_base.specs.ClientSession.{ClientSession}
 use Rattle.broker_base.specs.State.{Sessions, session_in}
 use Rattle.broker_base.proofs.SessionsStayByClient.{ComesBefore}
 use Rattle.broker_base.specs.StateLaws.{AreByClient}
-use Rattle.broker_base.proofs.ClientsInOrder.{same_is}
+use Rattle.broker_spec.proofs.ClientsInOrder.{same_is}
 use Rattle.subs_base.specs.Content.{Content}
 use Rattle.subs_base.specs.Granted.{Row, clients_of, IsGreatest, IsGranted, row_of}
 use Rattle.subs_base.proofs.GrantsOneList.{one_list}

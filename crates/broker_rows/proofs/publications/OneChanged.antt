@@ -2,10 +2,10 @@
 use Rattle.std.proofs.Common.{◌≡◌, Bool, true, false, if◌then◌else◌, [], ◌∷◌, Option, Some, None, refl, ap, ◌∙◌, sym}
 use Rattle.std.specs.Prelude.{option_map}
 use Rattle.std.specs.Ordering.{is_eq}
-use Rattle.broker_base.specs.Place.{Client, same_client}
+use Rattle.broker_spec.specs.Place.{Client, same_client}
 use Rattle.broker_base.specs.ClientSession.{ClientSession}
 use Rattle.broker_base.specs.State.{Sessions, session_in}
-use Rattle.broker_base.proofs.ClientsInOrder.{same_is}
+use Rattle.broker_spec.proofs.ClientsInOrder.{same_is}
 use Rattle.broker_base.proofs.SessionsStayByClient.{ComesBefore}
 use Rattle.broker_rows.specs.Touched.{written}
 use Rattle.broker_rows.specs.Published.{changed}

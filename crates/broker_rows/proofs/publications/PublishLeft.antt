@@ -9,14 +9,14 @@ use Rattle.broker_spec.specs.retained.Retained.{RetainedTopics}
 use Rattle.broker_spec.specs.session_base.declared.publication.Publication.{Publication}
 use Rattle.broker_spec.specs.session_base.Publication.{publication_of}
 use Rattle.broker_spec.specs.session_base.Subscriptions.{granted_qos}
-use Rattle.broker_base.specs.Connection.{ConnectionName}
-use Rattle.broker_base.specs.Place.{Client, by_bytes, same_client}
-use Rattle.broker_base.specs.EntryLaws.{taken}
+use Rattle.broker_spec.specs.Connection.{ConnectionName}
+use Rattle.broker_spec.specs.Place.{Client, by_bytes, same_client}
+use Rattle.broker_spec.specs.EntryLaws.{taken}
 use Rattle.broker_base.specs.ClientSession.{ClientSession}
 use Rattle.broker_base.specs.State.{Sessions, keyed}
 use Rattle.broker_base.specs.Step.{sessions_left}
 use Rattle.broker_base.specs.StateLaws.{AreByClient}
-use Rattle.broker_base.proofs.ClientsInOrder.{same_self, same_is, less_turned}
+use Rattle.broker_spec.proofs.ClientsInOrder.{same_self, same_is, less_turned}
 use Rattle.broker_base.proofs.SessionsStayByClient.{ComesBefore}
 use Rattle.subs_base.specs.Granted.{Row, row_of}
 use Rattle.broker_rows.specs.Published.{granted_rows, changed, received_on, delivered_on, all_delivered}

@@ -3,16 +3,16 @@ use Rattle.std.proofs.Common.{◌≡◌, Bool, true, false, ◌||◌, if◌then�
 use Rattle.packet.specs.declared.publish.Publish.{Publish}
 use Rattle.packet.specs.declared.packet.Packet.TheVariants as packets
 use Rattle.broker_spec.specs.session_base.Publication.{publication_of}
-use Rattle.broker_base.specs.Place.{Client, Mark, Limits}
-use Rattle.broker_base.specs.Answers.{acknowledged}
-use Rattle.broker_base.specs.Retained.{retains}
-use Rattle.broker_base.specs.Past.{is_leaving}
+use Rattle.broker_spec.specs.Place.{Client, Mark, Limits}
+use Rattle.broker_spec.specs.Answers.{acknowledged}
+use Rattle.broker_spec.specs.Retained.{retains}
+use Rattle.broker_spec.specs.Past.{is_leaving}
 use Rattle.broker_base.specs.ClientSession.{ClientSession}
 use Rattle.broker_base.specs.State.{State}
 use Rattle.broker_base.specs.Decisions.{is_one_topic_over, refuses, repeats, owned_mark, packet_mark_in}
 use Rattle.broker_base.specs.Step.{step_at}
 use Rattle.broker_base.specs.StateLaws.{AreByClient}
-use Rattle.broker_base.specs.Command.TheVariants as commands
+use Rattle.broker_spec.specs.declared.command.Command.TheVariants as commands
 use Rattle.broker_rows.specs.PublishLaws.{is_refused_in, RefusedStep, TakenStep}
 use Rattle.broker_rows.proofs.publications.RoomOfGranted.{full_of_granted}
 use Rattle.broker_rows.proofs.publications.AnswersOfGranted.{answers_of_granted}

@@ -5,7 +5,7 @@ use Rattle.std.specs.Ordering.{is_eq}
 use Rattle.std.proofs.lemmas.Bool.{or_parts}
 use Rattle.packet.specs.declared.delivery.Delivery.{Delivery}
 use Rattle.broker_spec.specs.session_base.declared.publication.Publication.{Publication}
-use Rattle.broker_base.specs.Place.{Client, Limits}
+use Rattle.broker_spec.specs.Place.{Client, Limits}
 use Rattle.broker_base.specs.ClientSession.{ClientSession}
 use Rattle.broker_base.specs.State.{Sessions, session_in}
 use Rattle.subs_base.specs.Granted.{Row}

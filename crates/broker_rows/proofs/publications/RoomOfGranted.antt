@@ -6,9 +6,9 @@ use Rattle.subs_base.specs.packet_base.declared.qos.QoS.{QoS}
 use Rattle.broker_spec.specs.session_base.declared.publication.Publication.{Publication}
 use Rattle.subs_base.specs.packet_base.QoS.{lower_qos}
 use Rattle.broker_spec.specs.session_base.Queue.{room}
-use Rattle.broker_base.specs.Place.{Client, Limits}
+use Rattle.broker_spec.specs.Place.{Client, Limits}
 use Rattle.broker_spec.specs.session_base.Subscriptions.{granted_qos}
-use Rattle.broker_base.specs.Marks.{is_queued_at}
+use Rattle.broker_spec.specs.Marks.{is_queued_at}
 use Rattle.broker_base.specs.ClientSession.{ClientSession}
 use Rattle.broker_base.specs.State.{Sessions, session_in}
 use Rattle.broker_base.specs.Decisions.{has_no_room_for}

@@ -11,11 +11,11 @@ use Rattle.broker_spec.specs.session_base.Publication.{publication_of}
 use Rattle.subs_base.specs.packet_base.QoS.{lower_qos}
 use Rattle.broker_spec.specs.session_base.Subscriptions.{granted_qos}
 use Rattle.broker_spec.specs.session_base.Queue.{Queue}
-use Rattle.broker_base.specs.Connection.{ConnectionName}
-use Rattle.broker_base.specs.Place.{Client, Mark, same_client, only_if}
-use Rattle.broker_base.specs.EntryLaws.{taken}
-use Rattle.broker_base.specs.Received.{receives}
-use Rattle.broker_base.specs.Entries.{copy_of}
+use Rattle.broker_spec.specs.Connection.{ConnectionName}
+use Rattle.broker_spec.specs.Place.{Client, Mark, same_client, only_if}
+use Rattle.broker_spec.specs.EntryLaws.{taken}
+use Rattle.broker_spec.specs.Received.{receives}
+use Rattle.broker_spec.specs.Entries.{copy_of}
 use Rattle.broker_base.specs.ClientSession.{ClientSession}
 use Rattle.broker_base.specs.SessionStep.{copied_queue, kept_on, kept_after}
 use Rattle.broker_base.specs.Step.{session_after}

@@ -9,10 +9,10 @@ use Rattle.broker_spec.specs.session_base.Subscriptions.{with_subscription, with
 use Rattle.broker_spec.specs.session_base.Queue.{room}
 use Rattle.broker_spec.specs.session_base.Copies.{copies_left}
 use Rattle.broker_spec.specs.session_base.Sending.{copies_sent}
-use Rattle.broker_base.specs.Place.{Limits}
-use Rattle.broker_base.specs.Subscriptions.{as_granted, granted_of}
-use Rattle.broker_base.specs.Entries.{copies_for, copies_for_all}
-use Rattle.broker_base.specs.Marks.{is_one_too_many, entries_for, grants}
+use Rattle.broker_spec.specs.Place.{Limits}
+use Rattle.broker_spec.specs.Subscriptions.{as_granted, granted_of}
+use Rattle.broker_spec.specs.Entries.{copies_for, copies_for_all}
+use Rattle.broker_spec.specs.Marks.{is_one_too_many, entries_for, grants}
 use Rattle.broker_rows.specs.PacketLaws.{subscribed_to}
 use Rattle.broker_rows.specs.CopyLaws.{is_granted_in, granted_in_turn, subscribed_in_turn, sent_in_turn, SubscribesInTurn}
 use Rattle.broker_rows.proofs.publications.CopiesInParts.{copies_join, copies_take_room}

@@ -1,8 +1,8 @@
 -- What the handling of one packet does to a client, before its connection is dropped.
 use Rattle.std.specs.Prelude.{◌≡◌, ℕ, Bool, true, false, if◌then◌else◌, List, [], ◌∷◌, ◌++◌, Option}
 use Rattle.std.specs.Prelude.{Some, None, Result, Ok, Err}
-use Rattle.cutter.specs.packet.declared.packet.Packet.{Packet}
-use Rattle.cutter.specs.packet.declared.error.DecodeFault.{DecodeFault}
+use Rattle.packet.specs.declared.packet.Packet.{Packet}
+use Rattle.packet.specs.declared.error.DecodeFault.{DecodeFault}
 use Rattle.cutter.specs.declared.error.CutError.{CutError}
 use Rattle.cutter.specs.declared.error.CutError.TheVariants as cuts
 use Rattle.cutter.specs.Stream.{Stream, Takes}

@@ -4,8 +4,8 @@ use Rattle.headline.specs.ballot.Losses.{one_more}
 use Rattle.escaping_client.specs.client_base.declared.error.ClientError.{ClientError}
 use Rattle.escaping_client.specs.client_base.declared.error.ClientError.TheVariants as errors
 use Rattle.escaping_nodes.specs.master.declared.event.Idle.{Idle}
-use Rattle.world_events.specs.world_pipes.declared.sending.Sending.{Sending}
-use Rattle.world_events.specs.world_pipes.declared.sending.Sending.TheVariants as sendings
+use Rattle.world_pipes.specs.declared.sending.Sending.{Sending}
+use Rattle.world_pipes.specs.declared.sending.Sending.TheVariants as sendings
 use Rattle.world.specs.World.{WorldState}
 
 -- one loss more is counted

@@ -1,9 +1,9 @@
 -- A new connection.
 use Rattle.std.specs.Prelude.{◌≡◌, ◌⊎◌, ◌-◌, ℕ, true, false, [], ◌∷◌, ◌++◌, Some, length, slice_get}
 use Rattle.headline.specs.ballot.Losses.{one_more}
-use Rattle.escaping_nodes.specs.world_nodes.Nodes.{NodesState}
-use Rattle.escaping_nodes.specs.world_nodes.Steps.{NodesLoseNothing}
-use Rattle.world_events.specs.world_pipes.Piped.{Piped}
+use Rattle.world_nodes.specs.Nodes.{NodesState}
+use Rattle.world_nodes.specs.Steps.{NodesLoseNothing}
+use Rattle.world_pipes.specs.Piped.{Piped}
 use Rattle.world_clients.specs.declared.world_client.WorldClient.{WorldClient}
 use Rattle.world.specs.Found.{port_of, with_piped}
 use Rattle.world.specs.Gathering.{Gathers}

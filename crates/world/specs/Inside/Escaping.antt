@@ -2,8 +2,8 @@
 use Rattle.std.specs.Prelude.{◌≡◌, ◌≤◌, ℕ, suc, ◌+◌, ◌-◌, ◌*◌, Bool, List, ◌∷◌, ◌++◌, Some, length, map, slice_get}
 use Rattle.std.specs.List.{position}
 use Rattle.headline.specs.ballot.Serving.{max_places}
-use Rattle.escaping_nodes.specs.ways_out.Deliveries.{way_out}
-use Rattle.escaping_nodes.specs.world_nodes.Running.{is_running, node_of}
+use Rattle.ways_out.specs.Deliveries.{way_out}
+use Rattle.world_nodes.specs.Running.{is_running, node_of}
 use Rattle.world_events.specs.declared.event.Event.{Event}
 use Rattle.world_events.specs.declared.event.Event.TheVariants as events
 use Rattle.world_events.specs.EscapeEvents.{answer_events, client_events}

@@ -1,10 +1,10 @@
 -- What a node queued goes down.
 use Rattle.std.specs.Prelude.{◌≡◌, ◌⊎◌, ◌-◌, ℕ, Bool, true, false, ◌++◌, Some, length, set, slice_get, take}
 use Rattle.headline.specs.node_moves.Moves.NodeCall.{gives}
-use Rattle.escaping_nodes.specs.world_nodes.Running.{node_of}
-use Rattle.escaping_nodes.specs.world_nodes.Nodes.{NodesState}
-use Rattle.escaping_nodes.specs.world_nodes.Steps.{nodes_with_loss}
-use Rattle.world_events.specs.world_pipes.declared.way.Way.{Way}
+use Rattle.world_nodes.specs.Running.{node_of}
+use Rattle.world_nodes.specs.Nodes.{NodesState}
+use Rattle.world_nodes.specs.Steps.{nodes_with_loss}
+use Rattle.world_pipes.specs.declared.way.Way.{Way}
 use Rattle.world_clients.specs.declared.connection_slot.ConnectionSlot.{ConnectionSlot}
 use Rattle.world_clients.specs.declared.world_client.WorldClient.{WorldClient}
 use Rattle.world.specs.Found.{slot_numbered, port_of, with_piped}

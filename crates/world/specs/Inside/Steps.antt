@@ -2,8 +2,8 @@
 use Rattle.std.specs.Prelude.{◌≡◌, ◌⊎◌, ◌≤◌, ◌<◌, ℕ, true, false, List, [], Result, Ok, Err}
 use Rattle.headline.specs.ballot.Losses.{greatest_count, one_more}
 use Rattle.escaping_nodes.specs.master.declared.event.Idle.{Idle}
-use Rattle.escaping_client.specs.session_base.declared.publication.Publication.{Publication}
-use Rattle.escaping_nodes.specs.world_nodes.Steps.{NodesLoseNothing}
+use Rattle.session_base.specs.declared.publication.Publication.{Publication}
+use Rattle.world_nodes.specs.Steps.{NodesLoseNothing}
 use Rattle.world_events.specs.declared.event.Event.{Event}
 use Rattle.world.specs.Asking.{EventAsks}
 use Rattle.world_clients.specs.NodesGoOn.{NodesGoOn}

@@ -5,7 +5,7 @@ use Rattle.std.specs.Map.{update_all}
 use Rattle.std.specs.Cmp.Lexicographic.{slice_cmp}
 use Rattle.std.specs.Ordering.{nat_cmp}
 use Rattle.std.proofs.lemmas.Iterator.Adapters.{YieldsList-from_vec}
-use Rattle.broker_tables.proofs.of_subs.RowsGathered.{made_of, same_tests}
+use Rattle.subs.proofs.RowsGathered.{made_of, same_tests}
 use Rattle.broker.specs.Inside.{last_held}
 use Rattle.broker.proofs.thawing.filters_of.Goals as goal
 

@@ -1,7 +1,7 @@
 -- What was granted so far, and what is still to be decided, make the whole.
 use Rattle.std.proofs.Common.{◌≡◌, ◌++◌}
 use Rattle.std.specs.Prelude.{drop}
-use Rattle.broker_rows.specs.broker_spec.Commands.{usual_limits}
+use Rattle.broker_spec.specs.Commands.{usual_limits}
 use Rattle.broker_rows.specs.CopyLaws.{granted_in_turn, subscribed_in_turn, sent_in_turn}
 use Rattle.broker_session.proofs.granting.grant_all.Given as goal
 

@@ -1,6 +1,6 @@
 use Rattle.std.proofs.Common.{◌≡◌, ◌++◌}
 use Rattle.std.specs.Prelude.{map}
-use Rattle.broker_rows.specs.broker_spec.Entries.{retained_copy, copies_for}
+use Rattle.broker_spec.specs.Entries.{retained_copy, copies_for}
 use Rattle.broker_session.proofs.retained_copies.copies_for.Given as goal
 
 abbrev pub invariant-loop-topic : goal.invariant-loop-topic

@@ -1,10 +1,10 @@
 -- A copy takes one place at most, and the others find theirs.
 use Rattle.std.proofs.Common.{rules, ◌≡◌, ◌≤◌, ◌∷◌, ◌∙◌, ap, sym, subst, List, length}
-use Rattle.session.specs.session_base.declared.publication.Publication.{Publication}
+use Rattle.session_base.specs.declared.publication.Publication.{Publication}
 use Rattle.session.specs.declared.session.TheConstants.{MAX_ENTRIES}
-use Rattle.session.specs.session_base.Queue.{Queue, room}
-use Rattle.session.specs.session_base.Session.{SessionState}
-use Rattle.broker_rows.specs.broker_spec.Entries.{queued}
+use Rattle.session_base.specs.Queue.{Queue, room}
+use Rattle.session_base.specs.Session.{SessionState}
+use Rattle.broker_spec.specs.Entries.{queued}
 use Rattle.broker_session.proofs.RoomForCopies.{others_find_room, sent_first}
 use Rattle.broker_session.proofs.retained_copies.put_copies.Goals as goal
 

@@ -1,11 +1,11 @@
 -- What came so far, and what is still to come, make the whole.
 use Rattle.std.proofs.Common.{◌≡◌, ◌≤◌, ◌++◌, length}
 use Rattle.session.specs.declared.session.TheConstants.{MAX_ENTRIES}
-use Rattle.session.specs.session_base.Queue.{room}
-use Rattle.session.specs.session_base.Copies.{copies_left}
-use Rattle.broker_rows.specs.broker_spec.Entries.{queued}
-use Rattle.session.specs.session_base.Sending.{copies_sent}
-use Rattle.session.specs.session_base.Session.{with_queue}
+use Rattle.session_base.specs.Queue.{room}
+use Rattle.session_base.specs.Copies.{copies_left}
+use Rattle.broker_spec.specs.Entries.{queued}
+use Rattle.session_base.specs.Sending.{copies_sent}
+use Rattle.session_base.specs.Session.{with_queue}
 use Rattle.broker_session.proofs.retained_copies.put_copies.Given as goal
 
 abbrev pub invariant-loop-copy : goal.invariant-loop-copy

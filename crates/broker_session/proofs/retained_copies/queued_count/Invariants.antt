@@ -1,6 +1,6 @@
 use Rattle.std.proofs.Common.{◌≡◌, ◌≤◌, length}
 use Rattle.std.specs.Prelude.{take}
-use Rattle.broker_rows.specs.broker_spec.Entries.{queued}
+use Rattle.broker_spec.specs.Entries.{queued}
 use Rattle.broker_session.proofs.retained_copies.queued_count.Given as goal
 
 abbrev pub invariant-loop-copy : goal.invariant-loop-copy

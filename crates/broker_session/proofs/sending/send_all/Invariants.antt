@@ -1,6 +1,6 @@
 use Rattle.std.proofs.Common.{◌≡◌, ◌++◌}
 use Rattle.std.specs.Prelude.{map}
-use Rattle.broker_rows.specs.broker_spec.declared.command.Output.TheVariants as outputs
+use Rattle.broker_spec.specs.declared.command.Output.TheVariants as outputs
 use Rattle.broker_session.proofs.sending.send_all.Given as goal
 
 abbrev pub invariant-loop-packet : goal.invariant-loop-packet

@@ -1,7 +1,7 @@
 -- What was delivered so far, and what is still to come, make the whole.
 use Rattle.std.proofs.Common.{◌≡◌, ◌++◌}
 use Rattle.std.specs.Prelude.{drop}
-use Rattle.broker_session.specs.broker_spec.Commands.{usual_limits}
+use Rattle.broker_spec.specs.Commands.{usual_limits}
 use Rattle.broker_session.specs.broker_rows.Published.{all_delivered, answered_in_turn}
 use Rattle.broker_session.specs.broker_rows.PublishLaws.{HaveRoomInTurn}
 use Rattle.broker_tables.proofs.publishing.deliver_all.Given as goal

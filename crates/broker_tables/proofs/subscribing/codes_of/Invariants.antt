@@ -1,5 +1,5 @@
 use Rattle.std.proofs.Common.{◌≡◌, ◌++◌}
-use Rattle.broker_session.specs.broker_spec.Answers.{codes_of}
+use Rattle.broker_spec.specs.Answers.{codes_of}
 use Rattle.broker_tables.proofs.subscribing.codes_of.Given as goal
 
 abbrev pub invariant-loop-subscription : goal.invariant-loop-subscription

@@ -3,7 +3,7 @@ use Rattle.std.proofs.Common.{◌∙◌, ap, sym}
 use Rattle.std.specs.Prelude.{map}
 use Rattle.std.proofs.lemmas.Slice.Zip.{either_empty_from_Zip}
 use Rattle.broker_session.specs.subs_base.ListIndex.{content_of}
-use Rattle.broker_session.specs.broker_spec.Subscriptions.{as_granted}
+use Rattle.broker_spec.specs.Subscriptions.{as_granted}
 use Rattle.broker_session.specs.broker_rows.Indexed.{all_set}
 use Rattle.broker_tables.proofs.InPairs.{no_more_granted}
 use Rattle.broker_tables.proofs.subscribing.set_all.Goals as goal

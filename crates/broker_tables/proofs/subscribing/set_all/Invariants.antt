@@ -1,7 +1,7 @@
 use Rattle.std.proofs.Common.{◌≡◌}
 use Rattle.std.specs.Prelude.{map}
 use Rattle.broker_session.specs.subs_base.ListIndex.{content_of}
-use Rattle.broker_session.specs.broker_spec.Subscriptions.{as_granted, granted_of}
+use Rattle.broker_spec.specs.Subscriptions.{as_granted, granted_of}
 use Rattle.broker_session.specs.broker_rows.Indexed.{all_set}
 use Rattle.broker_tables.proofs.subscribing.set_all.Given as goal
 

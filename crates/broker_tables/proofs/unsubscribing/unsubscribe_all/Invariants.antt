@@ -1,7 +1,7 @@
 use Rattle.std.proofs.Common.{◌≡◌}
 use Rattle.std.specs.Prelude.{drop}
-use Rattle.broker_session.specs.session_base.Subscriptions.{without_filters}
-use Rattle.broker_session.specs.session_base.Session.{with_filters}
+use Rattle.session_base.specs.Subscriptions.{without_filters}
+use Rattle.session_base.specs.Session.{with_filters}
 use Rattle.broker_tables.proofs.unsubscribing.unsubscribe_all.Given as goal
 
 abbrev pub invariant-loop-filter : goal.invariant-loop-filter

@@ -1,4 +1,4 @@
-use Rattle.cutter.specs.packet.declared.packet.Packet.TheVariants as packets
+use Rattle.packet.specs.declared.packet.Packet.TheVariants as packets
 use Rattle.client.proofs.Spelled.{appends_next}
 use Rattle.client.proofs.writing.write_pubrels.Goals as goal
 

@@ -1,5 +1,5 @@
 use Rattle.std.proofs.Common.{map, take}
-use Rattle.cutter.specs.packet.declared.packet.Packet.TheVariants as packets
+use Rattle.packet.specs.declared.packet.Packet.TheVariants as packets
 use Rattle.client.specs.Core.{AppendsAll}
 use Rattle.client.proofs.writing.write_pubrels.Given as goal
 

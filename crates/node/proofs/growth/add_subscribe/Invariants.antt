@@ -1,6 +1,6 @@
 use Rattle.std.proofs.Common.{◌≡◌, ◌+◌, length, take}
 use Rattle.std.specs.Prelude.{sum_by}
-use Rattle.world_base.specs.packet.declared.subscribe.Subscription.{Subscription}
+use Rattle.packet.specs.declared.subscribe.Subscription.{Subscription}
 use Rattle.node.specs.Growth.{counted}
 use Rattle.node.proofs.growth.add_subscribe.Given as goal
 

@@ -1,6 +1,6 @@
 use Rattle.std.proofs.Common.{refl, ◌∙◌, ap, sym}
-use Rattle.post.specs.mailbox.Ends.{Sender, Taker}
-use Rattle.post.specs.node.declared.Item.{Item}
+use Rattle.mailbox.specs.Ends.{Sender, Taker}
+use Rattle.node.specs.declared.Item.{Item}
 use Rattle.node_threads.specs.Turns.Turns.{takes}
 use Rattle.node_threads.proofs.GivenBySteps.{given_more}
 use Rattle.node_threads.proofs.TurnsEnd.{found_none, given_none}

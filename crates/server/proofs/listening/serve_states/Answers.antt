@@ -1,5 +1,5 @@
 use denote.Param.Send.{sendable}
-use Rattle.node_threads.proofs.of_post.of_node.Crossing.{state_send}
+use Rattle.node.proofs.Crossing.{state_send}
 use Rattle.server.proofs.listening.serve_states.Goals as goal
 
 pub serve_by-requires-send-S : goal.serve_by-requires-send-S

@@ -1,7 +1,7 @@
 use Rattle.std.proofs.lemmas.Result.{err_from_is_err_and}
 use Rattle.session_base.proofs.ReadingLoops.{ends, goes_on, stops_so, refused_so}
 use Rattle.session_base.specs.Form.{is_above}
-use Rattle.session_base.specs.packet_base.Reading.{id_at}
+use Rattle.packet_base.specs.Reading.{id_at}
 use Rattle.session.proofs.thawing.read_ids.Goals as goal
 
 pub returns-in_err-id : goal.returns-in_err-id

@@ -1,7 +1,7 @@
 use Rattle.std.proofs.Common.{◌≡◌, ◌-◌, []}
 use Rattle.session_base.specs.Counted.{items_after}
 use Rattle.session_base.specs.Form.{is_above}
-use Rattle.session_base.specs.packet_base.Reading.{id_at}
+use Rattle.packet_base.specs.Reading.{id_at}
 use Rattle.session.proofs.thawing.read_ids.Given as goal
 
 abbrev pub invariant-loop : goal.invariant-loop

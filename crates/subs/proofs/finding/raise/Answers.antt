@@ -3,7 +3,7 @@ use Rattle.std.proofs.Common.{ℕ, List, Some, Option, subst, ap}
 use Rattle.std.specs.BTreeMap.{BTreeMap, Updates}
 use Rattle.std.specs.Cmp.Lexicographic.{slice_cmp}
 use Rattle.std.specs.Ordering.{nat_cmp}
-use Rattle.subs_base.specs.packet_base.declared.qos.QoS.{QoS}
+use Rattle.packet_base.specs.declared.qos.QoS.{QoS}
 use Rattle.subs.specs.Walk.{greatest}
 use Rattle.subs.proofs.finding.raise.Goals as goal
 

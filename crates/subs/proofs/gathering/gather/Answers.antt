@@ -1,7 +1,7 @@
 -- None is left: all were added.
 use Rattle.std.proofs.Common.{rules, ◌≡◌, ◌∙◌, [], ap, sym, subst, ℕ, List}
 use Rattle.std.specs.BTreeMap.{BTreeMap}
-use Rattle.subs_base.specs.packet_base.declared.qos.QoS.{QoS}
+use Rattle.packet_base.specs.declared.qos.QoS.{QoS}
 use Rattle.subs_base.specs.Inside.{listed, AreOrdered}
 use Rattle.subs.specs.Gathered.{gathered, groups_of, clients_set}
 use Rattle.subs.proofs.RowsGathered.{list_set}

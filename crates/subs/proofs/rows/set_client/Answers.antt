@@ -3,7 +3,7 @@ use Rattle.std.proofs.Common.{ℕ, List, Some, subst}
 use Rattle.std.specs.BTreeMap.{BTreeMap, Updates}
 use Rattle.std.specs.Cmp.Lexicographic.{slice_cmp}
 use Rattle.std.specs.Ordering.{nat_cmp}
-use Rattle.subs_base.specs.packet_base.declared.qos.QoS.{QoS}
+use Rattle.packet_base.specs.declared.qos.QoS.{QoS}
 use Rattle.subs.proofs.rows.set_client.Goals as goal
 
 pub returns-clause-ok : goal.returns-clause-ok

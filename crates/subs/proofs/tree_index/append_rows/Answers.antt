@@ -1,6 +1,6 @@
 -- If one is left for which there is no memory, some client was found.
 use Rattle.std.proofs.Common.{rules, ◌≡◌, ◌∷◌, ◌++◌, ◌∙◌, ap, sym, List, ℕ}
-use Rattle.subs_base.specs.packet_base.declared.qos.QoS.{QoS}
+use Rattle.packet_base.specs.declared.qos.QoS.{QoS}
 use Rattle.subs.proofs.ContentOfTree.{anyhow}
 use Rattle.subs.proofs.Raising.{left_gives}
 use Rattle.subs.proofs.tree_index.append_rows.Goals as goal

@@ -1,7 +1,7 @@
 use Rattle.std.proofs.Common.{subst}
 use Rattle.client.specs.Core.{publication_with}
 use Rattle.client.specs.client_base.Steps.{Call}
-use Rattle.client.specs.session_base.declared.publication.Publication.{Publication}
+use Rattle.session_base.specs.declared.publication.Publication.{Publication}
 use Rattle.world_clients.specs.Calling.{IsCall}
 use Rattle.world_clients.proofs.CallsGiven.{is_call, same_publication}
 use Rattle.world_clients.proofs.calling.publish_copy.Goals as goal

@@ -1,6 +1,6 @@
 use Rattle.std.proofs.Common.{◌≡◌, take}
 use Rattle.master.specs.ballot.Machine.{replay_from}
-use Rattle.byte_world.specs.world_base.Core.{rules}
+use Rattle.world_base.specs.Core.{rules}
 use Rattle.world_nodes.proofs.asking.apply_all.Given as goal
 
 abbrev pub invariant-loop-command : goal.invariant-loop-command

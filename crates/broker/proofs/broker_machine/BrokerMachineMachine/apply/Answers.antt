@@ -1,7 +1,7 @@
 -- The tables step as the state does, and a step keeps a state in its ranges.
 use Rattle.std.proofs.Common.{◌≡◌, ◌∙◌, ◌++◌, ap, sym, subst, false}
 use Rattle.std.specs.Prelude.{is_err}
-use Rattle.broker_tables.specs.broker_spec.Commands.{usual_limits}
+use Rattle.broker_spec.specs.Commands.{usual_limits}
 use Rattle.broker_tables.specs.broker_base.Step.{step}
 use Rattle.broker_form.specs.FormLaws.{IsUsualState}
 use Rattle.broker_form.proofs.UsualStates.{stays_usual}

@@ -2,7 +2,7 @@
 use Rattle.std.proofs.Common.{◌∙◌, ◌++◌, ap, sym}
 use Rattle.std.specs.BTreeMap.{insert_entry}
 use Rattle.broker_session.specs.subs_base.Content.{without_client}
-use Rattle.broker_session.specs.broker_spec.Place.{by_bytes}
+use Rattle.broker_spec.specs.Place.{by_bytes}
 use Rattle.broker_tables.proofs.Connects.{beginning_of, ties_of_beginning}
 use Rattle.broker_tables.proofs.tables.Tables.begin.Goals as goal
 

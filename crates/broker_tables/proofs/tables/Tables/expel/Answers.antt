@@ -1,7 +1,7 @@
 -- The client's session is removed, and its connection has no client.
 use Rattle.std.proofs.Common.{◌∙◌, ◌++◌, ap, sym}
 use Rattle.std.proofs.lemmas.List.{append-nil}
-use Rattle.broker_session.specs.broker_spec.Answers.{closed}
+use Rattle.broker_spec.specs.Answers.{closed}
 use Rattle.broker_session.specs.broker_base.State.{Sessions}
 use Rattle.broker_session.specs.broker_base.StepAnswers.{connection_of}
 use Rattle.broker_tables.proofs.Expulsions.{expelled, nobody_expelled, ties_expelled}

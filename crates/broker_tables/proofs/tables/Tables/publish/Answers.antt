@@ -1,12 +1,12 @@
 -- By what happens to the publication: another try, a refused one, a taken one.
 use Rattle.std.proofs.Common.{◌≡◌, ◌∙◌, ◌++◌, ap, sym, subst, ℕ, List, true, false}
 use Rattle.std.proofs.lemmas.List.{append_assoc}
-use Rattle.broker_session.specs.session_base.declared.publication.Publication.{Publication}
-use Rattle.broker_session.specs.session_base.Publication.{publication_of}
+use Rattle.session_base.specs.declared.publication.Publication.{Publication}
+use Rattle.session_base.specs.Publication.{publication_of}
 use Rattle.broker_session.specs.subs_base.Granted.{Row}
-use Rattle.broker_session.specs.broker_spec.Answers.{acknowledged}
-use Rattle.broker_session.specs.broker_spec.Retained.{retains}
-use Rattle.broker_session.specs.broker_spec.Commands.{usual_limits}
+use Rattle.broker_spec.specs.Answers.{acknowledged}
+use Rattle.broker_spec.specs.Retained.{retains}
+use Rattle.broker_spec.specs.Commands.{usual_limits}
 use Rattle.broker_session.specs.broker_rows.Published.{all_delivered, answered_in_turn, changed, received_on}
 use Rattle.broker_session.specs.broker_rows.PublishLaws.{is_refused_in, HaveRoomInTurn}
 use Rattle.broker_tables.specs.Tables.{state_in}

@@ -1,7 +1,7 @@
 -- A violation ends the connection, and what is left is a PINGREQ.
 use Rattle.std.proofs.Common.{◌≡◌, ◌∙◌, ◌++◌, ap, sym}
-use Rattle.broker_session.specs.packet.declared.packet.Packet.TheVariants as packets
-use Rattle.broker_session.specs.broker_spec.declared.command.Command.TheVariants as commands
+use Rattle.packet.specs.declared.packet.Packet.TheVariants as packets
+use Rattle.broker_spec.specs.declared.command.Command.TheVariants as commands
 use Rattle.broker_tables.specs.Tables.{stepped}
 use Rattle.broker_tables.proofs.Packets.{violation_of, pingreq_of, only_pingreq}
 use Rattle.broker_tables.proofs.tables.Tables.serve.Goals as goal

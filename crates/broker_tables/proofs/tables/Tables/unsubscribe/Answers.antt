@@ -3,11 +3,11 @@ use Rattle.std.proofs.Common.{rules, ◌≡◌, ◌∙◌, ◌++◌, ap, sym, re
 use Rattle.std.specs.Option.{option_copied_mut}
 use Rattle.std.specs.BTreeMap.{is_at}
 use Rattle.std.specs.Map.{set_value}
-use Rattle.broker_session.specs.packet.declared.packet.Packet.TheVariants as packets
-use Rattle.broker_session.specs.session_base.Subscriptions.{without_filters}
-use Rattle.broker_session.specs.session_base.Session.{with_filters}
+use Rattle.packet.specs.declared.packet.Packet.TheVariants as packets
+use Rattle.session_base.specs.Subscriptions.{without_filters}
+use Rattle.session_base.specs.Session.{with_filters}
 use Rattle.broker_session.specs.subs_base.ListIndex.{content_of}
-use Rattle.broker_session.specs.broker_spec.Place.{by_bytes}
+use Rattle.broker_spec.specs.Place.{by_bytes}
 use Rattle.broker_session.specs.broker_base.ClientSession.{ClientSession}
 use Rattle.broker_session.specs.broker_base.State.{Sessions, session_in}
 use Rattle.broker_session.specs.broker_rows.Indexed.{all_cleared}

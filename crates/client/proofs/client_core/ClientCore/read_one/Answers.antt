@@ -1,5 +1,5 @@
 use Rattle.std.proofs.Common.{Option, Ok, subst}
-use Rattle.cutter.specs.packet.declared.packet.Packet.{Packet}
+use Rattle.packet.specs.declared.packet.Packet.{Packet}
 use Rattle.client.specs.Inside.Handling.{TakesNext}
 use Rattle.client.proofs.HandlingFails.{handling_fails}
 use Rattle.client.proofs.client_core.ClientCore.read_one.Goals as goal

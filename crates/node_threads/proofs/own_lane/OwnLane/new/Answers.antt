@@ -1,5 +1,5 @@
 use Rattle.std.proofs.Common.{List, [], sym, subst}
-use Rattle.post.specs.node.declared.Item.{Item}
+use Rattle.node.specs.declared.Item.{Item}
 use Rattle.node_threads.specs.Serving.{SendsOwn}
 use Rattle.node_threads.specs.Serving.SendsOwn.{starts}
 use Rattle.node_threads.proofs.own_lane.OwnLane.new.Goals as goal

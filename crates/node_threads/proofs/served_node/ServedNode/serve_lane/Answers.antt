@@ -1,5 +1,5 @@
 use Rattle.std.proofs.Common.{ℕ, ◌∙◌, ap, subst}
-use Rattle.post.specs.node.declared.Port.{Port}
+use Rattle.node.specs.declared.Port.{Port}
 use Rattle.streams.specs.Ports.{port_of}
 use Rattle.node_threads.specs.Serving.{ReportsOne}
 use Rattle.node_threads.specs.Serving.ReportsEach.{begins, goes_on}

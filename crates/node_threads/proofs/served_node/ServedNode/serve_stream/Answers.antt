@@ -1,7 +1,7 @@
 use Rattle.std.proofs.Common.{sym, subst}
-use Rattle.post.specs.mailbox.Ends.{Sender}
-use Rattle.post.specs.node.declared.Item.{Item}
-use Rattle.post.specs.node.declared.Port.{Port}
+use Rattle.mailbox.specs.Ends.{Sender}
+use Rattle.node.specs.declared.Item.{Item}
+use Rattle.node.specs.declared.Port.{Port}
 use Rattle.node_threads.specs.Serving.{ReportsOne, SendsWhole}
 use Rattle.node_threads.specs.Serving.ReportsOne.{closed_at_once, served}
 use Rattle.node_threads.proofs.served_node.ServedNode.serve_stream.Goals as goal

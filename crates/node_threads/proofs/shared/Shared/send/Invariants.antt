@@ -1,5 +1,5 @@
 use Rattle.std.proofs.Common.{◌≡◌}
-use Rattle.post.specs.mailbox.Ends.{unmet}
+use Rattle.mailbox.specs.Ends.{unmet}
 use Rattle.node_threads.proofs.shared.Shared.send.Given as goal
 
 abbrev pub invariant-loop : goal.invariant-loop

@@ -1,6 +1,6 @@
 use Rattle.std.proofs.Common.{ap}
-use Rattle.post.specs.mailbox.Ends.{Sender}
-use Rattle.post.specs.node.declared.Item.{Item}
+use Rattle.mailbox.specs.Ends.{Sender}
+use Rattle.node.specs.declared.Item.{Item}
 use Rattle.node_threads.proofs.OwnSendsJoin.{own_queued}
 use Rattle.node_threads.proofs.shared.Shared.send_queued.Goals as goal
 

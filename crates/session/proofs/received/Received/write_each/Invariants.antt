@@ -1,6 +1,6 @@
 use Rattle.std.proofs.Common.{◌≡◌, ◌++◌}
 use Rattle.std.specs.List.{flat_map}
-use Rattle.session_base.specs.packet_base.Spelling.{number}
+use Rattle.packet_base.specs.Spelling.{number}
 use Rattle.session.proofs.received.Received.write_each.Given as goal
 
 abbrev pub invariant-loop-id : goal.invariant-loop-id

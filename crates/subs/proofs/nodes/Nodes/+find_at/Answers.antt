@@ -1,7 +1,7 @@
 -- One raising after another makes the greatest of all.
 use Rattle.std.proofs.Common.{◌≡◌, ◌∙◌, sym, ap, subst, codes, refl, true, false, ℕ, List, Option}
 use Rattle.topics.specs.Text.{Levels, levels_of}
-use Rattle.subs_base.specs.packet_base.declared.qos.QoS.{QoS}
+use Rattle.packet_base.specs.declared.qos.QoS.{QoS}
 use Rattle.subs_base.proofs.ContentAfter.{on_err}
 use Rattle.subs.specs.Inside.{shape_of}
 use Rattle.subs.specs.Walk.{greatest, Raises, GivesSome, found_at, found_after}

@@ -1,6 +1,6 @@
 -- The row went from both.
 use Rattle.std.proofs.Common.{◌≡◌, ◌∙◌, sym, ap, subst, None, Option, IsTrue, ◌↔◌, IsSome}
-use Rattle.subs_base.specs.packet_base.declared.qos.QoS.{QoS}
+use Rattle.packet_base.specs.declared.qos.QoS.{QoS}
 use Rattle.topics.specs.Text.{levels}
 use Rattle.subs_base.specs.Content.{Content, without_row}
 use Rattle.subs_base.specs.ListIndex.{content_of}

@@ -1,6 +1,6 @@
 use Rattle.std.proofs.Common.{inl, ◌<◌, length, refl, sym, ◌∙◌, ◌≡◌, true, subst}
 use Rattle.std.proofs.lemmas.Option.{same_Some}
-use Rattle.world_events.specs.world_pipes.Piped.{is_holding}
+use Rattle.world_pipes.specs.Piped.{is_holding}
 use Rattle.world_clients.specs.declared.world_client.WorldClient.{WorldClient}
 use Rattle.escaping_nodes.proofs.of_master.Counting.{get_there}
 use Rattle.world.specs.World.{WorldState}

@@ -1,6 +1,6 @@
 use Rattle.std.proofs.Common.{false, inl, refl}
 use Rattle.std.proofs.lemmas.Bool.{both_ways}
-use Rattle.headline.specs.world_base.declared.item.Item.TheVariants.{Ended}
+use Rattle.world_base.specs.declared.item.Item.TheVariants.{Ended}
 use Rattle.world.specs.Found.{port_of}
 use Rattle.world.specs.World.{WorldState}
 use Rattle.world.proofs.ItemsMet.{not_closed, noticed}

@@ -5,9 +5,9 @@ use Rattle.headline.specs.broker_spec.Commands.{past_of, usual_limits}
 use Rattle.headline.specs.broker_spec.Past.{session_of}
 use Rattle.escaping_client.specs.client.Core.{Core}
 use Rattle.escaping_nodes.proofs.of_master.Counting.{get_there}
-use Rattle.escaping_nodes.specs.world_nodes.Asking.{log_of}
-use Rattle.escaping_nodes.specs.world_nodes.Running.{is_running}
-use Rattle.world_events.specs.world_pipes.Piped.{is_holding}
+use Rattle.world_nodes.specs.Asking.{log_of}
+use Rattle.world_nodes.specs.Running.{is_running}
+use Rattle.world_pipes.specs.Piped.{is_holding}
 use Rattle.world_events.specs.declared.event.Event.{Event}
 use Rattle.world.specs.Escaping.{CanEscape, LeadsClientOut}
 use Rattle.world.specs.Inside.Escaping.{escaping_events}

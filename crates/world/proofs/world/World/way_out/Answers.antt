@@ -1,7 +1,7 @@
 use Rattle.std.proofs.Common.{◌≡◌, ◌<◌, ◌+◌, ◌-◌, ◌*◌, ◌++◌, ℕ, suc, List, length, rules, sym, ap, ◌∙◌, subst, arith}
 use Rattle.std.proofs.lemmas.Option.{same_Some}
 use Rattle.escaping_nodes.proofs.of_master.Counting.{get_there}
-use Rattle.world_events.specs.world_pipes.Piped.{is_holding}
+use Rattle.world_pipes.specs.Piped.{is_holding}
 use Rattle.world_clients.specs.declared.world_client.WorldClient.{WorldClient}
 use Rattle.world_events.specs.EscapeEvents.{client_events}
 use Rattle.world.specs.Inside.Escaping.{sent_then}

@@ -1,5 +1,5 @@
 use Rattle.std.proofs.Common.{sym, ap, ◌∙◌}
-use Rattle.node_connections.specs.broker_spec.declared.command.Command.TheVariants as commands
+use Rattle.broker_spec.specs.declared.command.Command.TheVariants as commands
 use Rattle.world_base.specs.Inside.{Running}
 use Rattle.world_base.proofs.Closes.{closes_refused}
 use Rattle.world_base.specs.LossyReading.{Shuts}

@@ -1,6 +1,6 @@
 use Rattle.std.proofs.Common.{inl, inr}
 use Rattle.node_connections.specs.ConnectionChanges.{failing, put_out}
-use Rattle.node_connections.specs.packet.Spelling.{spelling}
+use Rattle.packet.specs.Spelling.{spelling}
 use Rattle.world_base.proofs.Changes.{named_there, named_nowhere, core_named, core_unnamed}
 use Rattle.world_base.proofs.stepping_node.SteppingNode.put.Goals as goal
 
